@@ -1,0 +1,2 @@
+pub mod AccessWidth
+pub mod MemoryOrder

@@ -1,0 +1,51 @@
+//! What every access to memory has: how many bytes it takes, and how it is ordered.
+#![tactic(auto)]
+
+ghost use Rattle.std.specs.Prelude.{◌≡◌};
+
+/// How many bytes an access takes.
+#[derive(Clone, Copy, Debug, PartialEq, Eq)]
+pub enum AccessWidth {
+    One,
+    Two,
+    Four,
+    Eight,
+}
+
+/// How an access is ordered among those of other threads (threads proposal, "Memory model"):
+/// a plain one is unordered, an atomic one is sequentially consistent.
+#[derive(Clone, Copy, Debug, PartialEq, Eq)]
+pub enum MemoryOrder {
+    Unordered,
+    SeqCst,
+}
+
+impl AccessWidth {
+    ghost use Rattle.wm_access.specs.AccessWidth.{bytes_of};
+
+    /// The number of bytes: 1, 2, 4 or 8.
+    pub fn bytes(self) -> u8
+        ensures { result ≡ bytes_of self }
+    {
+        match self {
+            AccessWidth::One => 1,
+            AccessWidth::Two => 2,
+            AccessWidth::Four => 4,
+            AccessWidth::Eight => 8,
+        }
+    }
+}
+
+impl MemoryOrder {
+    ghost use Rattle.wm_access.specs.MemoryOrder.{is_sequential};
+
+    /// Whether the order is SeqCst.
+    pub fn is_atomic(self) -> bool
+        ensures { result ≡ is_sequential self }
+    {
+        match self {
+            MemoryOrder::SeqCst => true,
+            MemoryOrder::Unordered => false,
+        }
+    }
+}
