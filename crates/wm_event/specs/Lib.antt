@@ -1,0 +1,16 @@
+pub mod Byte
+pub mod First
+pub mod Event
+pub mod Log
+pub mod Witness
+pub mod Execution
+pub mod LoggedRun
+pub mod HappensBefore
+pub mod Rules
+pub mod Faults
+pub mod Shape
+pub mod Draft
+pub mod Places
+pub mod Rows
+pub mod CandidateShape
+pub mod Texts

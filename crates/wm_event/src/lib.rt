@@ -1,0 +1,24 @@
+//! Events, logs with their witnesses, candidates, and what it means that a run is allowed.
+#![tactic(auto)]
+
+/// How many events a log may have.
+pub const MAX_EVENTS: usize = 64;
+
+mod candidate;
+mod draft;
+mod event;
+mod initial;
+mod log;
+mod places;
+mod rule;
+mod shape;
+mod shape_fault;
+mod witness;
+
+pub use candidate::Candidate;
+pub use event::{Event, EventId, EventKey, EventKind, Range, byte_of};
+pub use initial::Initial;
+pub use log::{End, Log, Start, ThreadLog, TrapKind};
+pub use rule::{Judgement, Rule, RuleFault};
+pub use shape_fault::ShapeFault;
+pub use witness::Witness;
