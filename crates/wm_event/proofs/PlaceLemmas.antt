@@ -1,5 +1,5 @@
 -- The place of an event in an order that lists each one once.
-use Rattle.std.proofs.Common.{◌≡◌, ℕ, ◌+◌, ◌<◌, List, Bool, true, false, length, get_or, slice_get, Option, None, Some, is_some, refl, sym, ap, ◌∙◌, subst, arith, ⊎_elim, ◌⊎◌}
+use Rattle.std.proofs.Common.{◌≡◌, ℕ, ◌+◌, ◌<◌, List, Bool, true, false, length, get_or, slice_get, Option, None, Some, is_some, refl, sym, ap, ◌∙◌, arith, ⊎_elim}
 use Rattle.std.specs.Prelude.{IfSome, option_and_then}
 use Rattle.std.specs.List.{position_or_len}
 use Rattle.std.proofs.lemmas.Bool.{cases_Bool}
@@ -54,7 +54,18 @@ place_missing log order p places key missing = no_place (slot_of p key) (places.
     no_place None h = refl
     no_place (Some s) h = absurd (cc)
 
--- what the table gives is one less than the place in the execution
+-- what the table gives is a place in the order
+pub place_within : (log : List ThreadLog) (order : List EventKey) (p : Places) → ListsEachOnce log order → ArePlaces log order p → (key : EventKey)
+    → IfSome (place_in p key) (λ n. n < length order)
+place_within log order p once places key = ⊎_elim
+    (λ (there : is_some (event_in log key) ≡ true).
+    let stands = once.listed key there in
+    let slot : slot_of p key ≡ Some (Some stands.0) = places.listed stands.0 key stands.1 in
+    rw slot (slice_get_within order stands.0 key stands.1))
+    (λ (missing : is_some (event_in log key) ≡ false). rw (place_missing log order p places key missing) tt)
+    (cases_Bool (is_some (event_in log key)))
+
+-- and is one less than the place in the execution
 pub placed : (log : List ThreadLog) (order : List EventKey) (p : Places) → ListsEachOnce log order → ArePlaces log order p → (key : EventKey)
     → IfSome (place_in p key) (λ n. 1 + position_or_len (same_key key) order ≡ n + 1)
 placed log order p once places key = ⊎_elim

@@ -1,6 +1,5 @@
 -- A candidate with no fault is well shaped.
-use Rattle.std.proofs.Common.{◌≡◌, ◌≢◌, ℕ, zero, suc, ◌+◌, ◌<◌, ◌≤◌, ◌^◌, List, [], ◌∷◌, length, get_or, Option, None, Some, IsSome, is_some, Bool, true, false, refl, sym, ap, ◌∙◌, subst, arith, ⊎_elim}
-use Rattle.std.specs.Prelude.{All}
+use Rattle.std.proofs.Common.{◌≡◌, ◌≢◌, ℕ, suc, ◌+◌, ◌<◌, ◌≤◌, ◌^◌, List, [], ◌∷◌, length, get_or, None, Some, is_some, true, false, refl, arith, ⊎_elim}
 use Rattle.std.proofs.lemmas.Bool.{cases_eq, cases_lt, cases_Bool, both_ways}
 use Rattle.wm_event.specs.declared.event.Event.{Event}
 use Rattle.wm_event.specs.declared.event.EventKey.{EventKey}
@@ -10,12 +9,12 @@ use Rattle.wm_event.specs.declared.log.ThreadLog.{ThreadLog}
 use Rattle.wm_event.specs.declared.TheConstants.{MAX_EVENTS}
 use Rattle.wm_event.specs.declared.shape_fault.ShapeFault.{ShapeFault}
 use Rattle.wm_event.specs.declared.shape_fault.ShapeFault.TheVariants.{WriterCount, WriterMissing, OrderNotPermutation, RangeOutOfMemory, ValueTooWide, TooManyEvents, OutOfMemory}
-use Rattle.wm_event.specs.First.{BeginsWith, FindsFirst, IsFirst, NoLater, Under}
+use Rattle.wm_event.specs.First.{FindsFirst, IsFirst, NoLater}
 use Rattle.wm_access.specs.AccessWidth.{bytes_of}
 use Rattle.wm_event.specs.Log.{event_in, HasKeys}
 use Rattle.wm_event.specs.LoggedRun.{LoggedRun}
 use Rattle.wm_event.specs.Witness.{writers_in}
-use Rattle.wm_event.specs.Shape.{Misshapes, IsBeforeOrder, IsWellShaped, IsGoodEvent, IsThere, InMemory, FitsWidth, ListsEachOnce, event_count, event_counts, writer_counts, read_width, shape_rank}
+use Rattle.wm_event.specs.Shape.{Misshapes, IsBeforeOrder, IsWellShaped, IsGoodEvent, IsThere, ListsEachOnce, event_count, event_counts, writer_counts, read_width, shape_rank}
 
 same_numbers : (xs ys : List ℕ) → ((xs ≡ ys → ⊥) → ⊥) → xs ≡ ys
 same_numbers [] [] h = refl

@@ -1,5 +1,5 @@
 //! Candidates: a log with a witness over the initial memory, checked for its shape.
-ghost use Rattle.std.specs.Prelude.{◌≡◌, ◌≢◌, ◌≤◌, ◌+◌, All, IfErr, IfOk, IfSome, OnOk, is_some, length, option_copied};
+ghost use Rattle.std.specs.Prelude.{◌≡◌, ◌≢◌, ◌<◌, ◌≤◌, ◌+◌, All, IfErr, IfOk, IfSome, OnOk, is_some, length, option_copied};
 
 use crate::draft::Draft;
 use crate::event::{Event, EventId, EventKey};
@@ -104,6 +104,7 @@ impl<'a> Candidate<'a> {
     pub fn place(&self, id: EventId) -> Option<usize>
         ensures there { is_some result ≡ is_some (event_at (execution self.now) id) }
         ensures value { IfSome result (λ n. place (execution self.now) id ≡ n + 1) }
+        ensures within { IfSome result (λ n. n < length self.now.witness.order) }
     {
         match id {
             EventId::Init => None,

@@ -1,6 +1,5 @@
-use Rattle.std.proofs.Common.{◌≡◌, ℕ, Some, None, refl, subst, rules}
+use Rattle.std.proofs.Common.{None, subst}
 use Rattle.wm_event.specs.First.{IsFirst, FindsFirst}
-use Rattle.wm_event.specs.Draft.{run_of}
 use Rattle.wm_event.specs.LoggedRun.{LoggedRun}
 use Rattle.wm_event.specs.Places.{ArePlaces}
 use Rattle.wm_event.specs.Shape.{IsBeforeOrder, IsWellShaped, ListsEachOnce, shape_rank}
