@@ -42,6 +42,11 @@ abbrev pub IsThere : List ThreadLog → EventId → Type 0
 IsThere log Init = Unit {0}
 IsThere log (At key) = IsSome (event_in log key)
 
+-- the order has that id there
+abbrev pub IsListedAt : List EventKey → ℕ → EventId → Type 0
+IsListedAt order n Init = ⊥
+IsListedAt order n (At key) = slice_get order n ≡ Some key
+
 -- the order lists each event, nothing else, and nothing twice
 pub record ListsEachOnce (log : List ThreadLog) (order : List EventKey) : Type 0 where
   pub listed : (key : EventKey) → IsSome (event_in log key) → (n : ℕ) × (slice_get order n ≡ Some key)

@@ -1,5 +1,5 @@
 //! Candidates: a log with a witness over the initial memory, checked for its shape.
-ghost use Rattle.std.specs.Prelude.{◌≡◌, ◌≢◌, ◌<◌, ◌≤◌, ◌+◌, All, IfErr, IfOk, IfSome, OnOk, is_some, length, option_copied};
+ghost use Rattle.std.specs.Prelude.{◌≡◌, ◌≢◌, ◌≤◌, ◌+◌, All, IfErr, IfOk, IfSome, OnOk, is_some, length, option_copied};
 
 use crate::draft::Draft;
 use crate::event::{Event, EventId, EventKey};
@@ -36,7 +36,7 @@ impl<'a> Candidate<'a> {
     ghost use Rattle.wm_event.specs.Execution.{byte_by, event_at, place};
     ghost use Rattle.wm_event.specs.First.{IsFirst};
     ghost use Rattle.wm_event.specs.LoggedRun.{execution};
-    ghost use Rattle.wm_event.specs.Shape.{IsThere, IsWellShaped, Misshapes, shape_rank};
+    ghost use Rattle.wm_event.specs.Shape.{IsListedAt, IsThere, IsWellShaped, ListsEachOnce, Misshapes, shape_rank};
     ghost use Rattle.wm_event.specs.Witness.{writers_in};
 
     /// A log with a witness, where its shape has no fault; else the first fault: too many events; the
@@ -78,7 +78,8 @@ impl<'a> Candidate<'a> {
 
     /// The witness.
     pub fn witness(&self) -> &Witness
-        ensures { result.now ≡ self.now.witness }
+        ensures value { result.now ≡ self.now.witness }
+        ensures order { ListsEachOnce self.now.log self.now.witness.order }
     {
         &self.witness
     }
@@ -104,7 +105,7 @@ impl<'a> Candidate<'a> {
     pub fn place(&self, id: EventId) -> Option<usize>
         ensures there { is_some result ≡ is_some (event_at (execution self.now) id) }
         ensures value { IfSome result (λ n. place (execution self.now) id ≡ n + 1) }
-        ensures within { IfSome result (λ n. n < length self.now.witness.order) }
+        ensures listed { IfSome result (λ n. IsListedAt self.now.witness.order n id) }
     {
         match id {
             EventId::Init => None,
