@@ -1,6 +1,5 @@
 -- The closure of the edges leads where something happens before something.
-use Rattle.std.proofs.Common.{◌≡◌, ℕ, zero, suc, ◌+◌, ◌<◌, List, [], ◌∷◌, Bool, true, length, get_or, Option, Some, IsSome, refl, sym, ap, ◌∙◌, subst, arith, ◌⊎◌, ⊎_elim}
-use Rattle.wm_event.specs.declared.event.EventKey.{EventKey}
+use Rattle.std.proofs.Common.{◌≡◌, ℕ, suc, ◌+◌, ◌<◌, List, [], ◌∷◌, Bool, true, length, get_or, Option, Some, IsSome, refl, sym, subst, arith, ⊎_elim}
 use Rattle.wm_event.specs.declared.event.EventId.{EventId}
 use Rattle.wm_event.specs.declared.event.EventId.TheVariants.{Init, At}
 use Rattle.wm_event.specs.declared.event.Event.{Event}

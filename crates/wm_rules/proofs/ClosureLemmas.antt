@@ -1,9 +1,9 @@
 -- What the steps of the closure keep, and that a closed row marks all that is reached.
 use Rattle.std.proofs.Common.{◌≡◌, ◌≢◌, ℕ, ◌+◌, ◌<◌, ◌≤◌, List, [], ◌∷◌, ◌++◌, Bool, true, false, length, refl, sym, ap, ◌∙◌, ◌||◌, subst, arith, ◌⊎◌, inl, inr, ⊎_elim, get_or, set, All}
-use Rattle.std.proofs.lemmas.Bool.{cases_Bool, cases_lt, cases_eq, both_ways}
+use Rattle.std.proofs.lemmas.Bool.{cases_lt, cases_eq, both_ways}
 use Rattle.std.proofs.lemmas.Grind.{common_steps}
 use Rattle.std.proofs.lemmas.List.{get_or-set_same, get_or-set_other}
-use Rattle.wm_rules.specs.Closure.{Chained, IsClosed, IsReachedFrom, MarksReached, Reaches, leads, marks, unmarked}
+use Rattle.wm_rules.specs.Closure.{Chained, IsClosed, IsReachedFrom, MarksReached, leads, marks, unmarked}
 use Rattle.wm_rules.specs.Joins.{Adds, Joins}
 
 marks-set : (row : List Bool) (to b : ℕ) → marks (set row to true) b ≡ true → (marks row b ≡ true) ⊎ (b ≡ to)

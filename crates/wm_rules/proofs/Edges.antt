@@ -1,6 +1,5 @@
 -- Ids by their places, and the rows of edges as a loop fills them.
-use Rattle.std.proofs.Common.{◌≡◌, ◌≢◌, ℕ, zero, suc, ◌+◌, ◌<◌, ◌≤◌, List, [], ◌∷◌, ◌++◌, Bool, true, false, IsTrue, length, get_or, slice_get, Option, None, Some, refl, add-one, sym, ap, ◌∙◌, subst, arith, ◌⊎◌, inl, inr, ⊎_elim, ◌↔◌, All}
-use Rattle.std.proofs.lemmas.Bool.{cases_lt, both_ways}
+use Rattle.std.proofs.Common.{◌≡◌, ℕ, zero, suc, ◌+◌, ◌<◌, List, [], ◌∷◌, ◌++◌, Bool, false, IsTrue, length, get_or, slice_get, Some, refl, add-one, sym, ap, ◌∙◌, subst, arith, ◌↔◌, All}
 use Rattle.std.proofs.lemmas.Option.{slice_get_within, slice_get-get_or, same_Some}
 use Rattle.std.proofs.lemmas.Grind.{common_steps}
 use Rattle.wm_event.specs.declared.event.EventKey.{EventKey}
@@ -10,7 +9,6 @@ use Rattle.wm_event.specs.Execution.{Execution}
 use Rattle.wm_event.specs.HappensBefore.{Edge}
 use Rattle.wm_event.specs.Shape.{IsListedAt, IsThere, ListsEachOnce}
 use Rattle.wm_event.specs.declared.log.ThreadLog.{ThreadLog}
-use Rattle.wm_rules.specs.Closure.{marks}
 use Rattle.wm_rules.specs.Nodes.{StandsAt, AreEdgesFrom, AreEdges}
 use Rattle.wm_rules.proofs.EachBelow.{EachBelow, each_more}
 

@@ -1,15 +1,15 @@
 -- What a fault of each rule says, and the first one at a byte.
-use Rattle.std.proofs.Common.{◌≡◌, ◌≢◌, ℕ, ◌+◌, ◌<◌, ◌≤◌, List, [], ◌∷◌, ◌++◌, Option, None, Some, arith, refl, sym, ap, subst, slice_get, ◌∙◌, IsSome}
+use Rattle.std.proofs.Common.{◌≡◌, ◌≢◌, ℕ, ◌+◌, ◌≤◌, [], ◌∷◌, Option, None, Some, arith, refl, sym, ap, subst, ◌∙◌, IsSome}
 use Rattle.std.proofs.lemmas.Option.{same_Some}
 use Rattle.wm_event.specs.declared.event.Event.{Event}
 use Rattle.wm_event.specs.declared.event.EventKey.{EventKey}
 use Rattle.wm_event.specs.declared.event.EventId.{EventId}
-use Rattle.wm_event.specs.declared.event.EventId.TheVariants.{Init, At}
+use Rattle.wm_event.specs.declared.event.EventId.TheVariants.{At}
 use Rattle.wm_event.specs.declared.rule.Rule.{Rule}
 use Rattle.wm_event.specs.declared.rule.Rule.TheVariants.{V1, V2, V3, V4, V5}
 use Rattle.wm_event.specs.declared.rule.RuleFault.{RuleFault}
 use Rattle.wm_event.specs.Byte.{byte_of}
-use Rattle.wm_event.specs.First.{NoLater, IsFirst, FindsFirst, BeginsWith, Under}
+use Rattle.wm_event.specs.First.{NoLater, IsFirst, Under}
 use Rattle.wm_event.specs.Execution.{Execution, ReadsFrom, byte_by, place}
 use Rattle.std.specs.Option.{option_map_or}
 use Rattle.wm_event.proofs.Scan.{NoLater-after}
@@ -47,7 +47,7 @@ third_case x r e k w b other written differs = record {
     none_before c (other_value is d h g) = (omega arith, λ _. tt)
 
 -- what is said of a read, its byte and its writer there is said of the same read and byte
-read_moves : (x : Execution) (Q : EventKey → Event → ℕ → EventId → Type 0) (r s : EventKey) (e d : Event) (k j : ℕ) (w v : EventId)
+pub read_moves : (x : Execution) (Q : EventKey → Event → ℕ → EventId → Type 0) (r s : EventKey) (e d : Event) (k j : ℕ) (w v : EventId)
     → s ≡ r → j ≡ k → x.event_of r ≡ Some e → x.event_of s ≡ Some d → ReadsFrom x r k w → ReadsFrom x s j v → Q s d j v → Q r e k w
 read_moves x Q r s e d k j w v sr jk there there' reads reads' q =
     let de : d ≡ e = same_Some d e (sym there' ∙ ap x.event_of sr ∙ there) in
@@ -93,3 +93,24 @@ rule_listed x f V5 h = some_of (x.event_of f.event) h.2.0 h.2.1
 -- a fault is at an event of the log
 pub fault_listed : (x : Execution) (f : RuleFault) → Breaks x f → IsSome (x.event_of f.event)
 fault_listed x f h = rule_listed x f f.rule h
+
+pub rule_three : (r : Rule) → rule_number r ≡ 3 → r ≡ V3
+rule_three V1 h = absurd (omega arith)
+rule_three V2 h = absurd (omega arith)
+rule_three V3 h = refl
+rule_three V4 h = absurd (omega arith)
+rule_three V5 h = absurd (omega arith)
+
+pub rule_four : (r : Rule) → rule_number r ≡ 4 → r ≡ V4
+rule_four V1 h = absurd (omega arith)
+rule_four V2 h = absurd (omega arith)
+rule_four V3 h = absurd (omega arith)
+rule_four V4 h = refl
+rule_four V5 h = absurd (omega arith)
+
+pub rule_five : (r : Rule) → rule_number r ≡ 5 → r ≡ V5
+rule_five V1 h = absurd (omega arith)
+rule_five V2 h = absurd (omega arith)
+rule_five V3 h = absurd (omega arith)
+rule_five V4 h = absurd (omega arith)
+rule_five V5 h = refl

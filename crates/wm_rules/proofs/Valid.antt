@@ -1,22 +1,20 @@
 -- Where no fault breaks a rule, the rule holds.
-use Rattle.std.proofs.Common.{◌≡◌, ◌≢◌, ℕ, zero, suc, ◌+◌, ◌-◌, ◌<◌, ◌≤◌, List, [], ◌∷◌, length, Option, None, Some, IsSome, arith, refl, sym, ap, subst, ◌∙◌, slice_get, ◌⊎◌, ⊎_elim}
+use Rattle.std.proofs.Common.{◌≡◌, ◌≢◌, ℕ, zero, suc, ◌+◌, ◌-◌, ◌<◌, ◌≤◌, List, [], ◌∷◌, Option, None, Some, IsSome, arith, refl, sym, subst, ⊎_elim}
 use Rattle.std.proofs.lemmas.Bool.{cases_eq, cases_lt}
-use Rattle.std.proofs.lemmas.Option.{slice_get_past, gets}
+use Rattle.std.proofs.lemmas.Option.{gets}
 use Rattle.std.proofs.lemmas.Grind.{common_steps}
-use Rattle.wm_event.specs.declared.event.Event.{Event}
 use Rattle.wm_event.specs.declared.event.EventKey.{EventKey}
 use Rattle.wm_event.specs.declared.event.EventId.{EventId}
 use Rattle.wm_event.specs.declared.event.EventId.TheVariants.{Init, At}
 use Rattle.wm_event.specs.declared.rule.Rule.TheVariants.{V1, V2}
-use Rattle.wm_event.specs.declared.rule.RuleFault.{RuleFault}
 use Rattle.wm_event.specs.declared.log.ThreadLog.{ThreadLog}
 use Rattle.wm_event.specs.Byte.{byte_of}
-use Rattle.wm_event.specs.Execution.{Execution, ReadsFrom, byte_by, place}
+use Rattle.wm_event.specs.Execution.{Execution, byte_by, place}
 use Rattle.wm_event.specs.Log.{event_in}
 use Rattle.wm_event.specs.LoggedRun.{LoggedRun, execution}
-use Rattle.wm_event.specs.HappensBefore.{Edge, Chain, HappensBefore, SequencedBefore, SynchronizesWith}
+use Rattle.wm_event.specs.HappensBefore.{Edge, Chain, SequencedBefore, SynchronizesWith}
 use Rattle.wm_event.specs.Rules.{ValuesRead, OrderAgrees}
-use Rattle.wm_event.specs.Faults.{Breaks, BreaksV1, reads_itself, not_written, other_value, in_thread, synchronized, rank}
+use Rattle.wm_event.specs.Faults.{BreaksV1, reads_itself, not_written, other_value, in_thread, synchronized}
 use Rattle.wm_rules.specs.Scan.{Finds}
 
 -- no fault of V1

@@ -27,7 +27,7 @@ fn reads_from(candidate: &Candidate, reader: EventKey, writer: EventId) -> bool
 }
 
 /// Whether a write and a read are atomic with equal ranges, and a byte of the read has that writer.
-fn synchronizes(candidate: &Candidate, writer: EventKey, reader: EventKey) -> bool
+pub fn synchronizes(candidate: &Candidate, writer: EventKey, reader: EventKey) -> bool
     ensures { IsTrue result ↔ SynchronizesWith (execution candidate.now) writer reader }
 {
     match (

@@ -8,6 +8,7 @@ ghost use Rattle.wm_event.specs.LoggedRun.{execution};
 ghost use Rattle.wm_event.specs.Shape.{IsThere};
 ghost use Rattle.wm_rules.specs.Scan.{Finds, IsEventOf};
 
+use crate::happens_before::synchronizes;
 use wm_event::{Candidate, Event, EventId, EventKey, Rule, RuleFault};
 
 /// Whether an event stands before another in the order. Init stands before all others.
@@ -20,20 +21,6 @@ pub fn stands_before(candidate: &Candidate, first: EventId, second: EventId) -> 
         (Some(first), Some(second)) => first < second,
         (None, Some(_)) => true,
         (_, None) => false,
-    }
-}
-
-/// Whether the writer of a byte of a read synchronizes with it.
-fn synchronizes(candidate: &Candidate, writer: EventKey, event: &Event, byte: u8) -> bool
-    requires listed { IsEventOf (execution candidate.now) event.now }
-    requires writer { ReadsFrom (execution candidate.now) (key_of event.now) byte (At writer) }
-    ensures { IsTrue result ↔ SynchronizesWith (execution candidate.now) writer (key_of event.now) }
-{
-    match candidate.event(EventId::At(writer)) {
-        Some(written) => {
-            written.is_atomic() && event.is_atomic() && written.range() == event.range()
-        }
-        None => false,
     }
 }
 
@@ -74,7 +61,7 @@ fn writer_fault_at(
     let EventId::At(key) = writer else {
         return None;
     };
-    if !synchronizes(candidate, key, event, byte)
+    if !synchronizes(candidate, key, event.key())
         || stands_before(candidate, writer, EventId::At(event.key()))
     {
         return None;

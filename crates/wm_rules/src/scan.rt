@@ -1,36 +1,43 @@
 //! The scan of all events, by one rule after the other.
-ghost use Rattle.std.specs.Prelude.{◌≡◌, ◌<◌, [], ◌∷◌, IfOk, IsOk, length};
-ghost use Rattle.wm_event.specs.Faults.{IsEarly, Judges, rule_number};
+ghost use Rattle.std.specs.Prelude.{◌≡◌, ◌<◌, [], ◌∷◌, IfOk, length};
+ghost use Rattle.wm_event.specs.Faults.{Judges, rule_number};
 ghost use Rattle.wm_event.specs.LoggedRun.{execution};
 ghost use Rattle.wm_rules.specs.Scan.{Finds, IsEventOf};
 
+use crate::coherence::coherence_fault;
+use crate::consistency::consistency_fault;
+use crate::happens_before::HappensBefore;
 use crate::order::order_fault;
+use crate::tearing::tearing_fault;
 use crate::value::value_fault;
 use std::alloc::AllocError;
 use wm_event::{Candidate, Event, Judgement, Rule, RuleFault};
 
+/// The rules, in the order in which they are judged.
+const RULES: [Rule; 5] = [Rule::V1, Rule::V2, Rule::V3, Rule::V4, Rule::V5];
+
 /// The first fault of an event by a rule.
-fn fault_at_event(candidate: &Candidate, rule: Rule, event: &Event) -> Option<RuleFault>
-    requires early { IsEarly rule }
-    requires listed { IsEventOf (execution candidate.now) event.now }
-    ensures { Finds (execution candidate.now) (rule_number rule ∷ event.now.thread ∷ event.now.number ∷ []) result }
+fn fault_at_event(before: &HappensBefore, rule: Rule, event: &Event) -> Option<RuleFault>
+    requires { IsEventOf (execution before.now) event.now }
+    ensures { Finds (execution before.now) (rule_number rule ∷ event.now.thread ∷ event.now.number ∷ []) result }
 {
     match rule {
-        Rule::V1 => value_fault(candidate, event),
-        Rule::V2 => order_fault(candidate, event),
-        Rule::V3 | Rule::V4 | Rule::V5 => unreachable!(),
+        Rule::V1 => value_fault(before.candidate(), event),
+        Rule::V2 => order_fault(before.candidate(), event),
+        Rule::V3 => coherence_fault(before, event),
+        Rule::V4 => tearing_fault(before.candidate(), event),
+        Rule::V5 => consistency_fault(before, event),
     }
 }
 
 /// The first fault in a thread by a rule.
-fn fault_in_thread(candidate: &Candidate, rule: Rule, thread: usize) -> Option<RuleFault>
-    requires early { IsEarly rule }
-    requires there { thread < length candidate.now.log }
-    ensures { Finds (execution candidate.now) (rule_number rule ∷ thread ∷ []) result }
+fn fault_in_thread(before: &HappensBefore, rule: Rule, thread: usize) -> Option<RuleFault>
+    requires { thread < length before.now.log }
+    ensures { Finds (execution before.now) (rule_number rule ∷ thread ∷ []) result }
 {
-    let log = &candidate.log().threads()[thread];
+    let log = &before.candidate().log().threads()[thread];
     for event in log.events.as_slice() {
-        let fault = fault_at_event(candidate, rule, event);
+        let fault = fault_at_event(before, rule, event);
         if fault.is_some() {
             return fault;
         }
@@ -39,12 +46,11 @@ fn fault_in_thread(candidate: &Candidate, rule: Rule, thread: usize) -> Option<R
 }
 
 /// The first fault by a rule.
-fn fault_by_rule(candidate: &Candidate, rule: Rule) -> Option<RuleFault>
-    requires { IsEarly rule }
-    ensures { Finds (execution candidate.now) (rule_number rule ∷ []) result }
+fn fault_by_rule(before: &HappensBefore, rule: Rule) -> Option<RuleFault>
+    ensures { Finds (execution before.now) (rule_number rule ∷ []) result }
 {
-    for thread in 0..candidate.log().threads().len() {
-        let fault = fault_in_thread(candidate, rule, thread);
+    for thread in 0..before.candidate().log().threads().len() {
+        let fault = fault_in_thread(before, rule, thread);
         if fault.is_some() {
             return fault;
         }
@@ -52,17 +58,28 @@ fn fault_by_rule(candidate: &Candidate, rule: Rule) -> Option<RuleFault>
     None
 }
 
-/// Whether the first two rules permit a run: Valid where both hold, else the first fault.
+/// The first fault by any rule.
+fn first_fault(before: &HappensBefore) -> Option<RuleFault>
+    ensures { Finds (execution before.now) [] result }
+{
+    for rule in RULES {
+        let fault = fault_by_rule(before, rule);
+        if fault.is_some() {
+            return fault;
+        }
+    }
+    None
+}
+
+/// Whether the memory rules permit a run: Valid where all five hold, else the first fault, which is the
+/// least by rule, event, byte, case and the place of the other write in the order.
 ///
 /// An error comes only where memory was refused.
-pub fn judge(_rt: &impl AllocGlobal, candidate: &Candidate) -> Result<Judgement, AllocError>
+pub fn judge(rt: &impl AllocGlobal, candidate: &Candidate) -> Result<Judgement, AllocError>
     ensures judged { IfOk result (λ judgement. Judges (execution candidate.now) judgement) }
-    ensures answers { IsOk result }
 {
-    if let Some(fault) = fault_by_rule(candidate, Rule::V1) {
-        return Ok(Judgement::Broken(fault));
-    }
-    match fault_by_rule(candidate, Rule::V2) {
+    let before = HappensBefore::of(rt.alloc(), candidate)?;
+    match first_fault(&before) {
         Some(fault) => Ok(Judgement::Broken(fault)),
         None => Ok(Judgement::Valid),
     }

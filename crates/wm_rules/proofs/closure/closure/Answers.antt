@@ -1,5 +1,5 @@
 -- A row more, and what all of them say.
-use Rattle.std.proofs.Common.{[], rules}
+use Rattle.std.proofs.Common.{[]}
 use Rattle.wm_rules.specs.Closure.{IsReachedFrom}
 use Rattle.wm_rules.proofs.EachBelow.{each_none, each_more}
 use Rattle.wm_rules.proofs.closure.closure.Goals as goal

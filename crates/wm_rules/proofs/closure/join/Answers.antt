@@ -1,7 +1,7 @@
 -- A marked number adds what its row marks, and another one nothing.
-use Rattle.std.proofs.Common.{◌≡◌, ◌||◌, ℕ, ◌+◌, ◌<◌, List, [], Bool, true, false, length, get_or, ap, ◌∙◌, sym, subst, arith, rules, All}
+use Rattle.std.proofs.Common.{◌≡◌, ◌||◌, ℕ, ◌+◌, ◌<◌, List, [], Bool, true, length, get_or, ap, subst, arith, rules, All}
 use Rattle.std.proofs.lemmas.Grind.{common_steps}
-use Rattle.wm_rules.specs.Closure.{leads, marks}
+use Rattle.wm_rules.specs.Closure.{marks}
 use Rattle.wm_rules.specs.Joins.{Adds}
 use Rattle.wm_rules.proofs.ClosureLemmas.{JoinsBelow, joins_more, joins_on, marks_inside, row_size}
 use Rattle.wm_rules.proofs.closure.join.Goals as goal

@@ -1,7 +1,4 @@
 -- What the numbers so far lead to is marked.
-use Rattle.std.proofs.Common.{◌≡◌, ℕ, ◌<◌, true, false}
-use Rattle.wm_rules.specs.Closure.{leads, marks}
-use Rattle.wm_rules.specs.Joins.{Joins}
 use Rattle.wm_rules.proofs.ClosureLemmas.{JoinsBelow}
 use Rattle.wm_rules.proofs.closure.join.Given as goal
 

@@ -1,9 +1,8 @@
 -- Where nothing is new, the row is closed.
-use Rattle.std.proofs.Common.{◌≡◌, ◌++◌, List, [], Bool, ℕ, length, subst, ◌∙◌, ap, sym, rules, arith, take, drop, refl}
-use Rattle.std.proofs.lemmas.Grind.{common_steps}
+use Rattle.std.proofs.Common.{◌≡◌, ◌++◌, List, Bool, ℕ, length, subst, ◌∙◌, ap, sym, rules, take, drop}
 use Rattle.std.proofs.Math.Seq.{take-append_seam}
 use Rattle.wm_rules.specs.Closure.{IsClosed, IsReachedFrom}
-use Rattle.wm_rules.proofs.ClosureLemmas.{Grows, grows_closed}
+use Rattle.wm_rules.proofs.ClosureLemmas.{grows_closed}
 use Rattle.wm_rules.proofs.closure.reached_from.Goals as goal
 
 -- a write of the whole leaves what was written

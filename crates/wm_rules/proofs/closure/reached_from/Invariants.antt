@@ -1,6 +1,5 @@
 -- The row marks the first steps, and nothing but what chains lead to.
-use Rattle.std.proofs.Common.{◌≡◌, ℕ, length, true}
-use Rattle.wm_rules.specs.Closure.{leads, marks, unmarked, MarksReached}
+use Rattle.wm_rules.specs.Closure.{unmarked}
 use Rattle.wm_rules.proofs.ClosureLemmas.{Grows}
 use Rattle.wm_rules.proofs.closure.reached_from.Given as goal
 

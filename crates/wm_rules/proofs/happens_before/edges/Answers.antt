@@ -1,5 +1,5 @@
 -- A row more, and all of them.
-use Rattle.std.proofs.Common.{◌≡◌, ◌+◌, ◌<◌, ℕ, List, [], Bool, length, rules, arith, subst, ap}
+use Rattle.std.proofs.Common.{◌≡◌, ◌+◌, ℕ, [], length, rules, arith, subst, ap}
 use Rattle.wm_event.specs.LoggedRun.{execution}
 use Rattle.wm_rules.proofs.EachBelow.{EachBelow}
 use Rattle.wm_rules.proofs.Edges.{IsRowOf, all_edges, listed_there, row_more}

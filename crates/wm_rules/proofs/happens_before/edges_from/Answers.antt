@@ -1,6 +1,5 @@
 -- A place more, and the whole row.
-use Rattle.std.proofs.Common.{◌≡◌, ◌+◌, ◌<◌, ℕ, List, Bool, false, length, rules, arith, subst, ap, sym, ◌∙◌}
-use Rattle.wm_event.specs.declared.event.EventKey.{EventKey}
+use Rattle.std.proofs.Common.{◌≡◌, ◌+◌, ℕ, false, length, rules, arith, subst, ap}
 use Rattle.wm_event.specs.LoggedRun.{execution}
 use Rattle.wm_rules.proofs.EachBelow.{EachBelow}
 use Rattle.wm_rules.proofs.Edges.{IsEdgeTo, edge_more, edges_from}

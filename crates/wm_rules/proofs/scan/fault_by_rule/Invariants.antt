@@ -6,4 +6,4 @@ use Rattle.wm_rules.proofs.scan.fault_by_rule.Given as goal
 
 -- the threads so far have no fault
 abbrev pub invariant-loop-thread : goal.invariant-loop-thread
-invariant-loop-thread l = NoneBelow (rank (execution l.candidate)) (Breaks (execution l.candidate)) (rule_number l.rule ∷ []) l.thread
+invariant-loop-thread l = NoneBelow (rank (execution l.before)) (Breaks (execution l.before)) (rule_number l.rule ∷ []) l.thread

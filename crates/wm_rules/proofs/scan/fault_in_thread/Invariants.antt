@@ -6,4 +6,4 @@ use Rattle.wm_rules.proofs.scan.fault_in_thread.Given as goal
 
 -- the events so far have no fault
 abbrev pub invariant-loop-event : goal.invariant-loop-event
-invariant-loop-event l = NoneBelow (rank (execution l.candidate)) (Breaks (execution l.candidate)) (rule_number l.rule ∷ l.thread ∷ []) l.event-index
+invariant-loop-event l = NoneBelow (rank (execution l.before)) (Breaks (execution l.before)) (rule_number l.rule ∷ l.thread ∷ []) l.event-index

@@ -1,10 +1,18 @@
--- Where no fault of the two rules is found, both hold.
-use Rattle.wm_event.specs.LoggedRun.{execution}
-use Rattle.wm_rules.proofs.Valid.{has_earlier, order_agrees, values_read}
+-- What the scan finds is the first fault, and where it finds none the run is valid.
+use Rattle.std.proofs.Common.{None, Some, [], subst}
+use Rattle.wm_event.specs.LoggedRun.{LoggedRun, execution}
+use Rattle.wm_rules.specs.Scan.{Finds}
+use Rattle.wm_rules.proofs.CaseLemmas.{of_all}
+use Rattle.wm_rules.proofs.ValidLaws.{is_valid}
 use Rattle.wm_rules.proofs.scan.judge.Goals as goal
 
-pub returns-in-None-clause-judged : goal.returns-in-None-clause-judged
-returns-in-None-clause-judged g c = (
-  values_read (execution c.args.candidate.now) (λ f u. c.in_default.ensures f u),
-  order_agrees (execution c.args.candidate.now) (has_earlier c.args.candidate.now) c.in-None.ensures,
-)
+pub returns-in-Some : goal.returns-in-Some
+returns-in-Some g c = record {
+  judged = of_all (execution c.args.candidate.now) c.in-Some.fault
+      (subst (λ (run : LoggedRun). Finds (execution run) [] (Some c.in-Some.fault)) c.in_ok-before.ensures c.in-Some.ensures);
+}
+
+pub returns : goal.returns
+returns g c = record {
+  judged = is_valid c.args.candidate.now (subst (λ (run : LoggedRun). Finds (execution run) [] None) c.in_ok-before.ensures c.in-None.ensures);
+}

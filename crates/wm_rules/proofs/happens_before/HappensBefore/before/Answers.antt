@@ -1,6 +1,5 @@
 -- Nothing happens before or after what isn't there.
 use Rattle.std.proofs.Common.{rules}
-use Rattle.wm_event.specs.LoggedRun.{execution}
 use Rattle.wm_rules.proofs.Before.{before_from, before_to}
 use Rattle.wm_rules.proofs.happens_before.HappensBefore.before.Goals as goal
 
