@@ -1,0 +1,4 @@
+pub mod Sums
+pub mod Digits
+pub mod Counts
+pub mod Rotation

@@ -1,0 +1,5 @@
+pub mod Number
+pub mod Binary
+pub mod Unary
+pub mod Comparison
+pub mod Conversion
