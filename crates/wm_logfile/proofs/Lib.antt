@@ -1,0 +1,10 @@
+pub mod Steps
+pub mod Lists
+pub mod Loop
+pub mod Format
+pub mod Leaves
+pub mod Events
+pub mod Threads
+pub mod Whole
+pub mod Answer
+pub mod Once

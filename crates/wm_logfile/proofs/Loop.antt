@@ -1,0 +1,45 @@
+-- Reading the items of a list one after the other, as a loop does.
+use Rattle.std.proofs.Common.{◌≡◌, ℕ, suc, ◌+◌, ◌<◌, ◌≤◌, List, [], ◌∷◌, ◌++◌, length, get_or, drop, map, Option, Some, None, refl, sym, ap, ◌∙◌, append_assoc, add-one, drop-cons}
+use Rattle.std.proofs.lemmas.List.{append-nil}
+use Rattle.std.proofs.Math.ListN.{drop_of_length-le}
+use Rattle.serde_json.specs.Data.{Data}
+use Rattle.serde_json.specs.View.{view}
+use Rattle.serde_json.specs.declared.value.Value.{Value}
+use Rattle.wm_logfile.specs.declared.fault.ReadFault.{ReadFault}
+use Rattle.wm_logfile.specs.declared.fault.ReadFault.TheVariants.{Shape, Range, Memory}
+use Rattle.wm_logfile.specs.Faults.{Refuses}
+use Rattle.wm_logfile.specs.Reading.{◌>>=◌, traverse}
+
+-- what was read before, and what is still read
+abbrev pub with_front : {A : Type 0} → List A → Option (List A) → Option (List A)
+with_front front read = read >>= λ rest. Some (front ++ rest)
+
+regroup : {A : Type 0} (front : List A) (a : A) (read : Option (List A)) → with_front front (read >>= λ rest. Some (a ∷ rest)) ≡ with_front (front ++ a ∷ []) read
+regroup front a None = refl
+regroup front a (Some rest) = ap (λ (xs : List _). Some xs) (simp append_assoc)
+
+pub goes_on : {A : Type 0} (f : ℕ → Data → Option A) (front : List A) (i : ℕ) (vs : List Value) (v : Value) (a : A) (total : Option (List A)) → i < length vs → v ≡ get_or vs i v → f i (view v) ≡ Some a
+    → with_front front (traverse f i (map view (drop i vs))) ≡ total → with_front (front ++ a ∷ []) (traverse f (i + 1) (map view (drop (i + 1) vs))) ≡ total
+goes_on f front i vs v a total lt is h so_far =
+    let cells : drop i vs ≡ v ∷ drop (suc i) vs = drop-cons vs i v lt ∙ rw (← is) refl in
+    let one : with_front front (traverse f i (map view (drop i vs))) ≡ with_front (front ++ a ∷ []) (traverse f (suc i) (map view (drop (suc i) vs))) = rw (cells, h) (regroup front a (traverse f (suc i) (map view (drop (suc i) vs)))) in
+    rw add-one (sym one ∙ so_far)
+
+ends_none : {A : Type 0} (f : ℕ → Data → Option A) (front : List A) (i : ℕ) (vs : List Value) (v : Value) (total : Option (List A)) → i < length vs → v ≡ get_or vs i v → f i (view v) ≡ None
+    → with_front front (traverse f i (map view (drop i vs))) ≡ total → total ≡ None
+ends_none f front i vs v total lt is h so_far =
+    let cells : drop i vs ≡ v ∷ drop (suc i) vs = drop-cons vs i v lt ∙ rw (← is) refl in
+    let one : with_front front (traverse f i (map view (drop i vs))) ≡ None = rw (cells, h) refl in
+    sym so_far ∙ one
+
+pub ends : {A : Type 0} (e : ReadFault) (f : ℕ → Data → Option A) (front : List A) (i : ℕ) (vs : List Value) (v : Value) (total : Option (List A)) → i < length vs → v ≡ get_or vs i v → Refuses e (f i (view v))
+    → with_front front (traverse f i (map view (drop i vs))) ≡ total → Refuses e total
+ends Memory f front i vs v total lt is h so_far = tt
+ends (Shape p) f front i vs v total lt is h so_far = ends_none f front i vs v total lt is h so_far
+ends (Range p) f front i vs v total lt is h so_far = ends_none f front i vs v total lt is h so_far
+
+pub is_done : {A : Type 0} (f : ℕ → Data → Option A) (front : List A) (i : ℕ) (vs : List Value) (total : Option (List A)) → length vs ≤ i → with_front front (traverse f i (map view (drop i vs))) ≡ total → total ≡ Some front
+is_done {A} f front i vs total le so_far =
+    let nothing : drop i vs ≡ [] = drop_of_length-le vs le in
+    let one : with_front front (traverse f i (map view (drop i vs))) ≡ Some front = rw nothing (ap (λ (xs : List A). Some xs) (append-nil front)) in
+    sym so_far ∙ one

@@ -1,0 +1,20 @@
+use Rattle.std.proofs.Common.{arith}
+use Rattle.serde_json.specs.View.{view}
+use Rattle.wm_logfile.proofs.Answer.{spelled, within, only, refused}
+use Rattle.wm_logfile.proofs.document.read_document.Goals as goal
+
+pub returns-in-Ok-clause-spelled : goal.returns-in-Ok-clause-spelled
+returns-in-Ok-clause-spelled c =
+    spelled c.args.bytes.now (view c.in-Ok.value) c.document_of.result (record { utf8 = c.in-Ok.ensures.ok.0; text = c.in-Ok.ensures.ok.1; given = c.document_of.ensures.given })
+
+pub returns-in-Ok-clause-within : goal.returns-in-Ok-clause-within
+returns-in-Ok-clause-within c =
+    within c.args.bytes.now (view c.in-Ok.value) c.document_of.result (omega arith) (record { utf8 = c.in-Ok.ensures.ok.0; text = c.in-Ok.ensures.ok.1; given = c.document_of.ensures.given })
+
+pub returns-in-Ok-clause-only : goal.returns-in-Ok-clause-only
+returns-in-Ok-clause-only c =
+    only c.args.bytes.now (view c.in-Ok.value) c.document_of.result (record { utf8 = c.in-Ok.ensures.ok.0; text = c.in-Ok.ensures.ok.1; given = c.document_of.ensures.given })
+
+pub returns-in-Ok-clause-refused : goal.returns-in-Ok-clause-refused
+returns-in-Ok-clause-refused c =
+    refused c.args.bytes.now (view c.in-Ok.value) c.document_of.result (record { utf8 = c.in-Ok.ensures.ok.0; text = c.in-Ok.ensures.ok.1; given = c.document_of.ensures.given })

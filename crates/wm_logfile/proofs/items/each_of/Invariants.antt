@@ -1,0 +1,8 @@
+use Rattle.std.proofs.Common.{◌≡◌, map, drop}
+use Rattle.serde_json.specs.View.{view}
+use Rattle.wm_logfile.specs.Reading.{traverse}
+use Rattle.wm_logfile.proofs.Loop.{with_front}
+use Rattle.wm_logfile.proofs.items.each_of.Given as goal
+
+abbrev pub invariant-loop-index : goal.invariant-loop-index
+invariant-loop-index g l = with_front l.found.items (traverse (g.R.ItemReader.reads l.reader) l.index (map view (drop l.index l.values))) ≡ traverse (g.R.ItemReader.reads l.reader) 0 (map view l.values)

@@ -1,0 +1,146 @@
+-- The value that a log with a witness is spelled by, the limits, and the text.
+use Rattle.std.specs.Prelude.{◌≡◌, ◌<◌, ◌≤◌, ◌⊎◌, ◌^◌, ℕ, List, [], ◌∷◌, map, length, codes, Some, None, Option, ⊤, IsUtf8, IfSome, All}
+use Rattle.serde_json.specs.Data.{Data, number, string, array, unsigned}
+use Rattle.serde_json.specs.Read.{read}
+use Rattle.serde_json.specs.View.{items_of}
+use Rattle.wm_access.specs.AccessWidth.{bytes_of}
+use Rattle.wm_event.specs.declared.event.EventKind.{EventKind}
+use Rattle.wm_event.specs.declared.event.EventKind.TheVariants.{Read, Write, Update}
+use Rattle.wm_event.specs.declared.event.Event.{Event}
+use Rattle.wm_event.specs.declared.event.EventId.{EventId}
+use Rattle.wm_event.specs.declared.event.EventId.TheVariants.{Init, At}
+use Rattle.wm_event.specs.declared.event.EventKey.{EventKey}
+use Rattle.wm_event.specs.declared.log.End.{End}
+use Rattle.wm_event.specs.declared.log.End.TheVariants.{Done, Trap, Cut}
+use Rattle.wm_event.specs.declared.log.ThreadLog.{ThreadLog}
+use Rattle.wm_event.specs.declared.witness.Witness.{Witness}
+use Rattle.wm_logfile.specs.declared.TheConstants.{MAX_DOCUMENT_BYTES, MAX_THREADS, MAX_STEPS}
+use Rattle.wm_logfile.specs.Words.{kind_word, order_word, trap_word}
+
+-- ---- the value
+
+-- the array of these values
+abbrev pub list : List Data → Data
+list ds = array (items_of ds)
+
+-- a whole number that is not negative
+abbrev pub count : ℕ → Data
+count n = number (unsigned n)
+
+-- the values that an event of the kind ends with
+abbrev pub values : EventKind → ℕ → ℕ → List Data
+values Read read written = count read ∷ []
+values Write read written = count written ∷ []
+values Update read written = count read ∷ count written ∷ []
+
+abbrev pub event_cells : Event → List Data
+event_cells e = string (kind_word e.kind) ∷ string (order_word e.order) ∷ count e.address ∷ count (bytes_of e.width) ∷ values e.kind e.read e.written
+
+abbrev pub event : Event → Data
+event e = list (event_cells e)
+
+abbrev pub result_cells : Option ℕ → List Data
+result_cells None = []
+result_cells (Some v) = count v ∷ []
+
+abbrev pub end_cells : End → List Data
+end_cells (Done result) = string (codes "done") ∷ list (result_cells result) ∷ []
+end_cells (Trap kind) = string (codes "trap") ∷ string (trap_word kind) ∷ []
+end_cells Cut = string (codes "cut") ∷ []
+
+abbrev pub end : End → Data
+end e = list (end_cells e)
+
+abbrev pub thread_cells : ThreadLog → List Data
+thread_cells l = string l.start.name ∷ list (map count l.start.args) ∷ end l.end ∷ count l.steps ∷ list (map event l.events) ∷ []
+
+abbrev pub thread : ThreadLog → Data
+thread l = list (thread_cells l)
+
+abbrev pub key_cells : EventKey → List Data
+key_cells key = count key.thread ∷ count key.number ∷ []
+
+abbrev pub event_key : EventKey → Data
+event_key key = list (key_cells key)
+
+abbrev pub writer_cells : EventId → List Data
+writer_cells Init = []
+writer_cells (At key) = key_cells key
+
+abbrev pub writer : EventId → Data
+writer w = list (writer_cells w)
+
+abbrev pub event_writers : List EventId → Data
+event_writers ws = list (map writer ws)
+
+abbrev pub thread_writers : List (List EventId) → Data
+thread_writers ws = list (map event_writers ws)
+
+abbrev pub writers : List (List (List EventId)) → Data
+writers ws = list (map thread_writers ws)
+
+abbrev pub witness_cells : Witness → List Data
+witness_cells w = writers w.writers ∷ list (map event_key w.order) ∷ []
+
+abbrev pub witness : Witness → Data
+witness w = list (witness_cells w)
+
+-- the value of version 1
+abbrev pub document : List ThreadLog → Witness → Data
+document log w = list (string (codes "wasm-litmus-log") ∷ count 1 ∷ list (map thread log) ∷ witness w ∷ [])
+
+-- ---- the limits
+
+-- the numbers of an event, also its place in its thread, are in their ranges
+pub record EventFits (e : Event) : Type 0 where
+  pub number : e.number < 2 ^ 32
+  pub address : e.address < 2 ^ 32
+  pub read : e.read < 2 ^ 64
+  pub written : e.written < 2 ^ 64
+
+abbrev pub EndFits : End → Type 0
+EndFits (Done result) = IfSome result (λ v. v < 2 ^ 64)
+EndFits (Trap kind) = ⊤
+EndFits Cut = ⊤
+
+pub record ThreadFits (l : ThreadLog) : Type 0 where
+  pub args : All (λ a. a < 2 ^ 64) l.start.args
+  pub end : EndFits l.end
+  pub steps : l.steps ≤ MAX_STEPS
+  pub events : All EventFits l.events
+
+pub record KeyFits (key : EventKey) : Type 0 where
+  pub thread : key.thread < 2 ^ 32
+  pub number : key.number < 2 ^ 32
+
+-- Init has no number
+abbrev pub WriterFits : EventId → Type 0
+WriterFits Init = ⊤
+WriterFits (At key) = KeyFits key
+
+-- the ranges of the numbers that a document may hold, and at most so many threads
+pub record IsWithinLimits (log : List ThreadLog) (w : Witness) : Type 0 where
+  pub threads : length log ≤ MAX_THREADS
+  pub each : All ThreadFits log
+  pub writers : All (All (All WriterFits)) w.writers
+  pub order : All KeyFits w.order
+
+-- ---- the text
+
+-- the bytes are JSON text of the value
+pub record Spells (bytes : List ℕ) (log : List ThreadLog) (w : Witness) : Type 0 where
+  pub utf8 : IsUtf8 bytes
+  pub value : read bytes ≡ Some (document log w)
+
+-- the value lists more threads than a document may have
+pub record HasTooManyThreads (d : Data) : Type 0 where
+  pub name : Data
+  pub version : Data
+  pub threads : List Data
+  pub witness_value : Data
+  pub is : d ≡ list (name ∷ version ∷ list threads ∷ witness_value ∷ [])
+  pub many : MAX_THREADS < length threads
+
+-- past the limit of bytes, or JSON text past the limit of threads
+abbrev pub IsTooLarge : List ℕ → Type 0
+IsTooLarge bytes = (MAX_DOCUMENT_BYTES < length bytes) ⊎ ((d : Data) × (read bytes ≡ Some d) × HasTooManyThreads d)

@@ -1,0 +1,11 @@
+-- How a path prints: each index behind a slash, and a lone slash for the whole.
+use Rattle.std.specs.Prelude.{ℕ, List, [], ◌∷◌, ◌++◌, codes}
+use Rattle.std.specs.Fmt.{decimal}
+
+abbrev pub steps_text : List ℕ → List ℕ
+steps_text [] = []
+steps_text (index ∷ rest) = codes "/" ++ (decimal index ++ steps_text rest)
+
+abbrev pub path_text : List ℕ → List ℕ
+path_text [] = codes "/"
+path_text (index ∷ rest) = steps_text (index ∷ rest)

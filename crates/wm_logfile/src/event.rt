@@ -1,0 +1,124 @@
+//! The reader of an event.
+ghost use Rattle.std.specs.Prelude.{◌≡◌, map};
+ghost use Rattle.serde_json.specs.View.{view};
+ghost use Rattle.wm_logfile.specs.Faults.{Gives};
+ghost use Rattle.wm_logfile.specs.Reading.{event_at, fields_at, values_at, order_for, values_len, number_event_at};
+
+use crate::fault::ReadFault;
+use crate::fields::{kind_of, list_of, number_of, order_of, width_of};
+use crate::items::ItemReader;
+use crate::path::Path;
+use serde_json::Value;
+use std::alloc::Global;
+use wm_access::MemoryOrder;
+use wm_event::{Event, EventKind};
+
+/// With how many values an event of the kind ends.
+fn value_count(kind: EventKind) -> usize
+    ensures { result ≡ values_len kind }
+{
+    match kind {
+        EventKind::Read | EventKind::Write => 1,
+        EventKind::Update => 2,
+    }
+}
+
+/// The ordering of an event of the kind. An update is SeqCst.
+fn order_for(kind: EventKind, value: &Value, path: &Path) -> Result<MemoryOrder, ReadFault>
+    ensures { Gives (λ o. o) result (order_for kind (view value.now)) }
+{
+    let order = order_of(value, path)?;
+    if kind == EventKind::Update && order == MemoryOrder::Unordered {
+        return Err(ReadFault::Shape(path.copied()));
+    }
+    Ok(order)
+}
+
+/// What was read, and what was written.
+fn values_of(kind: EventKind, values: &[Value], path: &Path) -> Result<(u64, u64), ReadFault>
+    ensures { Gives (λ p. (p.0, p.1)) result (values_at kind (map view values.now)) }
+{
+    match (kind, values) {
+        (EventKind::Read, [value]) => {
+            let read = number_of(value, u64::MAX, &path.child(4))?;
+            Ok((read, 0))
+        }
+        (EventKind::Write, [value]) => {
+            let written = number_of(value, u64::MAX, &path.child(4))?;
+            Ok((0, written))
+        }
+        (EventKind::Update, [first, second]) => {
+            let read = number_of(first, u64::MAX, &path.child(4))?;
+            let written = number_of(second, u64::MAX, &path.child(5))?;
+            Ok((read, written))
+        }
+        _ => Err(ReadFault::Shape(path.copied())),
+    }
+}
+
+/// The event of these fields. A length that no kind has is faulted before the kind.
+#[tactic(auto, unfolding(crate::specs::Reading::fields_at))]
+fn event_of_fields(
+    fields: &[Value],
+    thread: u32,
+    number: u32,
+    path: &Path,
+) -> Result<Event, ReadFault>
+    ensures { Gives (λ e. e) result (fields_at thread number (map view fields.now)) }
+{
+    let [tag, order, address, width, values @ ..] = fields else {
+        return Err(ReadFault::Shape(path.copied()));
+    };
+    if values.len() != 1 && values.len() != 2 {
+        return Err(ReadFault::Shape(path.copied()));
+    }
+    let kind = kind_of(tag, &path.child(0))?;
+    if values.len() != value_count(kind) {
+        return Err(ReadFault::Shape(path.copied()));
+    }
+    let order = order_for(kind, order, &path.child(1))?;
+    let address = number_of(address, u32::MAX as u64, &path.child(2))? as u32;
+    let width = width_of(width, &path.child(3))?;
+    let (read, written) = values_of(kind, values, path)?;
+    Ok(Event {
+        thread,
+        number,
+        kind,
+        order,
+        address,
+        width,
+        read,
+        written,
+    })
+}
+
+/// The event that this value spells at that place.
+fn event_of(value: &Value, thread: u32, number: u32, path: &Path) -> Result<Event, ReadFault>
+    ensures { Gives (λ e. e) result (event_at thread number (view value.now)) }
+{
+    let fields = list_of(value, path)?;
+    event_of_fields(fields, thread, number, path)
+}
+
+/// Reads an event of a thread.
+#[derive(Clone, Copy)]
+pub(crate) struct EventReader {
+    pub(crate) thread: u32,
+}
+
+impl ItemReader<Event> for EventReader {
+    ghost reads = { λ r n d. number_event_at r.thread n d };
+
+    fn read(
+        &self,
+        _alloc: Global,
+        value: &Value,
+        index: usize,
+        path: &Path,
+    ) -> Result<Event, ReadFault> {
+        if index > u32::MAX as usize {
+            return Err(ReadFault::Range(path.copied()));
+        }
+        event_of(value, self.thread, index as u32, path)
+    }
+}

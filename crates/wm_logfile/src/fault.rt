@@ -1,0 +1,105 @@
+//! Why a document was not read.
+ghost use Rattle.std.specs.Prelude.{◌≡◌, Some};
+ghost use Rattle.wm_logfile.specs.declared.fault.DocFault.TheVariants.{OutOfMemory};
+ghost use Rattle.wm_logfile.specs.declared.fault.ReadFault.TheVariants as read_faults;
+ghost use Rattle.wm_logfile.specs.Faults.{as_document};
+ghost use Rattle.wm_logfile.specs.Texts.{doc_fault_text};
+
+use crate::path::Path;
+use std::alloc::{AllocError, AllocFailed};
+use std::fmt;
+use thiserror::Error;
+
+/// Why a document was not read: its first fault. The limit of bytes comes first, then the JSON text, then the
+/// document's length, its name and its version, and then the values from left to right, a list before its
+/// items. An end and an event are faulted by a length that no form has, then by their first item, and then by
+/// the length that this form wants.
+///
+/// It prints as `BadShape at /2/0/1`, and without a path as `NotJson`.
+#[derive(Debug, Drop, Error)]
+pub enum DocFault {
+    /// The bytes are no JSON text: not UTF-8, cut, against the grammar, nested more than 127 deep, or with a
+    /// number that is too large for a float.
+    NotJson,
+    /// The value at this path is of another kind than the format wants there, is a list of another length, or
+    /// is no word of the format.
+    BadShape(Path),
+    /// The version is a number other than 1.
+    BadVersion,
+    /// The number at this path is out of its range, or has a sign, a fraction or an exponent.
+    NumberRange(Path),
+    /// There are more than [`crate::MAX_DOCUMENT_BYTES`] bytes or more than [`crate::MAX_THREADS`] threads.
+    TooLarge,
+    /// Memory was refused.
+    OutOfMemory,
+}
+
+impl fmt::Display for DocFault {
+    ghost output = { λ fault. Some (doc_fault_text fault) };
+
+    fn fmt<W: fmt::Write>(&self, f: &mut fmt::Formatter<W>) -> fmt::Result {
+        match self {
+            DocFault::NotJson => write!(f, "NotJson"),
+            DocFault::BadShape(path) => write!(f, "BadShape at {path}"),
+            DocFault::BadVersion => write!(f, "BadVersion"),
+            DocFault::NumberRange(path) => write!(f, "NumberRange at {path}"),
+            DocFault::TooLarge => write!(f, "TooLarge"),
+            DocFault::OutOfMemory => write!(f, "OutOfMemory"),
+        }
+    }
+}
+
+impl From<AllocError> for DocFault {
+    ghost from_gives = { λ _ e. e ≡ OutOfMemory };
+
+    fn from(_refused: AllocError) -> DocFault {
+        DocFault::OutOfMemory
+    }
+}
+
+impl<T: Drop> From<AllocFailed<T>> for DocFault {
+    ghost from_gives = { λ _ e. e ≡ OutOfMemory };
+
+    fn from(_refused: AllocFailed<T>) -> DocFault {
+        DocFault::OutOfMemory
+    }
+}
+
+/// A fault of a value inside a document.
+#[derive(Drop)]
+pub(crate) enum ReadFault {
+    /// Another kind or length, or an unknown word.
+    Shape(Path),
+    /// A number out of its range.
+    Range(Path),
+    /// Memory was refused.
+    Memory,
+}
+
+impl From<AllocError> for ReadFault {
+    ghost from_gives = { λ _ e. e ≡ read_faults.Memory };
+
+    fn from(_refused: AllocError) -> ReadFault {
+        ReadFault::Memory
+    }
+}
+
+impl<T: Drop> From<AllocFailed<T>> for ReadFault {
+    ghost from_gives = { λ _ e. e ≡ read_faults.Memory };
+
+    fn from(_refused: AllocFailed<T>) -> ReadFault {
+        ReadFault::Memory
+    }
+}
+
+impl From<ReadFault> for DocFault {
+    ghost from_gives = { λ f e. e ≡ as_document f };
+
+    fn from(fault: ReadFault) -> DocFault {
+        match fault {
+            ReadFault::Shape(path) => DocFault::BadShape(path),
+            ReadFault::Range(path) => DocFault::NumberRange(path),
+            ReadFault::Memory => DocFault::OutOfMemory,
+        }
+    }
+}

@@ -1,0 +1,71 @@
+//! Readers of the values inside a document that are no lists of items.
+ghost use Rattle.std.specs.Prelude.{◌≤◌, map, IfOk};
+ghost use Rattle.serde_json.specs.View.{view};
+ghost use Rattle.wm_logfile.specs.Faults.{Gives};
+ghost use Rattle.wm_logfile.specs.Reading.{list_at, number_at, width_at, kind_at, order_at};
+
+use crate::fault::ReadFault;
+use crate::path::Path;
+use serde_json::Value;
+use wm_access::{AccessWidth, MemoryOrder};
+use wm_event::EventKind;
+
+/// The items of a list.
+pub(crate) fn list_of<'a>(value: &'a Value, path: &Path) -> Result<&'a [Value], ReadFault>
+    ensures { Gives (λ s. map view s.now) result (list_at (view value.now)) }
+{
+    match value.as_array() {
+        Some(list) => Ok(list.as_slice()),
+        None => Err(ReadFault::Shape(path.copied())),
+    }
+}
+
+/// A whole number that is at most the limit.
+pub(crate) fn number_of(value: &Value, limit: u64, path: &Path) -> Result<u64, ReadFault>
+    ensures given { Gives (λ n. n) result (number_at limit (view value.now)) }
+    ensures bound { IfOk result (λ n. n ≤ limit) }
+{
+    if !value.is_number() {
+        return Err(ReadFault::Shape(path.copied()));
+    }
+    match value.as_u64() {
+        Some(n) if n <= limit => Ok(n),
+        _ => Err(ReadFault::Range(path.copied())),
+    }
+}
+
+/// The width of an access, by its number of bytes.
+pub(crate) fn width_of(value: &Value, path: &Path) -> Result<AccessWidth, ReadFault>
+    ensures { Gives (λ w. w) result (width_at (view value.now)) }
+{
+    match number_of(value, 8, path)? {
+        1 => Ok(AccessWidth::One),
+        2 => Ok(AccessWidth::Two),
+        4 => Ok(AccessWidth::Four),
+        8 => Ok(AccessWidth::Eight),
+        _ => Err(ReadFault::Range(path.copied())),
+    }
+}
+
+/// The kind of an event, by its word.
+pub(crate) fn kind_of(value: &Value, path: &Path) -> Result<EventKind, ReadFault>
+    ensures { Gives (λ k. k) result (kind_at (view value.now)) }
+{
+    match value.as_str() {
+        Some("r") => Ok(EventKind::Read),
+        Some("w") => Ok(EventKind::Write),
+        Some("x") => Ok(EventKind::Update),
+        _ => Err(ReadFault::Shape(path.copied())),
+    }
+}
+
+/// An ordering, by its word.
+pub(crate) fn order_of(value: &Value, path: &Path) -> Result<MemoryOrder, ReadFault>
+    ensures { Gives (λ o. o) result (order_at (view value.now)) }
+{
+    match value.as_str() {
+        Some("un") => Ok(MemoryOrder::Unordered),
+        Some("sc") => Ok(MemoryOrder::SeqCst),
+        _ => Err(ReadFault::Shape(path.copied())),
+    }
+}

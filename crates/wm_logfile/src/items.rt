@@ -1,0 +1,69 @@
+//! The reader of a list, once for all kinds of item.
+ghost use Rattle.std.specs.Prelude.{ℕ, map, Option};
+ghost use Rattle.serde_json.specs.Data.{Data};
+ghost use Rattle.serde_json.specs.View.{view};
+ghost use Rattle.wm_logfile.specs.Faults.{Gives};
+ghost use Rattle.wm_logfile.specs.Reading.{traverse, items_at, number_at, u64_max};
+
+use crate::fault::ReadFault;
+use crate::fields::{list_of, number_of};
+use crate::path::Path;
+use serde_json::Value;
+use std::alloc::Global;
+use wm_list::List;
+
+/// Reads one item of a list, by its index.
+pub(crate) trait ItemReader<T> {
+    ghost reads: { Self → ℕ → Data → Option T };
+
+    fn read(&self, alloc: Global, value: &Value, index: usize, path: &Path) -> Result<T, ReadFault>
+        ensures { Gives (λ x. x) result (reads self.now index (view value.now)) };
+}
+
+/// Each of these values, read as an item.
+pub(crate) fn each_of<T: Drop, R: ItemReader<T>>(
+    alloc: Global,
+    reader: &R,
+    values: &[Value],
+    path: &Path,
+) -> Result<List<T>, ReadFault>
+    ensures { Gives (λ xs. xs) result (traverse (R.reads reader.now) 0 (map view values.now)) }
+{
+    let mut found = Vec::with_capacity(alloc, values.len())?;
+    for (index, value) in values.iter().enumerate() {
+        let item = reader.read(alloc, value, index, &path.child(index))?;
+        found.push(item)?;
+    }
+    Ok(List::from_vec(found))
+}
+
+/// The items of a list.
+pub(crate) fn items_of<T: Drop, R: ItemReader<T>>(
+    alloc: Global,
+    reader: &R,
+    value: &Value,
+    path: &Path,
+) -> Result<List<T>, ReadFault>
+    ensures { Gives (λ xs. xs) result (items_at (R.reads reader.now) (view value.now)) }
+{
+    let values = list_of(value, path)?;
+    each_of(alloc, reader, values, path)
+}
+
+/// Reads a number of 64 bits.
+#[derive(Clone, Copy)]
+pub(crate) struct NumberReader;
+
+impl ItemReader<u64> for NumberReader {
+    ghost reads = { λ _ _ d. number_at u64_max d };
+
+    fn read(
+        &self,
+        _alloc: Global,
+        value: &Value,
+        _index: usize,
+        path: &Path,
+    ) -> Result<u64, ReadFault> {
+        number_of(value, u64::MAX, path)
+    }
+}

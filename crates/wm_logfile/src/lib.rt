@@ -1,0 +1,39 @@
+//! The document of a log with a witness: JSON text (RFC 8259) of arrays, texts and whole numbers.
+//!
+//! - document: `["wasm-litmus-log",1,THREADS,[WRITERS,ORDER]]`
+//! - thread: `[NAME,[ARG..],END,STEPS,[EVENT..]]`
+//! - end: `["done",[V]]`, `["done",[]]`, `["trap",TRAP]` or `["cut"]`, where TRAP is `"unreachable"`,
+//!   `"divide-by-zero"`, `"overflow"`, `"out-of-bounds"`, `"unaligned"` or `"exhausted"`
+//! - event: `["r",ORD,ADDR,WIDTH,V]`, `["w",ORD,ADDR,WIDTH,V]` or `["x","sc",ADDR,WIDTH,READ,WRITTEN]`, where
+//!   ORD is `"un"` or `"sc"`
+//! - WRITERS: for each thread, each event and each byte read `[THREAD,NUMBER]`, or `[]` for Init
+//! - ORDER: a list of `[THREAD,NUMBER]`
+//!
+//! ARG, V, READ and WRITTEN are at most 2^64 - 1, ADDR, THREAD and NUMBER at most 2^32 - 1, STEPS is at most
+//! 1,000,000, and WIDTH is 1, 2, 4 or 8.
+#![tactic(auto)]
+
+/// How many bytes a document may have.
+pub const MAX_DOCUMENT_BYTES: usize = 8_388_608;
+
+/// How many threads a document may have.
+pub const MAX_THREADS: usize = 16;
+
+/// How many steps a thread of a document may have made.
+pub const MAX_STEPS: u32 = 1_000_000;
+
+mod document;
+mod event;
+mod fault;
+mod fields;
+mod items;
+mod path;
+mod thread;
+mod witness;
+
+pub use document::{one_pair, read_document};
+pub use fault::DocFault;
+pub use path::Path;
+
+#[cfg(test)]
+mod tests;

@@ -1,0 +1,365 @@
+//! Documents that are read, and documents that are refused, each with its fault and path.
+use crate::{DocFault, MAX_DOCUMENT_BYTES, read_document};
+use std::alloc::{AllocError, Global};
+use std::process::Abort;
+use std::test::Fail;
+use wm_access::{AccessWidth, MemoryOrder};
+use wm_event::{End, Event, EventId, EventKey, EventKind, TrapKind};
+
+/// Two threads that each write an address and then read the other's.
+const STORE_BUFFERING: &str =
+    r#"["wasm-litmus-log",1,[["a",[],["done",[0]],6,[["w","un",0,4,1],["r","un",4,4,0]]],["b",[],["done",[0]],6,[["w","un",4,4,1],["r","un",0,4,0]]]],[[[[],[[],[],[],[]]],[[],[[],[],[],[]]]],[[0,0],[1,0],[0,1],[1,1]]]]"#;
+
+/// How a document ends after its threads, with an empty witness.
+const AFTER_THREADS: &str = ",[[],[]]]";
+
+fn plain(thread: u32, number: u32, kind: EventKind, address: u32, written: u64) -> Event {
+    Event {
+        thread,
+        number,
+        kind,
+        order: MemoryOrder::Unordered,
+        address,
+        width: AccessWidth::Four,
+        read: 0,
+        written,
+    }
+}
+
+fn key(thread: u32, number: u32) -> EventKey {
+    EventKey { thread, number }
+}
+
+/// What reading the bytes answers: `read`, or the fault's text.
+fn answer(alloc: Global, bytes: &[u8]) -> Result<String, AllocError> {
+    match read_document(alloc, bytes) {
+        Ok(_pair) => String::from_str(alloc, "read"),
+        Err(fault) => format!(in alloc; "{fault}"),
+    }
+}
+
+/// Reads a document for each case, which stands between the front and the back.
+fn check<R: Abort>(
+    rt: &R,
+    alloc: Global,
+    front: &str,
+    back: &str,
+    cases: &[(&str, &str)],
+) -> Result<(), AllocError> {
+    for (part, expected) in cases {
+        let text = format!(in alloc; "{front}{part}{back}")?;
+        let found = answer(alloc, text.as_bytes())?;
+        assert_eq!(rt; found.as_str(), *expected, "of {text}");
+    }
+    Ok(())
+}
+
+#[test]
+fn store_buffering_is_read(rt: HostRuntime) -> Result<(), Fail> {
+    let (log, witness) = read_document(rt.alloc(), STORE_BUFFERING.as_bytes())?;
+    let [first, second] = log.threads() else {
+        panic!(rt; "two threads");
+    };
+    assert_eq!(rt; first.start.name.as_str(), "a");
+    assert_eq!(rt; second.start.name.as_str(), "b");
+    assert_eq!(rt; first.start.args.len(), 0);
+    assert_eq!(rt; first.end, End::Done(Some(0)));
+    assert_eq!(rt; first.steps, 6);
+    let events = [
+        plain(0, 0, EventKind::Write, 0, 1),
+        plain(0, 1, EventKind::Read, 4, 0),
+    ];
+    assert_eq!(rt; first.events.as_slice(), events.as_slice());
+    let events = [
+        plain(1, 0, EventKind::Write, 4, 1),
+        plain(1, 1, EventKind::Read, 0, 0),
+    ];
+    assert_eq!(rt; second.events.as_slice(), events.as_slice());
+    assert_eq!(rt; witness.writers(key(0, 0)).len(), 0);
+    assert_eq!(rt; witness.writers(key(0, 1)), [EventId::Init; 4].as_slice());
+    assert_eq!(rt; witness.writers(key(1, 1)), [EventId::Init; 4].as_slice());
+    let order = [key(0, 0), key(1, 0), key(0, 1), key(1, 1)];
+    assert_eq!(rt; witness.order.as_slice(), order.as_slice());
+    Ok(())
+}
+
+/// A document with each way to end, an update, and white space.
+const ENDS: &str = r#"
+["wasm-litmus-log", 1, [
+    ["f", [1, 18446744073709551615], ["done", []], 1000000, [["x", "sc", 4294967295, 1, 5, 6]]],
+    ["", [], ["trap", "divide-by-zero"], 1, [["r", "sc", 0, 2, 65535]]],
+    ["g", [], ["cut"], 3, []]
+], [[[[[]]], [[[0, 0], [4294967295, 1]]], []], [[1, 0], [0, 0]]]]
+"#;
+
+#[test]
+fn each_end_is_read(rt: HostRuntime) -> Result<(), Fail> {
+    let (log, witness) = read_document(rt.alloc(), ENDS.as_bytes())?;
+    let [returned, trapped, cut] = log.threads() else {
+        panic!(rt; "three threads");
+    };
+    assert_eq!(rt; returned.start.args.as_slice(), [1, u64::MAX].as_slice());
+    assert_eq!(rt; returned.end, End::Done(None));
+    assert_eq!(rt; returned.steps, 1_000_000);
+    let update = Event {
+        thread: 0,
+        number: 0,
+        kind: EventKind::Update,
+        order: MemoryOrder::SeqCst,
+        address: u32::MAX,
+        width: AccessWidth::One,
+        read: 5,
+        written: 6,
+    };
+    assert_eq!(rt; returned.events.as_slice(), [update].as_slice());
+    assert_eq!(rt; trapped.start.name.as_str(), "");
+    assert_eq!(rt; trapped.end, End::Trap(TrapKind::DivideByZero));
+    assert_eq!(rt; cut.end, End::Cut);
+    assert_eq!(rt; cut.events.len(), 0);
+    assert_eq!(rt; witness.writers(key(0, 0)), [EventId::Init].as_slice());
+    let writers = [EventId::At(key(0, 0)), EventId::At(key(u32::MAX, 1))];
+    assert_eq!(rt; witness.writers(key(1, 0)), writers.as_slice());
+    assert_eq!(rt; witness.order.as_slice(), [key(1, 0), key(0, 0)].as_slice());
+    Ok(())
+}
+
+#[test]
+fn text_that_is_no_document_is_refused(rt: HostRuntime) -> Result<(), Fail> {
+    let cases = [
+        ("", "NotJson"),
+        (" ", "NotJson"),
+        (r#"["wasm-litmus-log",1,[],[[],[]]"#, "NotJson"),
+        (r#"["wasm-litmus-log",01,[],[[],[]]]"#, "NotJson"),
+        (r#"["wasm-litmus-log",1,[],[[],[]]]]"#, "NotJson"),
+        ("[1e400]", "NotJson"),
+        (r#"["\ud800"]"#, "NotJson"),
+        ("null", "BadShape at /"),
+        ("{}", "BadShape at /"),
+        ("[]", "BadShape at /"),
+        (r#"["wasm-litmus-log",1,[]]"#, "BadShape at /"),
+        (r#"["wasm-litmus-log",1,[],[[],[]],0]"#, "BadShape at /"),
+        ("[1,1,[],[[],[]]]", "BadShape at /0"),
+        (r#"["wasm-litmus-logs",7,[],[[],[]]]"#, "BadShape at /0"),
+    ];
+    check(&rt, rt.alloc(), "", "", &cases)?;
+    Ok(())
+}
+
+#[test]
+fn another_version_is_refused(rt: HostRuntime) -> Result<(), Fail> {
+    let cases = [
+        (r#""1""#, "BadShape at /1"),
+        ("null", "BadShape at /1"),
+        ("0", "BadVersion"),
+        ("7", "BadVersion"),
+        ("-1", "BadVersion"),
+        ("1.0", "BadVersion"),
+        ("1.5", "BadVersion"),
+        ("1e0", "BadVersion"),
+        ("1", "BadShape at /2"),
+    ];
+    check(&rt, rt.alloc(), r#"["wasm-litmus-log","#, ",0,0]", &cases)?;
+    Ok(())
+}
+
+#[test]
+fn malformed_threads_are_refused(rt: HostRuntime) -> Result<(), Fail> {
+    let cases = [
+        ("{}", "BadShape at /2"),
+        ("[0]", "BadShape at /2/0"),
+        ("[[]]", "BadShape at /2/0"),
+        (r#"[["a",[],["cut"],0]]"#, "BadShape at /2/0"),
+        (r#"[["a",[],["cut"],0,[],0]]"#, "BadShape at /2/0"),
+        (r#"[["a",[],["cut"],0,[]],0]"#, "BadShape at /2/1"),
+        (r#"[[0,[],["cut"],0,[]]]"#, "BadShape at /2/0/0"),
+        (r#"[["a",{},["cut"],0,[]]]"#, "BadShape at /2/0/1"),
+        (r#"[["a",["1"],["cut"],0,[]]]"#, "BadShape at /2/0/1/0"),
+        (r#"[["a",[0,-1],["cut"],0,[]]]"#, "NumberRange at /2/0/1/1"),
+        (r#"[["a",[1.5],["cut"],0,[]]]"#, "NumberRange at /2/0/1/0"),
+        (r#"[["a",[1e0],["cut"],0,[]]]"#, "NumberRange at /2/0/1/0"),
+        (r#"[["a",[-0],["cut"],0,[]]]"#, "NumberRange at /2/0/1/0"),
+        (r#"[["a",[18446744073709551615],["cut"],0,[]]]"#, "read"),
+        (
+            r#"[["a",[18446744073709551616],["cut"],0,[]]]"#,
+            "NumberRange at /2/0/1/0",
+        ),
+        (r#"[["a",[],["cut"],"0",[]]]"#, "BadShape at /2/0/3"),
+        (r#"[["a",[],["cut"],1000000,[]]]"#, "read"),
+        (r#"[["a",[],["cut"],1000001,[]]]"#, "NumberRange at /2/0/3"),
+        (r#"[["a",[],["cut"],0,0]]"#, "BadShape at /2/0/4"),
+    ];
+    check(
+        &rt,
+        rt.alloc(),
+        r#"["wasm-litmus-log",1,"#,
+        AFTER_THREADS,
+        &cases,
+    )?;
+    Ok(())
+}
+
+#[test]
+fn malformed_ends_are_refused(rt: HostRuntime) -> Result<(), Fail> {
+    let cases = [
+        (r#""cut""#, "BadShape at /2/0/2"),
+        ("[]", "BadShape at /2/0/2"),
+        ("[0,0,0]", "BadShape at /2/0/2"),
+        (r#"["halt"]"#, "BadShape at /2/0/2/0"),
+        ("[0,0]", "BadShape at /2/0/2/0"),
+        (r#"["cut",1]"#, "BadShape at /2/0/2"),
+        (r#"["done"]"#, "BadShape at /2/0/2"),
+        (r#"["trap"]"#, "BadShape at /2/0/2"),
+        (r#"["done",0]"#, "BadShape at /2/0/2/1"),
+        (r#"["done",[0,1]]"#, "BadShape at /2/0/2/1"),
+        (r#"["done",["0"]]"#, "BadShape at /2/0/2/1/0"),
+        (r#"["done",[-1]]"#, "NumberRange at /2/0/2/1/0"),
+        (r#"["trap",0]"#, "BadShape at /2/0/2/1"),
+        (r#"["trap","crash"]"#, "BadShape at /2/0/2/1"),
+    ];
+    check(
+        &rt,
+        rt.alloc(),
+        r#"["wasm-litmus-log",1,[["a",[],"#,
+        ",0,[]]],[[],[]]]",
+        &cases,
+    )?;
+    Ok(())
+}
+
+#[test]
+fn malformed_events_are_refused(rt: HostRuntime) -> Result<(), Fail> {
+    let cases = [
+        ("0", "BadShape at /2/0/4/1"),
+        ("[0,0,0,0]", "BadShape at /2/0/4/1"),
+        ("[0,0,0,0,0,0,0]", "BadShape at /2/0/4/1"),
+        (r#"["q",0,0,0,0]"#, "BadShape at /2/0/4/1/0"),
+        ("[0,0,0,0,0,0]", "BadShape at /2/0/4/1/0"),
+        (r#"["r",0,0,0,0,0]"#, "BadShape at /2/0/4/1"),
+        (r#"["w",0,0,0,0,0]"#, "BadShape at /2/0/4/1"),
+        (r#"["x",0,0,0,0]"#, "BadShape at /2/0/4/1"),
+        (r#"["r","acq",0,4,0]"#, "BadShape at /2/0/4/1/1"),
+        (r#"["r",0,0,4,0]"#, "BadShape at /2/0/4/1/1"),
+        (r#"["x","un",0,4,0,1]"#, "BadShape at /2/0/4/1/1"),
+        (r#"["r","un","0",4,0]"#, "BadShape at /2/0/4/1/2"),
+        (r#"["r","un",4294967296,4,0]"#, "NumberRange at /2/0/4/1/2"),
+        (r#"["r","un",0,"4",0]"#, "BadShape at /2/0/4/1/3"),
+        (r#"["r","un",0,0,0]"#, "NumberRange at /2/0/4/1/3"),
+        (r#"["r","un",0,3,0]"#, "NumberRange at /2/0/4/1/3"),
+        (r#"["r","un",0,16,0]"#, "NumberRange at /2/0/4/1/3"),
+        (r#"["r","un",0,4,"0"]"#, "BadShape at /2/0/4/1/4"),
+        (
+            r#"["w","sc",0,8,18446744073709551616]"#,
+            "NumberRange at /2/0/4/1/4",
+        ),
+        (r#"["x","sc",0,4,0,-1]"#, "NumberRange at /2/0/4/1/5"),
+    ];
+    check(
+        &rt,
+        rt.alloc(),
+        r#"["wasm-litmus-log",1,[["a",[],["cut"],0,[["w","un",0,4,1],"#,
+        "]]],[[],[]]]",
+        &cases,
+    )?;
+    Ok(())
+}
+
+#[test]
+fn malformed_witnesses_are_refused(rt: HostRuntime) -> Result<(), Fail> {
+    let cases = [
+        ("0", "BadShape at /3"),
+        ("[[]]", "BadShape at /3"),
+        ("[[],[],[]]", "BadShape at /3"),
+        ("[0,0]", "BadShape at /3/0"),
+        ("[[0],0]", "BadShape at /3/0/0"),
+        ("[[[0]],[]]", "BadShape at /3/0/0/0"),
+        ("[[[[0]]],[]]", "BadShape at /3/0/0/0/0"),
+        ("[[[[[0]]]],[]]", "BadShape at /3/0/0/0/0"),
+        ("[[[[[0,0,0]]]],[]]", "BadShape at /3/0/0/0/0"),
+        (r#"[[[[[],["0",0]]]],[]]"#, "BadShape at /3/0/0/0/1/0"),
+        ("[[[[[0,4294967296]]]],[]]", "NumberRange at /3/0/0/0/0/1"),
+        ("[[],0]", "BadShape at /3/1"),
+        ("[[],[0]]", "BadShape at /3/1/0"),
+        ("[[],[[]]]", "BadShape at /3/1/0"),
+        ("[[],[[0,0],[0]]]", "BadShape at /3/1/1"),
+        ("[[],[[4294967296,0]]]", "NumberRange at /3/1/0/0"),
+    ];
+    check(&rt, rt.alloc(), r#"["wasm-litmus-log",1,[],"#, "]", &cases)?;
+    Ok(())
+}
+
+#[test]
+fn a_fault_has_the_indices_of_its_value(rt: HostRuntime) -> Result<(), Fail> {
+    let text = r#"["wasm-litmus-log",1,[["a",{},["cut"],0,[]]],[[],[]]]"#;
+    let Err(fault) = read_document(rt.alloc(), text.as_bytes()) else {
+        panic!(rt; "arguments that are no list");
+    };
+    match &fault {
+        DocFault::BadShape(path) => assert_eq!(rt; path.indices(), [2, 0, 1].as_slice()),
+        _ => panic!(rt; "of the shape"),
+    }
+    Ok(())
+}
+
+#[test]
+fn bytes_that_are_no_text_are_refused(rt: HostRuntime) -> Result<(), Fail> {
+    for bytes in [[0xff, b' '], [b'"', 0x80], [0xfe, 0xff]] {
+        let found = answer(rt.alloc(), &bytes)?;
+        assert_eq!(rt; found.as_str(), "NotJson");
+    }
+    Ok(())
+}
+
+/// A document of so many threads.
+fn with_threads(alloc: Global, count: usize, thread: &str) -> Result<String, AllocError> {
+    let mut text = String::from_str(alloc, r#"["wasm-litmus-log",1,["#)?;
+    for index in 0..count {
+        if index > 0 {
+            text.push_str(",")?;
+        }
+        text.push_str(thread)?;
+    }
+    text.push_str("],[[],[]]]")?;
+    Ok(text)
+}
+
+#[test]
+fn seventeen_threads_are_too_large(rt: HostRuntime) -> Result<(), Fail> {
+    let cases = [
+        (16, r#"["",[],["cut"],0,[]]"#, "read"),
+        (16, "0", "BadShape at /2/0"),
+        (17, r#"["",[],["cut"],0,[]]"#, "TooLarge"),
+        (17, "0", "TooLarge"),
+    ];
+    for (count, thread, expected) in cases {
+        let text = with_threads(rt.alloc(), count, thread)?;
+        let found = answer(rt.alloc(), text.as_bytes())?;
+        assert_eq!(rt; found.as_str(), expected, "of {text}");
+    }
+    Ok(())
+}
+
+/// These bytes with spaces behind them, up to so many bytes.
+fn padded(alloc: Global, front: &[u8], len: usize) -> Result<Vec<u8>, AllocError> {
+    let mut bytes = Vec::with_capacity(alloc, len)?;
+    bytes.extend_from_slice(front)?;
+    bytes.resize(len, b' ')?;
+    Ok(bytes)
+}
+
+#[test]
+fn a_byte_past_the_limit_is_too_large(rt: HostRuntime) -> Result<(), Fail> {
+    assert_eq!(rt; MAX_DOCUMENT_BYTES, 8_388_608);
+    let document = STORE_BUFFERING.as_bytes();
+    let cases = [
+        (document, 8_388_608, "read"),
+        (document, 8_388_609, "TooLarge"),
+        ("no JSON".as_bytes(), 8_388_608, "NotJson"),
+        ("no JSON".as_bytes(), 8_388_609, "TooLarge"),
+    ];
+    for (front, len, expected) in cases {
+        let bytes = padded(rt.alloc(), front, len)?;
+        let found = answer(rt.alloc(), bytes.as_slice())?;
+        assert_eq!(rt; found.as_str(), expected, "of {len} bytes");
+    }
+    Ok(())
+}

@@ -1,0 +1,156 @@
+//! The reader of a thread's log.
+ghost use Rattle.std.specs.Prelude.{map};
+ghost use Rattle.serde_json.specs.Find.{as_str};
+ghost use Rattle.serde_json.specs.View.{view};
+ghost use Rattle.wm_logfile.specs.Faults.{Gives};
+ghost use Rattle.wm_logfile.specs.Reading.{trap_at, result_from, end_from, end_at, start_at, thread_from, thread_at, limited_thread_at};
+
+use crate::MAX_STEPS;
+use crate::event::EventReader;
+use crate::fault::ReadFault;
+use crate::fields::{list_of, number_of};
+use crate::items::{ItemReader, NumberReader, items_of};
+use crate::path::Path;
+use serde_json::Value;
+use std::alloc::Global;
+use wm_event::{End, Start, ThreadLog, TrapKind};
+use wm_list::Text;
+
+/// A name.
+fn name_of(alloc: Global, value: &Value, path: &Path) -> Result<Text, ReadFault>
+    ensures { Gives (λ s. s) result (as_str (view value.now)) }
+{
+    match value.as_str() {
+        Some(text) => Ok(Text::from_string(String::from_str(alloc, text)?)),
+        None => Err(ReadFault::Shape(path.copied())),
+    }
+}
+
+/// Why a thread trapped, by its word.
+fn trap_of(value: &Value, path: &Path) -> Result<TrapKind, ReadFault>
+    ensures { Gives (λ k. k) result (trap_at (view value.now)) }
+{
+    match value.as_str() {
+        Some("unreachable") => Ok(TrapKind::Unreachable),
+        Some("divide-by-zero") => Ok(TrapKind::DivideByZero),
+        Some("overflow") => Ok(TrapKind::Overflow),
+        Some("out-of-bounds") => Ok(TrapKind::OutOfBounds),
+        Some("unaligned") => Ok(TrapKind::Unaligned),
+        Some("exhausted") => Ok(TrapKind::Exhausted),
+        _ => Err(ReadFault::Shape(path.copied())),
+    }
+}
+
+/// The result of a function, where it has one.
+fn result_of(values: &[Value], path: &Path) -> Result<Option<u64>, ReadFault>
+    ensures { Gives (λ o. o) result (result_from (map view values.now)) }
+{
+    match values {
+        [] => Ok(None),
+        [value] => {
+            let value = number_of(value, u64::MAX, &path.child(0))?;
+            Ok(Some(value))
+        }
+        _ => Err(ReadFault::Shape(path.copied())),
+    }
+}
+
+/// How a thread ended, by these fields. A length that no end has is faulted before the word.
+#[tactic(auto, unfolding(crate::specs::Reading::end_from))]
+fn end_of_fields(fields: &[Value], path: &Path) -> Result<End, ReadFault>
+    ensures { Gives (λ e. e) result (end_from (map view fields.now)) }
+{
+    match fields {
+        [word] => match word.as_str() {
+            Some("cut") => Ok(End::Cut),
+            Some("done" | "trap") => Err(ReadFault::Shape(path.copied())),
+            _ => Err(ReadFault::Shape(path.child(0))),
+        },
+        [word, item] => match word.as_str() {
+            Some("done") => {
+                let path = path.child(1);
+                let values = list_of(item, &path)?;
+                let value = result_of(values, &path)?;
+                Ok(End::Done(value))
+            }
+            Some("trap") => {
+                let kind = trap_of(item, &path.child(1))?;
+                Ok(End::Trap(kind))
+            }
+            Some("cut") => Err(ReadFault::Shape(path.copied())),
+            _ => Err(ReadFault::Shape(path.child(0))),
+        },
+        _ => Err(ReadFault::Shape(path.copied())),
+    }
+}
+
+/// How a thread ended.
+fn end_of(value: &Value, path: &Path) -> Result<End, ReadFault>
+    ensures { Gives (λ e. e) result (end_at (view value.now)) }
+{
+    let fields = list_of(value, path)?;
+    end_of_fields(fields, path)
+}
+
+/// What a thread starts with: its function's name and the arguments.
+fn start_of(alloc: Global, name: &Value, args: &Value, path: &Path) -> Result<Start, ReadFault>
+    ensures { Gives (λ s. s) result (start_at (view name.now) (view args.now)) }
+{
+    let name = name_of(alloc, name, &path.child(0))?;
+    let args = items_of(alloc, &NumberReader, args, &path.child(1))?;
+    Ok(Start { name, args })
+}
+
+/// The log of a thread, by these fields.
+#[tactic(auto, unfolding(crate::specs::Reading::thread_from))]
+fn thread_of_fields(
+    alloc: Global,
+    fields: &[Value],
+    thread: u32,
+    path: &Path,
+) -> Result<ThreadLog, ReadFault>
+    ensures { Gives (λ l. l) result (thread_from thread (map view fields.now)) }
+{
+    let [name, args, end, steps, events] = fields else {
+        return Err(ReadFault::Shape(path.copied()));
+    };
+    let start = start_of(alloc, name, args, path)?;
+    let end = end_of(end, &path.child(2))?;
+    let steps = number_of(steps, MAX_STEPS as u64, &path.child(3))? as u32;
+    let events = items_of(alloc, &EventReader { thread }, events, &path.child(4))?;
+    Ok(ThreadLog {
+        start,
+        end,
+        steps,
+        events,
+    })
+}
+
+/// The log of a thread.
+fn thread_of(alloc: Global, value: &Value, thread: u32, path: &Path) -> Result<ThreadLog, ReadFault>
+    ensures { Gives (λ l. l) result (thread_at thread (view value.now)) }
+{
+    let fields = list_of(value, path)?;
+    thread_of_fields(alloc, fields, thread, path)
+}
+
+/// Reads the log of a thread.
+#[derive(Clone, Copy)]
+pub(crate) struct ThreadReader;
+
+impl ItemReader<ThreadLog> for ThreadReader {
+    ghost reads = { λ _ n d. limited_thread_at n d };
+
+    fn read(
+        &self,
+        alloc: Global,
+        value: &Value,
+        index: usize,
+        path: &Path,
+    ) -> Result<ThreadLog, ReadFault> {
+        if index > u32::MAX as usize {
+            return Err(ReadFault::Range(path.copied()));
+        }
+        thread_of(alloc, value, index as u32, path)
+    }
+}
