@@ -6,3 +6,6 @@ mod text;
 
 pub use list::List;
 pub use text::Text;
+
+#[cfg(test)]
+mod tests;

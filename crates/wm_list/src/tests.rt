@@ -1,0 +1,29 @@
+//! Each call that takes memory or hands it on, once: no clause says that a push succeeds.
+use super::*;
+use std::test::Fail;
+
+#[test]
+fn a_list_takes_and_gives_back_items(rt: HostRuntime) -> Result<(), Fail> {
+    let mut list = List::new(rt.alloc());
+    assert!(rt; list.is_empty());
+    list.push(7u64)?;
+    list.push(8)?;
+    assert_eq!(rt; list.len(), 2);
+    assert_eq!(rt; list.get(1).copied(), Some(8));
+    assert_eq!(rt; list.get(2).copied(), None);
+    if list.len() == 2 {
+        list.set(0, 9);
+    }
+    assert_eq!(rt; list.as_slice(), [9, 8].as_slice());
+    let again = List::from_vec(list.into_vec());
+    assert_eq!(rt; again.as_slice(), [9, 8].as_slice());
+    Ok(())
+}
+
+#[test]
+fn a_text_is_its_string(rt: HostRuntime) -> Result<(), Fail> {
+    let text = Text::from_string(String::from_str(rt.alloc(), "name")?);
+    assert_eq!(rt; text.as_str(), "name");
+    assert_eq!(rt; text.into_string().as_str(), "name");
+    Ok(())
+}

@@ -1,0 +1,26 @@
+use Rattle.std.proofs.lemmas.Result.{IfOk-weaker}
+use Rattle.wm_litmus.specs.Answers.{IsDocumentOf}
+use Rattle.wm_litmus.specs.Answers.AnswersRules.{read, refused}
+use Rattle.wm_litmus.proofs.rules.rules_answer.Goals as goal
+
+pub returns-in-Ok : goal.returns-in-Ok
+returns-in-Ok g c =
+    let document : IsDocumentOf c.args.bytes.now c.in-Ok.log c.in-Ok.witness = record {
+      small = c.in-Ok.ensures.within.0;
+      spelled = c.in-Ok.ensures.spelled;
+      is_log = c.in-Ok.ensures.within.1;
+      limits = c.in-Ok.ensures.within.2;
+    } in
+    IfOk-weaker c.run_answer.result _ _ (λ answer answers. read c.in-Ok.log c.in-Ok.witness document answers) c.run_answer.ensures
+
+pub returns-in-Err : goal.returns-in-Err
+returns-in-Err g c =
+    IfOk-weaker c.refused_document.result _ _
+    (λ answer says. refused c.in-Err.fault
+    (record {
+      no_document = λ log witness d. c.in-Err.ensures.refused says.0 d.small log witness d.is_log d.limits d.spelled;
+      too_large = c.in-Err.ensures.too_large;
+      no_want = says.0;
+    })
+    says.1.status_is says.1.line_is)
+    c.refused_document.ensures

@@ -1,0 +1,6 @@
+pub mod Answers
+pub mod Commands
+pub mod Failures
+pub mod Input
+pub mod Lines
+pub mod Says

@@ -1,0 +1,25 @@
+-- The line of each answer, and the status of a judgement.
+use Rattle.std.specs.Prelude.{ℕ, List, ◌++◌, codes}
+use Rattle.wm_event.specs.Texts.{rule_fault_text, shape_fault_text}
+use Rattle.wm_event.specs.declared.rule.Judgement.{Judgement}
+use Rattle.wm_event.specs.declared.rule.Judgement.TheVariants.{Valid, Broken}
+use Rattle.wm_event.specs.declared.shape_fault.ShapeFault.{ShapeFault}
+use Rattle.wm_logfile.specs.Texts.{doc_fault_text}
+use Rattle.wm_logfile.specs.declared.fault.DocFault.{DocFault}
+
+abbrev pub judgement_text : Judgement → List ℕ
+judgement_text Valid = codes "allowed"
+judgement_text (Broken fault) = codes "broken " ++ rule_fault_text fault
+
+abbrev pub judgement_status : Judgement → ℕ
+judgement_status Valid = 0
+judgement_status (Broken fault) = 1
+
+abbrev pub document_line_text : DocFault → List ℕ
+document_line_text fault = codes "refused document " ++ doc_fault_text fault
+
+abbrev pub shape_line_text : ShapeFault → List ℕ
+shape_line_text fault = codes "refused shape " ++ shape_fault_text fault
+
+abbrev pub words_line_text : List ℕ
+words_line_text = codes "refused command words"

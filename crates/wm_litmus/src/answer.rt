@@ -1,0 +1,73 @@
+//! What a command answers.
+ghost use Rattle.std.specs.Prelude.{◌≡◌, ◌≢◌, IfOk};
+ghost use Rattle.wm_litmus.specs.Lines.{document_line_text, judgement_status, judgement_text, shape_line_text, words_line_text};
+ghost use Rattle.wm_litmus.specs.Says.{Says};
+
+use crate::line::{document_line, rules_line, shape_line, words_line};
+use std::alloc::{AllocError, Global};
+use wm_event::{Judgement, ShapeFault};
+use wm_logfile::DocFault;
+
+/// The line that a command prints, without its newline, and the exit status.
+#[derive(Drop)]
+pub(crate) struct Answer {
+    pub text: String,
+    pub status: u8,
+}
+
+/// The exit status of a judgement.
+fn status_of(judgement: &Judgement) -> u8
+    ensures { result ≡ judgement_status judgement.now }
+{
+    match judgement {
+        Judgement::Valid => 0,
+        Judgement::Broken(_) => 1,
+    }
+}
+
+impl Answer {
+    /// The answer that a judgement is.
+    pub fn judged(alloc: Global, judgement: &Judgement) -> Result<Answer, AllocError>
+        ensures { IfOk result (Says (judgement_status judgement.now) (judgement_text judgement.now)) }
+    {
+        let text = rules_line(alloc, judgement)?;
+        let status = status_of(judgement);
+        Ok(Answer { text, status })
+    }
+
+    /// The refusal of a document; want of memory is no answer.
+    pub fn refused_document(alloc: Global, fault: &DocFault) -> Result<Answer, AllocError>
+        ensures { IfOk result (λ answer. (fault.now ≢ DocFault.OutOfMemory)
+            × Says 2 (document_line_text fault.now) answer) }
+    {
+        match fault {
+            DocFault::OutOfMemory => Err(AllocError),
+            _ => {
+                let text = document_line(alloc, fault)?;
+                Ok(Answer { text, status: 2 })
+            }
+        }
+    }
+
+    /// The refusal of a log and a witness that are no candidate; want of memory is no answer.
+    pub fn refused_shape(alloc: Global, fault: ShapeFault) -> Result<Answer, AllocError>
+        ensures { IfOk result (λ answer. (fault ≢ ShapeFault.OutOfMemory)
+            × Says 2 (shape_line_text fault) answer) }
+    {
+        match fault {
+            ShapeFault::OutOfMemory => Err(AllocError),
+            _ => {
+                let text = shape_line(alloc, fault)?;
+                Ok(Answer { text, status: 2 })
+            }
+        }
+    }
+
+    /// The refusal of the words.
+    pub fn refused_words(alloc: Global) -> Result<Answer, AllocError>
+        ensures { IfOk result (Says 2 words_line_text) }
+    {
+        let text = words_line(alloc)?;
+        Ok(Answer { text, status: 2 })
+    }
+}

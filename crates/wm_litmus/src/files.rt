@@ -1,0 +1,47 @@
+//! Files, as a trait, so that a test can stand in for them.
+ghost use Rattle.std.specs.Prelude.{ℕ, ◌≡◌, ◌+◌, ◌^◌, ◌<◌, ◌≤◌, IfErr, IfOk, vec_len};
+ghost use Rattle.wm_litmus.specs.declared.files.FileFault.TheVariants.{Device, OutOfMemory};
+
+use std::alloc::AllocError;
+use thiserror::Error;
+
+/// Why a file or the input was not read.
+#[derive(Clone, Copy, Debug, PartialEq, Eq, Error)]
+pub enum FileFault {
+    /// It couldn't be opened, or a read of it failed.
+    #[error("the device failed")]
+    Device,
+    /// Memory was refused.
+    #[error("out of memory")]
+    OutOfMemory,
+}
+
+impl From<AllocError> for FileFault {
+    ghost from_gives = { λ _ fault. fault ≡ OutOfMemory };
+
+    fn from(_refused: AllocError) -> FileFault {
+        FileFault::OutOfMemory
+    }
+}
+
+/// Files by name, and a count of the calls that a device failed.
+pub trait Files {
+    ghost failures_of: { Self → ℕ };
+
+    /// At most the first `limit` bytes of the file `name`.
+    ///
+    /// # Errors
+    ///
+    /// `Device` where the file couldn't be opened or a read of it failed, and then the count is higher than
+    /// before; `OutOfMemory` where memory was refused.
+    fn read(&mut self, name: &str, limit: usize) -> Result<Vec<u8>, FileFault>
+        requires { failures_of self.old + 1 < 2 ^ 64 }
+        ensures bound { IfOk result (λ bytes. vec_len bytes ≤ limit) }
+        ensures device { IfErr result (λ fault. fault ≡ Device
+            → failures_of self.old < failures_of self.new) }
+        ensures monotone { failures_of self.old ≤ failures_of self.new };
+
+    /// How many calls a device failed so far.
+    fn failures(&self) -> u64
+        ensures { result ≡ failures_of self.now };
+}

@@ -1,0 +1,42 @@
+//! Reading of input to a limit.
+ghost use Rattle.std.specs.Prelude.{◌≡◌, ◌≤◌, IfOk, IfSome, take, vec_len};
+
+use crate::files::FileFault;
+use std::alloc::Global;
+use std::io::Read;
+
+/// How many bytes a read asks for at most.
+const CHUNK: usize = 4096;
+
+/// The first `limit` bytes of the input, or all of them where there are fewer, in at most `limit` reads.
+///
+/// # Errors
+///
+/// `Device` at the first read that fails, an interrupted one too; `OutOfMemory` where memory was refused.
+pub fn read_limited<R: Read>(
+    alloc: Global,
+    input: &mut R,
+    limit: usize,
+) -> Result<Vec<u8>, FileFault>
+    ensures bound { IfOk result (λ bytes. vec_len bytes ≤ limit) }
+    ensures known { IfOk result (λ bytes. IfSome (R.remaining input.old)
+        (λ all. bytes.items ≡ take limit all)) }
+{
+    let mut bytes = Vec::new(alloc);
+    let mut buffer = [0u8; CHUNK];
+    for _ in 0..limit {
+        let room = (limit - bytes.len()).min(CHUNK);
+        if room == 0 {
+            return Ok(bytes);
+        }
+        let part = &mut buffer[..room];
+        let Ok(count) = input.read(part) else {
+            return Err(FileFault::Device);
+        };
+        if count == 0 {
+            return Ok(bytes);
+        }
+        bytes.extend_from_slice(&buffer[..count])?;
+    }
+    Ok(bytes)
+}

@@ -1,0 +1,31 @@
+//! The program over a reader, two writers and the files: the commands, and the lines that they print.
+//!
+//! | Answer | Line | Status |
+//! |---|---|---|
+//! | the memory rules permit the run | `allowed` | 0 |
+//! | a rule is broken | `broken V5 case 3 at 1.0 byte 0 writer init other 0.0` | 1 |
+//! | the document is refused | `refused document BadShape at /2/0/1` | 2 |
+//! | its log and witness are no candidate | `refused shape WriterCount at 0.1` | 2 |
+//! | the words are refused | `refused command words` | 2 |
+//! | memory was refused | `out of memory`, on standard error | 3 |
+//! | a device failed | `cannot read NAME` or `cannot write`, on standard error | 3 |
+#![tactic(auto)]
+
+/// How many pages of zeros the memory of a run begins with under the command `rules`.
+pub const INITIAL_PAGES: usize = 16;
+
+mod answer;
+mod command;
+mod files;
+mod input;
+mod line;
+mod program;
+mod rules;
+
+pub use files::{FileFault, Files};
+pub use input::read_limited;
+pub use line::rules_line;
+pub use program::serve;
+
+#[cfg(test)]
+mod tests;

@@ -1,0 +1,57 @@
+//! The lines that answers print as, without their newline.
+ghost use Rattle.std.specs.Prelude.{◌≡◌, IfOk, Some, string_bytes};
+ghost use Rattle.wm_litmus.specs.Lines.{document_line_text, judgement_text, shape_line_text, words_line_text};
+
+use std::alloc::{AllocError, Global};
+use std::fmt;
+use wm_event::{Judgement, ShapeFault};
+use wm_logfile::DocFault;
+
+/// A judgement, as it prints.
+#[derive(Clone, Copy)]
+struct JudgementLine<'a>(&'a Judgement);
+
+impl fmt::Display for JudgementLine<'_> {
+    ghost output = { λ line. Some (judgement_text line.0.now) };
+
+    fn fmt<W: fmt::Write>(&self, f: &mut fmt::Formatter<W>) -> fmt::Result {
+        match self.0 {
+            Judgement::Valid => write!(f, "allowed"),
+            Judgement::Broken(fault) => write!(f, "broken {fault}"),
+        }
+    }
+}
+
+/// The line of a judgement: `allowed`, or `broken V5 case 3 at 1.0 byte 0 writer init other 0.0`, where the
+/// last part is left out if the fault has no other write.
+///
+/// # Errors
+///
+/// Only where memory was refused.
+pub fn rules_line(alloc: Global, judgement: &Judgement) -> Result<String, AllocError>
+    ensures { IfOk result (λ line. string_bytes line ≡ judgement_text judgement.now) }
+{
+    let line = JudgementLine(judgement);
+    format!(in alloc; "{line}")
+}
+
+/// The line of a refused document, such as `refused document BadShape at /2/0/1`.
+pub(crate) fn document_line(alloc: Global, fault: &DocFault) -> Result<String, AllocError>
+    ensures { IfOk result (λ line. string_bytes line ≡ document_line_text fault.now) }
+{
+    format!(in alloc; "refused document {fault}")
+}
+
+/// The line of a log and a witness that are no candidate, such as `refused shape WriterCount at 0.1`.
+pub(crate) fn shape_line(alloc: Global, fault: ShapeFault) -> Result<String, AllocError>
+    ensures { IfOk result (λ line. string_bytes line ≡ shape_line_text fault) }
+{
+    format!(in alloc; "refused shape {fault}")
+}
+
+/// The line of words that are no command.
+pub(crate) fn words_line(alloc: Global) -> Result<String, AllocError>
+    ensures { IfOk result (λ line. string_bytes line ≡ words_line_text) }
+{
+    format!(in alloc; "refused command words")
+}

@@ -1,0 +1,139 @@
+//! The whole program.
+ghost use Rattle.std.specs.Prelude.{◌≡◌, ◌+◌, ◌^◌, ◌∷◌, ◌++◌, [], ◌≤◌, ◌<◌, IfErr, IfOk, OnOk, string_bytes, vec_len};
+ghost use Rattle.std.specs.Io.KnownBytes.{Appends};
+ghost use Rattle.wm_logfile.specs.declared.TheConstants.{MAX_DOCUMENT_BYTES};
+ghost use Rattle.wm_litmus.specs.Answers.{IsAnswer, WritesAnswer};
+ghost use Rattle.wm_litmus.specs.Failures.{IsUnreadFile};
+ghost use Rattle.wm_litmus.specs.Input.{IsReadOf};
+ghost use Rattle.wm_litmus.specs.declared.program.Stop.TheVariants.{OutOfMemory};
+
+use crate::answer::Answer;
+use crate::command::{Command, CommandFault, read_command};
+use crate::files::{FileFault, Files};
+use crate::input::read_limited;
+use crate::rules::rules_answer;
+use std::alloc::AllocError;
+use std::io;
+use std::io::{Read, Write};
+use wm_logfile::MAX_DOCUMENT_BYTES;
+
+/// Why there is no answer.
+#[derive(Clone, Copy, Debug)]
+enum Stop<'a> {
+    /// What has this name was not read.
+    Unread(&'a str),
+    /// Memory was refused.
+    OutOfMemory,
+}
+
+impl From<AllocError> for Stop<'_> {
+    ghost from_gives = { λ _ stop. stop ≡ OutOfMemory };
+
+    fn from(_refused: AllocError) -> Self {
+        Stop::OutOfMemory
+    }
+}
+
+/// The bytes of the document `name`, or of `input` for `-`, to the limit and one more.
+fn read_bytes<'a, R: AllocGlobal, F: Files, I: Read>(
+    rt: &R,
+    files: &mut F,
+    input: &mut I,
+    name: &'a str,
+) -> Result<Vec<u8>, Stop<'a>>
+    requires { F.failures_of files.old + 1 < 2 ^ 64 }
+    ensures known { IfOk result (λ bytes.
+        IsReadOf (I.remaining input.old) MAX_DOCUMENT_BYTES name.now bytes.items) }
+    ensures unread { IfErr result (λ stop. IsUnreadFile stop
+        → F.failures_of files.old < F.failures_of files.new) }
+{
+    let limit = MAX_DOCUMENT_BYTES + 1;
+    let bytes = if name == "-" {
+        read_limited(rt.alloc(), input, limit)
+    } else {
+        files.read(name, limit)
+    };
+    match bytes {
+        Ok(bytes) => Ok(bytes),
+        Err(FileFault::Device) => Err(Stop::Unread(name)),
+        Err(FileFault::OutOfMemory) => Err(Stop::OutOfMemory),
+    }
+}
+
+/// The answer to the words.
+fn answer_of<'a, R: AllocGlobal, F: Files, I: Read>(
+    rt: &R,
+    words: &'a [&'a str],
+    files: &mut F,
+    input: &mut I,
+) -> Result<Answer, Stop<'a>>
+    requires { F.failures_of files.old + 1 < 2 ^ 64 }
+    ensures answers { IfOk result (λ answer.
+        IsAnswer (I.remaining input.old) answer.status (string_bytes answer.text)) }
+    ensures unread { IfErr result (λ stop. IsUnreadFile stop
+        → F.failures_of files.old < F.failures_of files.new) }
+{
+    match read_command(rt.alloc(), words) {
+        Ok(Command::Rules { document }) => {
+            let bytes = read_bytes(rt, files, input, document)?;
+            Ok(rules_answer(rt, bytes.as_slice())?)
+        }
+        Err(CommandFault::Words) => Ok(Answer::refused_words(rt.alloc())?),
+        Err(CommandFault::OutOfMemory) => Err(Stop::OutOfMemory),
+    }
+}
+
+/// Writes the line and a newline.
+fn write_line<W: Write>(out: &mut W, line: &str) -> io::Result<()>
+    ensures { OnOk result
+        (Appends (W.contents out.old) (W.contents out.new) (line.now ++ 10 ∷ [])) }
+{
+    writeln!(out, "{line}")?;
+    out.flush()
+}
+
+/// The whole program: answers `words`, those after the program's name, by a line on `out`, and returns the
+/// exit status. The one command is `rules DOC`, which reads the document of that name among `files`, or
+/// `input` for `-`, and judges it over 16 pages of zeros; it ignores starts, ends and steps.
+///
+/// The document is read to its limit and one byte more, in at most that many reads, and any failed read ends
+/// the program. The clauses speak of the line and the status, and of the bytes of `input` where the document
+/// is `-`; which words are a command, what a file holds and the lines on `err` are shown by tests.
+///
+/// # Errors
+///
+/// Status 3, with one line on `err` and no answer: `out of memory` where memory was refused, `cannot read NAME`
+/// where `files` or a read of `input` failed, `cannot write` where a write to `out` failed. That a write to
+/// `err` failed changes no status.
+pub fn serve<R: AllocGlobal, F: Files, I: Read, O: Write, E: Write>(
+    rt: &R,
+    words: &[&str],
+    files: &mut F,
+    input: &mut I,
+    out: &mut O,
+    err: &mut E,
+) -> u8
+    requires { F.failures_of files.old + 1 < 2 ^ 64 }
+    ensures status { result ≤ 3 }
+    ensures answers { result < 3
+        → WritesAnswer (I.remaining input.old) (O.contents out.old) (O.contents out.new) result }
+    ensures silent { result < 3 → err.new ≡ err.old }
+{
+    match answer_of(rt, words, files, input) {
+        Ok(answer) => {
+            if write_line(out, answer.text.as_str()).is_err() {
+                let _ = writeln!(err, "cannot write");
+                return 3;
+            }
+            answer.status
+        }
+        Err(Stop::Unread(name)) => {
+            let _ = writeln!(err, "cannot read {name}");
+            3
+        }
+        Err(Stop::OutOfMemory) => {
+            let _ = writeln!(err, "out of memory");
+            3
+        }
+    }
+}
