@@ -1,4 +1,5 @@
 //! The program over a fake reader, fake writers and fake files.
+mod candidates;
 mod documents;
 
 use super::*;
