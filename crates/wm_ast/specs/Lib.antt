@@ -1,0 +1,3 @@
+pub mod Types
+pub mod Access
+pub mod Exports

@@ -1,0 +1,15 @@
+//! The syntax of modules: the abstract syntax of WebAssembly's integer part with threads
+//! (Core 1.0, chapter 2, and the threads proposal).
+#![tactic(auto)]
+
+mod access;
+mod exports;
+mod instr;
+mod module;
+mod types;
+
+pub use access::{AccessKind, Narrow, Storage, UpdateOperator};
+pub use exports::{Export, ExportKind, Exports};
+pub use instr::{AccessOperands, Block, Else, Instr};
+pub use module::{ConstExpr, DataSegment, Func, Global, ImportName, Memory, Module};
+pub use types::{BlockType, FuncType, Limits, Mutability, ValType};

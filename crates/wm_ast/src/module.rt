@@ -1,0 +1,67 @@
+//! Modules (Core 1.0, section 2.5).
+
+use crate::exports::Exports;
+use crate::instr::Block;
+use crate::types::{FuncType, Limits, Mutability, ValType};
+use wm_list::{List, Text};
+
+/// A function (Core 1.0, section 2.5.3).
+#[derive(Drop)]
+pub struct Func {
+    /// The index of its type among the types of the module.
+    pub type_index: u32,
+    /// The types of the locals behind the parameters, one for each local.
+    pub locals: List<ValType>,
+    /// The blocks: the body is block 0, and the others follow in the order in which they begin in the bytes.
+    /// An `if` has two; an absent else part is an empty block that begins at the `end`.
+    pub blocks: List<Block>,
+}
+
+/// An initial value: one constant (Core 1.0, section 2.5.10), modulo 2 to the power 32 or 64.
+#[derive(Clone, Copy, Debug, PartialEq, Eq)]
+pub enum ConstExpr {
+    I32(u32),
+    I64(u64),
+}
+
+/// A global (Core 1.0, section 2.5.6).
+#[derive(Clone, Copy, Debug, PartialEq, Eq)]
+pub struct Global {
+    pub ty: ValType,
+    pub mutability: Mutability,
+    pub init: ConstExpr,
+}
+
+/// What an import is named by (Core 1.0, section 2.5.11).
+#[derive(Drop)]
+pub struct ImportName {
+    pub module: Text,
+    pub name: Text,
+}
+
+/// The shared memory of a module (Core 1.0, section 2.5.5). An imported one is named.
+#[derive(Drop)]
+pub struct Memory {
+    pub limits: Limits,
+    pub import: Option<ImportName>,
+}
+
+/// Bytes that are in memory at first (Core 1.0, section 2.5.8).
+#[derive(Drop)]
+pub struct DataSegment {
+    /// The address of the first byte.
+    pub offset: ConstExpr,
+    pub bytes: List<u8>,
+}
+
+/// A module (Core 1.0, section 2.5): its types, its functions, its memory if it has one, its globals,
+/// its exports by name in the order of the file, and its data segments.
+#[derive(Drop)]
+pub struct Module {
+    pub types: List<FuncType>,
+    pub funcs: List<Func>,
+    pub memory: Option<Memory>,
+    pub globals: List<Global>,
+    pub exports: Exports,
+    pub data: List<DataSegment>,
+}

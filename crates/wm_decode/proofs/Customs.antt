@@ -1,0 +1,85 @@
+-- Custom sections are skipped.
+use Rattle.std.proofs.Common.{◌≡◌, ℕ, zero, suc, ◌+◌, ◌-◌, ◌≤◌, ◌<◌, Bool, true, false, cond, eqb, List, [], ◌∷◌, ◌++◌, length, get_or, take, drop, Result, Ok, Err, refl, sym, ap, subst, ◌∙◌, arith, length-append}
+use Rattle.std.proofs.lemmas.Bool.{eq-eqb, ne_eqb}
+use Rattle.wm_decode.specs.declared.fault.ReadFault.{ReadFault}
+use Rattle.wm_decode.specs.declared.fault.ReadFault.TheVariants.{OutOfMemory, At}
+use Rattle.wm_decode.specs.Stop.{Stop, bad}
+use Rattle.wm_decode.specs.Answers.{Fails, stop_of}
+use Rattle.wm_decode.specs.Numbers.{IsBytes}
+use Rattle.wm_decode.specs.Reading.{◌>>=◌}
+use Rattle.wm_decode.specs.ReadingVectors.{byte_vector_at, sized_at}
+use Rattle.wm_decode.specs.ReadingModule.{custom_at, customs_at, customs_in}
+use Rattle.wm_decode.proofs.Steps.{bound, met, pair_is, fits_behind}
+use Rattle.wm_decode.proofs.Lawful.{byte_vector_takes}
+use Rattle.wm_decode.proofs.SoFar.{tail_of, front_is}
+
+-- what stands behind something with its size
+pub sized_rest : {X : Type 0} (item_at : List ℕ → Result (X × List ℕ) Stop) (bytes : List ℕ) (x : X) (rest : List ℕ) → IsBytes bytes → sized_at item_at bytes ≡ Ok (x, rest) → (text : List ℕ) × (bytes ≡ text ++ rest)
+unfolding sized_at
+sized_rest {X} item_at bytes x rest fits e =
+    let last = λ (after : List ℕ) (y : X × List ℕ). let k : Result (X × List ℕ) Stop = cond (eqb (length y.1) 0) (Ok (y.0, after)) (Err bad) in k in
+    let a = bound (byte_vector_at bytes) (λ content. item_at content.0 >>= last content.1) (x, rest) e in
+    let t = byte_vector_takes bytes a.0.0 a.0.1 fits a.1 in
+    let b = bound (item_at a.0.0) (last a.0.1) (x, rest) a.2 in
+    let m = met (eqb (length b.0.1) 0) (let k : Result (X × List ℕ) Stop = Ok (b.0.0, a.0.1) in k) (x, rest) b.2 in
+    let is = pair_is (b.0.0, a.0.1) (x, rest) m.1 in
+    (t.0, t.1 ∙ ap (λ (l : List ℕ). t.0 ++ l) is.1)
+
+bind_same : {A B : Type 0} (o : Result A Stop) (f g : A → Result B Stop) → ((x : A) → o ≡ Ok x → f x ≡ g x) → (o >>= f) ≡ (o >>= g)
+bind_same (Ok x) f g h = h x refl
+bind_same (Err e) f g h = refl
+
+pub customs_same : (f g : ℕ) (bytes : List ℕ) → IsBytes bytes → length bytes ≤ f → length bytes ≤ g → customs_at f bytes ≡ customs_at g bytes
+unfolding customs_at
+customs_same zero zero bytes fits a b = refl
+customs_same zero (suc g) [] fits a b = refl
+customs_same zero (suc g) (x ∷ bytes) fits a b = absurd (omega arith)
+customs_same (suc f) zero [] fits a b = refl
+customs_same (suc f) zero (x ∷ bytes) fits a b = absurd (omega arith)
+customs_same (suc f) (suc g) [] fits a b = refl
+customs_same (suc f) (suc g) (x ∷ bytes) fits a b =
+    ap (λ (o : Result (List ℕ) Stop). cond (eqb x 0) o (Ok (x ∷ bytes))) (bind_same (sized_at custom_at bytes) (λ y. customs_at f y.1) (λ y. customs_at g y.1) (λ y e.
+    let t = sized_rest custom_at bytes y.0 y.1 fits.1 e in
+    let le : length y.1 ≤ length bytes = omega (arith, ap length t.1, length-append t.0 y.1) in
+    customs_same f g y.1 (fits_behind bytes t.0 y.1 fits.1 t.1) (omega arith) (omega arith)))
+
+-- one custom section, and those behind it
+pub customs_cons : (bytes : List ℕ) → IsBytes bytes → customs_in (0 ∷ bytes) ≡ (sized_at custom_at bytes >>= λ y. customs_in y.1)
+unfolding customs_at
+customs_cons bytes fits = bind_same (sized_at custom_at bytes) (λ y. customs_at (length bytes) y.1) (λ y. customs_in y.1) (λ y e.
+    let t = sized_rest custom_at bytes y.0 y.1 fits e in
+    let le : length y.1 ≤ length bytes = omega (arith, ap length t.1, length-append t.0 y.1) in
+    customs_same (length bytes) (length y.1) y.1 (fits_behind bytes t.0 y.1 fits t.1) le (omega arith))
+
+-- no custom section
+pub customs_none : (bytes : List ℕ) → (0 < length bytes → get_or bytes 0 0 ≡ 0 → ⊥) → customs_in bytes ≡ Ok bytes
+unfolding customs_at
+customs_none [] h = refl
+customs_none (b ∷ bytes) h = rw (ne_eqb b 0 (h (omega arith))) refl
+
+-- a loop over custom sections
+pub record Skipped (rest bytes : List ℕ) : Type 0 where
+  pub same : customs_in rest ≡ customs_in bytes
+  pub fits : IsBytes rest
+
+module _ (rest bytes : List ℕ) (s : Skipped rest bytes) (long : 0 < length rest) (first : get_or rest 0 0 ≡ 0) where
+  tail_fits : IsBytes (tail_of rest)
+  tail_fits = let fits : IsBytes (get_or rest 0 0 ∷ tail_of rest) = subst IsBytes (front_is rest long) s.fits in fits.1
+
+  unfolds : customs_in rest ≡ (sized_at custom_at (tail_of rest) >>= λ y. customs_in y.1)
+  unfolds = ap customs_in (front_is rest long) ∙ ap (λ (k : ℕ). customs_in (k ∷ tail_of rest)) first ∙ customs_cons (tail_of rest) tail_fits
+
+  pub skips : (name after : List ℕ) → sized_at custom_at (tail_of rest) ≡ Ok (name, after) → Skipped after bytes
+  skips name after e =
+      let t = sized_rest custom_at (tail_of rest) name after tail_fits e in
+      let one : customs_in rest ≡ customs_in after = unfolds ∙ rw e refl in
+      record { same = sym one ∙ s.same; fits = fits_behind (tail_of rest) t.0 after tail_fits t.1 }
+
+  pub shrinks : (name after : List ℕ) → sized_at custom_at (tail_of rest) ≡ Ok (name, after) → length after < length rest
+  shrinks name after e =
+      let t = sized_rest custom_at (tail_of rest) name after tail_fits e in
+      omega (arith, ap length t.1, length-append t.0 after, ap length (front_is rest long))
+
+  pub fails : (e : ReadFault) → Fails e (sized_at custom_at (tail_of rest)) → Fails e (customs_in bytes)
+  fails OutOfMemory h = tt
+  fails (At kind left) h = let one : customs_in rest ≡ Err (stop_of kind) = unfolds ∙ rw h refl in sym s.same ∙ one

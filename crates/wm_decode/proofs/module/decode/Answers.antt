@@ -1,0 +1,10 @@
+use Rattle.std.proofs.Common.{arith}
+use Rattle.wm_decode.proofs.Turns.{are_bytes}
+use Rattle.wm_decode.proofs.Decoded.{is_found, is_only}
+use Rattle.wm_decode.proofs.module.decode.Goals as goal
+
+pub returns-clause-found : goal.returns-clause-found
+returns-clause-found c = is_found c.args.bytes.now c.decode_whole.result (are_bytes c.args.bytes.now (λ i. omega (arith, c.type_inv.bytes i))) c.decode_whole.ensures
+
+pub returns-clause-only : goal.returns-clause-only
+returns-clause-only c = λ m s. is_only c.args.bytes.now c.decode_whole.result c.decode_whole.ensures m s

@@ -1,0 +1,68 @@
+-- What a function returned, seen by view, is what reading gives, unless memory was refused.
+use Rattle.std.specs.Prelude.{◌≡◌, Result, Ok, Err}
+use Rattle.wm_decode.specs.declared.fault.FaultKind.{FaultKind}
+use Rattle.wm_decode.specs.declared.fault.FaultKind.TheVariants as kind
+use Rattle.wm_decode.specs.declared.fault.ReadFault.{ReadFault}
+use Rattle.wm_decode.specs.declared.fault.ReadFault.TheVariants.{OutOfMemory, At}
+use Rattle.wm_decode.specs.declared.fault.DecodeFault.{DecodeFault}
+use Rattle.wm_decode.specs.declared.fault.DecodeFault.TheVariants as decode
+use Rattle.wm_decode.specs.Stop.{Stop, bad, past}
+
+-- a limit is named only past it
+abbrev pub stop_of : FaultKind → Stop
+stop_of (kind.Limit limit) = past limit
+stop_of kind.Magic = bad
+stop_of kind.Version = bad
+stop_of kind.Truncated = bad
+stop_of kind.BadNumber = bad
+stop_of kind.BadName = bad
+stop_of kind.SectionOrder = bad
+stop_of kind.SectionSize = bad
+stop_of kind.CountMismatch = bad
+stop_of (kind.UnknownOpcode byte) = bad
+stop_of (kind.Unsupported feature) = bad
+stop_of kind.DuplicateExport = bad
+
+abbrev pub Fails : {Y : Type 0} → ReadFault → Result Y Stop → Type 0
+Fails OutOfMemory read = Unit {0}
+Fails (At kind left) read = read ≡ Err (stop_of kind)
+
+abbrev pub Answers : {X Y : Type 0} → (X → Y) → Result X ReadFault → Result Y Stop → Type 0
+Answers view (Ok x) read = read ≡ Ok (view x)
+Answers view (Err e) read = Fails e read
+
+-- both are want of memory, or both stop reading alike
+abbrev pub SameStop : ReadFault → ReadFault → Type 0
+SameStop OutOfMemory OutOfMemory = Unit {0}
+SameStop OutOfMemory (At kind left) = ⊥
+SameStop (At kind left) OutOfMemory = ⊥
+SameStop (At kind left) (At kind2 left2) = stop_of kind2 ≡ stop_of kind
+
+-- memory isn't what was wanting, nor was a limit passed
+abbrev pub IsBad : ReadFault → Type 0
+IsBad OutOfMemory = ⊥
+IsBad (At kind left) = stop_of kind ≡ bad
+
+-- memory was wanting, or no limit was passed
+abbrev pub IsNoLimit : ReadFault → Type 0
+IsNoLimit OutOfMemory = Unit {0}
+IsNoLimit (At kind left) = stop_of kind ≡ bad
+
+-- what decoding answered is what reading gives, unless memory was refused
+abbrev pub Decodes : {X : Type 0} → Result X DecodeFault → Result X Stop → Type 0
+Decodes (Ok x) read = read ≡ Ok x
+Decodes (Err decode.OutOfMemory) read = Unit {0}
+Decodes (Err (decode.At kind offset)) read = read ≡ Err (stop_of kind)
+
+-- the same fault for the caller
+abbrev pub SameFault : ReadFault → DecodeFault → Type 0
+SameFault OutOfMemory decode.OutOfMemory = Unit {0}
+SameFault OutOfMemory (decode.At kind offset) = ⊥
+SameFault (At kind left) decode.OutOfMemory = ⊥
+SameFault (At kind left) (decode.At kind2 offset) = kind2 ≡ kind
+
+-- this value is answered, unless memory was refused
+abbrev pub IsUnlessMemory : {X : Type 0} → Result X DecodeFault → X → Type 0
+IsUnlessMemory (Ok x) m = x ≡ m
+IsUnlessMemory (Err decode.OutOfMemory) m = Unit {0}
+IsUnlessMemory (Err (decode.At kind offset)) m = ⊥

@@ -1,0 +1,17 @@
+pub mod Numbers
+pub mod Stop
+pub mod Reading
+pub mod Answers
+pub mod Opcodes
+pub mod Vectors
+pub mod ReadingVectors
+pub mod Instructions
+pub mod ReadingInstructions
+pub mod InstructionAnswers
+pub mod Lawful
+pub mod Bounds
+pub mod Parts
+pub mod ReadingParts
+pub mod Module
+pub mod ReadingModule
+pub mod Texts

@@ -1,0 +1,82 @@
+-- Reading sections and modules.
+use Rattle.std.specs.Prelude.{◌≡◌, ℕ, zero, suc, ◌-◌, ◌^◌, List, [], ◌∷◌, ◌++◌, length, Bool, true, false, Option, Some, None, is_some, Result, Ok, Err, nat_lt, ◌==◌, if◌then◌else◌}
+use Rattle.wm_ast.specs.declared.types.FuncType.{FuncType}
+use Rattle.wm_ast.specs.declared.types.Limits.{Limits}
+use Rattle.wm_ast.specs.declared.exports.Export.{Export}
+use Rattle.wm_ast.specs.declared.module.Global.{Global}
+use Rattle.wm_ast.specs.declared.module.Memory.{Memory}
+use Rattle.wm_ast.specs.declared.module.Module.{Module}
+use Rattle.std.specs.Option.{option_flatten}
+use Rattle.wm_decode.specs.Bounds.{Bounds, profile}
+use Rattle.wm_decode.specs.declared.fault.Limit.TheVariants as limit
+use Rattle.wm_decode.specs.Stop.{Stop, bad, past}
+use Rattle.wm_decode.specs.Reading.{◌>>=◌}
+use Rattle.wm_decode.specs.ReadingVectors.{u32_at, vector_at, sized_at, name_at}
+use Rattle.wm_decode.specs.ReadingParts.{Read, func_type_at, imports_at, memories_at, indices_at, no_items_at, global_at, exports_at, code_at, segments_at, agrees}
+use Rattle.wm_decode.specs.Module.{header, items_of, memory_of}
+use Rattle.wm_decode.specs.declared.module.Front.{Front}
+use Rattle.wm_decode.specs.declared.module.Declared.{Declared}
+
+-- a custom section's name; the rest is skipped
+unfoldable pub custom_at : List ℕ → Read (List ℕ)
+custom_at bytes = name_at bytes >>= λ name. Ok (name.0, [])
+
+-- behind the custom sections, of which at most fuel are read
+unfoldable pub customs_at : ℕ → List ℕ → Result (List ℕ) Stop
+customs_at fuel [] = Ok []
+customs_at zero (b ∷ bytes) = Err bad
+customs_at (suc fuel) (b ∷ bytes) = if b == 0 then (sized_at custom_at bytes >>= λ x. customs_at fuel x.1) else Ok (b ∷ bytes)
+
+-- there are fewer than there are bytes
+abbrev pub customs_in : List ℕ → Result (List ℕ) Stop
+customs_in bytes = customs_at (length bytes) bytes
+
+-- the section of this id and the custom sections behind it, if it stands here
+unfoldable pub section_at : {X : Type 0} → (List ℕ → Read X) → ℕ → List ℕ → Read (Option X)
+section_at content_at id [] = Ok (None, [])
+section_at content_at id (b ∷ bytes) = if b == id then (sized_at content_at bytes >>= λ x. customs_in x.1 >>= λ rest. Ok (Some x.0, rest)) else Ok (None, b ∷ bytes)
+
+abbrev pub behind : List ℕ → List ℕ → Result (List ℕ) Stop
+behind [] bytes = Ok bytes
+behind (p ∷ ps) [] = Err bad
+behind (p ∷ ps) (b ∷ bytes) = if b == p then behind ps bytes else Err bad
+
+unfoldable pub header_at : List ℕ → Result (List ℕ) Stop
+header_at bytes = behind header bytes
+
+-- the sections of types, imports and functions
+unfoldable pub front_at : Bounds → List ℕ → Read Front
+front_at bounds bytes = do
+  rest ← header_at bytes
+  start ← customs_in rest
+  types ← section_at (vector_at func_type_at) 1 start
+  imported ← section_at (imports_at bounds) 2 types.1
+  indices ← section_at (indices_at bounds) 3 imported.1
+  Ok (record { types = items_of types.0; imported = option_flatten imported.0; indices = items_of indices.0 }, indices.1)
+
+-- the sections up to that of elements
+unfoldable pub declared_at : Bounds → List ℕ → Read Declared
+declared_at bounds bytes = do
+  front ← front_at bounds bytes
+  tables ← section_at no_items_at 4 front.1
+  defined ← section_at (memories_at bounds (is_some front.0.imported)) 5 tables.1
+  globals ← section_at (vector_at global_at) 6 defined.1
+  exports ← section_at exports_at 7 globals.1
+  elements ← section_at no_items_at 9 exports.1
+  Ok (record { types = front.0.types; indices = front.0.indices; memory = memory_of front.0.imported (option_flatten defined.0); globals = items_of globals.0; exports = items_of exports.0 }, elements.1)
+
+unfoldable pub module_at : Bounds → List ℕ → Result Module Stop
+module_at bounds bytes = do
+  declared ← declared_at bounds bytes
+  count ← section_at u32_at 12 declared.1
+  code ← section_at (code_at bounds declared.0.types declared.0.indices) 10 count.1
+  segments ← section_at (segments_at count.0) 11 code.1
+  if length segments.1 == 0 then (
+      if length (items_of code.0) == length declared.0.indices then (
+      if agrees count.0 (length (items_of segments.0)) then
+      Ok (record { types = declared.0.types; funcs = items_of code.0; memory = declared.0.memory; globals = declared.0.globals; exports = declared.0.exports; «data» = items_of segments.0 })
+      else Err bad) else Err bad) else Err bad
+
+-- a module of no more bytes than are allowed
+unfoldable pub whole_at : List ℕ → Result Module Stop
+whole_at bytes = if nat_lt 1048576 (length bytes) then Err (past limit.ModuleBytes) else module_at profile bytes

@@ -1,0 +1,238 @@
+//! Modules (Core 1.0, section 5.5.15).
+ghost use Rattle.std.specs.Prelude.{◌≡◌, ℕ, List, IfOk};
+ghost use Rattle.wm_ast.specs.declared.module.Module.{Module};
+ghost use Rattle.wm_decode.specs.Stop.{bad};
+ghost use Rattle.wm_decode.specs.Bounds.{profile};
+ghost use Rattle.wm_decode.specs.Answers.{Answers, Decodes, IsUnlessMemory, stop_of, IsBad};
+ghost use Rattle.wm_decode.specs.Module.{items_of, memory_of, SpellsWithin, spells};
+ghost use Rattle.wm_decode.specs.ReadingModule.{header_at, front_at, declared_at, module_at, whole_at};
+
+use crate::bounds::MODULE_BYTES;
+use crate::code::Code;
+use crate::contents::{
+    DataCount, ExportNames, Globals, Imports, Memories, NoItems, Segments, TypeIndices, Types,
+    is_agreed,
+};
+use crate::fault::{DecodeFault, FaultKind, Feature, Limit, ReadFault};
+use crate::section::{customs, section};
+use std::alloc::Global;
+use wm_ast::{Exports, FuncType, Global as GlobalEntry, Limits, Memory, Module};
+use wm_list::List;
+
+/// Why bytes don't begin with the header.
+fn header_fault(bytes: &[u8]) -> ReadFault
+    ensures { IsBad result }
+{
+    let magic = [0x00, 0x61, 0x73, 0x6D];
+    let version = [0x01, 0x00, 0x00, 0x00];
+    for (byte, wanted) in bytes.iter().zip(magic.iter()) {
+        if *byte != *wanted {
+            return ReadFault::At(FaultKind::Magic, bytes.len());
+        }
+    }
+    for (byte, wanted) in bytes.iter().skip(4).zip(version.iter()) {
+        if *byte != *wanted {
+            return ReadFault::At(FaultKind::Version, bytes.len().saturating_sub(4));
+        }
+    }
+    ReadFault::At(FaultKind::Truncated, 0)
+}
+
+/// Reads the header.
+#[tactic(auto, unfolding(crate::specs::ReadingModule::header_at))]
+fn header(bytes: &[u8]) -> Result<&[u8], ReadFault>
+    ensures { Answers (λ x. x.now) result (header_at bytes.now) }
+{
+    match bytes {
+        [0x00, 0x61, 0x73, 0x6D, 0x01, 0x00, 0x00, 0x00, rest @ ..] => Ok(rest),
+        _ => Err(header_fault(bytes)),
+    }
+}
+
+/// The items of a section, none where it is absent.
+fn items_or_none<T>(alloc: Global, found: Option<List<T>>) -> List<T>
+    ensures { result ≡ items_of found }
+{
+    match found {
+        Some(items) => items,
+        None => List::new(alloc),
+    }
+}
+
+/// The exports of a section, none where it is absent.
+fn exports_or_none(alloc: Global, found: Option<Exports>) -> Exports
+    ensures { result ≡ items_of found }
+{
+    match found {
+        Some(exports) => exports,
+        None => Exports::new(alloc),
+    }
+}
+
+/// The one memory, imported or not.
+fn one_memory(imported: Option<Memory>, defined: Option<Limits>) -> Option<Memory>
+    ensures { result ≡ memory_of imported defined }
+{
+    match imported {
+        Some(memory) => Some(memory),
+        None => match defined {
+            Some(limits) => Some(Memory {
+                limits,
+                import: None,
+            }),
+            None => None,
+        },
+    }
+}
+
+/// What stands in the sections of types, imports and functions.
+#[derive(Drop)]
+struct Front {
+    types: List<FuncType>,
+    imported: Option<Memory>,
+    indices: List<u32>,
+}
+
+/// What stands in the sections up to that of elements.
+#[derive(Drop)]
+struct Declared {
+    types: List<FuncType>,
+    indices: List<u32>,
+    memory: Option<Memory>,
+    globals: List<GlobalEntry>,
+    exports: Exports,
+}
+
+/// Reads the sections of types, imports and functions.
+#[tactic(auto, unfolding(crate::specs::ReadingModule::front_at))]
+fn read_front(alloc: Global, bytes: &[u8]) -> Result<(Front, &[u8]), ReadFault>
+    ensures { Answers (λ x. (x.0, x.1.now)) result (front_at profile bytes.now) }
+{
+    let rest = header(bytes)?;
+    let rest = customs(alloc, rest)?;
+    let (types, rest) = section(alloc, 1, &Types, rest)?;
+    let (imported, rest) = section(alloc, 2, &Imports, rest)?;
+    let (indices, rest) = section(alloc, 3, &TypeIndices, rest)?;
+    let front = Front {
+        types: items_or_none(alloc, types),
+        imported: imported.flatten(),
+        indices: items_or_none(alloc, indices),
+    };
+    Ok((front, rest))
+}
+
+/// Reads the sections up to that of elements.
+#[tactic(auto, unfolding(crate::specs::ReadingModule::declared_at))]
+fn read_declared(alloc: Global, bytes: &[u8]) -> Result<(Declared, &[u8]), ReadFault>
+    ensures { Answers (λ x. (x.0, x.1.now)) result (declared_at profile bytes.now) }
+{
+    let (front, rest) = read_front(alloc, bytes)?;
+    let memories = Memories {
+        imported: front.imported.is_some(),
+    };
+    let (_, rest) = section(alloc, 4, &NoItems, rest)?;
+    let (defined, rest) = section(alloc, 5, &memories, rest)?;
+    let (globals, rest) = section(alloc, 6, &Globals, rest)?;
+    let (exports, rest) = section(alloc, 7, &ExportNames, rest)?;
+    let (_, rest) = section(alloc, 9, &NoItems, rest)?;
+    let Front {
+        types,
+        imported,
+        indices,
+    } = front;
+    let declared = Declared {
+        types,
+        indices,
+        memory: one_memory(imported, defined.flatten()),
+        globals: items_or_none(alloc, globals),
+        exports: exports_or_none(alloc, exports),
+    };
+    Ok((declared, rest))
+}
+
+/// Why a section can't stand here.
+fn section_fault(id: u8) -> FaultKind
+    ensures { stop_of result ≡ bad }
+{
+    match id {
+        0x08 => FaultKind::Unsupported(Feature::Start),
+        0x0D => FaultKind::Unsupported(Feature::Reserved),
+        0x0E..=0xFF => FaultKind::BadNumber,
+        _ => FaultKind::SectionOrder,
+    }
+}
+
+/// Reads a module.
+#[tactic(auto, unfolding(crate::specs::ReadingModule::module_at))]
+pub(crate) fn read_module(alloc: Global, bytes: &[u8]) -> Result<Module, ReadFault>
+    ensures { Answers (λ x. x) result (module_at profile bytes.now) }
+{
+    let (declared, rest) = read_declared(alloc, bytes)?;
+    let (count, rest) = section(alloc, 12, &DataCount, rest)?;
+    let code = Code {
+        types: declared.types.as_slice(),
+        indices: declared.indices.as_slice(),
+    };
+    let (funcs, rest) = section(alloc, 10, &code, rest)?;
+    let (data, rest) = section(alloc, 11, &Segments { declared: count }, rest)?;
+    if let [id, ..] = rest {
+        return Err(ReadFault::At(section_fault(*id), rest.len()));
+    }
+    let funcs = items_or_none(alloc, funcs);
+    let data = items_or_none(alloc, data);
+    if funcs.len() != declared.indices.len() || !is_agreed(count, data.len()) {
+        return Err(ReadFault::At(FaultKind::CountMismatch, 0));
+    }
+    let Declared {
+        types,
+        indices: _,
+        memory,
+        globals,
+        exports,
+    } = declared;
+    Ok(Module {
+        types,
+        funcs,
+        memory,
+        globals,
+        exports,
+        data,
+    })
+}
+
+/// Reads a module of no more bytes than are allowed.
+#[tactic(auto, unfolding(crate::specs::ReadingModule::whole_at))]
+fn decode_whole(alloc: Global, bytes: &[u8]) -> Result<Module, DecodeFault>
+    ensures { Decodes result (whole_at bytes.now) }
+{
+    if bytes.len() > MODULE_BYTES {
+        return Err(DecodeFault::At(FaultKind::Limit(Limit::ModuleBytes), MODULE_BYTES));
+    }
+    match read_module(alloc, bytes) {
+        Ok(module) => Ok(module),
+        Err(fault) => Err(fault.in_module(bytes.len())),
+    }
+}
+
+/// Decodes a module: the one that the bytes spell, within the limits.
+///
+/// # Errors
+///
+/// `At` gives the first fault from left to right, with the offset of the faulty item's first byte.
+/// It comes only where the bytes spell no module within the limits.
+/// `OutOfMemory` comes only where memory was refused.
+pub fn decode(alloc: Global, bytes: &[u8]) -> Result<Module, DecodeFault>
+    // What is answered is spelled by the bytes, within the limits.
+    ensures found { IfOk result (λ m. SpellsWithin bytes.now m) }
+    // What the bytes spell within the limits is answered, unless memory is refused.
+    ensures only { (m : Module) → SpellsWithin bytes.now m → IsUnlessMemory result m }
+    // A limit is named only where reading from left to right meets more than it allows.
+    ensures limits { Decodes result (whole_at bytes.now) }
+{
+    decode_whole(alloc, bytes)
+}
+
+/// A text spells at most one module, whatever its size.
+pub fn spelled_once()
+    ensures { (bytes : List ℕ) (m n : Module) → spells bytes m → spells bytes n → m ≡ n }
+{}

@@ -1,0 +1,119 @@
+//! Numbers (Core 1.0, section 5.2.2).
+ghost use Rattle.std.specs.Prelude.{◌≡◌, ◌≢◌, ◌≤◌, ◌-◌, ◌^◌, IfOk};
+ghost use Rattle.wm_decode.specs.Numbers.{IsMost};
+ghost use Rattle.wm_decode.specs.Answers.{Answers, stop_of};
+ghost use Rattle.wm_decode.specs.Stop.{bad};
+ghost use Rattle.wm_decode.specs.Reading.{Gives, unsigned_at, signed_at};
+
+use crate::fault::{FaultKind, ReadFault};
+
+/// Why a number could not be read.
+#[derive(Clone, Copy, Debug, PartialEq, Eq)]
+enum NumberFault {
+    /// The bytes end within it.
+    Short,
+    /// It is too long or too large.
+    Bad,
+}
+
+/// Reads a number from 0 to `most`.
+#[tactic(auto, using(crate::proofs::Most::seventh, crate::proofs::Most::seven_more), unfolding(crate::specs::Reading::unsigned_at))]
+fn unsigned(most: u64, bytes: &[u8]) -> Result<(u64, &[u8]), NumberFault>
+    requires { IsMost most }
+    ensures exact { Gives (λ x. (x.0, x.1.now)) result (unsigned_at most bytes.now) }
+    ensures below { IfOk result (λ x. x.0 ≤ most) }
+{
+    match bytes {
+        [] => Err(NumberFault::Short),
+        [first, rest @ ..] => {
+            let first = *first as u64;
+            if first < 128 {
+                if most < first {
+                    return Err(NumberFault::Bad);
+                }
+                return Ok((first, rest));
+            }
+            if most < 128 {
+                return Err(NumberFault::Bad);
+            }
+            let (high, rest) = unsigned(most / 128, rest)?;
+            Ok((first - 128 + 128 * high, rest))
+        }
+    }
+}
+
+/// Reads a number with a sign, as its two's complement.
+#[tactic(auto, using(crate::proofs::Most::seventh, crate::proofs::Most::seven_more), unfolding(crate::specs::Reading::signed_at))]
+fn signed(most: u64, bytes: &[u8]) -> Result<(u64, &[u8]), NumberFault>
+    requires { IsMost most }
+    ensures exact { Gives (λ x. (x.0, x.1.now)) result (signed_at most bytes.now) }
+    ensures below { IfOk result (λ x. x.0 ≤ most) }
+{
+    match bytes {
+        [] => Err(NumberFault::Short),
+        [first, rest @ ..] => {
+            let first = *first as u64;
+            if first < 64 {
+                if most / 2 < first {
+                    return Err(NumberFault::Bad);
+                }
+                return Ok((first, rest));
+            }
+            if first < 128 {
+                if most / 2 < 127 - first {
+                    return Err(NumberFault::Bad);
+                }
+                return Ok((most - (127 - first), rest));
+            }
+            if most < 128 {
+                return Err(NumberFault::Bad);
+            }
+            let (high, rest) = signed(most / 128, rest)?;
+            Ok((first - 128 + 128 * high, rest))
+        }
+    }
+}
+
+impl NumberFault {
+    ghost use Rattle.wm_decode.specs.Answers.{IsBad};
+
+    // The fault at the number's first byte, from which `left` bytes are left.
+    fn at(self, left: usize) -> ReadFault
+        ensures { IsBad result }
+    {
+        match self {
+            NumberFault::Short => ReadFault::At(FaultKind::Truncated, left),
+            NumberFault::Bad => ReadFault::At(FaultKind::BadNumber, left),
+        }
+    }
+}
+
+/// Reads a number of 32 binary digits.
+pub(crate) fn unsigned_32(bytes: &[u8]) -> Result<(u32, &[u8]), ReadFault>
+    ensures { Answers (λ x. (x.0, x.1.now)) result (unsigned_at (2 ^ 32 - 1) bytes.now) }
+{
+    match unsigned(u32::MAX as u64, bytes) {
+        Ok((number, rest)) => Ok((number as u32, rest)),
+        Err(fault) => Err(fault.at(bytes.len())),
+    }
+}
+
+/// Reads a number of 32 binary digits with a sign, as its two's complement.
+pub(crate) fn signed_32(bytes: &[u8]) -> Result<(u32, &[u8]), ReadFault>
+    ensures { Answers (λ x. (x.0, x.1.now)) result (signed_at (2 ^ 32 - 1) bytes.now) }
+{
+    match signed(u32::MAX as u64, bytes) {
+        Ok((number, rest)) => Ok((number as u32, rest)),
+        Err(fault) => Err(fault.at(bytes.len())),
+    }
+}
+
+/// Reads a number of 64 binary digits with a sign, as its two's complement.
+pub(crate) fn signed_64(bytes: &[u8]) -> Result<(u64, &[u8]), ReadFault>
+    ensures { Answers (λ x. (x.0, x.1.now)) result (signed_at (2 ^ 64 - 1) bytes.now) }
+{
+    match signed(u64::MAX, bytes) {
+        Ok(found) => Ok(found),
+        Err(fault) => Err(fault.at(bytes.len())),
+    }
+}

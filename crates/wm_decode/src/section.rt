@@ -1,0 +1,101 @@
+//! Sections (Core 1.0, sections 5.5.2 and 5.5.3).
+ghost use Rattle.std.specs.Prelude.{◌≡◌, [], Option};
+ghost use Rattle.wm_decode.specs.Answers.{Answers};
+ghost use Rattle.wm_decode.specs.ReadingVectors.{sized_at};
+ghost use Rattle.wm_decode.specs.ReadingModule.{custom_at, customs_in, section_at};
+
+use crate::fault::{FaultKind, ReadFault};
+use crate::vectors::{byte_vector, owned_name};
+use std::alloc::Global;
+use wm_list::Text;
+
+/// What stands in a section, with what has to be known to read it.
+pub(crate) trait Content {
+    ghost use Rattle.std.specs.Prelude.{List, ℕ, Result};
+    ghost use Rattle.wm_decode.specs.Stop.{Stop};
+
+    type Value: Drop;
+
+    // The value at the front of the bytes, and the bytes after it.
+    ghost content_at: { Self → List ℕ → Result (Self.Value × List ℕ) Stop };
+
+    /// Reads the value at the front.
+    fn read<'a>(&self, alloc: Global, bytes: &'a [u8]) -> Result<(Self::Value, &'a [u8]), ReadFault>
+        ensures { Answers (λ x. (x.0, x.1.now)) result (content_at self.now bytes.now) };
+}
+
+/// Reads a size, and a value that takes so many bytes.
+#[tactic(auto, unfolding(crate::specs::ReadingVectors::sized_at))]
+fn sized<'a, C: Content>(
+    alloc: Global,
+    content: &C,
+    bytes: &'a [u8],
+) -> Result<(C::Value, &'a [u8]), ReadFault>
+    ensures { Answers (λ x. (x.0, x.1.now)) result (sized_at (C.content_at content.now) bytes.now) }
+{
+    let (inner, after) = byte_vector(bytes)?;
+    let (value, left) = match content.read(alloc, inner) {
+        Ok(found) => found,
+        Err(fault) => return Err(fault.inside(after.len())),
+    };
+    if !left.is_empty() {
+        return Err(ReadFault::At(
+            FaultKind::SectionSize,
+            left.len().saturating_add(after.len()),
+        ));
+    }
+    Ok((value, after))
+}
+
+/// A custom section, whose value is its name.
+struct Custom;
+
+impl Content for Custom {
+    type Value = Text;
+
+    ghost content_at = { λ _. custom_at };
+
+    #[tactic(auto, unfolding(crate::specs::ReadingModule::custom_at))]
+    fn read<'a>(&self, alloc: Global, bytes: &'a [u8]) -> Result<(Text, &'a [u8]), ReadFault> {
+        let (name, _) = owned_name(alloc, bytes)?;
+        Ok((name, &[]))
+    }
+}
+
+/// Skips custom sections.
+pub(crate) fn customs(alloc: Global, bytes: &[u8]) -> Result<&[u8], ReadFault>
+    ensures { Answers (λ x. x.now) result (customs_in bytes.now) }
+{
+    let mut rest = bytes;
+    while let [id, after @ ..] = rest {
+        if *id != 0x00 {
+            return Ok(rest);
+        }
+        let (_, after) = sized(alloc, &Custom, after)?;
+        rest = after;
+    }
+    Ok(rest)
+}
+
+/// Reads the section of this id and skips the custom sections behind it, if it stands here.
+#[tactic(auto, unfolding(crate::specs::ReadingModule::section_at))]
+pub(crate) fn section<'a, C: Content>(
+    alloc: Global,
+    id: u8,
+    content: &C,
+    bytes: &'a [u8],
+) -> Result<(Option<C::Value>, &'a [u8]), ReadFault>
+    ensures { Answers (λ x. (x.0, x.1.now)) result (section_at (C.content_at content.now) id bytes.now) }
+{
+    match bytes {
+        [] => Ok((None, bytes)),
+        [first, rest @ ..] => {
+            if *first != id {
+                return Ok((None, bytes));
+            }
+            let (value, after) = sized(alloc, content, rest)?;
+            let after = customs(alloc, after)?;
+            Ok((Some(value), after))
+        }
+    }
+}
