@@ -1,5 +1,4 @@
 //! The program over a fake reader, fake writers and fake files.
-mod candidates;
 mod documents;
 
 use super::*;
