@@ -20,6 +20,18 @@ pub enum MemoryOrder {
     SeqCst,
 }
 
+/// How an atomic read-modify-write makes the value written from the one read and its operand.
+#[derive(Clone, Copy, Debug, PartialEq, Eq)]
+pub enum UpdateOperator {
+    Add,
+    Sub,
+    And,
+    Or,
+    Xor,
+    /// The value written is the operand.
+    Xchg,
+}
+
 impl AccessWidth {
     ghost use Rattle.wm_access.specs.AccessWidth.{bytes_of};
 

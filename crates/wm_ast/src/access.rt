@@ -2,7 +2,7 @@
 ghost use Rattle.std.specs.Prelude.{◌≡◌};
 
 use crate::types::ValType;
-use wm_access::{AccessWidth, MemoryOrder};
+use wm_access::{AccessWidth, MemoryOrder, UpdateOperator};
 
 /// The type of the operand, and how many of its low bytes are in memory.
 /// `I32` and `I64` take all of them.
@@ -68,18 +68,6 @@ impl Narrow {
             Narrow::I64As32 => Storage::I64As32,
         }
     }
-}
-
-/// How an atomic read-modify-write makes the value written from the one read and its operand.
-#[derive(Clone, Copy, Debug, PartialEq, Eq)]
-pub enum UpdateOperator {
-    Add,
-    Sub,
-    And,
-    Or,
-    Xor,
-    /// The value written is the operand.
-    Xchg,
 }
 
 /// What is done to memory. Plain accesses are unordered, atomic ones sequentially consistent.

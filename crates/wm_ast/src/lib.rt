@@ -8,7 +8,7 @@ mod instr;
 mod module;
 mod types;
 
-pub use access::{AccessKind, Narrow, Storage, UpdateOperator};
+pub use access::{AccessKind, Narrow, Storage};
 pub use exports::{Export, ExportKind, Exports};
 pub use instr::{AccessOperands, Block, Else, Instr};
 pub use module::{ConstExpr, DataSegment, Func, Global, ImportName, Memory, Module};

@@ -1,6 +1,7 @@
 //! Modules (Core 1.0, section 2.5).
+ghost use Rattle.std.specs.Prelude.{◌≡◌};
 
-use crate::exports::Exports;
+use crate::exports::{Export, Exports};
 use crate::instr::Block;
 use crate::types::{FuncType, Limits, Mutability, ValType};
 use wm_list::{List, Text};
@@ -64,4 +65,24 @@ pub struct Module {
     pub globals: List<Global>,
     pub exports: Exports,
     pub data: List<DataSegment>,
+}
+
+impl Module {
+    ghost use Rattle.std.specs.Prelude.{option_copied};
+    ghost use Rattle.wm_ast.specs.Exports.{export_at};
+    ghost use Rattle.wm_ast.specs.Blocks.{block_in};
+
+    /// Block `number` of function `func`, both counted from 0; None where there is none. The body is block 0.
+    pub fn block(&self, func: usize, number: usize) -> Option<&Block>
+        ensures { option_copied result ≡ block_in self.now.funcs func number }
+    {
+        self.funcs.get(func)?.blocks.get(number)
+    }
+
+    /// The export of this name, None where there is none.
+    pub fn export(&self, name: &str) -> Option<Export>
+        ensures { result ≡ export_at name.now self.now.exports }
+    {
+        self.exports.get(name)
+    }
 }

@@ -1,5 +1,5 @@
 -- Numbers and names pass no limit.
-use Rattle.std.proofs.Common.{◌≡◌, ℕ, ◌-◌, ◌+◌, ◌*◌, ◌/◌, ◌^◌, Bool, true, false, cond, ltb, List, [], ◌∷◌, length, take, drop, Result, Ok, Err, refl, sym, ap, ◌∙◌, ◌⊎◌, inl, inr}
+use Rattle.std.proofs.Common.{◌≡◌, ℕ, ◌-◌, ◌+◌, ◌*◌, ◌/◌, ◌^◌, Bool, true, false, cond, ltb, List, [], ◌∷◌, length, take, drop, Result, Ok, Err, refl, sym, ◌∙◌}
 use Rattle.std.specs.Str.{is_utf8}
 use Rattle.wm_decode.specs.declared.fault.ReadFault.{ReadFault}
 use Rattle.wm_decode.specs.declared.fault.ReadFault.TheVariants.{OutOfMemory, At}

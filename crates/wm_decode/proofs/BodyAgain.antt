@@ -1,6 +1,6 @@
 -- What is spelled so is read, whatever follows.
-use Rattle.std.proofs.Common.{◌≡◌, ℕ, zero, suc, ◌+◌, ◌-◌, ◌*◌, ◌/◌, ◌<◌, ◌≤◌, ◌^◌, Bool, true, false, cond, ltb, eqb, List, [], ◌∷◌, ◌++◌, length, Option, Some, None, Result, Ok, Err, refl, sym, ap, subst, ◌∙◌, arith, ◌⊎◌, inl, inr, append_assoc, add-zero, length-append}
-use Rattle.std.proofs.lemmas.Bool.{ne_eqb, ltb-false, le-ltb, ltb-true, lt-ltb}
+use Rattle.std.proofs.Common.{◌≡◌, ℕ, zero, suc, ◌+◌, ◌-◌, ◌<◌, ◌≤◌, ◌^◌, false, eqb, List, [], ◌∷◌, ◌++◌, length, Option, Some, None, Result, Ok, refl, ap, subst, ◌∙◌, arith, append_assoc, add-zero, length-append}
+use Rattle.std.proofs.lemmas.Bool.{ne_eqb}
 use Rattle.wm_ast.specs.declared.access.AccessKind.{AccessKind}
 use Rattle.wm_ast.specs.declared.instr.Instr.{Instr}
 use Rattle.wm_ast.specs.declared.instr.Instr.TheVariants.{Block, Loop, If}
@@ -8,13 +8,13 @@ use Rattle.wm_ast.specs.declared.types.ValType.{ValType}
 use Rattle.wm_ast.specs.declared.types.ValType.TheVariants.{I32, I64}
 use Rattle.wm_ast.specs.declared.instr.Else.TheVariants.{Present, Absent}
 use Rattle.wm_decode.specs.declared.opcode.Opcode.{Opcode}
-use Rattle.wm_decode.specs.Stop.{Stop, bad}
-use Rattle.wm_decode.specs.Numbers.{U32, Unsigned, Signed}
-use Rattle.wm_decode.specs.Opcodes.{opcode_at, atomic_at}
+use Rattle.wm_decode.specs.Stop.{Stop}
+use Rattle.wm_decode.specs.Numbers.{U32}
+use Rattle.wm_decode.specs.Opcodes.{opcode_at}
 use Rattle.wm_decode.specs.Instructions.{block_type, access_instr, Operands, alone, indexed, br_table, access, memory_size, i32_const, i64_const, atomic, Plain, plain_instr, Spells, none, plain, block, loop, if_then, if_else}
-use Rattle.wm_decode.specs.Reading.{◌>>=◌, unsigned_at, signed_at}
-use Rattle.wm_decode.specs.ReadingVectors.{u32_at, vector_at}
-use Rattle.wm_decode.specs.ReadingInstructions.{block_type_at, opened_at, access_at, operands_at, operands_of, plain_at, Body, One, Reader, closed_with, framed_with, if_with, instr_with, instrs_at}
+use Rattle.wm_decode.specs.Reading.{◌>>=◌}
+use Rattle.wm_decode.specs.ReadingVectors.{u32_at}
+use Rattle.wm_decode.specs.ReadingInstructions.{block_type_at, opened_at, access_at, operands_at, plain_at, Body, One, Reader, closed_with, framed_with, if_with, instr_with, instrs_at}
 use Rattle.wm_decode.proofs.NumberLaws.{unsigned_again, signed_again}
 use Rattle.wm_decode.proofs.Lawful.{number_lawful, vector_lawful}
 

@@ -1,6 +1,6 @@
 -- What is read is spelled so.
-use Rattle.std.proofs.Common.{◌≡◌, ℕ, zero, suc, ◌+◌, ◌-◌, ◌*◌, ◌/◌, ◌<◌, ◌≤◌, ◌^◌, Bool, true, false, cond, ltb, eqb, List, [], ◌∷◌, ◌++◌, length, Option, Some, None, Result, Ok, Err, refl, sym, ap, subst, ◌∙◌, arith, ◌⊎◌, inl, inr, append_assoc, add-zero, length-append}
-use Rattle.std.proofs.lemmas.Bool.{ne_eqb, eqb-true, eqb-false, ltb-false, le-ltb, ltb-true, lt-ltb}
+use Rattle.std.proofs.Common.{◌≡◌, ℕ, zero, suc, ◌+◌, ◌-◌, ◌<◌, ◌^◌, false, cond, eqb, List, [], ◌∷◌, ◌++◌, length, Option, Some, None, Result, Ok, Err, refl, sym, ap, subst, ◌∙◌, arith, inl, inr, append_assoc, add-zero, length-append}
+use Rattle.std.proofs.lemmas.Bool.{eqb-true, eqb-false}
 use Rattle.wm_ast.specs.declared.access.AccessKind.{AccessKind}
 use Rattle.wm_ast.specs.declared.instr.Instr.{Instr}
 use Rattle.wm_ast.specs.declared.instr.Instr.TheVariants as instr
@@ -11,14 +11,13 @@ use Rattle.wm_decode.specs.declared.fault.Limit.TheVariants as limit
 use Rattle.wm_decode.specs.declared.opcode.Opcode.{Opcode}
 use Rattle.wm_decode.specs.declared.opcode.Opcode.TheVariants as opcode
 use Rattle.wm_decode.specs.Stop.{Stop, bad, past}
-use Rattle.wm_decode.specs.Numbers.{U32, Unsigned, Signed, IsBytes}
-use Rattle.wm_decode.specs.Vectors.{Vector}
+use Rattle.wm_decode.specs.Numbers.{U32, Signed, IsBytes}
 use Rattle.wm_decode.specs.Opcodes.{opcode_at, atomic_at}
 use Rattle.wm_decode.specs.Instructions.{block_type, indexed_instr, access_instr, Operands, alone, indexed, br_table, access, memory_size, i32_const, i64_const, atomic, Plain, plain_instr, Spells, none, plain, block, loop, if_then, if_else}
-use Rattle.wm_decode.specs.Reading.{◌>>=◌, unsigned_at, signed_at}
+use Rattle.wm_decode.specs.Reading.{◌>>=◌, signed_at}
 use Rattle.wm_decode.specs.ReadingVectors.{u32_at, vector_at}
 use Rattle.wm_decode.specs.ReadingInstructions.{block_type_at, opened_at, access_at, access_of, operands_at, operands_of, plain_at, Body, One, then_one, else_one, Reader, closed_with, framed_with, if_with, instr_with, instrs_at}
-use Rattle.wm_decode.proofs.Steps.{bound, chosen, passed, met, within, ok_is, pair_is, fits_behind}
+use Rattle.wm_decode.proofs.Steps.{bound, chosen, met, within, ok_is, pair_is, fits_behind}
 use Rattle.wm_decode.proofs.NumberLaws.{unsigned_takes, signed_takes}
 use Rattle.wm_decode.proofs.Lawful.{number_lawful, vector_lawful}
 use Rattle.wm_decode.proofs.BodyAgain.{IsCloser, ends, turns, after, plain_long}

@@ -1,5 +1,5 @@
 -- Functions are read as they are spelled.
-use Rattle.std.proofs.Common.{◌≡◌, ℕ, zero, suc, ◌-◌, ◌+◌, ◌^◌, ◌≤◌, ◌<◌, Bool, true, false, cond, ltb, eqb, List, [], ◌∷◌, ◌++◌, length, Option, Some, None, Result, Ok, Err, refl, sym, ap, subst, ◌∙◌, append_assoc, arith, inl, inr, length-append}
+use Rattle.std.proofs.Common.{◌≡◌, ℕ, zero, suc, ◌-◌, ◌+◌, ◌^◌, ◌≤◌, cond, ltb, eqb, List, [], ◌∷◌, ◌++◌, length, Ok, Err, refl, sym, ap, subst, ◌∙◌, append_assoc, arith, length-append}
 use Rattle.std.proofs.lemmas.List.{append-nil}
 use Rattle.std.proofs.lemmas.Bool.{eqb-true, eq-eqb, ltb-false, le-ltb}
 use Rattle.wm_ast.specs.declared.types.ValType.{ValType}
@@ -8,20 +8,19 @@ use Rattle.wm_ast.specs.declared.instr.Instr.{Instr}
 use Rattle.wm_ast.specs.declared.module.Func.{Func}
 use Rattle.wm_decode.specs.declared.fault.Limit.TheVariants as limit
 use Rattle.wm_decode.specs.Bounds.{Bounds}
-use Rattle.wm_decode.specs.Stop.{Stop, bad, past}
+use Rattle.wm_decode.specs.Stop.{bad, past}
 use Rattle.wm_decode.specs.Numbers.{U32, IsBytes}
 use Rattle.wm_decode.specs.Vectors.{Sized}
-use Rattle.wm_decode.specs.Lawful.{Lawful}
 use Rattle.wm_decode.specs.Instructions.{value_type, Spells}
 use Rattle.wm_decode.specs.Parts.{locals_of, Locals, no_locals, locals, FunctionBody, Functions, no_function, function, FunctionVector}
 use Rattle.wm_decode.specs.Module.{params_of, LocalsWithin}
 use Rattle.wm_decode.specs.Reading.{◌>>=◌}
 use Rattle.wm_decode.specs.ReadingVectors.{u32_at, more_at, sized_at}
-use Rattle.wm_decode.specs.ReadingInstructions.{value_type_at, Body, instrs_in, closed_with, blocks_at}
+use Rattle.wm_decode.specs.ReadingInstructions.{value_type_at, instrs_in, closed_with, blocks_at}
 use Rattle.wm_decode.specs.ReadingParts.{local_entry_at, local_step, locals_at, function_at, body_at, more_functions_at, code_at}
-use Rattle.wm_decode.proofs.Steps.{bound, passed, met, within, ok_is, pair_is, fits_behind, answered}
+use Rattle.wm_decode.proofs.Steps.{bound, met, within, pair_is, fits_behind, answered}
 use Rattle.wm_decode.proofs.NumberLaws.{unsigned_takes, unsigned_again}
-use Rattle.wm_decode.proofs.Lawful.{sized_lawful}
+use Rattle.wm_decode.proofs.Lawful.{Lawful, sized_lawful}
 use Rattle.wm_decode.proofs.BodyAgain.{ends, spelled_again, closed_again}
 use Rattle.wm_decode.proofs.BodyTakes.{closed_takes}
 use Rattle.wm_decode.proofs.Turns.{instrs_take_in}

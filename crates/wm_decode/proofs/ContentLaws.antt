@@ -1,8 +1,8 @@
 -- Imports, memories, globals, exports and data are read as they are spelled.
-use Rattle.std.proofs.Common.{◌≡◌, ℕ, zero, suc, ◌-◌, ◌+◌, ◌^◌, ◌≤◌, ◌<◌, Bool, true, false, cond, ltb, eqb, List, [], ◌∷◌, ◌++◌, length, Option, Some, None, Result, Ok, Err, refl, sym, ap, subst, ◌∙◌, append_assoc, arith, inl, inr, length-append}
-use Rattle.std.specs.Prelude.{option_to_list, is_some}
-use Rattle.std.proofs.lemmas.List.{append-nil, nil_from_length}
-use Rattle.std.proofs.lemmas.Bool.{eqb-true, eqb-false, eq-eqb, ne_eqb, ltb-false, le-ltb}
+use Rattle.std.proofs.Common.{◌≡◌, ℕ, zero, suc, ◌-◌, ◌^◌, ◌≤◌, Bool, true, false, cond, ltb, eqb, List, [], ◌∷◌, ◌++◌, length, Option, Some, None, Result, Ok, Err, refl, sym, ap, subst, ◌∙◌, append_assoc, inl, inr}
+use Rattle.std.specs.Prelude.{is_some}
+use Rattle.std.proofs.lemmas.List.{append-nil}
+use Rattle.std.proofs.lemmas.Bool.{eqb-true, eq-eqb, ltb-false, le-ltb}
 use Rattle.wm_ast.specs.Exports.{export_at}
 use Rattle.wm_ast.specs.declared.types.ValType.{ValType}
 use Rattle.wm_ast.specs.declared.types.Limits.{Limits}
@@ -19,20 +19,19 @@ use Rattle.wm_ast.specs.declared.module.DataSegment.{DataSegment}
 use Rattle.wm_decode.specs.declared.fault.Limit.TheVariants as limit
 use Rattle.wm_decode.specs.Bounds.{Bounds}
 use Rattle.wm_decode.specs.Stop.{Stop, bad, past}
-use Rattle.wm_decode.specs.Numbers.{Unsigned, Signed, U32, IsBytes}
-use Rattle.wm_decode.specs.Vectors.{Each, Vector, ByteVector, Name}
-use Rattle.wm_decode.specs.Lawful.{Lawful}
+use Rattle.wm_decode.specs.Numbers.{Signed, U32, IsBytes}
+use Rattle.wm_decode.specs.Vectors.{Vector}
 use Rattle.wm_decode.specs.Instructions.{value_type}
-use Rattle.wm_decode.specs.Parts.{ValueType, Initial, i32, i64, mutability, GlobalEntry, export_kind, ExportEntry, Exports, no_export, export, ExportVector, Segment}
+use Rattle.wm_decode.specs.Parts.{Initial, i32, i64, mutability, GlobalEntry, export_kind, ExportEntry, Exports, no_export, export, ExportVector, Segment}
 use Rattle.wm_decode.specs.Module.{AtMostOne, NoItems, Agrees}
-use Rattle.wm_decode.specs.Reading.{◌>>=◌, unsigned_at, signed_at}
-use Rattle.wm_decode.specs.ReadingVectors.{u32_at, items_at, vector_at, byte_vector_at, name_at, more_at}
+use Rattle.wm_decode.specs.Reading.{◌>>=◌, signed_at}
+use Rattle.wm_decode.specs.ReadingVectors.{u32_at, items_at, byte_vector_at, name_at, more_at}
 use Rattle.wm_decode.specs.ReadingInstructions.{value_type_at}
 use Rattle.wm_decode.specs.ReadingParts.{byte_at, limits_at, import_at, imports_at, memories_at, indices_at, no_items_at, initial_at, mutability_at, global_at, export_kind_at, export_entry_at, export_step, exports_at, segment_at, segments_at, agrees}
-use Rattle.wm_decode.proofs.Steps.{bound, passed, met, within, chosen, ok_is, pair_is, fits_behind, answered}
+use Rattle.wm_decode.proofs.Steps.{bound, passed, met, within, chosen, pair_is, fits_behind, answered}
 use Rattle.wm_decode.proofs.NumberLaws.{unsigned_takes, unsigned_again, signed_takes, signed_again}
-use Rattle.wm_decode.proofs.Lawful.{number_lawful, vector_lawful, items_law, items_again_law, byte_vector_takes, byte_vector_again}
-use Rattle.wm_decode.proofs.TypeLaws.{name_lawful, value_takes, value_again, byte_takes, byte_again, make_none, make_one, take_none, One, take_one, Limited, limits_lawful, LimitedImport, import_lawful}
+use Rattle.wm_decode.proofs.Lawful.{Lawful, number_lawful, items_law, items_again_law, byte_vector_takes, byte_vector_again}
+use Rattle.wm_decode.proofs.TypeLaws.{name_lawful, value_takes, value_again, byte_takes, make_none, make_one, take_none, take_one, Limited, limits_lawful, LimitedImport, import_lawful}
 
 module _ (bounds : Bounds) where
   pub imports_again : (text : List ℕ) (r : Option Memory) (rest : List ℕ) → AtMostOne (LimitedImport bounds) text r → imports_at bounds (text ++ rest) ≡ Ok (r, rest)

@@ -1,6 +1,6 @@
 -- Custom sections are skipped.
-use Rattle.std.proofs.Common.{◌≡◌, ℕ, zero, suc, ◌+◌, ◌-◌, ◌≤◌, ◌<◌, Bool, true, false, cond, eqb, List, [], ◌∷◌, ◌++◌, length, get_or, take, drop, Result, Ok, Err, refl, sym, ap, subst, ◌∙◌, arith, length-append}
-use Rattle.std.proofs.lemmas.Bool.{eq-eqb, ne_eqb}
+use Rattle.std.proofs.Common.{◌≡◌, ℕ, zero, suc, ◌≤◌, ◌<◌, cond, eqb, List, [], ◌∷◌, ◌++◌, length, get_or, Result, Ok, Err, refl, sym, ap, subst, ◌∙◌, arith, length-append}
+use Rattle.std.proofs.lemmas.Bool.{ne_eqb}
 use Rattle.wm_decode.specs.declared.fault.ReadFault.{ReadFault}
 use Rattle.wm_decode.specs.declared.fault.ReadFault.TheVariants.{OutOfMemory, At}
 use Rattle.wm_decode.specs.Stop.{Stop, bad}

@@ -1,5 +1,5 @@
 -- What decoding answers is what the bytes spell.
-use Rattle.std.proofs.Common.{◌≡◌, ℕ, ◌≤◌, ltb, List, length, Result, Ok, Err, refl, sym, ◌∙◌}
+use Rattle.std.proofs.Common.{◌≡◌, ℕ, ltb, List, length, Result, Ok, Err, sym, ◌∙◌}
 use Rattle.std.specs.Prelude.{IfOk}
 use Rattle.std.proofs.lemmas.Bool.{ltb-false, le-ltb}
 use Rattle.wm_ast.specs.declared.module.Module.{Module}
@@ -7,9 +7,9 @@ use Rattle.wm_decode.specs.declared.fault.Limit.TheVariants as limit
 use Rattle.wm_decode.specs.declared.fault.DecodeFault.{DecodeFault}
 use Rattle.wm_decode.specs.declared.fault.DecodeFault.TheVariants.{At, OutOfMemory}
 use Rattle.wm_decode.specs.Bounds.{profile}
-use Rattle.wm_decode.specs.Stop.{Stop, past}
+use Rattle.wm_decode.specs.Stop.{past}
 use Rattle.wm_decode.specs.Numbers.{IsBytes}
-use Rattle.wm_decode.specs.Answers.{Decodes, IsUnlessMemory, stop_of}
+use Rattle.wm_decode.specs.Answers.{Decodes, IsUnlessMemory}
 use Rattle.wm_decode.specs.Module.{SpellsWithin}
 use Rattle.wm_decode.specs.ReadingModule.{module_at, whole_at}
 use Rattle.wm_decode.proofs.Steps.{within, ok_is}

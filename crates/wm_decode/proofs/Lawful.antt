@@ -1,5 +1,5 @@
 -- What is read is spelled so, and what is spelled so is read, whatever follows: for vectors and for what has a size.
-use Rattle.std.proofs.Common.{◌≡◌, ℕ, zero, suc, ◌-◌, ◌+◌, ◌^◌, ◌≤◌, ◌<◌, Bool, true, false, cond, ltb, eqb, List, [], ◌∷◌, ◌++◌, length, take, drop, Result, Ok, Err, refl, sym, ap, subst, ◌∙◌, append_assoc, arith, length-append, length-take}
+use Rattle.std.proofs.Common.{◌≡◌, ℕ, zero, suc, ◌-◌, ◌^◌, ◌≤◌, cond, ltb, eqb, List, [], ◌∷◌, ◌++◌, length, take, drop, Result, Ok, Err, refl, sym, ap, subst, ◌∙◌, append_assoc, arith, length-append, length-take}
 use Rattle.std.proofs.lemmas.List.{append-nil, nil_from_length, take-append-drop, take_at, drop_at}
 use Rattle.std.proofs.lemmas.Bool.{ltb-false, le-ltb, eqb-true}
 use Rattle.wm_decode.specs.Numbers.{Unsigned, U32, IsBytes}
@@ -7,9 +7,13 @@ use Rattle.wm_decode.specs.Stop.{Stop, bad}
 use Rattle.wm_decode.specs.Reading.{◌>>=◌, unsigned_at}
 use Rattle.wm_decode.specs.Vectors.{Each, no_more, one_more, Vector, ByteVector, Sized}
 use Rattle.wm_decode.specs.ReadingVectors.{u32_at, items_at, vector_at, byte_vector_at, sized_at}
-use Rattle.wm_decode.specs.Lawful.{Lawful}
-use Rattle.wm_decode.proofs.Steps.{bound, passed, met, ok_is, pair_is, fits_behind}
+use Rattle.wm_decode.proofs.Steps.{bound, passed, met, pair_is, fits_behind}
 use Rattle.wm_decode.proofs.NumberLaws.{unsigned_takes, unsigned_again}
+
+-- reading and spelling agree
+pub record Lawful {X : Type 0} (Item : List ℕ → X → Type 0) (item_at : List ℕ → Result (X × List ℕ) Stop) : Type 0 where
+  pub takes : (bytes : List ℕ) (x : X) (rest : List ℕ) → IsBytes bytes → item_at bytes ≡ Ok (x, rest) → (text : List ℕ) × (bytes ≡ text ++ rest) × Item text x
+  pub again : (text : List ℕ) (x : X) (rest : List ℕ) → Item text x → item_at (text ++ rest) ≡ Ok (x, rest)
 
 pub number_lawful : (most : ℕ) → Lawful (Unsigned most) (unsigned_at most)
 number_lawful most = record { takes = unsigned_takes most; again = λ text n rest d. unsigned_again d rest }

@@ -20,3 +20,5 @@ pub mod ModuleLaws
 pub mod Spelled
 pub mod Decoded
 pub mod OneModule
+pub mod Kept
+pub mod Past

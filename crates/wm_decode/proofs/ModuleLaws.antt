@@ -1,9 +1,9 @@
 -- A module that is read is spelled by the bytes, and one that they spell is read.
-use Rattle.std.proofs.Common.{◌≡◌, ℕ, zero, suc, ◌-◌, ◌+◌, ◌^◌, ◌≤◌, ◌<◌, Bool, true, false, cond, eqb, ltb, List, [], ◌∷◌, ◌++◌, length, Option, Some, None, Result, Ok, Err, refl, sym, ap, subst, ◌∙◌, append_assoc, arith, inl, inr, length-append}
-use Rattle.std.specs.Prelude.{option_to_list, is_some}
+use Rattle.std.proofs.Common.{◌≡◌, ℕ, ◌-◌, ◌^◌, cond, eqb, List, [], ◌∷◌, ◌++◌, length, Option, Result, Ok, Err, refl, sym, ap, subst, ◌∙◌, append_assoc}
+use Rattle.std.specs.Prelude.{is_some}
 use Rattle.std.specs.Option.{option_flatten}
 use Rattle.std.proofs.lemmas.List.{append-nil, nil_from_length}
-use Rattle.std.proofs.lemmas.Bool.{eqb-true, eq-eqb, ltb-false, le-ltb}
+use Rattle.std.proofs.lemmas.Bool.{eqb-true, eq-eqb}
 use Rattle.wm_ast.specs.declared.types.FuncType.{FuncType}
 use Rattle.wm_ast.specs.declared.types.Limits.{Limits}
 use Rattle.wm_ast.specs.declared.exports.Export.{Export}
@@ -18,19 +18,18 @@ use Rattle.wm_decode.specs.Bounds.{Bounds}
 use Rattle.wm_decode.specs.Stop.{Stop, bad}
 use Rattle.wm_decode.specs.Numbers.{U32, IsBytes}
 use Rattle.wm_decode.specs.Vectors.{Vector}
-use Rattle.wm_decode.specs.Lawful.{Lawful}
-use Rattle.wm_decode.specs.Parts.{FunctionType, SharedLimits, MemoryImport, GlobalEntry, ExportVector, FunctionVector, Segment}
-use Rattle.wm_decode.specs.Module.{Customs, Section, AtMostOne, NoItems, header, items_of, memory_of, Agrees, module_of, LocalsWithin, SpellsModule, Within}
+use Rattle.wm_decode.specs.Parts.{FunctionType, GlobalEntry, ExportVector}
+use Rattle.wm_decode.specs.Module.{Customs, Section, AtMostOne, NoItems, header, items_of, memory_of, Agrees}
 use Rattle.wm_decode.specs.Reading.{◌>>=◌}
 use Rattle.wm_decode.specs.ReadingVectors.{u32_at, vector_at}
 use Rattle.wm_decode.specs.ReadingParts.{func_type_at, imports_at, memories_at, indices_at, no_items_at, global_at, exports_at, code_at, segments_at, agrees}
 use Rattle.wm_decode.specs.ReadingModule.{customs_in, section_at, behind, header_at, front_at, declared_at, module_at}
-use Rattle.wm_decode.proofs.Steps.{bound, passed, met, ok_is, pair_is, fits_behind, answered}
-use Rattle.wm_decode.proofs.Lawful.{number_lawful, vector_lawful}
-use Rattle.wm_decode.proofs.TypeLaws.{func_type_lawful, Limited, LimitedImport, One, make_none, make_one, take_none, take_one}
+use Rattle.wm_decode.proofs.Steps.{bound, met, ok_is, pair_is, fits_behind, answered}
+use Rattle.wm_decode.proofs.Lawful.{Lawful, number_lawful, vector_lawful}
+use Rattle.wm_decode.proofs.TypeLaws.{func_type_lawful, LimitedImport}
 use Rattle.wm_decode.proofs.ContentLaws.{imports_lawful, Defined, memories_lawful, Indices, indices_lawful, no_items_lawful, global_lawful, exports_lawful, Segments, segments_lawful, agreed, agrees_again}
 use Rattle.wm_decode.proofs.CodeLaws.{Code, code_lawful}
-use Rattle.wm_decode.proofs.SectionLaws.{customs_in_take, customs_in_again, section_takes, section_again, BeginsElse, StartsIn, begins_else, starts_section, section_map, section_fact, behind_takes, behind_again}
+use Rattle.wm_decode.proofs.SectionLaws.{customs_in_take, customs_in_again, section_takes, section_again, StartsIn, begins_else, starts_section, behind_takes}
 
 u32_lawful : Lawful U32 u32_at
 u32_lawful = number_lawful (2 ^ 32 - 1)

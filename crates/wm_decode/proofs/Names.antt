@@ -1,9 +1,8 @@
 -- Names are read as they are spelled.
-use Rattle.std.proofs.Common.{◌≡◌, ℕ, Bool, true, false, cond, List, Result, Ok, Err, refl, sym, ap, ◌∙◌}
+use Rattle.std.proofs.Common.{◌≡◌, ℕ, Bool, true, false, cond, List, Ok, Err, refl}
 use Rattle.std.specs.Str.{IsUtf8, is_utf8}
 use Rattle.std.proofs.lemmas.Str.{IsUtf8-from_is_utf8, is_utf8-from_IsUtf8}
-use Rattle.wm_decode.specs.Stop.{Stop, bad}
-use Rattle.wm_decode.specs.Reading.{◌>>=◌}
+use Rattle.wm_decode.specs.Stop.{bad}
 use Rattle.wm_decode.specs.ReadingVectors.{byte_vector_at, name_at}
 
 pub name_found : (bytes text rest : List ℕ) → byte_vector_at bytes ≡ Ok (text, rest) → IsUtf8 text → name_at bytes ≡ Ok (text, rest)

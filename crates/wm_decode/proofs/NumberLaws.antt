@@ -1,7 +1,7 @@
 -- What is read is spelled so, and what is spelled so is read, whatever follows.
-use Rattle.std.proofs.Common.{◌≡◌, ℕ, ◌+◌, ◌-◌, ◌*◌, ◌/◌, ◌<◌, ◌≤◌, Bool, true, false, cond, ltb, List, [], ◌∷◌, ◌++◌, length, get_or, Result, Ok, Err, refl, sym, ap, subst, ◌∙◌, arith, suc, ◌⊎◌, inl, inr}
+use Rattle.std.proofs.Common.{◌≡◌, ℕ, ◌+◌, ◌-◌, ◌*◌, ◌/◌, ◌<◌, ◌≤◌, cond, ltb, List, [], ◌∷◌, ◌++◌, Result, Ok, Err, refl, ap, subst, ◌∙◌, arith, inl, inr}
 use Rattle.std.proofs.lemmas.Bool.{ltb-false, le-ltb, ltb-true, lt-ltb}
-use Rattle.wm_decode.specs.Numbers.{Unsigned, Signed, last, more, positive, negative, signed_more, IsBytes, IsMost}
+use Rattle.wm_decode.specs.Numbers.{Unsigned, Signed, last, more, positive, negative, signed_more, IsBytes}
 use Rattle.wm_decode.specs.Stop.{Stop, bad}
 use Rattle.wm_decode.specs.Reading.{◌>>=◌, unsigned_at, signed_at}
 use Rattle.wm_decode.proofs.Steps.{bound, chosen, passed, pair_is}

@@ -1,15 +1,14 @@
 -- A text spells at most one module.
-use Rattle.std.proofs.Common.{◌≡◌, ℕ, ◌-◌, ◌+◌, ◌^◌, ◌≤◌, ◌<◌, List, [], ◌∷◌, ◌++◌, length, Option, Some, None, Result, Ok, Err, refl, sym, ap, subst, ◌∙◌, arith}
+use Rattle.std.proofs.Common.{◌≡◌, ℕ, ◌-◌, ◌+◌, ◌≤◌, List, [], ◌∷◌, length, Option, Some, None, refl, sym, subst, ◌∙◌, arith}
 use Rattle.wm_ast.specs.declared.types.FuncType.{FuncType}
 use Rattle.wm_ast.specs.declared.instr.Instr.{Instr}
 use Rattle.wm_ast.specs.declared.module.Func.{Func}
 use Rattle.wm_ast.specs.declared.module.Memory.{Memory}
 use Rattle.wm_ast.specs.declared.module.Module.{Module}
 use Rattle.wm_decode.specs.Bounds.{Bounds}
-use Rattle.wm_decode.specs.Vectors.{Sized}
 use Rattle.wm_decode.specs.Instructions.{Spells, none, plain, block, loop, if_then, if_else}
-use Rattle.wm_decode.specs.Parts.{FunctionBody, Functions, no_function, function, FunctionVector}
-use Rattle.wm_decode.specs.Module.{params_of, LocalsWithin, SpellsModule, Within, spells, items_of}
+use Rattle.wm_decode.specs.Parts.{FunctionBody, Functions, no_function, function}
+use Rattle.wm_decode.specs.Module.{params_of, LocalsWithin, SpellsModule, Within, spells}
 use Rattle.wm_decode.proofs.Steps.{ok_is}
 use Rattle.wm_decode.proofs.SectionLaws.{section_map}
 use Rattle.wm_decode.proofs.Spelled.{module_again}
@@ -89,20 +88,20 @@ module_room room k text m le s = record {
 }
 
 -- bounds that a module keeps
-pages_in : Option Memory → ℕ
+unfoldable pub pages_in : Option Memory → ℕ
 pages_in None = 0
 pages_in (Some m) = m.limits.minimum
 
-pages_kept : (o : Option Memory) (n : ℕ) → pages_in o ≤ n → (x : Memory) → o ≡ Some x → x.limits.minimum ≤ n
+pub pages_kept : (o : Option Memory) (n : ℕ) → pages_in o ≤ n → (x : Memory) → o ≡ Some x → x.limits.minimum ≤ n
 unfolding pages_in
 pages_kept None n le x e = absurd cc
 pages_kept (Some m) n le x e = let same : m ≡ x = cc in subst (λ (y : Memory). y.limits.minimum ≤ n) same le
 
-locals_in : List FuncType → List Func → ℕ
+pub locals_in : List FuncType → List Func → ℕ
 locals_in types [] = 0
 locals_in types (f ∷ fs) = (params_of types f.type_index + length f.locals) + locals_in types fs
 
-locals_kept : (bounds : Bounds) (types : List FuncType) (fs : List Func) → locals_in types fs ≤ bounds.locals → LocalsWithin bounds types fs
+pub locals_kept : (bounds : Bounds) (types : List FuncType) (fs : List Func) → locals_in types fs ≤ bounds.locals → LocalsWithin bounds types fs
 unfolding locals_in
 locals_kept bounds types [] le = tt
 locals_kept bounds types (f ∷ fs) le = (omega arith, locals_kept bounds types fs (omega arith))

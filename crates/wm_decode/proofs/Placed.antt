@@ -1,16 +1,15 @@
 -- A block that is put in the place that was kept for it.
-use Rattle.std.proofs.Common.{◌≡◌, ℕ, ◌+◌, List, [], ◌∷◌, ◌++◌, length, Result, Ok, Err, refl, sym, ap, ◌∙◌, arith, append_assoc, length-append}
+use Rattle.std.proofs.Common.{◌≡◌, ℕ, ◌+◌, List, [], ◌∷◌, ◌++◌, length, Ok, Err, refl, sym, ap, ◌∙◌, arith, append_assoc, length-append}
 use Rattle.std.proofs.Math.ListN.{set}
 use Rattle.std.proofs.Math.Seq.{set-append_seam}
-use Rattle.std.proofs.Common.{◌-◌, Err, subst, Option}
+use Rattle.std.proofs.Common.{◌-◌, Err, Option}
 use Rattle.std.proofs.lemmas.Bool.{ne_eqb}
 use Rattle.wm_ast.specs.declared.instr.Instr.{Instr}
 use Rattle.wm_ast.specs.declared.types.ValType.{ValType}
 use Rattle.wm_decode.specs.declared.fault.ReadFault.{ReadFault}
 use Rattle.wm_decode.specs.declared.fault.ReadFault.TheVariants.{OutOfMemory, At}
-use Rattle.wm_decode.specs.Stop.{Stop}
 use Rattle.wm_decode.specs.Answers.{Fails, stop_of}
-use Rattle.wm_decode.specs.ReadingInstructions.{Body, instrs_in, closed_in, opened_at, closed_with, if_with}
+use Rattle.wm_decode.specs.ReadingInstructions.{Body, instrs_in, closed_in, opened_at, if_with}
 
 pub record Placed (room : ℕ) (old new : List (List Instr)) (bytes : List ℕ) (body : List Instr) (number closer : ℕ) (rest : List ℕ) : Type 0 where
   pub b : Body

@@ -1,17 +1,16 @@
 -- Sections are read as they are spelled.
-use Rattle.std.proofs.Common.{◌≡◌, ℕ, zero, suc, ◌-◌, ◌+◌, ◌^◌, ◌≤◌, ◌<◌, Bool, true, false, cond, eqb, List, [], ◌∷◌, ◌++◌, length, Option, Some, None, Result, Ok, Err, refl, sym, ap, subst, ◌∙◌, append_assoc, arith, inl, inr, length-append}
+use Rattle.std.proofs.Common.{◌≡◌, ℕ, zero, suc, ◌≤◌, Bool, true, false, cond, eqb, List, [], ◌∷◌, ◌++◌, length, Option, Some, None, Result, Ok, refl, sym, ap, subst, ◌∙◌, append_assoc, arith, inl, inr, length-append}
 use Rattle.std.proofs.lemmas.List.{append-nil}
-use Rattle.std.proofs.lemmas.Bool.{eqb-true, eqb-false, eq-eqb, ne_eqb}
-use Rattle.wm_decode.specs.Stop.{Stop, bad}
+use Rattle.std.proofs.lemmas.Bool.{eqb-true, eq-eqb, ne_eqb}
+use Rattle.wm_decode.specs.Stop.{Stop}
 use Rattle.wm_decode.specs.Numbers.{IsBytes}
-use Rattle.wm_decode.specs.Vectors.{Name, Sized}
-use Rattle.wm_decode.specs.Lawful.{Lawful}
-use Rattle.wm_decode.specs.Module.{Custom, Customs, no_custom, custom, Section, absent, present, header}
+use Rattle.wm_decode.specs.Vectors.{Sized}
+use Rattle.wm_decode.specs.Module.{Custom, Customs, no_custom, custom, Section, absent, present}
 use Rattle.wm_decode.specs.Reading.{◌>>=◌}
 use Rattle.wm_decode.specs.ReadingVectors.{name_at, sized_at}
 use Rattle.wm_decode.specs.ReadingModule.{custom_at, customs_at, customs_in, section_at, behind}
 use Rattle.wm_decode.proofs.Steps.{bound, met, chosen, ok_is, pair_is, fits_behind, answered}
-use Rattle.wm_decode.proofs.Lawful.{sized_law, sized_lawful}
+use Rattle.wm_decode.proofs.Lawful.{Lawful, sized_law, sized_lawful}
 use Rattle.wm_decode.proofs.TypeLaws.{name_lawful}
 use Rattle.wm_decode.proofs.BodyAgain.{from_suc}
 

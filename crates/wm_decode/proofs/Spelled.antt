@@ -1,31 +1,28 @@
 -- A module is read exactly where the bytes spell it within the bounds.
-use Rattle.std.proofs.Common.{◌≡◌, ℕ, zero, suc, ◌-◌, ◌+◌, ◌^◌, ◌≤◌, ◌<◌, Bool, true, false, cond, eqb, ltb, List, [], ◌∷◌, ◌++◌, length, Option, Some, None, Result, Ok, Err, refl, sym, ap, subst, ◌∙◌, append_assoc, arith}
+use Rattle.std.proofs.Common.{◌≡◌, ℕ, ◌≤◌, Bool, true, List, [], ◌∷◌, ◌++◌, length, Option, Some, None, Result, Ok, refl, sym, ap, subst, ◌∙◌, arith}
 use Rattle.std.specs.Prelude.{option_to_list, is_some}
 use Rattle.std.specs.Option.{option_flatten}
 use Rattle.std.proofs.lemmas.List.{append-nil}
 use Rattle.wm_ast.specs.declared.types.FuncType.{FuncType}
 use Rattle.wm_ast.specs.declared.types.Limits.{Limits}
-use Rattle.wm_ast.specs.declared.exports.Export.{Export}
 use Rattle.wm_ast.specs.declared.module.Func.{Func}
-use Rattle.wm_ast.specs.declared.module.Global.{Global}
 use Rattle.wm_ast.specs.declared.module.Memory.{Memory}
 use Rattle.wm_ast.specs.declared.module.DataSegment.{DataSegment}
 use Rattle.wm_ast.specs.declared.module.Module.{Module}
 use Rattle.wm_decode.specs.declared.module.Front.{Front}
 use Rattle.wm_decode.specs.declared.module.Declared.{Declared}
 use Rattle.wm_decode.specs.Bounds.{Bounds}
-use Rattle.wm_decode.specs.Stop.{Stop, bad}
-use Rattle.wm_decode.specs.Numbers.{U32, IsBytes}
+use Rattle.wm_decode.specs.Stop.{Stop}
+use Rattle.wm_decode.specs.Numbers.{IsBytes}
 use Rattle.wm_decode.specs.Vectors.{Each, no_more, one_more, Vector}
-use Rattle.wm_decode.specs.Parts.{FunctionType, SharedLimits, MemoryImport, GlobalEntry, ExportVector, FunctionVector, Segment}
-use Rattle.wm_decode.specs.Module.{Customs, Section, AtMostOne, NoItems, header, items_of, memory_of, Agrees, module_of, LocalsWithin, SpellsModule, Within}
+use Rattle.wm_decode.specs.Module.{Section, AtMostOne, header, items_of, memory_of, Agrees, module_of, LocalsWithin, SpellsModule, Within}
 use Rattle.wm_decode.specs.Reading.{◌>>=◌}
 use Rattle.wm_decode.specs.ReadingModule.{front_at, declared_at, module_at}
-use Rattle.wm_decode.proofs.TypeLaws.{Limited, LimitedImport, One, take_one}
+use Rattle.wm_decode.proofs.TypeLaws.{Limited, LimitedImport, take_one}
 use Rattle.wm_decode.proofs.ContentLaws.{Defined, Indices, Segments}
 use Rattle.wm_decode.proofs.CodeLaws.{Code}
 use Rattle.wm_decode.proofs.SectionLaws.{StartsIn, starts_section, section_map, section_fact}
-use Rattle.wm_decode.proofs.ModuleLaws.{FrontTook, DeclaredTook, ModuleTook, Finished, declared_of, after_front, after_declared, tables_from, count_from, declared_steps, module_steps, module_took, front_again, declared_again, rest_again}
+use Rattle.wm_decode.proofs.ModuleLaws.{Finished, declared_of, after_declared, tables_from, count_from, declared_steps, module_steps, module_took, front_again, declared_again, rest_again}
 
 -- a fact of each item
 abbrev AllOf : {X : Type 0} → (X → Type 0) → List X → Type 0

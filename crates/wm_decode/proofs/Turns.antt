@@ -1,15 +1,14 @@
 -- How often reading may go round makes no difference, where it is as often as there are bytes.
-use Rattle.std.proofs.Common.{◌≡◌, ℕ, zero, suc, ◌+◌, ◌-◌, ◌<◌, ◌≤◌, Bool, true, false, cond, eqb, List, [], ◌∷◌, ◌++◌, length, get_or, Option, Some, None, Result, Ok, Err, refl, sym, ap, subst, ◌∙◌, arith, append_assoc, length-append}
+use Rattle.std.proofs.Common.{◌≡◌, ℕ, zero, suc, ◌+◌, ◌-◌, ◌<◌, ◌≤◌, cond, eqb, List, [], ◌∷◌, ◌++◌, length, get_or, Option, Result, Ok, Err, refl, sym, ap, ◌∙◌, arith, append_assoc, length-append}
 use Rattle.wm_ast.specs.declared.instr.Instr.{Instr}
-use Rattle.wm_ast.specs.declared.instr.Instr.TheVariants.{Block, Loop, If}
+use Rattle.wm_ast.specs.declared.instr.Instr.TheVariants.{Block, Loop}
 use Rattle.wm_ast.specs.declared.types.ValType.{ValType}
-use Rattle.wm_ast.specs.declared.instr.Else.TheVariants.{Present, Absent}
 use Rattle.wm_decode.specs.Numbers.{IsBytes}
 use Rattle.wm_decode.specs.Stop.{Stop, bad}
 use Rattle.wm_decode.specs.Instructions.{block_type}
 use Rattle.wm_decode.specs.Reading.{◌>>=◌}
-use Rattle.wm_decode.specs.ReadingInstructions.{opened_at, plain_at, Body, One, then_one, else_one, Reader, closed_with, framed_with, if_with, instr_with, instrs_at, instrs_in, instr_in}
-use Rattle.wm_decode.proofs.BodyAgain.{after, spelled_again}
+use Rattle.wm_decode.specs.ReadingInstructions.{opened_at, Body, One, then_one, else_one, Reader, closed_with, framed_with, if_with, instr_with, instrs_at, instrs_in, instr_in}
+use Rattle.wm_decode.proofs.BodyAgain.{after}
 use Rattle.wm_decode.proofs.Steps.{fits_behind}
 use Rattle.wm_decode.proofs.BodyTakes.{Sound, instrs_take, instr_takes, opened_takes}
 

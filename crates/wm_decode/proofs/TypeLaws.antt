@@ -1,9 +1,8 @@
 -- Types, limits, imports and memories are read as they are spelled.
-use Rattle.std.proofs.Common.{◌≡◌, ℕ, zero, suc, ◌-◌, ◌+◌, ◌^◌, ◌≤◌, ◌<◌, Bool, true, false, cond, ltb, eqb, List, [], ◌∷◌, ◌++◌, length, Option, Some, None, Result, Ok, Err, refl, sym, ap, subst, ◌∙◌, append_assoc, arith, inl, inr}
-use Rattle.std.specs.Prelude.{option_to_list, is_some}
-use Rattle.std.specs.Str.{IsUtf8, is_utf8}
-use Rattle.std.proofs.lemmas.List.{append-nil, nil_from_length}
-use Rattle.std.proofs.lemmas.Bool.{eqb-true, eqb-false, eq-eqb, ne_eqb, ltb-false, le-ltb}
+use Rattle.std.proofs.Common.{◌≡◌, ℕ, ◌-◌, ◌^◌, ◌≤◌, cond, ltb, eqb, List, [], ◌∷◌, ◌++◌, Option, Some, None, Ok, Err, refl, sym, ap, subst, ◌∙◌, append_assoc, inl, inr}
+use Rattle.std.specs.Str.{is_utf8}
+use Rattle.std.proofs.lemmas.List.{append-nil}
+use Rattle.std.proofs.lemmas.Bool.{eqb-true, eq-eqb, ltb-false, le-ltb}
 use Rattle.std.proofs.lemmas.Str.{IsUtf8-from_is_utf8, is_utf8-from_IsUtf8}
 use Rattle.wm_ast.specs.declared.types.ValType.{ValType}
 use Rattle.wm_ast.specs.declared.types.ValType.TheVariants.{I32, I64}
@@ -13,20 +12,19 @@ use Rattle.wm_ast.specs.declared.module.ImportName.{ImportName}
 use Rattle.wm_ast.specs.declared.module.Memory.{Memory}
 use Rattle.wm_decode.specs.declared.fault.Limit.TheVariants as limit
 use Rattle.wm_decode.specs.Bounds.{Bounds}
-use Rattle.wm_decode.specs.Stop.{Stop, bad, past}
-use Rattle.wm_decode.specs.Numbers.{Unsigned, U32, IsBytes}
-use Rattle.wm_decode.specs.Vectors.{Each, no_more, one_more, Vector, ByteVector, Name}
-use Rattle.wm_decode.specs.Lawful.{Lawful}
+use Rattle.wm_decode.specs.Stop.{bad, past}
+use Rattle.wm_decode.specs.Numbers.{U32, IsBytes}
+use Rattle.wm_decode.specs.Vectors.{Each, no_more, one_more, Vector, Name}
 use Rattle.wm_decode.specs.Instructions.{value_type}
 use Rattle.wm_decode.specs.Parts.{ValueType, FunctionType, SharedLimits, MemoryImport}
 use Rattle.wm_decode.specs.Module.{AtMostOne}
-use Rattle.wm_decode.specs.Reading.{◌>>=◌, unsigned_at}
-use Rattle.wm_decode.specs.ReadingVectors.{u32_at, items_at, vector_at, byte_vector_at, name_at}
+use Rattle.wm_decode.specs.Reading.{◌>>=◌}
+use Rattle.wm_decode.specs.ReadingVectors.{u32_at, vector_at, byte_vector_at, name_at}
 use Rattle.wm_decode.specs.ReadingInstructions.{value_type_at}
-use Rattle.wm_decode.specs.ReadingParts.{byte_at, result_at, func_type_at, limits_at, import_at, imports_at, memories_at, indices_at}
-use Rattle.wm_decode.proofs.Steps.{bound, passed, met, within, chosen, ok_is, pair_is, fits_behind, answered}
+use Rattle.wm_decode.specs.ReadingParts.{byte_at, result_at, func_type_at, limits_at, import_at}
+use Rattle.wm_decode.proofs.Steps.{bound, met, within, chosen, ok_is, pair_is, fits_behind, answered}
 use Rattle.wm_decode.proofs.NumberLaws.{unsigned_takes, unsigned_again}
-use Rattle.wm_decode.proofs.Lawful.{number_lawful, vector_lawful, byte_vector_takes, byte_vector_again}
+use Rattle.wm_decode.proofs.Lawful.{Lawful, vector_lawful, byte_vector_takes, byte_vector_again}
 
 pub name_lawful : Lawful Name name_at
 unfolding name_at

@@ -1,5 +1,6 @@
 -- What a function returned, seen by view, is what reading gives, unless memory was refused.
-use Rattle.std.specs.Prelude.{◌≡◌, Result, Ok, Err}
+use Rattle.std.specs.Prelude.{◌≡◌, ℕ, Result, Ok, Err}
+use Rattle.wm_decode.specs.declared.fault.Limit.{Limit}
 use Rattle.wm_decode.specs.declared.fault.FaultKind.{FaultKind}
 use Rattle.wm_decode.specs.declared.fault.FaultKind.TheVariants as kind
 use Rattle.wm_decode.specs.declared.fault.ReadFault.{ReadFault}
@@ -66,3 +67,7 @@ abbrev pub IsUnlessMemory : {X : Type 0} → Result X DecodeFault → X → Type
 IsUnlessMemory (Ok x) m = x ≡ m
 IsUnlessMemory (Err decode.OutOfMemory) m = Unit {0}
 IsUnlessMemory (Err (decode.At kind offset)) m = ⊥
+
+-- decoding is refused, with this limit named
+abbrev pub RefusedBy : {X : Type 0} → Limit → Result X DecodeFault → Type 0
+RefusedBy limit result = (offset : ℕ) × (result ≡ Err (decode.At (kind.Limit limit) offset))

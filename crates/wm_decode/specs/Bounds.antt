@@ -1,5 +1,5 @@
 -- The limits of a module.
-use Rattle.std.specs.Prelude.{◌≡◌, ℕ}
+use Rattle.std.specs.Prelude.{ℕ}
 
 -- The most initial pages, functions, parameters and locals of a function, and blocks in one another.
 pub record Bounds : Type 0 where

@@ -8,7 +8,6 @@ pub mod ReadingVectors
 pub mod Instructions
 pub mod ReadingInstructions
 pub mod InstructionAnswers
-pub mod Lawful
 pub mod Bounds
 pub mod Parts
 pub mod ReadingParts

@@ -1,5 +1,5 @@
 -- Sections and modules (Core 1.0, sections 5.5.2 to 5.5.15).
-use Rattle.std.specs.Prelude.{◌≡◌, ℕ, ◌-◌, ◌+◌, ◌^◌, ◌≤◌, List, [], ◌∷◌, ◌++◌, length, Option, Some, None, option_to_list, is_some, slice_get, true}
+use Rattle.std.specs.Prelude.{◌≡◌, ℕ, ◌+◌, ◌≤◌, ◌<◌, List, [], ◌∷◌, ◌++◌, length, Option, Some, None, option_to_list, is_some, slice_get, true}
 use Rattle.std.specs.Option.{option_flatten}
 use Rattle.wm_ast.specs.declared.types.FuncType.{FuncType}
 use Rattle.wm_ast.specs.declared.types.Limits.{Limits}
@@ -9,9 +9,11 @@ use Rattle.wm_ast.specs.declared.module.Global.{Global}
 use Rattle.wm_ast.specs.declared.module.Memory.{Memory}
 use Rattle.wm_ast.specs.declared.module.DataSegment.{DataSegment}
 use Rattle.wm_ast.specs.declared.module.Module.{Module}
+use Rattle.wm_decode.specs.declared.fault.Limit.{Limit}
+use Rattle.wm_decode.specs.declared.fault.Limit.TheVariants as limit
 use Rattle.wm_decode.specs.Bounds.{Bounds, profile}
 use Rattle.wm_decode.specs.Numbers.{U32}
-use Rattle.wm_decode.specs.Vectors.{Each, Vector, Name, Sized}
+use Rattle.wm_decode.specs.Vectors.{Vector, Name, Sized}
 use Rattle.wm_decode.specs.Parts.{FunctionType, SharedLimits, MemoryImport, GlobalEntry, ExportVector, FunctionVector, Segment}
 
 -- The bytes spell a name, and anything behind it.
@@ -142,3 +144,11 @@ pub record SpellsWithin (bytes : List ℕ) (m : Module) : Type 0 where
   pub spelled : SpellsModule profile.nesting bytes m
   pub within : Within profile m
   pub short : length bytes ≤ 1048576
+
+-- The bytes or the module they spell are past this limit.
+abbrev pub IsPast : Limit → List ℕ → Module → Type 0
+IsPast limit.ModuleBytes bytes m = 1048576 < length bytes
+IsPast limit.Pages bytes m = (x : Memory) × (m.memory ≡ Some x) × (profile.pages < x.limits.minimum)
+IsPast limit.Functions bytes m = profile.functions < length m.funcs
+IsPast limit.Locals bytes m = LocalsWithin profile m.types m.funcs → ⊥
+IsPast limit.Nesting bytes m = SpellsModule profile.nesting bytes m → ⊥

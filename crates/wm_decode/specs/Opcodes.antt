@@ -1,22 +1,18 @@
 -- The opcodes (Core 1.0, section 5.4; threads proposal, "Atomic Memory Instructions").
-use Rattle.std.specs.Prelude.{◌≡◌, ℕ, zero, suc, ◌+◌, List, [], ◌∷◌, ◌++◌, map, Option, Some, None, ◌==◌, nat_lt, if◌then◌else◌}
+use Rattle.std.specs.Prelude.{ℕ, suc, List, [], ◌∷◌, ◌++◌, map, Option, Some, None, ◌==◌, nat_lt, if◌then◌else◌}
 use Rattle.wm_num.specs.declared.operator.Width.{Width}
 use Rattle.wm_num.specs.declared.operator.Width.TheVariants.{W32, W64}
-use Rattle.wm_num.specs.declared.operator.Comparison.{Comparison}
 use Rattle.wm_num.specs.declared.operator.Comparison.TheVariants as compare
-use Rattle.wm_num.specs.declared.operator.UnaryOperator.{UnaryOperator}
 use Rattle.wm_num.specs.declared.operator.UnaryOperator.TheVariants.{Clz, Ctz, Popcnt}
-use Rattle.wm_num.specs.declared.operator.BinaryOperator.{BinaryOperator}
 use Rattle.wm_num.specs.declared.operator.BinaryOperator.TheVariants as binary
 use Rattle.wm_num.specs.declared.operator.Conversion.TheVariants.{WrapI64, ExtendI32S, ExtendI32U}
 use Rattle.wm_ast.specs.declared.types.ValType.TheVariants as value
 use Rattle.wm_ast.specs.declared.access.Storage.{Storage}
 use Rattle.wm_ast.specs.declared.access.Storage.TheVariants as storage
 use Rattle.wm_ast.specs.declared.access.Narrow.TheVariants as narrow
-use Rattle.wm_ast.specs.declared.access.UpdateOperator.TheVariants as update
+use Rattle.wm_access.specs.declared.UpdateOperator.TheVariants as update
 use Rattle.wm_ast.specs.declared.access.AccessKind.{AccessKind}
 use Rattle.wm_ast.specs.declared.access.AccessKind.TheVariants.{Read, ReadSigned, Write, AtomicRead, AtomicWrite, Update, CompareExchange}
-use Rattle.wm_ast.specs.declared.instr.Instr.{Instr}
 use Rattle.wm_ast.specs.declared.instr.Instr.TheVariants as instr
 use Rattle.wm_decode.specs.declared.opcode.Indexed.TheVariants.{Br, BrIf, Call, LocalGet, LocalSet, LocalTee, GlobalGet, GlobalSet}
 use Rattle.wm_decode.specs.declared.opcode.Opcode.{Opcode}

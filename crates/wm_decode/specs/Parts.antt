@@ -1,5 +1,5 @@
 -- The bytes of types, and of what stands in sections (Core 1.0, sections 5.3 and 5.5; threads proposal, "Limits").
-use Rattle.std.specs.Prelude.{◌≡◌, ◌≢◌, ℕ, zero, suc, ◌-◌, ◌^◌, List, [], ◌∷◌, ◌++◌, Option, Some, None, option_to_list, length}
+use Rattle.std.specs.Prelude.{◌≡◌, ℕ, zero, suc, ◌-◌, ◌^◌, List, [], ◌∷◌, ◌++◌, Some, None, option_to_list, length}
 use Rattle.wm_ast.specs.Exports.{export_at}
 use Rattle.wm_ast.specs.declared.types.ValType.{ValType}
 use Rattle.wm_ast.specs.declared.types.FuncType.{FuncType}
@@ -18,7 +18,7 @@ use Rattle.wm_ast.specs.declared.module.ImportName.{ImportName}
 use Rattle.wm_ast.specs.declared.module.Memory.{Memory}
 use Rattle.wm_ast.specs.declared.module.DataSegment.{DataSegment}
 use Rattle.wm_decode.specs.Numbers.{U32, Signed}
-use Rattle.wm_decode.specs.Vectors.{Each, Vector, ByteVector, Name, Sized}
+use Rattle.wm_decode.specs.Vectors.{Vector, ByteVector, Name, Sized}
 use Rattle.wm_decode.specs.Instructions.{value_type, Spells}
 
 -- The bytes spell a value type.

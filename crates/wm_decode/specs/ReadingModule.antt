@@ -1,10 +1,5 @@
 -- Reading sections and modules.
-use Rattle.std.specs.Prelude.{◌≡◌, ℕ, zero, suc, ◌-◌, ◌^◌, List, [], ◌∷◌, ◌++◌, length, Bool, true, false, Option, Some, None, is_some, Result, Ok, Err, nat_lt, ◌==◌, if◌then◌else◌}
-use Rattle.wm_ast.specs.declared.types.FuncType.{FuncType}
-use Rattle.wm_ast.specs.declared.types.Limits.{Limits}
-use Rattle.wm_ast.specs.declared.exports.Export.{Export}
-use Rattle.wm_ast.specs.declared.module.Global.{Global}
-use Rattle.wm_ast.specs.declared.module.Memory.{Memory}
+use Rattle.std.specs.Prelude.{ℕ, zero, suc, List, [], ◌∷◌, length, Option, Some, None, is_some, Result, Ok, Err, nat_lt, ◌==◌, if◌then◌else◌}
 use Rattle.wm_ast.specs.declared.module.Module.{Module}
 use Rattle.std.specs.Option.{option_flatten}
 use Rattle.wm_decode.specs.Bounds.{Bounds, profile}

@@ -1,10 +1,11 @@
 //! Modules (Core 1.0, section 5.5.15).
 ghost use Rattle.std.specs.Prelude.{◌≡◌, ℕ, List, IfOk};
 ghost use Rattle.wm_ast.specs.declared.module.Module.{Module};
+ghost use Rattle.wm_decode.specs.declared.fault.Limit.{Limit};
 ghost use Rattle.wm_decode.specs.Stop.{bad};
 ghost use Rattle.wm_decode.specs.Bounds.{profile};
-ghost use Rattle.wm_decode.specs.Answers.{Answers, Decodes, IsUnlessMemory, stop_of, IsBad};
-ghost use Rattle.wm_decode.specs.Module.{items_of, memory_of, SpellsWithin, spells};
+ghost use Rattle.wm_decode.specs.Answers.{Answers, Decodes, IsUnlessMemory, RefusedBy, stop_of, IsBad};
+ghost use Rattle.wm_decode.specs.Module.{items_of, memory_of, SpellsWithin, IsPast, spells};
 ghost use Rattle.wm_decode.specs.ReadingModule.{header_at, front_at, declared_at, module_at, whole_at};
 
 use crate::bounds::MODULE_BYTES;
@@ -226,7 +227,9 @@ pub fn decode(alloc: Global, bytes: &[u8]) -> Result<Module, DecodeFault>
     ensures found { IfOk result (λ m. SpellsWithin bytes.now m) }
     // What the bytes spell within the limits is answered, unless memory is refused.
     ensures only { (m : Module) → SpellsWithin bytes.now m → IsUnlessMemory result m }
-    // A limit is named only where reading from left to right meets more than it allows.
+    // Of bytes that spell a module, a limit is named only where they or the module are past it.
+    ensures past { (m : Module) (limit : Limit) → spells bytes.now m → RefusedBy limit result → IsPast limit bytes.now m }
+    // Of any bytes, a limit is named only where reading from left to right meets more than it allows.
     ensures limits { Decodes result (whole_at bytes.now) }
 {
     decode_whole(alloc, bytes)

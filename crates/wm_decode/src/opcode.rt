@@ -2,7 +2,8 @@
 ghost use Rattle.std.specs.Prelude.{◌≡◌};
 ghost use Rattle.wm_decode.specs.Opcodes.{lookup, opcode_at, atomic_at, control_opcodes, memory_opcodes, comparison_opcodes, arithmetic_32_opcodes, arithmetic_64_opcodes, other_opcodes, atomic_moves, first_updates, last_updates};
 
-use wm_ast::{AccessKind, Instr, Narrow, Storage, UpdateOperator, ValType};
+use wm_access::UpdateOperator;
+use wm_ast::{AccessKind, Instr, Narrow, Storage, ValType};
 use wm_num::{BinaryOperator, Comparison, Conversion, UnaryOperator, Width};
 
 /// An instruction with one index behind its opcode.

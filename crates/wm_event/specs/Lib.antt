@@ -14,3 +14,4 @@ pub mod Places
 pub mod Rows
 pub mod CandidateShape
 pub mod Texts
+pub mod Op

@@ -1,31 +1,28 @@
 -- What the program answers: its line, and the exit status.
 use Rattle.std.specs.Prelude.{◌≡◌, ◌≢◌, ℕ, ◌*◌, ◌≤◌, List, [], ◌∷◌, ◌++◌, Option, length, replicate}
 use Rattle.std.specs.Io.KnownBytes.{Appends}
+use Rattle.wm_check.specs.declared.verdict.Breach.{Breach}
+use Rattle.wm_check.specs.declared.verdict.Certificate.{Certificate}
+use Rattle.wm_check.specs.declared.verdict.Refusal.{Refusal}
+use Rattle.wm_check.specs.declared.verdict.Verdict.TheVariants.{Allowed, Refused}
+use Rattle.wm_check.specs.declared.verdict.Verdict.TheVariants as verdict
+use Rattle.wm_check.specs.Verdicts.{IsAllowed, IsBrokenBy, IsRefusedFor}
 use Rattle.wm_event.specs.declared.log.ThreadLog.{ThreadLog}
 use Rattle.wm_event.specs.declared.rule.Judgement.{Judgement}
 use Rattle.wm_event.specs.declared.shape_fault.ShapeFault.{ShapeFault}
 use Rattle.wm_event.specs.declared.witness.Witness.{Witness}
 use Rattle.wm_event.specs.Faults.{Judges}
 use Rattle.wm_event.specs.First.{IsFirst}
-use Rattle.wm_event.specs.Log.{IsLog}
 use Rattle.wm_event.specs.LoggedRun.{LoggedRun, execution}
 use Rattle.wm_event.specs.Shape.{IsWellShaped, Misshapes, shape_rank}
 use Rattle.wm_logfile.specs.declared.TheConstants.{MAX_DOCUMENT_BYTES}
 use Rattle.wm_logfile.specs.declared.fault.DocFault.{DocFault}
-use Rattle.wm_logfile.specs.declared.fault.DocFault.TheVariants.{TooLarge, OutOfMemory}
-use Rattle.wm_logfile.specs.Document.{IsTooLarge, IsWithinLimits, Spells}
+use Rattle.wm_logfile.specs.DocumentBytes.{IsDocumentOf, IsNoDocument}
 use Rattle.wm_litmus.specs.declared.TheConstants.{INITIAL_PAGES}
 use Rattle.wm_litmus.specs.Input.{IsReadOf}
-use Rattle.wm_litmus.specs.Lines.{document_line_text, judgement_status, judgement_text, shape_line_text, words_line_text}
+use Rattle.wm_litmus.specs.Lines.{document_line_text, judgement_status, judgement_text, shape_line_text, verdict_text, words_line_text}
 
 -- ---- the command `rules`
-
--- the bytes spell the log with the witness, all within the limits
-pub record IsDocumentOf (bytes : List ℕ) (log : List ThreadLog) (witness : Witness) : Type 0 where
-  pub small : length bytes ≤ MAX_DOCUMENT_BYTES
-  pub spelled : Spells bytes log witness
-  pub is_log : IsLog log
-  pub limits : IsWithinLimits log witness
 
 -- so many pages of zeros, of 65,536 bytes each
 unfoldable pub zeros : ℕ → List ℕ
@@ -33,12 +30,6 @@ zeros pages = replicate (pages * 65536) 0
 
 abbrev pub run_over : ℕ → List ThreadLog → Witness → LoggedRun
 run_over pages log witness = record { log = log; witness = witness; initial = zeros pages }
-
--- what the fault of a refused document says
-pub record IsRefused (bytes : List ℕ) (fault : DocFault) : Type 0 where
-  pub no_document : (log : List ThreadLog) (witness : Witness) → ¬ IsDocumentOf bytes log witness
-  pub too_large : fault ≡ TooLarge → IsTooLarge bytes
-  pub no_want : fault ≢ OutOfMemory
 
 -- the status and the line that answer a run
 pub data AnswersRun (run : LoggedRun) (status : ℕ) (line : List ℕ) : Type 0 where
@@ -51,8 +42,19 @@ pub data AnswersRun (run : LoggedRun) (status : ℕ) (line : List ℕ) : Type 0 
 pub data AnswersRules (bytes : List ℕ) (status : ℕ) (line : List ℕ) : Type 0 where
   read : (log : List ThreadLog) (witness : Witness) → IsDocumentOf bytes log witness
       → AnswersRun (run_over INITIAL_PAGES log witness) status line → AnswersRules bytes status line
-  refused : (fault : DocFault) → IsRefused bytes fault
+  refused : (fault : DocFault) → IsNoDocument bytes fault
       → status ≡ 2 → line ≡ document_line_text fault → AnswersRules bytes status line
+
+-- ---- the command `check`
+
+-- the status and the line that answer a module and a document: those of the verdict on them
+pub data AnswersCheck (module_bytes document_bytes : List ℕ) (status : ℕ) (line : List ℕ) : Type 0 where
+  allowed : (certificate : Certificate) → IsAllowed module_bytes document_bytes certificate
+      → status ≡ 0 → line ≡ verdict_text (Allowed certificate) → AnswersCheck module_bytes document_bytes status line
+  refused_for : (refusal : Refusal) → IsRefusedFor module_bytes document_bytes refusal
+      → status ≡ 2 → line ≡ verdict_text (Refused refusal) → AnswersCheck module_bytes document_bytes status line
+  broken_by : (breach : Breach) → IsBrokenBy module_bytes document_bytes breach
+      → status ≡ 1 → line ≡ verdict_text (verdict.Broken breach) → AnswersCheck module_bytes document_bytes status line
 
 -- ---- the program
 
@@ -61,6 +63,8 @@ pub data IsAnswer (input : Option (List ℕ)) (status : ℕ) (line : List ℕ) :
   no_command : status ≡ 2 → line ≡ words_line_text → IsAnswer input status line
   rules_of : (name bytes : List ℕ) → IsReadOf input MAX_DOCUMENT_BYTES name bytes
       → AnswersRules bytes status line → IsAnswer input status line
+  check_of : (module_bytes name bytes : List ℕ) → IsReadOf input MAX_DOCUMENT_BYTES name bytes
+      → AnswersCheck module_bytes bytes status line → IsAnswer input status line
 
 -- the writer gains one line, that of an answer of this status
 pub record WritesAnswer (input old new : Option (List ℕ)) (status : ℕ) : Type 0 where

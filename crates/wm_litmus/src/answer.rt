@@ -1,10 +1,11 @@
 //! What a command answers.
 ghost use Rattle.std.specs.Prelude.{◌≡◌, ◌≢◌, IfOk};
-ghost use Rattle.wm_litmus.specs.Lines.{document_line_text, judgement_status, judgement_text, shape_line_text, words_line_text};
+ghost use Rattle.wm_litmus.specs.Lines.{document_line_text, judgement_status, judgement_text, shape_line_text, verdict_status, verdict_text, words_line_text};
 ghost use Rattle.wm_litmus.specs.Says.{Says};
 
-use crate::line::{document_line, rules_line, shape_line, words_line};
+use crate::line::{document_line, rules_line, shape_line, verdict_line, words_line};
 use std::alloc::{AllocError, Global};
+use wm_check::Verdict;
 use wm_event::{Judgement, ShapeFault};
 use wm_logfile::DocFault;
 
@@ -22,6 +23,17 @@ fn status_of(judgement: &Judgement) -> u8
     match judgement {
         Judgement::Valid => 0,
         Judgement::Broken(_) => 1,
+    }
+}
+
+/// The exit status of a verdict.
+fn verdict_status_of(verdict: &Verdict) -> u8
+    ensures { result ≡ verdict_status verdict.now }
+{
+    match verdict {
+        Verdict::Allowed(_) => 0,
+        Verdict::Broken(_) => 1,
+        Verdict::Refused(_) => 2,
     }
 }
 
@@ -61,6 +73,15 @@ impl Answer {
                 Ok(Answer { text, status: 2 })
             }
         }
+    }
+
+    /// The answer that a verdict is.
+    pub fn of_verdict(alloc: Global, verdict: &Verdict) -> Result<Answer, AllocError>
+        ensures { IfOk result (Says (verdict_status verdict.now) (verdict_text verdict.now)) }
+    {
+        let text = verdict_line(alloc, verdict)?;
+        let status = verdict_status_of(verdict);
+        Ok(Answer { text, status })
     }
 
     /// The refusal of the words.

@@ -13,6 +13,8 @@ use std::alloc::{AllocError, Global};
 pub enum Command<'a> {
     /// Judges the run of a document by the memory rules.
     Rules { document: &'a str },
+    /// Checks the run of a document against a module.
+    Check { module: &'a str, document: &'a str },
 }
 
 /// Why the words are no command.
@@ -48,17 +50,23 @@ fn plain<'a>(alloc: Global, name: &'a str) -> Parser<'a> {
         .disable_version_flag(true)
 }
 
+/// A word that has to stand.
+fn word<'a>(alloc: Global, name: &'a str) -> Arg<'a> {
+    Arg::new(alloc, name).required(true).action(ArgAction::Set)
+}
+
 /// The commands and their words.
 fn parser<'a>(alloc: Global) -> Result<Parser<'a>, AllocError> {
-    let document = Arg::new(alloc, "document")
-        .required(true)
-        .action(ArgAction::Set);
-    let rules = plain(alloc, "rules").arg(document)?;
+    let rules = plain(alloc, "rules").arg(word(alloc, "document"))?;
+    let check = plain(alloc, "check")
+        .arg(word(alloc, "module"))?
+        .arg(word(alloc, "document"))?;
     plain(alloc, "wmlab")
         .no_binary_name(true)
         .disable_help_subcommand(true)
         .subcommand_required(true)
-        .subcommand(rules)
+        .subcommand(rules)?
+        .subcommand(check)
 }
 
 /// The command that `words`, those after the program's name, give. A word other than `-` that begins with
@@ -70,11 +78,12 @@ pub fn read_command<'a>(alloc: Global, words: &'a [&'a str]) -> Result<Command<'
     }
     let parser = parser(alloc)?;
     let matches = parser.try_get_matches_from(words)?;
-    let Some(("rules", rules)) = matches.subcommand() else {
+    let Some((name, words)) = matches.subcommand() else {
         return Err(CommandFault::Words);
     };
-    match rules.get_str("document") {
-        Some(document) => Ok(Command::Rules { document }),
-        None => Err(CommandFault::Words),
+    match (name, words.get_str("module"), words.get_str("document")) {
+        ("rules", _, Some(document)) => Ok(Command::Rules { document }),
+        ("check", Some(module), Some(document)) => Ok(Command::Check { module, document }),
+        _ => Err(CommandFault::Words),
     }
 }

@@ -1,5 +1,5 @@
 //! Files, as a trait, so that a test can stand in for them.
-ghost use Rattle.std.specs.Prelude.{ℕ, ◌≡◌, ◌+◌, ◌^◌, ◌<◌, ◌≤◌, IfErr, IfOk, vec_len};
+ghost use Rattle.std.specs.Prelude.{ℕ, ◌≡◌, ◌+◌, ◌^◌, ◌<◌, ◌≤◌, IfErr, IfOk, OnOk, vec_len};
 ghost use Rattle.wm_litmus.specs.declared.files.FileFault.TheVariants.{Device, OutOfMemory};
 
 use std::alloc::AllocError;
@@ -39,7 +39,8 @@ pub trait Files {
         ensures bound { IfOk result (λ bytes. vec_len bytes ≤ limit) }
         ensures device { IfErr result (λ fault. fault ≡ Device
             → failures_of self.old < failures_of self.new) }
-        ensures monotone { failures_of self.old ≤ failures_of self.new };
+        ensures monotone { failures_of self.old ≤ failures_of self.new }
+        ensures no_failure { OnOk result (failures_of self.new ≡ failures_of self.old) };
 
     /// How many calls a device failed so far.
     fn failures(&self) -> u64

@@ -4,6 +4,10 @@
 //! |---|---|---|
 //! | the memory rules permit the run | `allowed` | 0 |
 //! | a rule is broken | `broken V5 case 3 at 1.0 byte 0 writer init other 0.0` | 1 |
+//! | the module and the memory rules permit the run | `allowed threads=2 events=4` | 0 |
+//! | a thread's log isn't its run | `broken replay thread 0 event 0` | 1 |
+//! | the bytes are no module | `refused decode Truncated at 42` | 2 |
+//! | the module isn't valid | `refused valid Alignment in function 0 instruction 2` | 2 |
 //! | the document is refused | `refused document BadShape at /2/0/1` | 2 |
 //! | its log and witness are no candidate | `refused shape WriterCount at 0.1` | 2 |
 //! | the words are refused | `refused command words` | 2 |
@@ -15,6 +19,7 @@
 pub const INITIAL_PAGES: usize = 16;
 
 mod answer;
+mod check;
 mod command;
 mod files;
 mod input;
@@ -24,7 +29,7 @@ mod rules;
 
 pub use files::{FileFault, Files};
 pub use input::read_limited;
-pub use line::rules_line;
+pub use line::{rules_line, verdict_line};
 pub use program::serve;
 
 #[cfg(test)]

@@ -8,6 +8,7 @@ ghost use Rattle.wm_litmus.specs.Input.{IsReadOf};
 ghost use Rattle.wm_litmus.specs.declared.program.Stop.TheVariants.{OutOfMemory};
 
 use crate::answer::Answer;
+use crate::check::check_answer;
 use crate::command::{Command, CommandFault, read_command};
 use crate::files::{FileFault, Files};
 use crate::input::read_limited;
@@ -15,13 +16,16 @@ use crate::rules::rules_answer;
 use std::alloc::AllocError;
 use std::io;
 use std::io::{Read, Write};
+use wm_decode::MODULE_BYTES;
 use wm_logfile::MAX_DOCUMENT_BYTES;
 
 /// Why there is no answer.
 #[derive(Clone, Copy, Debug)]
 enum Stop<'a> {
-    /// What has this name was not read.
-    Unread(&'a str),
+    /// The file of this name was not read.
+    UnreadFile(&'a str),
+    /// The input was not read.
+    UnreadInput,
     /// Memory was refused.
     OutOfMemory,
 }
@@ -34,8 +38,23 @@ impl From<AllocError> for Stop<'_> {
     }
 }
 
+/// The bytes of the file `name`, to so many and one more.
+fn read_file<'a, F: Files>(files: &mut F, name: &'a str, limit: usize) -> Result<Vec<u8>, Stop<'a>>
+    requires failures { F.failures_of files.old + 1 < 2 ^ 64 }
+    requires limit { limit + 1 < 2 ^ 64 }
+    ensures read { OnOk result (F.failures_of files.new ≡ F.failures_of files.old) }
+    ensures unread { IfErr result (λ stop. IsUnreadFile stop
+        → F.failures_of files.old < F.failures_of files.new) }
+{
+    match files.read(name, limit + 1) {
+        Ok(bytes) => Ok(bytes),
+        Err(FileFault::Device) => Err(Stop::UnreadFile(name)),
+        Err(FileFault::OutOfMemory) => Err(Stop::OutOfMemory),
+    }
+}
+
 /// The bytes of the document `name`, or of `input` for `-`, to the limit and one more.
-fn read_bytes<'a, R: AllocGlobal, F: Files, I: Read>(
+fn read_document_bytes<'a, R: AllocGlobal, F: Files, I: Read>(
     rt: &R,
     files: &mut F,
     input: &mut I,
@@ -47,15 +66,12 @@ fn read_bytes<'a, R: AllocGlobal, F: Files, I: Read>(
     ensures unread { IfErr result (λ stop. IsUnreadFile stop
         → F.failures_of files.old < F.failures_of files.new) }
 {
-    let limit = MAX_DOCUMENT_BYTES + 1;
-    let bytes = if name == "-" {
-        read_limited(rt.alloc(), input, limit)
-    } else {
-        files.read(name, limit)
-    };
-    match bytes {
+    if name != "-" {
+        return read_file(files, name, MAX_DOCUMENT_BYTES);
+    }
+    match read_limited(rt.alloc(), input, MAX_DOCUMENT_BYTES + 1) {
         Ok(bytes) => Ok(bytes),
-        Err(FileFault::Device) => Err(Stop::Unread(name)),
+        Err(FileFault::Device) => Err(Stop::UnreadInput),
         Err(FileFault::OutOfMemory) => Err(Stop::OutOfMemory),
     }
 }
@@ -75,8 +91,13 @@ fn answer_of<'a, R: AllocGlobal, F: Files, I: Read>(
 {
     match read_command(rt.alloc(), words) {
         Ok(Command::Rules { document }) => {
-            let bytes = read_bytes(rt, files, input, document)?;
+            let bytes = read_document_bytes(rt, files, input, document)?;
             Ok(rules_answer(rt, bytes.as_slice())?)
+        }
+        Ok(Command::Check { module, document }) => {
+            let module_bytes = read_file(files, module, MODULE_BYTES)?;
+            let document_bytes = read_document_bytes(rt, files, input, document)?;
+            Ok(check_answer(rt, module_bytes.as_slice(), document_bytes.as_slice())?)
         }
         Err(CommandFault::Words) => Ok(Answer::refused_words(rt.alloc())?),
         Err(CommandFault::OutOfMemory) => Err(Stop::OutOfMemory),
@@ -93,10 +114,13 @@ fn write_line<W: Write>(out: &mut W, line: &str) -> io::Result<()>
 }
 
 /// The whole program: answers `words`, those after the program's name, by a line on `out`, and returns the
-/// exit status. The one command is `rules DOC`, which reads the document of that name among `files`, or
-/// `input` for `-`, and judges it over 16 pages of zeros; it ignores starts, ends and steps.
+/// exit status.
 ///
-/// The document is read to its limit and one byte more, in at most that many reads, and any failed read ends
+/// `rules DOC` reads the document of that name among `files`, or `input` for `-`, and judges it over 16 pages of
+/// zeros; it ignores starts, ends and steps. `check MODULE DOC` reads the module of that name among `files`, and
+/// then the document, and checks its run against the module and the memory rules.
+///
+/// Each file is read to its limit and one byte more, in at most that many reads, and any failed read ends
 /// the program. The clauses speak of the line and the status, and of the bytes of `input` where the document
 /// is `-`; which words are a command, what a file holds and the lines on `err` are shown by tests.
 ///
@@ -127,8 +151,12 @@ pub fn serve<R: AllocGlobal, F: Files, I: Read, O: Write, E: Write>(
             }
             answer.status
         }
-        Err(Stop::Unread(name)) => {
+        Err(Stop::UnreadFile(name)) => {
             let _ = writeln!(err, "cannot read {name}");
+            3
+        }
+        Err(Stop::UnreadInput) => {
+            let _ = writeln!(err, "cannot read -");
             3
         }
         Err(Stop::OutOfMemory) => {

@@ -1,158 +1,24 @@
 //! The program over a fake reader, fake writers and fake files.
+mod candidates;
+mod check;
 mod documents;
+mod fakes;
+mod modules;
+mod numeric_instructions;
+mod other_instructions;
+mod runs;
+mod threads;
 
 use super::*;
 use documents::{ALLOWED, BROKEN, REFUSED, Row};
+use fakes::{Endless, NEVER, blank_paper, says, shelf_of, source_of};
 use std::alloc::{AllocError, Global};
-use std::io;
-use std::io::{ErrorKind, Read, Write};
 use std::process::Abort;
 use std::test::Fail;
 
-const NEVER: u64 = u64::MAX;
-
-/// Gives a text by pieces of so many bytes, and fails at one read.
-#[derive(Drop)]
-struct Source<'a> {
-    left: &'a [u8],
-    piece: usize,
-    reads: u64,
-    fails_at: u64,
-}
-
-impl Read for Source<'_> {
-    fn read(&mut self, buf: &mut [u8]) -> io::Result<usize> {
-        let at = self.reads;
-        self.reads = at.saturating_add(1);
-        if at == self.fails_at {
-            return Err(io::Error::from(ErrorKind::Interrupted));
-        }
-        let count = self.piece.min(buf.len()).min(self.left.len());
-        buf[..count].copy_from_slice(&self.left[..count]);
-        self.left = &self.left[count..];
-        Ok(count)
-    }
-}
-
-/// Gives a space at each read, without end.
-#[derive(Drop)]
-struct Endless {
-    reads: u64,
-}
-
-impl Read for Endless {
-    fn read(&mut self, buf: &mut [u8]) -> io::Result<usize> {
-        self.reads = self.reads.saturating_add(1);
-        let Some(first) = buf.first_mut() else {
-            return Ok(0);
-        };
-        *first = b' ';
-        Ok(1)
-    }
-}
-
-/// Keeps what is written, and fails at one write.
-#[derive(Drop)]
-struct Paper {
-    bytes: Vec<u8>,
-    writes: u64,
-    fails_at: u64,
-}
-
-impl Write for Paper {
-    fn write(&mut self, buf: &[u8]) -> io::Result<usize> {
-        let at = self.writes;
-        self.writes = at.saturating_add(1);
-        if at == self.fails_at {
-            return Err(io::Error::from(ErrorKind::BrokenPipe));
-        }
-        self.bytes.extend_from_slice(buf)?;
-        Ok(buf.len())
-    }
-
-    fn flush(&mut self) -> io::Result<()> {
-        Ok(())
-    }
-}
-
-/// One file, or a device that fails; and the limit of the last read.
-#[derive(Drop)]
-struct Shelf<'a> {
-    alloc: Global,
-    name: &'a str,
-    text: &'a [u8],
-    limit: usize,
-    failures: u64,
-}
-
-impl Files for Shelf<'_> {
-    ghost failures_of = { λ shelf. shelf.failures };
-
-    fn read(&mut self, name: &str, limit: usize) -> Result<Vec<u8>, FileFault> {
-        self.limit = limit;
-        if name != self.name {
-            self.failures += 1;
-            return Err(FileFault::Device);
-        }
-        let text = &self.text[..limit.min(self.text.len())];
-        Ok(text.to_vec(self.alloc)?)
-    }
-
-    fn failures(&self) -> u64 {
-        self.failures
-    }
-}
-
-fn source_of(text: &[u8], fails_at: u64) -> Source<'_> {
-    Source {
-        left: text,
-        piece: 1000,
-        reads: 0,
-        fails_at,
-    }
-}
-
-fn blank_paper(alloc: Global, fails_at: u64) -> Paper {
-    Paper {
-        bytes: Vec::new(alloc),
-        writes: 0,
-        fails_at,
-    }
-}
-
-/// Runs the program over one file and this input, and looks at its lines and its status.
-fn says<R: Abort + AllocGlobal, I: Read>(
-    rt: &R,
-    words: &[&str],
-    input: &mut I,
-    line: &str,
-    error: &str,
-    status: u8,
-) {
-    let mut files = Shelf {
-        alloc: rt.alloc(),
-        name: "log.json",
-        text: b"[",
-        limit: 0,
-        failures: 0,
-    };
-    let mut out = blank_paper(rt.alloc(), NEVER);
-    let mut err = blank_paper(rt.alloc(), NEVER);
-    let got = serve(rt, words, &mut files, input, &mut out, &mut err);
-    assert_eq!(rt; out.bytes.as_slice(), line.as_bytes());
-    assert_eq!(rt; err.bytes.as_slice(), error.as_bytes());
-    assert_eq!(rt; got, status);
-}
-
 fn answers<R: Abort + AllocGlobal>(rt: &R, rows: &[Row]) {
     for row in rows {
-        let mut files = Shelf {
-            alloc: rt.alloc(),
-            name: "log.json",
-            text: row.document.as_bytes(),
-            limit: 0,
-            failures: 0,
-        };
+        let mut files = shelf_of(rt.alloc(), None, Some(row.document.as_bytes()));
         let mut input = source_of(b"", NEVER);
         let mut out = blank_paper(rt.alloc(), NEVER);
         let mut err = blank_paper(rt.alloc(), NEVER);
@@ -208,13 +74,17 @@ fn events_are_limited(rt: HostRuntime) -> Result<(), Fail> {
 
 #[test]
 fn words_are_refused(rt: HostRuntime) {
-    let refused: [&[&str]; 22] = [
+    let refused: [&[&str]; 26] = [
         &[],
         &["rules"],
         &["rules", "-", "-"],
         &["rules", "log.json", "log.json"],
         &["judge", "-"],
-        &["check", "-", "-"],
+        &["check"],
+        &["check", "log.json"],
+        &["check", "log.json", "-", "-"],
+        &["check", "-x", "-"],
+        &["check", "log.json", "--", "-"],
         &["rul", "-"],
         &["Rules", "-"],
         &["", "-"],
@@ -282,13 +152,7 @@ fn writes<R: Abort + AllocGlobal>(
     error: &str,
     status: u8,
 ) -> u64 {
-    let mut files = Shelf {
-        alloc: rt.alloc(),
-        name: "log.json",
-        text: b"[",
-        limit: 0,
-        failures: 0,
-    };
+    let mut files = shelf_of(rt.alloc(), None, Some(b"["));
     let mut input = source_of(b"", NEVER);
     let mut out = blank_paper(rt.alloc(), out_fails);
     let mut err = blank_paper(rt.alloc(), err_fails);
@@ -315,13 +179,7 @@ fn each_write_fails_in_turn(rt: HostRuntime) {
         writes(&rt, number, 0, "", 3);
     }
     let mut input = source_of(b"", 0);
-    let mut files = Shelf {
-        alloc: rt.alloc(),
-        name: "",
-        text: b"",
-        limit: 0,
-        failures: 0,
-    };
+    let mut files = shelf_of(rt.alloc(), None, None);
     let mut out = blank_paper(rt.alloc(), NEVER);
     let mut err = blank_paper(rt.alloc(), 0);
     let status = serve(

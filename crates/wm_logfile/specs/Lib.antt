@@ -4,3 +4,4 @@ pub mod Reading
 pub mod Faults
 pub mod PathText
 pub mod Texts
+pub mod DocumentBytes

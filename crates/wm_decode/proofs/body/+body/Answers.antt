@@ -1,10 +1,7 @@
-use Rattle.std.proofs.Common.{rules, ◌≡◌, ◌≤◌, ◌+◌, ◌-◌, ◌<◌, ◌++◌, ◌∷◌, List, ℕ, length, get_or, [], arith, sym, ap, ◌∙◌, inl, inr, drop, ◌⊎◌}
+use Rattle.std.proofs.Common.{◌≡◌, length, get_or, arith, ◌∙◌, inl, inr, ◌⊎◌}
 use Rattle.std.proofs.lemmas.Result.{err_from_is_err_and}
-use Rattle.wm_ast.specs.declared.instr.Instr.{Instr}
-use Rattle.wm_decode.specs.Numbers.{IsBytes}
-use Rattle.wm_decode.specs.ReadingInstructions.{block_type_at, plain_at, instrs_in, instr_in}
-use Rattle.wm_decode.proofs.Turns.{are_bytes, instrs_take_in, one_shorter}
-use Rattle.wm_decode.proofs.SoFar.{starts, goes_on, fails, closes, is_short, ends_it, shrinks}
+use Rattle.wm_decode.proofs.Turns.{are_bytes}
+use Rattle.wm_decode.proofs.SoFar.{starts, goes_on, fails, closes, is_short, shrinks}
 use Rattle.wm_decode.proofs.Placed.{placed}
 use Rattle.wm_decode.proofs.body.+body.Goals as goal
 

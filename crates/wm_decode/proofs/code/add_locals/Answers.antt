@@ -1,4 +1,4 @@
-use Rattle.std.proofs.Common.{◌≡◌, ◌+◌, ◌++◌, ◌∷◌, [], List, ap, ◌∙◌, append_assoc}
+use Rattle.std.proofs.Common.{◌++◌, ◌∷◌, [], List, ap, ◌∙◌, append_assoc}
 use Rattle.wm_ast.specs.declared.types.ValType.{ValType}
 use Rattle.wm_decode.specs.Parts.{locals_of}
 use Rattle.wm_decode.proofs.MoreLoop.{one_more_local}

@@ -1,6 +1,7 @@
 use Rattle.std.proofs.Common.{arith}
 use Rattle.wm_decode.proofs.Turns.{are_bytes}
 use Rattle.wm_decode.proofs.Decoded.{is_found, is_only}
+use Rattle.wm_decode.proofs.Past.{is_past}
 use Rattle.wm_decode.proofs.module.decode.Goals as goal
 
 pub returns-clause-found : goal.returns-clause-found
@@ -8,3 +9,6 @@ returns-clause-found c = is_found c.args.bytes.now c.decode_whole.result (are_by
 
 pub returns-clause-only : goal.returns-clause-only
 returns-clause-only c = λ m s. is_only c.args.bytes.now c.decode_whole.result c.decode_whole.ensures m s
+
+pub returns-clause-past : goal.returns-clause-past
+returns-clause-past c = λ m limit s r. is_past c.args.bytes.now c.decode_whole.result c.decode_whole.ensures m limit s r

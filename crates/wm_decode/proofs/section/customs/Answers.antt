@@ -1,7 +1,7 @@
-use Rattle.std.proofs.Common.{◌≡◌, ◌<◌, length, get_or, arith, refl, sym, ◌∙◌}
+use Rattle.std.proofs.Common.{◌≡◌, get_or, arith, refl, sym, ◌∙◌}
 use Rattle.std.proofs.lemmas.Result.{err_from_is_err_and}
 use Rattle.wm_decode.proofs.Turns.{are_bytes}
-use Rattle.wm_decode.proofs.Customs.{Skipped, customs_none, skips, shrinks, fails}
+use Rattle.wm_decode.proofs.Customs.{customs_none, skips, shrinks, fails}
 use Rattle.wm_decode.proofs.section.customs.Goals as goal
 
 pub loop-rest-init : goal.loop-rest-init

@@ -1,4 +1,3 @@
-use Rattle.std.proofs.Common.{◌≡◌, ◌++◌, ◌∷◌, [], sym}
 use Rattle.std.proofs.lemmas.Result.{err_from_is_err_and}
 use Rattle.wm_decode.specs.ReadingVectors.{items_at}
 use Rattle.wm_decode.proofs.VectorLoop.{goes_on, fails, is_done}

@@ -1,6 +1,6 @@
 use Rattle.std.proofs.Common.{◌≡◌, subst, string_bytes}
-use Rattle.wm_litmus.specs.Answers.{AnswersRules}
-use Rattle.wm_litmus.specs.Answers.IsAnswer.{rules_of}
+use Rattle.wm_litmus.specs.Answers.{AnswersCheck, AnswersRules}
+use Rattle.wm_litmus.specs.Answers.IsAnswer.{check_of, rules_of}
 use Rattle.wm_litmus.proofs.program.answer_of.Goals as goal
 
 pub returns-in_ok-rules_answer-in-Ok-Rules-clause-answers : goal.returns-in_ok-rules_answer-in-Ok-Rules-clause-answers
@@ -9,3 +9,16 @@ returns-in_ok-rules_answer-in-Ok-Rules-clause-answers g c =
     let slice : c.as_slice.result.now ≡ c.in_ok-bytes-in-Ok-Rules.bytes.items = c.as_slice.ensures.value in
     rules_of _ c.in_ok-bytes-in-Ok-Rules.bytes.items c.in_ok-bytes-in-Ok-Rules.ensures.known
     (subst (λ bytes. AnswersRules bytes answer.status (string_bytes answer.text)) slice c.in_ok-rules_answer-in-Ok-Rules.ensures)
+
+pub returns-in_ok-check_answer-in-Ok-Check-clause-answers :
+    goal.returns-in_ok-check_answer-in-Ok-Check-clause-answers
+returns-in_ok-check_answer-in-Ok-Check-clause-answers g c =
+    let answer = c.in_ok-check_answer-in-Ok-Check.field-0 in
+    let read = c.in_ok-document_bytes-in-Ok-Check in
+    let modules = c.in_ok-module_bytes-in-Ok-Check.module_bytes in
+    let of_module : c.as_slice-in-Ok-Check.result.now ≡ modules.items = c.as_slice-in-Ok-Check.ensures.value in
+    let of_document : c.as_slice-in-Ok-Check-2.result.now ≡ read.document_bytes.items = c.as_slice-in-Ok-Check-2.ensures.value in
+    check_of modules.items _ read.document_bytes.items read.ensures.known
+    (subst (λ bytes. AnswersCheck modules.items bytes answer.status (string_bytes answer.text)) of_document
+    (subst (λ bytes. AnswersCheck bytes c.as_slice-in-Ok-Check-2.result.now answer.status (string_bytes answer.text)) of_module
+    c.in_ok-check_answer-in-Ok-Check.ensures))

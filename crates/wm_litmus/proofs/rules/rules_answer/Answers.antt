@@ -1,5 +1,5 @@
 use Rattle.std.proofs.lemmas.Result.{IfOk-weaker}
-use Rattle.wm_litmus.specs.Answers.{IsDocumentOf}
+use Rattle.wm_logfile.specs.DocumentBytes.{IsDocumentOf}
 use Rattle.wm_litmus.specs.Answers.AnswersRules.{read, refused}
 use Rattle.wm_litmus.proofs.rules.rules_answer.Goals as goal
 

@@ -1,0 +1,48 @@
+-- What the parts of a check find.
+use Rattle.std.specs.Prelude.{◌≡◌, ℕ, List}
+use Rattle.wm_ast.specs.declared.module.Module.{Module}
+use Rattle.wm_event.specs.declared.log.ThreadLog.{ThreadLog}
+use Rattle.wm_event.specs.declared.witness.Witness.{Witness}
+use Rattle.wm_event.specs.LoggedRun.{LoggedRun}
+use Rattle.wm_event.specs.Shape.{IsWellShaped}
+use Rattle.wm_logfile.specs.DocumentBytes.{IsDocumentOf, IsNoDocument}
+use Rattle.wm_check.specs.declared.checker.Stop.{Stop}
+use Rattle.wm_check.specs.declared.checker.Stop.TheVariants.{Refused, OutOfMemory}
+use Rattle.wm_check.specs.declared.verdict.Refusal.{Refusal}
+use Rattle.wm_check.specs.declared.verdict.Refusal.TheVariants as refusal
+use Rattle.wm_check.specs.declared.verdict.Verdict.{Verdict}
+use Rattle.wm_check.specs.Run.{IsInitialOf, IsModuleOf}
+use Rattle.wm_check.specs.Verdicts.{IsInvalid, IsNoModule, Says}
+
+-- why the bytes of a module give none
+abbrev pub IsModuleRefusal : List ℕ → Refusal → Type 0
+IsModuleRefusal bytes (refusal.Decode fault) = IsNoModule bytes fault
+IsModuleRefusal bytes (refusal.Valid fault) = IsInvalid bytes fault
+IsModuleRefusal bytes (refusal.Document fault) = ⊥
+IsModuleRefusal bytes (refusal.Shape fault) = ⊥
+
+abbrev pub IsUnreadModule : List ℕ → Stop → Type 0
+IsUnreadModule bytes (Refused r) = IsModuleRefusal bytes r
+IsUnreadModule bytes OutOfMemory = Unit {0}
+
+-- why the bytes of a document give no log
+abbrev pub IsDocumentRefusal : List ℕ → Refusal → Type 0
+IsDocumentRefusal bytes (refusal.Decode fault) = ⊥
+IsDocumentRefusal bytes (refusal.Valid fault) = ⊥
+IsDocumentRefusal bytes (refusal.Document fault) = IsNoDocument bytes fault
+IsDocumentRefusal bytes (refusal.Shape fault) = ⊥
+
+abbrev pub IsUnreadDocument : List ℕ → Stop → Type 0
+IsUnreadDocument bytes (Refused r) = IsDocumentRefusal bytes r
+IsUnreadDocument bytes OutOfMemory = Unit {0}
+
+-- what the verdict says of all bytes that spell the module, and the log with the witness
+abbrev pub ComparesOver : Module → List ThreadLog → Witness → Verdict → Type 0
+ComparesOver program log witness verdict =
+    (module_bytes document_bytes : List ℕ) → IsModuleOf module_bytes program → IsDocumentOf document_bytes log witness → Says module_bytes document_bytes verdict
+
+-- the same of a candidate over the module's initial memory
+abbrev pub Compares : Module → LoggedRun → Verdict → Type 0
+Compares program run verdict =
+    (module_bytes document_bytes : List ℕ) → IsModuleOf module_bytes program → IsDocumentOf document_bytes run.log run.witness → IsInitialOf program run.initial
+    → IsWellShaped run → Says module_bytes document_bytes verdict

@@ -1,0 +1,150 @@
+//! The check of a log against a module.
+ghost use Rattle.std.specs.Prelude.{◌≡◌, ◌≤◌, IfErr, IfOk};
+ghost use Rattle.wm_event.specs.Shape.{event_count};
+ghost use Rattle.wm_event.specs.declared.TheConstants.{MAX_EVENTS};
+ghost use Rattle.wm_event.specs.Shape.{IsWellShaped};
+ghost use Rattle.wm_logfile.specs.DocumentBytes.{IsDocumentOf};
+ghost use Rattle.wm_check.specs.Run.{IsModuleOf};
+ghost use Rattle.wm_check.specs.Reading.{Compares, ComparesOver, IsUnreadDocument, IsUnreadModule};
+ghost use Rattle.wm_check.specs.Verdicts.{IfAllowed, IfBroken, IfRefused, IsAllowed, IsBrokenBy, IsRefusedFor, Says};
+ghost use Rattle.wm_check.specs.declared.checker.Stop.TheVariants.{OutOfMemory};
+
+use crate::verdict::{Breach, Certificate, Refusal, Verdict};
+use std::alloc::{AllocError, Global};
+use wm_decode::{DecodeFault, decode};
+use wm_event::{Candidate, Judgement, Log, ShapeFault, ThreadLog, Witness};
+use wm_logfile::{DocFault, read_document};
+use wm_replay::{ReplayAnswer, replay};
+use wm_rules::judge;
+use wm_valid::{ValidFault, ValidModule, validate};
+
+/// Why there is no run to compare.
+#[derive(Debug, Drop)]
+enum Stop {
+    Refused(Refusal),
+    /// Memory was refused.
+    OutOfMemory,
+}
+
+/// The module that the bytes spell, where it is valid.
+fn read_module(alloc: Global, bytes: &[u8]) -> Result<ValidModule, Stop>
+    ensures read { IfOk result (IsModuleOf bytes.now) }
+    ensures refused { IfErr result (IsUnreadModule bytes.now) }
+{
+    let program = match decode(alloc, bytes) {
+        Ok(program) => program,
+        Err(DecodeFault::OutOfMemory) => return Err(Stop::OutOfMemory),
+        Err(fault) => return Err(Stop::Refused(Refusal::Decode(fault))),
+    };
+    match validate(alloc, program) {
+        Ok(program) => Ok(program),
+        Err(ValidFault::OutOfMemory) => Err(Stop::OutOfMemory),
+        Err(fault) => Err(Stop::Refused(Refusal::Valid(fault))),
+    }
+}
+
+/// The log with its witness that the bytes spell.
+fn read_log(alloc: Global, bytes: &[u8]) -> Result<(Log, Witness), Stop>
+    ensures read { IfOk result (λ p. IsDocumentOf bytes.now p.0 p.1) }
+    ensures refused { IfErr result (IsUnreadDocument bytes.now) }
+{
+    match read_document(alloc, bytes) {
+        Ok(read) => Ok(read),
+        Err(DocFault::OutOfMemory) => Err(Stop::OutOfMemory),
+        Err(fault) => Err(Stop::Refused(Refusal::Document(fault))),
+    }
+}
+
+/// How many events the threads have.
+fn count_events(threads: &[ThreadLog]) -> usize
+    requires { event_count threads.now ≤ MAX_EVENTS }
+    ensures { result ≡ event_count threads.now }
+{
+    let mut events = 0usize;
+    for thread in threads {
+        events += thread.events.len();
+    }
+    events
+}
+
+/// The verdict on a candidate.
+fn compare<R: AllocGlobal>(
+    rt: &R,
+    program: &ValidModule,
+    candidate: &Candidate,
+) -> Result<Verdict, AllocError>
+    ensures { IfOk result (Compares program.now candidate.now) }
+{
+    let answer = replay(rt.alloc(), program, candidate.log())?;
+    if answer != ReplayAnswer::Same {
+        return Ok(Verdict::Broken(Breach::Replay(answer)));
+    }
+    match judge(rt, candidate)? {
+        Judgement::Broken(fault) => Ok(Verdict::Broken(Breach::Rule(fault))),
+        Judgement::Valid => {
+            let threads = candidate.log().threads();
+            Ok(Verdict::Allowed(Certificate {
+                threads: threads.len(),
+                events: count_events(threads),
+            }))
+        }
+    }
+}
+
+/// The verdict on a log with a witness over the initial memory of a module.
+fn compare_log<R: AllocGlobal>(
+    rt: &R,
+    program: &ValidModule,
+    log: Log,
+    witness: Witness,
+) -> Result<Verdict, AllocError>
+    ensures { IfOk result (ComparesOver program.now log witness) }
+{
+    match Candidate::new(rt.alloc(), log, witness, program.initial()) {
+        Ok(candidate) => compare(rt, program, &candidate),
+        Err(ShapeFault::OutOfMemory) => Err(AllocError),
+        Err(fault) => Ok(Verdict::Refused(Refusal::Shape(fault))),
+    }
+}
+
+/// The verdict on the bytes, where both can be read.
+fn verdict_of<R: AllocGlobal>(
+    rt: &R,
+    module_bytes: &[u8],
+    document_bytes: &[u8],
+) -> Result<Verdict, AllocError>
+    ensures { IfOk result (Says module_bytes.now document_bytes.now) }
+{
+    let program = match read_module(rt.alloc(), module_bytes) {
+        Ok(program) => program,
+        Err(Stop::Refused(refusal)) => return Ok(Verdict::Refused(refusal)),
+        Err(Stop::OutOfMemory) => return Err(AllocError),
+    };
+    match read_log(rt.alloc(), document_bytes) {
+        Ok((log, witness)) => compare_log(rt, &program, log, witness),
+        Err(Stop::Refused(refusal)) => Ok(Verdict::Refused(refusal)),
+        Err(Stop::OutOfMemory) => Err(AllocError),
+    }
+}
+
+/// Checks the bytes of a log against the bytes of a module, whoever made them: in the order decode, valid, document,
+/// shape, replay, rule.
+///
+/// `Allowed` says that the bytes spell a valid module and a log with a witness, that each thread's events and end are
+/// those that the module gives it on the values that it read, and that the memory rules permit the events under that
+/// witness. A thread that is cut is a prefix of a run. Nothing is said of other witnesses.
+///
+/// # Errors
+///
+/// Only where memory was refused.
+pub fn check<R: AllocGlobal>(
+    rt: &R,
+    module_bytes: &[u8],
+    document_bytes: &[u8],
+) -> Result<Verdict, AllocError>
+    ensures allowed { IfAllowed result (IsAllowed module_bytes.now document_bytes.now) }
+    ensures refused { IfRefused result (IsRefusedFor module_bytes.now document_bytes.now) }
+    ensures broken { IfBroken result (IsBrokenBy module_bytes.now document_bytes.now) }
+{
+    verdict_of(rt, module_bytes, document_bytes)
+}

@@ -1,0 +1,8 @@
+//! A log against its module and the memory rules: from the bytes of both to the verdict.
+#![tactic(auto)]
+
+mod checker;
+mod verdict;
+
+pub use checker::check;
+pub use verdict::{Breach, Certificate, Refusal, Verdict};

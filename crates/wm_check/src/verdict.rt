@@ -1,0 +1,47 @@
+//! What a check answers.
+
+use wm_decode::DecodeFault;
+use wm_event::{RuleFault, ShapeFault};
+use wm_logfile::DocFault;
+use wm_replay::ReplayAnswer;
+use wm_valid::ValidFault;
+
+/// How large an allowed run is.
+#[derive(Clone, Copy, Debug, PartialEq, Eq)]
+pub struct Certificate {
+    /// How many threads its log has.
+    pub threads: usize,
+    /// How many events its log has.
+    pub events: usize,
+}
+
+/// Why a module or a log is refused. Each fault comes only where those before it don't. None of them is want of memory.
+#[derive(Debug, Drop)]
+pub enum Refusal {
+    /// The bytes are no module within the limits.
+    Decode(DecodeFault),
+    /// The module isn't valid.
+    Valid(ValidFault),
+    /// The bytes are no log with a witness within the limits.
+    Document(DocFault),
+    /// The log and the witness are no candidate over the module's initial memory.
+    Shape(ShapeFault),
+}
+
+/// Where a run is none of the module's, or none that the memory rules permit.
+#[derive(Clone, Copy, Debug, PartialEq, Eq)]
+pub enum Breach {
+    /// The first thread whose log isn't its run. The answer isn't `Same`.
+    Replay(ReplayAnswer),
+    /// The first fault of a memory rule.
+    Rule(RuleFault),
+}
+
+/// The verdict on a module and a log.
+#[derive(Debug, Drop)]
+pub enum Verdict {
+    /// The module and the memory rules permit the run.
+    Allowed(Certificate),
+    Refused(Refusal),
+    Broken(Breach),
+}

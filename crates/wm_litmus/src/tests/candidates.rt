@@ -1,0 +1,106 @@
+//! The readers of a candidate and of the initial memory, and the events of accesses.
+ghost use Rattle.wm_event.specs.Op.{KindFits};
+
+use std::process::Abort;
+use std::test::Fail;
+use wm_access::{AccessWidth, MemoryOrder, UpdateOperator};
+use wm_event::{Access, Candidate, EventId, EventKey, EventKind, Initial, Op, OpKind};
+use wm_logfile::read_document;
+
+/// A thread that writes 9 to bytes 1 and 2 and then updates byte 1, over three bytes.
+const UPDATE: &str =
+    r#"["wasm-litmus-log",1,[["a",[7],["done",[3]],4,[["w","un",1,2,9],["x","sc",1,1,9,6]]]],[[[[],[[0,0]]]],[[0,0],[0,1]]]]"#;
+
+const WRITE: EventKey = EventKey {
+    thread: 0,
+    number: 0,
+};
+
+const SECOND: EventKey = EventKey {
+    thread: 0,
+    number: 1,
+};
+
+fn candidate_of<'a, R: Abort + AllocGlobal>(rt: &R, initial: &'a Initial) -> Candidate<'a> {
+    match read_document(rt.alloc(), UPDATE.as_bytes()) {
+        Ok((log, witness)) => match Candidate::new(rt.alloc(), log, witness, initial) {
+            Ok(candidate) => candidate,
+            Err(fault) => panic!(rt; "{fault}"),
+        },
+        Err(fault) => panic!(rt; "{fault}"),
+    }
+}
+
+#[test]
+fn initial_bytes_are_those_given(rt: HostRuntime) -> Result<(), Fail> {
+    let initial = Initial::of(rt.alloc(), &[4, 5, 7])?;
+    assert_eq!(rt; initial.len(), 3);
+    assert_eq!(rt; initial.byte(2), Some(7));
+    assert_eq!(rt; initial.byte(3), None);
+    Ok(())
+}
+
+#[test]
+fn a_candidate_gives_its_events(rt: HostRuntime) -> Result<(), Fail> {
+    let initial = Initial::of(rt.alloc(), &[4, 5, 7])?;
+    let candidate = candidate_of(&rt, &initial);
+    let written = candidate
+        .event(EventId::At(SECOND))
+        .map(|event| event.written);
+    assert_eq!(rt; written, Some(6));
+    assert!(rt; candidate.event(EventId::Init).is_none());
+    Ok(())
+}
+
+#[test]
+fn a_candidate_gives_its_places(rt: HostRuntime) -> Result<(), Fail> {
+    let initial = Initial::of(rt.alloc(), &[4, 5, 7])?;
+    let candidate = candidate_of(&rt, &initial);
+    assert_eq!(rt; candidate.place(EventId::At(SECOND)), Some(1));
+    assert_eq!(rt; candidate.place(EventId::Init), None);
+    Ok(())
+}
+
+#[test]
+fn a_candidate_gives_writers_and_bytes(rt: HostRuntime) -> Result<(), Fail> {
+    let initial = Initial::of(rt.alloc(), &[4, 5, 7])?;
+    let candidate = candidate_of(&rt, &initial);
+    assert_eq!(rt; candidate.writers(SECOND), [EventId::At(WRITE)].as_slice());
+    assert_eq!(rt; candidate.byte_by(EventId::At(SECOND), 1), Some(6));
+    assert_eq!(rt; candidate.byte_by(EventId::Init, 2), Some(7));
+    Ok(())
+}
+
+#[test]
+fn a_candidate_gives_what_it_was_made_of(rt: HostRuntime) -> Result<(), Fail> {
+    let initial = Initial::of(rt.alloc(), &[4, 5, 7])?;
+    let candidate = candidate_of(&rt, &initial);
+    assert_eq!(rt; candidate.log().threads().len(), 1);
+    assert_eq!(rt; candidate.witness().order.len(), 2);
+    assert_eq!(rt; candidate.initial().len(), 3);
+    Ok(())
+}
+
+/// The kind of the event of an access of two bytes that reads `read`, and what it writes.
+fn event_of(kind: OpKind, read: u64) -> (EventKind, u64)
+    requires { KindFits kind MemoryOrder.SeqCst AccessWidth.Two }
+{
+    let op = Op::new(Access {
+        kind,
+        order: MemoryOrder::SeqCst,
+        address: 8,
+        width: AccessWidth::Two,
+    });
+    let event = op.event(SECOND, read);
+    (event.kind, event.written)
+}
+
+#[test]
+fn an_access_has_its_event(rt: HostRuntime) {
+    let add = OpKind::Update(UpdateOperator::Add, 0xfffe);
+    assert_eq!(rt; event_of(add, 5), (EventKind::Update, 3));
+    let exchange = OpKind::CompareExchange(5, 9);
+    assert_eq!(rt; event_of(exchange, 5), (EventKind::Update, 9));
+    assert_eq!(rt; event_of(exchange, 6), (EventKind::Read, 0));
+    assert_eq!(rt; event_of(OpKind::Write(7), 0), (EventKind::Write, 7));
+}

@@ -1,0 +1,161 @@
+//! Files, a reader and writers that stand in for those of the system.
+ghost use Rattle.std.specs.Prelude.{◌≡◌};
+
+use crate::{FileFault, Files, serve};
+use std::alloc::Global;
+use std::io;
+use std::io::{ErrorKind, Read, Write};
+use std::process::Abort;
+
+/// No read or write fails.
+pub(super) const NEVER: u64 = u64::MAX;
+
+/// Gives a text by pieces of so many bytes, and fails at one read.
+#[derive(Drop)]
+pub(super) struct Source<'a> {
+    left: &'a [u8],
+    pub piece: usize,
+    pub reads: u64,
+    fails_at: u64,
+}
+
+impl Read for Source<'_> {
+    fn read(&mut self, buf: &mut [u8]) -> io::Result<usize> {
+        let at = self.reads;
+        self.reads = at.saturating_add(1);
+        if at == self.fails_at {
+            return Err(io::Error::from(ErrorKind::Interrupted));
+        }
+        let count = self.piece.min(buf.len()).min(self.left.len());
+        buf[..count].copy_from_slice(&self.left[..count]);
+        self.left = &self.left[count..];
+        Ok(count)
+    }
+}
+
+/// Gives a space at each read, without end.
+#[derive(Drop)]
+pub(super) struct Endless {
+    pub reads: u64,
+}
+
+impl Read for Endless {
+    fn read(&mut self, buf: &mut [u8]) -> io::Result<usize> {
+        self.reads = self.reads.saturating_add(1);
+        let Some(first) = buf.first_mut() else {
+            return Ok(0);
+        };
+        *first = b' ';
+        Ok(1)
+    }
+}
+
+/// Keeps what is written, and fails at one write.
+#[derive(Drop)]
+pub(super) struct Paper {
+    pub bytes: Vec<u8>,
+    pub writes: u64,
+    fails_at: u64,
+}
+
+impl Write for Paper {
+    fn write(&mut self, buf: &[u8]) -> io::Result<usize> {
+        let at = self.writes;
+        self.writes = at.saturating_add(1);
+        if at == self.fails_at {
+            return Err(io::Error::from(ErrorKind::BrokenPipe));
+        }
+        self.bytes.extend_from_slice(buf)?;
+        Ok(buf.len())
+    }
+
+    fn flush(&mut self) -> io::Result<()> {
+        Ok(())
+    }
+}
+
+/// The files `module.wasm` and `log.json`, where the device fails at every other name, and at a file that isn't there;
+/// and the limit of the last read.
+#[derive(Drop)]
+pub(super) struct Shelf<'a> {
+    alloc: Global,
+    module: Option<&'a [u8]>,
+    document: Option<&'a [u8]>,
+    pub limit: usize,
+    failures: u64,
+}
+
+pub(super) fn shelf_of<'a>(
+    alloc: Global,
+    module: Option<&'a [u8]>,
+    document: Option<&'a [u8]>,
+) -> Shelf<'a>
+    ensures { result.failures ≡ 0 }
+{
+    Shelf {
+        alloc,
+        module,
+        document,
+        limit: 0,
+        failures: 0,
+    }
+}
+
+impl Files for Shelf<'_> {
+    ghost failures_of = { λ shelf. shelf.failures };
+
+    fn read(&mut self, name: &str, limit: usize) -> Result<Vec<u8>, FileFault> {
+        self.limit = limit;
+        let file = match name {
+            "module.wasm" => self.module,
+            "log.json" => self.document,
+            _ => None,
+        };
+        match file {
+            Some(bytes) => Ok(bytes[..limit.min(bytes.len())].to_vec(self.alloc)?),
+            None => {
+                self.failures += 1;
+                Err(FileFault::Device)
+            }
+        }
+    }
+
+    fn failures(&self) -> u64 {
+        self.failures
+    }
+}
+
+pub(super) fn source_of(text: &[u8], fails_at: u64) -> Source<'_> {
+    Source {
+        left: text,
+        piece: 1000,
+        reads: 0,
+        fails_at,
+    }
+}
+
+pub(super) fn blank_paper(alloc: Global, fails_at: u64) -> Paper {
+    Paper {
+        bytes: Vec::new(alloc),
+        writes: 0,
+        fails_at,
+    }
+}
+
+/// Runs the program over one file, `log.json`, and this input, and looks at its lines and its status.
+pub(super) fn says<R: Abort + AllocGlobal, I: Read>(
+    rt: &R,
+    words: &[&str],
+    input: &mut I,
+    line: &str,
+    error: &str,
+    status: u8,
+) {
+    let mut files = shelf_of(rt.alloc(), None, Some(b"["));
+    let mut out = blank_paper(rt.alloc(), NEVER);
+    let mut err = blank_paper(rt.alloc(), NEVER);
+    let got = serve(rt, words, &mut files, input, &mut out, &mut err);
+    assert_eq!(rt; out.bytes.as_slice(), line.as_bytes());
+    assert_eq!(rt; err.bytes.as_slice(), error.as_bytes());
+    assert_eq!(rt; got, status);
+}

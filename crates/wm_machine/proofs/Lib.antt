@@ -1,0 +1,9 @@
+pub mod Stacks
+pub mod Moves
+pub mod Todo
+pub mod Lift
+pub mod Calls
+pub mod Back
+pub mod Going
+pub mod Arguments
+pub mod Made

@@ -1,0 +1,119 @@
+-- The access that a step makes, seen from outside.
+use Rattle.std.proofs.Common.{◌≡◌, ℕ, zero, suc, ◌+◌, List, [], ◌∷◌, length, Option, Some, None, refl, ap, ◌∙◌, Bool, true, false}
+use Rattle.std.specs.Prelude.{if◌then◌else◌, nat_lt}
+use Rattle.wm_ast.specs.declared.module.Module.{Module}
+use Rattle.wm_ast.specs.declared.instr.Instr.{Instr}
+use Rattle.wm_ast.specs.declared.instr.Instr.TheVariants.{Block, Loop, If}
+use Rattle.wm_ast.specs.Blocks.{block_in}
+use Rattle.wm_machine.specs.declared.value.TypedValue.{TypedValue}
+use Rattle.wm_machine.specs.declared.activation.Activation.{Activation}
+use Rattle.wm_machine.specs.declared.action.Action.{Action}
+use Rattle.wm_machine.specs.declared.action.Action.TheVariants as action
+use Rattle.wm_machine.specs.Functions.{Callable, callable, todo}
+use Rattle.wm_machine.specs.Term.{Vars, Here, Reduced, Next, Ends, Leaves, Returns, Traps, Stuck}
+use Rattle.wm_machine.specs.Step.{reduce, act, step, access_of, out_of_label, out_of_call, out_of_thread, land, gives, carried, returned, ended, enter, begin, invoke}
+use Rattle.wm_machine.specs.Nest.{Place}
+use Rattle.wm_machine.specs.Action.{does, op_of}
+use Rattle.wm_machine.specs.Configuration.{left_of}
+use Rattle.wm_machine.specs.Inside.{out_of_labels, call_step, vars_of, made_of}
+use Rattle.wm_machine.proofs.Lift.{labels_lift, acts}
+use Rattle.wm_machine.proofs.Calls.{out_of_calls, calls_lift, running_in}
+
+made_gives : (vars : Vars) (operands : List TypedValue) (rest : List Instr) (o : Option (List TypedValue)) → made_of (gives vars operands rest o) ≡ None
+made_gives vars operands rest None = refl
+made_gives vars operands rest (Some v) = refl
+
+made_land : (vars : Vars) (operands values : List TypedValue) (instrs : List Instr) → made_of (land vars operands instrs values) ≡ None
+made_land vars operands values (Loop t n ∷ rest) = refl
+made_land vars operands values (Block t n ∷ rest) = made_gives vars operands rest (carried t values)
+made_land vars operands values (If t a b e ∷ rest) = made_gives vars operands rest (carried t values)
+made_land vars operands values _ = refl
+
+made_label : (vars : Vars) (operands : List TypedValue) (instrs : List Instr) (r : Reduced) → made_of (out_of_label vars operands instrs r) ≡ made_of r
+made_label vars operands instrs (Next made l t) = refl
+made_label vars operands instrs (Ends v) = refl
+made_label vars operands instrs (Leaves zero v) = made_land vars operands v instrs
+made_label vars operands instrs (Leaves (suc l) v) = refl
+made_label vars operands instrs (Returns v) = refl
+made_label vars operands instrs (Traps k) = refl
+made_label vars operands instrs Stuck = refl
+
+made_labels : (m : Module) (func : ℕ) (vars : Vars) (ps : List Place) (r : Reduced) → made_of (out_of_labels m func vars ps r) ≡ made_of r
+made_labels m func vars [] r = refl
+made_labels m func vars (p ∷ ps) r = made_labels m func vars ps (out_of_label vars p.operands (todo m func p.block p.at) r) ∙ made_label vars p.operands (todo m func p.block p.at) r
+
+made_call : (m : Module) (callee : ℕ) (vars : Vars) (operands : List TypedValue) (rest : List Instr) (r : Reduced) → made_of (out_of_call m callee vars operands rest r) ≡ made_of r
+made_call m callee vars operands rest (Next made l t) = refl
+made_call m callee vars operands rest (Ends v) = made_gives vars operands rest (returned m callee v)
+made_call m callee vars operands rest (Leaves zero v) = made_gives vars operands rest (returned m callee v)
+made_call m callee vars operands rest (Leaves (suc l) v) = refl
+made_call m callee vars operands rest (Returns v) = made_gives vars operands rest (returned m callee v)
+made_call m callee vars operands rest (Traps k) = refl
+made_call m callee vars operands rest Stuck = refl
+
+made_ended : (o : Option (List TypedValue)) → access_of (ended o) ≡ None
+made_ended None = refl
+made_ended (Some v) = refl
+
+made_thread : (m : Module) (func : ℕ) (r : Reduced) → access_of (out_of_thread m func r) ≡ made_of r
+made_thread m func (Next made l t) = refl
+made_thread m func (Ends v) = made_ended (returned m func v)
+made_thread m func (Leaves zero v) = made_ended (returned m func v)
+made_thread m func (Leaves (suc l) v) = refl
+made_thread m func (Returns v) = made_ended (returned m func v)
+made_thread m func (Traps k) = refl
+made_thread m func Stuck = refl
+
+made_calls : (m : Module) (globals : List TypedValue) (cs : List Activation) (func : ℕ) (r : Reduced) → access_of (out_of_calls m globals cs func r) ≡ made_of r
+made_calls m globals [] func r = made_thread m func r
+made_calls m globals (c ∷ cs) func r =
+    let vars = vars_of c globals in
+    let x = out_of_call m func vars c.levels.operands (todo m c.func c.levels.block c.levels.at) r in
+    made_calls m globals cs c.func (out_of_labels m c.func vars c.levels.outer x)
+    ∙ made_labels m c.func vars c.levels.outer x
+    ∙ made_call m func vars c.levels.operands (todo m c.func c.levels.block c.levels.at) r
+
+made_if : (b : Bool) (x y : Reduced) → made_of x ≡ None → made_of y ≡ None → made_of (if b then x else y) ≡ None
+made_if true x y p q = p
+made_if false x y p q = q
+
+made_invoke : (o : Option Callable) (depth callee : ℕ) (vars : Vars) (operands : List TypedValue) (rest : List Instr) → made_of (invoke o depth callee vars operands rest) ≡ None
+made_invoke None depth callee vars operands rest = refl
+made_invoke (Some f) depth callee vars operands rest =
+    made_if (nat_lt depth 256) (begin f callee vars operands rest) _ (made_if (nat_lt (length operands) (length f.params)) _ _ refl refl) refl
+
+made_enter : (o : Option (List Instr)) (vars : Vars) (operands : List TypedValue) (instrs : List Instr) → made_of (enter o vars operands instrs) ≡ None
+made_enter None vars operands instrs = refl
+made_enter (Some b) vars operands instrs = refl
+
+pub made_does : (m : Module) (depth read func : ℕ) (vars : Vars) (operands : List TypedValue) (instrs : List Instr) (action : Action) → made_of (does m depth read func vars operands instrs action) ≡ op_of action
+made_does m depth read func vars operands instrs action.Stuck = refl
+made_does m depth read func vars operands instrs (action.Trap k) = refl
+made_does m depth read func vars operands instrs (action.Replace n v) = refl
+made_does m depth read func vars operands instrs (action.SetLocal x v n) = refl
+made_does m depth read func vars operands instrs (action.SetGlobal x v) = refl
+made_does m depth read func vars operands instrs (action.Access op kind n) = refl
+made_does m depth read func vars operands instrs (action.Enter b n) = made_enter (block_in m.funcs func b) vars _ instrs
+made_does m depth read func vars operands instrs (action.Branch l n) = refl
+made_does m depth read func vars operands instrs action.Return = refl
+made_does m depth read func vars operands instrs (action.Call f) = made_invoke (callable m f) depth f vars operands _
+
+-- a thread's step makes the access of its innermost call
+pub made_step : (m : Module) (read : ℕ) (globals : List TypedValue) (cs : List Activation) (a : Activation) → access_of (step m read (running_in m globals cs a)) ≡ made_of (call_step m read (suc (length cs)) a globals)
+made_step m read globals cs a = ap access_of (calls_lift m read cs a.func (vars_of a globals) (left_of m a.func a.levels)) ∙ made_calls m globals cs a.func (call_step m read (suc (length cs)) a globals)
+
+pub made_at_end : (m : Module) (read depth : ℕ) (a : Activation) (globals : List TypedValue) → todo m a.func a.levels.block a.levels.at ≡ [] → made_of (call_step m read depth a globals) ≡ None
+made_at_end m read depth a globals h =
+    let vars = vars_of a globals in
+    let here = Here a.levels.operands (todo m a.func a.levels.block a.levels.at) in
+    ap made_of (labels_lift m read depth a.func vars a.levels.outer here)
+    ∙ made_labels m a.func vars a.levels.outer (reduce m read depth a.func vars here)
+    ∙ ap (λ (i : List Instr). made_of (reduce m read depth a.func vars (Here a.levels.operands i))) h
+
+pub made_acting : (m : Module) (read depth : ℕ) (a : Activation) (globals : List TypedValue) (i : Instr) (action : Action) → todo m a.func a.levels.block a.levels.at ≡ i ∷ todo m a.func a.levels.block (a.levels.at + 1) → ((d r f : ℕ) (rest : List Instr) → act m d r f (vars_of a globals) a.levels.operands i rest ≡ does m d r f (vars_of a globals) a.levels.operands (i ∷ rest) action) → made_of (call_step m read depth a globals) ≡ op_of action
+made_acting m read depth a globals i action h f =
+    let vars = vars_of a globals in
+    let instrs = todo m a.func a.levels.block a.levels.at in
+    ap made_of (acts m read depth a.func vars a.levels i action h f)
+    ∙ made_labels m a.func vars a.levels.outer (does m depth read a.func vars a.levels.operands instrs action)
+    ∙ made_does m depth read a.func vars a.levels.operands instrs action

@@ -1,0 +1,22 @@
+use Rattle.std.proofs.Common.{ap, ◌≡◌, suc, length, sym, ◌∙◌, reverse, None}
+use Rattle.wm_machine.specs.State.{as_need}
+use Rattle.wm_machine.proofs.Made.{made_step}
+use Rattle.wm_machine.proofs.thread.Thread.next.Goals as goal
+
+pub returns-in-Some-next_op : goal.returns-in-Some-next_op
+returns-in-Some-next_op c = λ read.
+    let s = c.self.inside in
+    let cs = reverse s.callers.items in
+    let e : s.end ≡ None = c.in-None.is in
+    let g = rw c.as_slice.ensures at (c.in-Some-next_op.ensures (suc (length cs)) read) in
+    let t = made_step s.program.now read s.globals cs s.running ∙ g in
+    rw (← c.self.view_is, e) (sym (ap as_need t))
+
+pub returns-in-None-next_op : goal.returns-in-None-next_op
+returns-in-None-next_op c = λ read.
+    let s = c.self.inside in
+    let cs = reverse s.callers.items in
+    let e : s.end ≡ None = c.in-None.is in
+    let g = rw c.as_slice.ensures at (c.in-None-next_op.ensures (suc (length cs)) read) in
+    let t = made_step s.program.now read s.globals cs s.running ∙ g in
+    rw (← c.self.view_is, e) (sym (ap as_need t))

@@ -1,0 +1,89 @@
+-- What a step does, once its operands were looked at.
+use Rattle.std.specs.Prelude.{ℕ, ◌<◌, List, ◌∷◌, ◌≡◌, Option, Some, None, slice_set, drop, length, ⊤}
+use Rattle.wm_ast.specs.declared.module.Module.{Module}
+use Rattle.wm_ast.specs.declared.instr.Instr.{Instr}
+use Rattle.wm_ast.specs.Blocks.{block_in}
+use Rattle.wm_event.specs.declared.op.Access.{Access as Op}
+use Rattle.wm_machine.specs.declared.value.TypedValue.{TypedValue}
+use Rattle.wm_machine.specs.declared.action.Action.{Action}
+use Rattle.wm_machine.specs.declared.action.Action.TheVariants as action
+use Rattle.wm_machine.specs.Functions.{callable}
+use Rattle.wm_machine.specs.Accesses.{loaded}
+use Rattle.wm_machine.specs.Term.{Vars, Here, Reduced, Next, Leaves, Returns, Traps, Stuck}
+use Rattle.wm_machine.specs.Step.{stays, after, enter, invoke, put_on, act}
+
+-- what the action makes of the innermost place
+abbrev pub does : Module → ℕ → ℕ → ℕ → Vars → List TypedValue → List Instr → Action → Reduced
+does m depth read func vars operands instrs action.Stuck = Stuck
+does m depth read func vars operands instrs (action.Trap kind) = Traps kind
+does m depth read func vars operands instrs (action.Replace popped pushed) =
+    stays vars (put_on pushed (drop popped operands)) (after instrs)
+does m depth read func vars operands instrs (action.SetLocal x v popped) =
+    stays (record vars { locals = slice_set vars.locals x v }) (drop popped operands) (after instrs)
+does m depth read func vars operands instrs (action.SetGlobal x v) =
+    stays (record vars { globals = slice_set vars.globals x v }) (drop 1 operands) (after instrs)
+does m depth read func vars operands instrs (action.Access op kind popped) =
+    Next (Some op) vars (Here (put_on (loaded kind read) (drop popped operands)) (after instrs))
+does m depth read func vars operands instrs (action.Enter block popped) =
+    enter (block_in m.funcs func block) vars (drop popped operands) instrs
+does m depth read func vars operands instrs (action.Branch label popped) = Leaves label (drop popped operands)
+does m depth read func vars operands instrs action.Return = Returns operands
+does m depth read func vars operands instrs (action.Call callee) =
+    invoke (callable m callee) depth callee vars operands (after instrs)
+
+-- how many operands an action takes
+abbrev pub popped_by : Action → ℕ
+popped_by action.Stuck = 0
+popped_by (action.Trap kind) = 0
+popped_by (action.Replace popped pushed) = popped
+popped_by (action.SetLocal x v popped) = popped
+popped_by (action.SetGlobal x v) = 1
+popped_by (action.Access op kind popped) = popped
+popped_by (action.Enter block popped) = popped
+popped_by (action.Branch label popped) = popped
+popped_by action.Return = 0
+popped_by (action.Call callee) = 0
+
+-- a local or global that is set is there
+abbrev pub SetsWithin : Action → List TypedValue → List TypedValue → Type 0
+SetsWithin action.Stuck locals globals = ⊤
+SetsWithin (action.Trap kind) locals globals = ⊤
+SetsWithin (action.Replace popped pushed) locals globals = ⊤
+SetsWithin (action.SetLocal x v popped) locals globals = x < length locals
+SetsWithin (action.SetGlobal x v) locals globals = x < length globals
+SetsWithin (action.Access op kind popped) locals globals = ⊤
+SetsWithin (action.Enter block popped) locals globals = ⊤
+SetsWithin (action.Branch label popped) locals globals = ⊤
+SetsWithin action.Return locals globals = ⊤
+SetsWithin (action.Call callee) locals globals = ⊤
+
+-- no local and no global is set
+abbrev pub SetsNothing : Action → Type 0
+SetsNothing action.Stuck = ⊤
+SetsNothing (action.Trap kind) = ⊤
+SetsNothing (action.Replace popped pushed) = ⊤
+SetsNothing (action.SetLocal x v popped) = ⊥
+SetsNothing (action.SetGlobal x v) = ⊥
+SetsNothing (action.Access op kind popped) = ⊤
+SetsNothing (action.Enter block popped) = ⊤
+SetsNothing (action.Branch label popped) = ⊤
+SetsNothing action.Return = ⊤
+SetsNothing (action.Call callee) = ⊤
+
+-- the access of an action
+abbrev pub op_of : Action → Option Op
+op_of (action.Access op kind popped) = Some op
+op_of action.Stuck = None
+op_of (action.Trap kind) = None
+op_of (action.Replace popped pushed) = None
+op_of (action.SetLocal x v popped) = None
+op_of (action.SetGlobal x v) = None
+op_of (action.Enter block popped) = None
+op_of (action.Branch label popped) = None
+op_of action.Return = None
+op_of (action.Call callee) = None
+
+-- the action does what the instruction does
+abbrev pub Acts : Module → Instr → Vars → List TypedValue → Action → Type 0
+Acts m i vars operands a = (depth : ℕ) (read : ℕ) (func : ℕ) (rest : List Instr) →
+    act m depth read func vars operands i rest ≡ does m depth read func vars operands (i ∷ rest) a

@@ -1,0 +1,41 @@
+-- What a call needs of its function, and how large the memory is.
+use Rattle.std.specs.Prelude.{ℕ, ◌*◌, List, [], drop, Option, Some, None, slice_get, option_and_then}
+use Rattle.wm_ast.specs.declared.module.Module.{Module}
+use Rattle.wm_ast.specs.declared.module.Func.{Func}
+use Rattle.wm_ast.specs.declared.types.FuncType.{FuncType}
+use Rattle.wm_ast.specs.declared.types.ValType.{ValType}
+use Rattle.wm_ast.specs.declared.instr.Instr.{Instr}
+use Rattle.wm_ast.specs.Blocks.{block_in}
+use Rattle.wm_valid.specs.Memory.{pages_of}
+
+-- the type of a function, by its index
+abbrev pub func_type : Module → ℕ → Option FuncType
+func_type m func = option_and_then (λ f. slice_get m.types f.type_index) (slice_get m.funcs func)
+
+-- the parameters and locals of a function, and its body
+pub record Callable : Type 0 where
+  pub params : List ValType
+  pub locals : List ValType
+  pub body : List Instr
+
+abbrev pub callable_of : Option Func → Option FuncType → Option (List Instr) → Option Callable
+callable_of None ty body = None
+callable_of (Some f) None body = None
+callable_of (Some f) (Some ty) None = None
+callable_of (Some f) (Some ty) (Some body) = Some record { params = ty.params; locals = f.locals; body = body }
+
+-- None where the function, its type or its body isn't there
+abbrev pub callable : Module → ℕ → Option Callable
+callable m func = callable_of (slice_get m.funcs func) (func_type m func) (block_in m.funcs func 0)
+
+-- the instructions from a place of a block on
+abbrev pub from_place : Option (List Instr) → ℕ → List Instr
+from_place None at = []
+from_place (Some block) at = drop at block
+
+abbrev pub todo : Module → ℕ → ℕ → ℕ → List Instr
+todo m func block at = from_place (block_in m.funcs func block) at
+
+-- how many bytes the memory has
+abbrev pub memory_size : Module → ℕ
+memory_size m = pages_of m.memory * 65536

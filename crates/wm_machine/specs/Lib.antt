@@ -1,0 +1,15 @@
+pub mod Values
+pub mod Functions
+pub mod Term
+pub mod Accesses
+pub mod Step
+pub mod Start
+pub mod Nest
+pub mod Levels
+pub mod Request
+pub mod Action
+pub mod Configuration
+pub mod Inside
+pub mod State
+pub mod Run
+pub mod Texts

@@ -1,0 +1,40 @@
+-- The blocks that a call is in, the innermost first. Operands are listed from the top.
+use Rattle.std.specs.Prelude.{ℕ, zero, suc, List, [], ◌∷◌, ◌++◌, take, Bool, true, false, Option, Some, None}
+use Rattle.wm_machine.specs.declared.value.TypedValue.{TypedValue}
+
+pub record Place : Type 0 where
+  pub operands : List TypedValue
+  pub block : ℕ
+  pub at : ℕ
+
+pub record Nest : Type 0 where
+  pub operands : List TypedValue
+  pub block : ℕ
+  pub at : ℕ
+  pub outer : List Place
+
+-- the block round, once operands of the inner one have joined its own
+abbrev pub joined : List TypedValue → List Place → Option Nest
+joined operands [] = None
+joined operands (p ∷ ps) =
+    Some record { operands = operands ++ p.operands; block = p.block; at = p.at; outer = ps }
+
+abbrev pub closed : Nest → Option Nest
+closed n = joined n.operands n.outer
+
+abbrev pub carried_top : Bool → List TypedValue → List TypedValue
+carried_top true operands = take 1 operands
+carried_top false operands = []
+
+abbrev pub given_up : Bool → Nest → Option Nest
+given_up carry n = joined (carried_top carry n.operands) n.outer
+
+-- the block round so many more, which takes over what is carried
+abbrev pub landed : ℕ → List TypedValue → List Place → Option Nest
+landed label values [] = None
+landed zero values (p ∷ ps) =
+    Some record { operands = values ++ p.operands; block = p.block; at = p.at; outer = ps }
+landed (suc label) values (p ∷ ps) = landed label values ps
+
+abbrev pub unwound : ℕ → Bool → Nest → Option Nest
+unwound label carry n = landed label (carried_top carry n.operands) n.outer

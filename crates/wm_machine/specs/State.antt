@@ -1,0 +1,69 @@
+-- What a thread is seen as.
+use Rattle.std.specs.Prelude.{ℕ, List, Bool, true, false, Option, Some, None, ⊤}
+use Rattle.wm_ast.specs.declared.module.Module.{Module}
+use Rattle.wm_event.specs.declared.log.End.{End}
+use Rattle.wm_event.specs.declared.op.Access.{Access}
+use Rattle.wm_event.specs.declared.op.Reply.{Reply}
+use Rattle.wm_event.specs.Op.{kind_finds, Fits}
+use Rattle.wm_access.specs.declared.AccessWidth.{AccessWidth}
+use Rattle.wm_machine.specs.declared.value.TypedValue.{TypedValue}
+use Rattle.wm_machine.specs.declared.activation.Activation.{Activation}
+use Rattle.wm_machine.specs.declared.thread.Need.{Need}
+use Rattle.wm_machine.specs.declared.thread.Need.TheVariants as need
+use Rattle.wm_machine.specs.Term.{Config, Over}
+use Rattle.wm_machine.specs.Step.{step, access_of}
+use Rattle.wm_machine.specs.Configuration.{left_of, under}
+use Rattle.wm_machine.specs.Inside.{vars_of}
+
+-- the calls of a thread, the innermost apart and its callers after it
+pub record State : Type 0 where
+  pub program : Module
+  pub ended : Option End
+  pub running : Activation
+  pub callers : List Activation
+  pub globals : List TypedValue
+
+abbrev pub config_from : Option End → State → Config
+config_from (Some end) s = Over end
+config_from None s =
+    under s.program s.callers s.running.func (vars_of s.running s.globals) (left_of s.program s.running.func s.running.levels)
+
+-- the configuration of a thread
+abbrev pub config_of : State → Config
+config_of s = config_from s.ended s
+
+-- what a thread needs for its next step
+abbrev pub as_need : Option Access → Need
+as_need None = need.Local
+as_need (Some op) = need.Access op
+
+abbrev pub need_in : Option End → ℕ → State → Need
+need_in (Some end) read s = need.Ended end
+need_in None read s = as_need (access_of (step s.program read (config_of s)))
+
+abbrev pub need_of : ℕ → State → Need
+need_of read s = need_in s.ended read s
+
+-- the value that a reply brings, or 0
+abbrev pub value_or_zero : Option ℕ → ℕ
+value_or_zero None = 0
+value_or_zero (Some value) = value
+
+abbrev pub read_in : Option Reply → ℕ
+read_in None = 0
+read_in (Some reply) = value_or_zero reply.read
+
+-- a read exactly where one is wanted, and it fits
+abbrev pub ReadAnswers : Bool → AccessWidth → Option ℕ → Type 0
+ReadAnswers true width None = ⊥
+ReadAnswers true width (Some v) = Fits width v
+ReadAnswers false width None = ⊤
+ReadAnswers false width (Some v) = ⊥
+
+-- a reply exactly where the next step is an access, with a read exactly where that reads
+abbrev pub Answers : Need → Option Reply → Type 0
+Answers need.Local None = ⊤
+Answers need.Local (Some reply) = ⊥
+Answers (need.Access op) None = ⊥
+Answers (need.Access op) (Some reply) = ReadAnswers (kind_finds op.kind) op.width reply.read
+Answers (need.Ended end) reply = ⊥

@@ -1,0 +1,26 @@
+//! A function that was called, and how far a step within it comes.
+
+use crate::levels::Levels;
+use crate::value::TypedValue;
+use wm_event::TrapKind;
+use wm_list::List;
+
+/// A function that was called, as far as it has come.
+#[derive(Drop)]
+pub struct Activation {
+    pub func: usize,
+    pub locals: List<TypedValue>,
+    pub levels: Levels,
+}
+
+/// How far a step within a call has come.
+#[derive(Clone, Copy)]
+pub enum Reached {
+    /// Still within the call.
+    Within,
+    Trapped(TrapKind),
+    /// It has left the call, and gives this back.
+    Left(Option<TypedValue>),
+    /// It stands before a call of this function.
+    Calling(u32),
+}

@@ -1,0 +1,168 @@
+//! What the memory instructions do (Core 1.0, section 4.4.4, and the threads proposal).
+ghost use Rattle.std.specs.Prelude.{◌≡◌, ◌≤◌, ◌<◌, ◌+◌, ◌^◌, IfSome, None, length, option_map};
+ghost use Rattle.wm_access.specs.AccessWidth.{bytes_of};
+ghost use Rattle.wm_num.specs.declared.operator.Width.TheVariants.{W32};
+ghost use Rattle.wm_num.specs.Conversion.{low_part};
+ghost use Rattle.wm_ast.specs.Access.{access_order, access_width, storage_width, storage_operand, whole};
+ghost use Rattle.wm_ast.specs.Types.{width_of};
+ghost use Rattle.wm_event.specs.Op.{KindFits, Fits};
+ghost use Rattle.wm_valid.specs.Memory.{pages_of};
+ghost use Rattle.wm_machine.specs.Values.{number_at};
+ghost use Rattle.wm_machine.specs.Functions.{memory_size};
+ghost use Rattle.wm_machine.specs.Accesses.{asked, on_address, on_value, loaded, extended, access_trap, is_unaligned};
+ghost use Rattle.wm_machine.specs.Request.{asked_by};
+ghost use Rattle.wm_machine.specs.Term.{Vars};
+ghost use Rattle.wm_machine.specs.Action.{Acts, popped_by, SetsNothing};
+
+use crate::action::Action;
+use crate::functions::pages;
+use crate::levels::Levels;
+use crate::numeric::number;
+use crate::value::TypedValue;
+use wm_ast::{AccessKind, AccessOperands, Instr, Module, Storage, ValType};
+use wm_event::{Access, Op, OpKind, TrapKind};
+use wm_num::{Signedness, Width, extend_bytes, low_bytes};
+
+/// What a memory instruction asks for, the i32 that its address is but for the offset, and how many operands it takes.
+#[derive(Clone, Copy)]
+struct Request {
+    kind: OpKind,
+    base: u64,
+    popped: usize,
+}
+
+/// A request whose address is the operand at `depth`, under the others.
+fn at_address(levels: &Levels, kind: OpKind, depth: usize) -> Option<Request>
+    requires { depth ≤ 2 }
+    ensures kind { IfSome result (λ r. r.kind ≡ kind) }
+    ensures popped { IfSome result (λ r. r.popped ≡ depth + 1) }
+    ensures base { option_map (λ r. r.base) result ≡ number_at W32 levels.now.operands depth }
+    ensures bound { IfSome result (λ r. r.base < 2 ^ 32) }
+    ensures room { IfSome result (λ r. r.popped ≤ length levels.now.operands) }
+{
+    let base = number(levels, depth, Width::W32)?;
+    Some(Request {
+        kind,
+        base,
+        popped: depth + 1,
+    })
+}
+
+/// The low bytes of the topmost operand.
+fn low_operand(levels: &Levels, storage: Storage) -> Option<u64>
+    ensures value { result ≡ option_map (low_part (storage_width storage)) (number_at (width_of (storage_operand storage)) levels.now.operands 0) }
+    ensures bound { IfSome result (Fits (storage_width storage)) }
+{
+    let operand = number(levels, 0, storage.operand().width())?;
+    Some(low_bytes(operand, storage.width()))
+}
+
+/// The request of a memory instruction, None where its operands aren't there.
+fn requested(levels: &Levels, kind: AccessKind) -> Option<Request>
+    ensures asked { option_map (asked_by levels.now.operands) result ≡ asked kind levels.now.operands }
+    ensures fits { IfSome result (λ r. KindFits r.kind (access_order kind) (access_width kind)) }
+    ensures bound { IfSome result (λ r. r.base < 2 ^ 32) }
+    ensures room { IfSome result (λ r. r.popped ≤ length levels.now.operands) }
+{
+    match kind {
+        AccessKind::Read(_) | AccessKind::ReadSigned(_) | AccessKind::AtomicRead(_) => {
+            at_address(levels, OpKind::Read, 0)
+        }
+        AccessKind::Write(storage) | AccessKind::AtomicWrite(storage) => {
+            let value = low_operand(levels, storage)?;
+            at_address(levels, OpKind::Write(value), 1)
+        }
+        AccessKind::Update(operator, storage) => {
+            let value = low_operand(levels, storage)?;
+            at_address(levels, OpKind::Update(operator, value), 1)
+        }
+        AccessKind::CompareExchange(ty) => {
+            let new = number(levels, 0, ty.width())?;
+            let expected = number(levels, 1, ty.width())?;
+            at_address(levels, OpKind::CompareExchange(expected, new), 2)
+        }
+    }
+}
+
+/// Why an access at an address traps, None where it doesn't.
+fn access_trap(module: &Module, kind: AccessKind, address: u64) -> Option<TrapKind>
+    requires { address < 2 ^ 33 }
+    ensures trap { result ≡ access_trap «module».now kind address }
+    ensures inside { result ≡ None → address + bytes_of (access_width kind) ≤ memory_size «module».now }
+{
+    let width = u64::from(kind.width().bytes());
+    if kind.order().is_atomic() && address % width != 0 {
+        return Some(TrapKind::Unaligned);
+    }
+    if u64::from(pages(module)) * 65_536 < address + width {
+        return Some(TrapKind::OutOfBounds);
+    }
+    None
+}
+
+/// The value read as an operand.
+fn extended(signedness: Signedness, storage: Storage, read: u64) -> TypedValue
+    ensures { result ≡ extended signedness storage read }
+{
+    let width = storage.operand().width();
+    TypedValue::of(
+        width,
+        extend_bytes(read, storage.width(), width, signedness),
+    )
+}
+
+/// What an access that reads this value leaves on the operands, None for a store.
+pub fn loaded(kind: AccessKind, read: u64) -> Option<TypedValue>
+    ensures { result ≡ loaded kind read }
+{
+    match kind {
+        AccessKind::Write(_) | AccessKind::AtomicWrite(_) => None,
+        AccessKind::Read(storage)
+        | AccessKind::AtomicRead(storage)
+        | AccessKind::Update(_, storage) => Some(extended(Signedness::Unsigned, storage, read)),
+        AccessKind::ReadSigned(narrow) => Some(extended(
+            Signedness::Signed,
+            narrow.storage(),
+            read,
+        )),
+        AccessKind::CompareExchange(ty) => Some(extended(Signedness::Unsigned, whole(ty), read)),
+    }
+}
+
+/// All bytes of a value.
+fn whole(ty: ValType) -> Storage
+    ensures { result ≡ whole ty }
+{
+    match ty {
+        ValType::I32 => Storage::I32,
+        ValType::I64 => Storage::I64,
+    }
+}
+
+/// A memory instruction. Its effective address is its operand plus the offset, not wrapped.
+pub fn access(
+    module: &Module,
+    levels: &Levels,
+    kind: AccessKind,
+    operands: AccessOperands,
+) -> Action
+    requires { pages_of «module».now.memory ≤ 65536 }
+    ensures means { (vars : Vars) → Acts «module».now (Instr.Access kind operands) vars levels.now.operands result }
+    ensures room { popped_by result ≤ length levels.now.operands }
+    ensures sets { SetsNothing result }
+{
+    let Some(request) = requested(levels, kind) else {
+        return Action::Stuck;
+    };
+    let address = request.base + u64::from(operands.offset);
+    if let Some(trap) = access_trap(module, kind, address) {
+        return Action::Trap(trap);
+    }
+    let op = Op::new(Access {
+        kind: request.kind,
+        order: kind.order(),
+        address: address as u32,
+        width: kind.width(),
+    });
+    Action::Access(op, kind, request.popped)
+}

@@ -1,0 +1,129 @@
+//! What the numeric instructions do (Core 1.0, section 4.4.1).
+ghost use Rattle.std.specs.Prelude.{◌≡◌, ◌≤◌, IfSome, length, ◌+◌};
+ghost use Rattle.wm_num.specs.Number.{IsOperand};
+ghost use Rattle.wm_num.specs.Conversion.{source_of, target_of};
+ghost use Rattle.wm_ast.specs.declared.module.Module.{Module};
+ghost use Rattle.wm_ast.specs.declared.instr.Instr.{Instr};
+ghost use Rattle.wm_machine.specs.Values.{number_at};
+ghost use Rattle.wm_machine.specs.Step.{trap_of, truth};
+ghost use Rattle.wm_machine.specs.Term.{Vars};
+ghost use Rattle.wm_machine.specs.Action.{Acts, popped_by, SetsNothing};
+
+use crate::action::Action;
+use crate::levels::Levels;
+use crate::value::TypedValue;
+use wm_ast::Instr;
+use wm_event::TrapKind;
+use wm_num::{
+    BinaryOperator, Comparison, Conversion, NumTrap, UnaryOperator, Width, binary, compare,
+    convert, unary,
+};
+
+/// The operand at `depth`, counted from the top, where it is a number of so many bits.
+pub fn number(levels: &Levels, depth: usize, width: Width) -> Option<u64>
+    ensures value { result ≡ number_at width levels.now.operands depth }
+    ensures operand { IfSome result (IsOperand width) }
+    ensures room { IfSome result (λ _. depth + 1 ≤ length levels.now.operands) }
+{
+    match levels.operand(depth) {
+        Some(value) => value.number(width),
+        None => None,
+    }
+}
+
+/// The trap of an operator that has no result.
+fn trap_of(trap: NumTrap) -> TrapKind
+    ensures { result ≡ trap_of trap }
+{
+    match trap {
+        NumTrap::DivideByZero => TrapKind::DivideByZero,
+        NumTrap::Overflow => TrapKind::Overflow,
+    }
+}
+
+/// What a test leaves on the operands.
+fn truth(holds: bool) -> TypedValue
+    ensures { result ≡ TypedValue.I32 (truth holds) }
+{
+    TypedValue::I32(u32::from(holds))
+}
+
+/// `eqz`: whether the operand is 0.
+pub fn eqz(levels: &Levels, width: Width) -> Action
+    ensures means { (m : Module) (vars : Vars) → Acts m (Instr.Eqz width) vars levels.now.operands result }
+    ensures room { popped_by result ≤ length levels.now.operands }
+    ensures sets { SetsNothing result }
+{
+    match number(levels, 0, width) {
+        Some(operand) => Action::Replace(
+            1,
+            Some(truth(compare(Comparison::Eq, width, operand, 0))),
+        ),
+        None => Action::Stuck,
+    }
+}
+
+/// A comparison of the two topmost operands, of which the right one is on top.
+pub fn comparison(levels: &Levels, op: Comparison, width: Width) -> Action
+    ensures means { (m : Module) (vars : Vars) → Acts m (Instr.Compare op width) vars levels.now.operands result }
+    ensures room { popped_by result ≤ length levels.now.operands }
+    ensures sets { SetsNothing result }
+{
+    match (number(levels, 1, width), number(levels, 0, width)) {
+        (Some(left), Some(right)) => Action::Replace(
+            2,
+            Some(truth(compare(op, width, left, right))),
+        ),
+        _ => Action::Stuck,
+    }
+}
+
+/// An operator on the topmost operand.
+pub fn counted(levels: &Levels, op: UnaryOperator, width: Width) -> Action
+    ensures means { (m : Module) (vars : Vars) → Acts m (Instr.Unary op width) vars levels.now.operands result }
+    ensures room { popped_by result ≤ length levels.now.operands }
+    ensures sets { SetsNothing result }
+{
+    match number(levels, 0, width) {
+        Some(operand) => Action::Replace(1, Some(TypedValue::of(width, unary(op, width, operand)))),
+        None => Action::Stuck,
+    }
+}
+
+/// An operator on the two topmost operands, of which the right one is on top.
+pub fn calculated(levels: &Levels, op: BinaryOperator, width: Width) -> Action
+    ensures means { (m : Module) (vars : Vars) → Acts m (Instr.Binary op width) vars levels.now.operands result }
+    ensures room { popped_by result ≤ length levels.now.operands }
+    ensures sets { SetsNothing result }
+{
+    match (number(levels, 1, width), number(levels, 0, width)) {
+        (Some(left), Some(right)) => match binary(op, width, left, right) {
+            Ok(value) => Action::Replace(2, Some(TypedValue::of(width, value))),
+            Err(trap) => Action::Trap(trap_of(trap)),
+        },
+        _ => Action::Stuck,
+    }
+}
+
+/// A conversion of the topmost operand.
+pub fn converted(levels: &Levels, op: Conversion) -> Action
+    ensures means { (m : Module) (vars : Vars) → Acts m (Instr.Convert op) vars levels.now.operands result }
+    ensures room { popped_by result ≤ length levels.now.operands }
+    ensures sets { SetsNothing result }
+{
+    let (source, target) = widths(op);
+    match number(levels, 0, source) {
+        Some(operand) => Action::Replace(1, Some(TypedValue::of(target, convert(op, operand)))),
+        None => Action::Stuck,
+    }
+}
+
+/// The width that a conversion takes, and the one that it gives.
+fn widths(op: Conversion) -> (Width, Width)
+    ensures { result ≡ (source_of op, target_of op) }
+{
+    match op {
+        Conversion::WrapI64 => (Width::W64, Width::W32),
+        Conversion::ExtendI32S | Conversion::ExtendI32U => (Width::W32, Width::W64),
+    }
+}

@@ -1,0 +1,212 @@
+//! A thread, step by step.
+ghost use Rattle.std.specs.Prelude.{◌≡◌, ◌≤◌, ◌⊎◌, ℕ, Some, None, Ok, Err, OnOk, OnErr, IfErr, IfOk};
+ghost use Rattle.wm_valid.specs.Memory.{pages_of};
+ghost use Rattle.wm_machine.specs.State.{config_of, need_of, read_in, Answers};
+ghost use Rattle.wm_machine.specs.Step.{step, went, result_of};
+ghost use Rattle.wm_machine.specs.Start.{started, started_in};
+ghost use Rattle.wm_machine.specs.Functions.{callable as callable_in};
+ghost use Rattle.wm_machine.specs.Inside.{as_list};
+
+use crate::activation::{Activation, Reached};
+use crate::call::{call, leave};
+use crate::fault::{AdvanceFault, StartFault};
+use crate::functions::callable;
+use crate::levels::Levels;
+use crate::perform::{go_on, next_op};
+use crate::start::{any_past, first_globals, first_locals, func_of};
+use crate::value::TypedValue;
+use std::alloc::Global;
+use std::marker::Model;
+use wm_ast::Module;
+use wm_event::{End, Op, Reply, TrapKind};
+use wm_list::List;
+use wm_valid::ValidModule;
+
+/// What a thread needs for its next step.
+#[derive(Clone, Copy, Debug, PartialEq, Eq)]
+pub enum Need {
+    /// Nothing: the step makes no access, or traps.
+    Local,
+    /// The reply to this access.
+    Access(Op),
+    /// There is no step: the thread has ended so.
+    Ended(End),
+}
+
+/// A thread of a module, which holds its calls and its own globals. Contracts see it as these, and as the module;
+/// `config_of` is its configuration in the semantics.
+#[derive(Drop)]
+pub struct Thread<'m> {
+    program: &'m Module,
+    end: Option<End>,
+    running: Activation,
+    callers: Vec<Activation>,
+    globals: List<TypedValue>,
+    alloc: Global,
+}
+
+impl<'m> Model for Thread<'m> {
+    ghost use Rattle.std.specs.Prelude.{reverse, ◌≤◌};
+    ghost use Rattle.wm_machine.specs.State.{State};
+
+    ghost Value = { State };
+
+    ghost use Rattle.wm_valid.specs.Memory.{pages_of};
+
+    ghost view = { λ t. record { program = t.program.now; ended = t.end; running = t.running; callers = reverse t.callers.items; globals = t.globals } };
+
+    ghost invariant = { λ t. pages_of t.program.now.memory ≤ 65536 };
+}
+
+impl<'m> Thread<'m> {
+    /// Calls a function of a module with these arguments.
+    fn begin(
+        alloc: Global,
+        program: &'m Module,
+        func: usize,
+        args: &[u64],
+    ) -> Result<Thread<'m>, StartFault>
+        requires { pages_of program.now.memory ≤ 65536 }
+        ensures ok { IfOk result (λ t. (started_in program.now func (callable_in program.now func) args.now ≡ Ok (config_of t)) × (t.program ≡ program.now)) }
+        ensures fault { IfErr result (λ f. (f ≡ StartFault.OutOfMemory) ⊎ (started_in program.now func (callable_in program.now func) args.now ≡ Err f)) }
+    {
+        let Some(types) = callable(program, func) else {
+            return Err(StartFault::NotFunction);
+        };
+        if args.len() != types.params.len() {
+            return Err(StartFault::ArgCount);
+        }
+        if any_past(types.params, args) {
+            return Err(StartFault::ArgRange);
+        }
+        let locals = first_locals(alloc, types.params, types.locals, args)?;
+        let globals = first_globals(alloc, program)?;
+        Ok(Thread {
+            program,
+            end: None,
+            running: Activation {
+                func,
+                locals,
+                levels: Levels::new(alloc, 0),
+            },
+            callers: Vec::new(alloc),
+            globals,
+            alloc,
+        })
+    }
+
+    /// A thread that starts with the exported function of this name and these arguments, in which an i32 is a number
+    /// below 2^32. Want of memory can come at any point.
+    ///
+    /// # Errors
+    ///
+    /// In this order: `NoExport` where nothing is exported under this name, `NotFunction` where no function is, `ArgCount`
+    /// where the function has another number of parameters, `ArgRange` where the argument of an i32 parameter is 2^32 or
+    /// more; `OutOfMemory` where memory was refused.
+    pub fn start(
+        alloc: Global,
+        module: &'m ValidModule,
+        name: &str,
+        args: &[u64],
+    ) -> Result<Thread<'m>, StartFault>
+        ensures ok { IfOk result (λ t. (started «module».now name.now args.now ≡ Ok (config_of t)) × (t.program ≡ «module».now)) }
+        ensures fault { IfErr result (λ f. (f ≡ StartFault.OutOfMemory) ⊎ (started «module».now name.now args.now ≡ Err f)) }
+    {
+        let program = module.module();
+        match program.export(name) {
+            None => Err(StartFault::NoExport),
+            Some(export) => match func_of(export) {
+                None => Err(StartFault::NotFunction),
+                Some(func) => Thread::begin(alloc, program, func as usize, args),
+            },
+        }
+    }
+
+    /// What the next step needs. It takes no memory. An access that will trap needs nothing.
+    pub fn next(&self) -> Need
+        ensures { (read : ℕ) → result ≡ need_of read self.now }
+    {
+        match self.end {
+            Some(end) => Need::Ended(end),
+            None => match next_op(self.program, &self.running, self.globals.as_slice()) {
+                Some(op) => Need::Access(op),
+                None => Need::Local,
+            },
+        }
+    }
+
+    /// Makes one step of a thread that hasn't ended, with the reply to its access exactly where `next` says `Access`. The
+    /// reply has a value read exactly where the access reads, and it fits the width. An `Err` changes nothing.
+    ///
+    /// # Errors
+    ///
+    /// `Stuck` where there is no step, `OutOfMemory` where memory was refused.
+    pub fn advance(&mut self, reply: Option<Reply>) -> Result<(), AdvanceFault>
+        requires { Answers (need_of 0 self.old) reply }
+        ensures ok { OnOk result (went (step self.old.program (read_in reply) (config_of self.old)) ≡ Some (config_of self.new)) }
+        ensures stuck { result ≡ Err AdvanceFault.Stuck → went (step self.old.program (read_in reply) (config_of self.old)) ≡ None }
+        ensures err { OnErr result (self.new ≡ self.old) }
+        ensures same { self.new.program ≡ self.old.program }
+    {
+        match go_on(
+            self.program,
+            &mut self.running,
+            &mut self.globals,
+            value_read(reply),
+        ) {
+            Err(fault) => Err(fault),
+            Ok(Reached::Within) => Ok(()),
+            Ok(Reached::Trapped(kind)) => {
+                self.end = Some(End::Trap(kind));
+                Ok(())
+            }
+            Ok(Reached::Left(value)) => match leave(&mut self.running, &mut self.callers, value) {
+                Err(_) => Err(AdvanceFault::OutOfMemory),
+                Ok(true) => Ok(()),
+                Ok(false) => {
+                    self.end = Some(End::Done(bits(value)));
+                    Ok(())
+                }
+            },
+            Ok(Reached::Calling(callee)) => {
+                match call(
+                    self.program,
+                    self.alloc,
+                    &mut self.running,
+                    &mut self.callers,
+                    callee as usize,
+                ) {
+                    Err(fault) => Err(fault),
+                    Ok(true) => Ok(()),
+                    Ok(false) => {
+                        self.end = Some(End::Trap(TrapKind::Exhausted));
+                        Ok(())
+                    }
+                }
+            }
+        }
+    }
+}
+
+/// The bits of a function's result.
+fn bits(value: Option<TypedValue>) -> Option<u64>
+    ensures { result ≡ result_of (as_list value) }
+{
+    match value {
+        None => None,
+        Some(value) => Some(value.bits()),
+    }
+}
+
+/// The value that a reply brings, or 0.
+fn value_read(reply: Option<Reply>) -> u64
+    ensures { result ≡ read_in reply }
+{
+    match reply {
+        None => 0,
+        Some(reply) => match reply.read {
+            None => 0,
+            Some(value) => value,
+        },
+    }
+}

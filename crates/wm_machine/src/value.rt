@@ -1,0 +1,71 @@
+//! Values with their types (Core 1.0, section 4.2.1).
+ghost use Rattle.std.specs.Prelude.{◌≡◌, IfSome};
+ghost use Rattle.wm_num.specs.Number.{IsOperand};
+
+use wm_ast::{ConstExpr, ValType};
+use wm_num::Width;
+
+/// A value: an i32 or an i64, as the unsigned number that its bits are.
+#[derive(Clone, Copy, Debug, PartialEq, Eq)]
+pub enum TypedValue {
+    I32(u32),
+    I64(u64),
+}
+
+impl TypedValue {
+    ghost use Rattle.wm_machine.specs.Values.{typed, bits_of, zero_of, constant_of};
+    ghost use Rattle.wm_machine.specs.Values.{number as number_of};
+
+    /// The value that is this number, of so many bits.
+    pub fn of(width: Width, number: u64) -> Self
+        requires { IsOperand width number }
+        ensures { result ≡ typed width number }
+    {
+        match width {
+            Width::W32 => TypedValue::I32(number as u32),
+            Width::W64 => TypedValue::I64(number),
+        }
+    }
+
+    /// The number, where the value has so many bits.
+    pub fn number(self, width: Width) -> Option<u64>
+        ensures value { result ≡ number_of width self }
+        ensures operand { IfSome result (IsOperand width) }
+    {
+        match (width, self) {
+            (Width::W32, TypedValue::I32(number)) => Some(u64::from(number)),
+            (Width::W64, TypedValue::I64(number)) => Some(number),
+            (Width::W32, TypedValue::I64(_)) | (Width::W64, TypedValue::I32(_)) => None,
+        }
+    }
+
+    /// The number, whatever the type.
+    pub fn bits(self) -> u64
+        ensures { result ≡ bits_of self }
+    {
+        match self {
+            TypedValue::I32(number) => u64::from(number),
+            TypedValue::I64(number) => number,
+        }
+    }
+
+    /// The value that a local begins with.
+    pub fn zero(ty: ValType) -> Self
+        ensures { result ≡ zero_of ty }
+    {
+        match ty {
+            ValType::I32 => TypedValue::I32(0),
+            ValType::I64 => TypedValue::I64(0),
+        }
+    }
+
+    /// The value of a constant.
+    pub fn constant(expression: ConstExpr) -> Self
+        ensures { result ≡ constant_of expression }
+    {
+        match expression {
+            ConstExpr::I32(number) => TypedValue::I32(number),
+            ConstExpr::I64(number) => TypedValue::I64(number),
+        }
+    }
+}

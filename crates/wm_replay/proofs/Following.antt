@@ -1,0 +1,90 @@
+-- A thread that follows its log, step by step.
+use Rattle.std.proofs.Common.{◌≡◌, ℕ, suc, ◌+◌, ◌*◌, ◌^◌, ◌<◌, ◌≤◌, Bool, true, false, cond, nat_lt, List, [], ◌∷◌, ◌++◌, length, take, drop, Option, Some, None, refl, sym, ap, subst, ◌∙◌, length-take-le, arith}
+use Rattle.std.specs.Prelude.{slice_get, ◌==◌}
+use Rattle.std.proofs.lemmas.Bool.{lt-ltb}
+use Rattle.std.proofs.lemmas.List.{append-nil, drop_more, take_more}
+use Rattle.std.proofs.lemmas.Option.{get_or_from_slice_get, none-some, same_Some, slice_get_within}
+use Rattle.wm_ast.specs.declared.module.Module.{Module}
+use Rattle.wm_event.specs.declared.event.Event.{Event}
+use Rattle.wm_event.specs.declared.event.EventKind.TheVariants as event
+use Rattle.wm_event.specs.declared.op.Access.{Access}
+use Rattle.wm_event.specs.declared.op.OpKind.{OpKind}
+use Rattle.wm_event.specs.declared.op.OpKind.TheVariants.{Read, Write, Update, CompareExchange}
+use Rattle.wm_event.specs.Event.{key_of, kind_reads, reads}
+use Rattle.wm_event.specs.Op.{Fits, event_made, kind_finds, made_kind, made_read}
+use Rattle.wm_access.specs.AccessWidth.{bytes_of}
+use Rattle.wm_machine.specs.Term.{Config, Step, Went, NoStep}
+use Rattle.wm_machine.specs.Step.{access_of, step, went}
+use Rattle.wm_machine.specs.Run.{Ran, Taken, and_run_on, ran_on, ran_with, run_on, steps, take_fitting, take_read, take_where}
+use Rattle.wm_replay.specs.Replay.{reads_of}
+
+-- how far a thread is that has made the first of these events, on the values that they read
+abbrev pub so_far : Config → List Event → ℕ → Ran
+so_far c es n = record { events = take n es; config = c; reads = reads_of (drop n es) }
+
+-- a step without an access
+local_step : (m : Module) (k : ℕ) (ran : Ran) (c : Config) → step m 0 ran.config ≡ Went None c → run_on m k ran ≡ Some record { events = ran.events; config = c; reads = ran.reads }
+local_step m k ran c e =
+    let taken : take_read (access_of (step m 0 ran.config)) ran.reads ≡ Some record { read = 0; others = ran.reads } = ap (λ s. take_read (access_of s) ran.reads) e in
+    ap (ran_with m k ran) taken ∙ ap (ran_on k ran record { read = 0; others = ran.reads }) e
+    ∙ ap (λ es. Some (record { events = es; config = c; reads = ran.reads })) (append-nil ran.events)
+
+pub local_on : (m : Module) (k : ℕ) (start old new : Config) (es : List Event) (j n : ℕ) → steps m k start (reads_of es) j ≡ Some (so_far old es n)
+    → step m 0 old ≡ Went None new → steps m k start (reads_of es) (suc j) ≡ Some (so_far new es n)
+local_on m k start old new es j n so e = ap (and_run_on m k) so ∙ local_step m k (so_far old es n) new e
+
+-- ---- an access
+
+-- an access reads exactly where its event does
+made_reads : (kind : OpKind) (r : ℕ) → kind_reads (made_kind kind r) ≡ kind_finds kind
+made_reads Read r = refl
+made_reads (Write v) r = refl
+made_reads (Update op v) r = refl
+made_reads (CompareExchange expected new) r = either (r == expected)
+  where
+    either : (b : Bool) → kind_reads (cond b event.Update event.Read) ≡ true
+    either true = refl
+    either false = refl
+
+-- where an access that reads nothing makes an event, that read 0
+no_read : (kind : OpKind) (r : ℕ) → kind_finds kind ≡ false → made_read kind r ≡ 0
+no_read Read r e = absurd (cc e)
+no_read (Write v) r e = refl
+no_read (Update op v) r e = absurd (cc e)
+no_read (CompareExchange expected new) r e = absurd (cc e)
+
+-- the value that an access reads is the next of those to come
+taken_so : (a : Access) (b : Bool) (e : Event) (rest : List ℕ) → Fits a.width e.read → (b ≡ false → e.read ≡ 0)
+    → take_where b a (cond b (e.read ∷ rest) rest) ≡ Some record { read = e.read; others = rest }
+taken_so a false e rest fits zero = ap (λ r. Some (record { read = r; others = rest })) (sym (zero refl))
+taken_so a true e rest fits zero = ap (λ b. cond b (Some record { read = e.read; others = rest }) None) (lt-ltb e.read (2 ^ (8 * bytes_of a.width)) fits)
+
+-- a step with the access that makes the event
+access_step : (m : Module) (k : ℕ) (ran : Ran) (a : Access) (e : Event) (c : Config) (rest : List ℕ) → event_made (key_of e) a e.read ≡ e → Fits a.width e.read
+    → access_of (step m 0 ran.config) ≡ Some a → step m e.read ran.config ≡ Went (Some a) c → e.thread ≡ k → e.number ≡ length ran.events
+    → ran.reads ≡ cond (reads e) (e.read ∷ rest) rest
+    → run_on m k ran ≡ Some record { events = ran.events ++ e ∷ []; config = c; reads = rest }
+access_step m k ran a e c rest made fits is goes thread number given =
+    let finds : reads e ≡ kind_finds a.kind = ap reads (sym made) ∙ made_reads a.kind e.read in
+    let zero : kind_finds a.kind ≡ false → e.read ≡ 0 = λ none. ap (λ (x : Event). x.read) (sym made) ∙ no_read a.kind e.read none in
+    let values : ran.reads ≡ cond (kind_finds a.kind) (e.read ∷ rest) rest = given ∙ ap (λ b. cond b (e.read ∷ rest) rest) finds in
+    let taken : take_read (access_of (step m 0 ran.config)) ran.reads ≡ Some record { read = e.read; others = rest } =
+    ap (λ o. take_read o ran.reads) is ∙ ap (take_where (kind_finds a.kind) a) values ∙ taken_so a (kind_finds a.kind) e rest fits zero in
+    let event : event_made record { thread = k; number = length ran.events } a e.read ≡ e =
+    ap (λ i. event_made record { thread = k; number = i } a e.read) (sym number) ∙ ap (λ i. event_made record { thread = i; number = e.number } a e.read) (sym thread) ∙ made in
+    ap (ran_with m k ran) taken ∙ ap (ran_on k ran record { read = e.read; others = rest }) goes
+    ∙ ap (λ x. Some (record { events = ran.events ++ x ∷ []; config = c; reads = rest })) event
+
+pub access_on : (m : Module) (k : ℕ) (start old new : Config) (es : List Event) (j n : ℕ) (a : Access) (e : Event)
+    → steps m k start (reads_of es) j ≡ Some (so_far old es n) → slice_get es n ≡ Some e
+    → event_made (key_of e) a e.read ≡ e → Fits a.width e.read → access_of (step m 0 old) ≡ Some a → step m e.read old ≡ Went (Some a) new
+    → e.thread ≡ k → e.number ≡ n → steps m k start (reads_of es) (suc j) ≡ Some (so_far new es (n + 1))
+access_on m k start old new es j n a e so there made fits is goes thread number =
+    let lt : n < length es = slice_get_within es n e there in
+    let here = get_or_from_slice_get es n e e there in
+    let count : length (take n es) ≡ n = length-take-le n es (omega (arith, lt)) in
+    let behind : drop n es ≡ e ∷ drop (n + 1) es = drop_more es n e lt ∙ ap (λ x. x ∷ drop (n + 1) es) here in
+    let front : take (n + 1) es ≡ take n es ++ e ∷ [] = take_more es n e lt ∙ ap (λ x. take n es ++ x ∷ []) here in
+    ap (and_run_on m k) so
+    ∙ access_step m k (so_far old es n) a e new (reads_of (drop (n + 1) es)) made fits is goes thread (number ∙ sym count) (ap reads_of behind)
+    ∙ ap (λ xs. Some (record { events = xs; config = new; reads = reads_of (drop (n + 1) es) })) (sym front)

@@ -1,0 +1,6 @@
+pub mod Runs
+pub mod Differing
+pub mod Following
+pub mod Needs
+pub mod Comparing
+pub mod Logs

@@ -1,0 +1,39 @@
+use Rattle.std.proofs.Common.{◌≡◌, inr, Some, Err, refl, ap, sym, subst, ◌∙◌}
+use Rattle.std.proofs.lemmas.Option.{none-some, slice_get_past}
+use Rattle.wm_machine.specs.State.{config_of}
+use Rattle.wm_machine.specs.Step.{step, went}
+use Rattle.wm_replay.proofs.Needs.{access_at, access_goes, access_of_need, other_at}
+use Rattle.wm_replay.proofs.compare.access_on.Goals as goal
+
+pub returns-then-made-stated-clause-steps : goal.returns-then-made-stated-clause-steps
+returns-then-made-stated-clause-steps c = record {
+  op = c.args.op.now;
+  asks = λ r. access_of_need c.args.thread.now r c.args.op.now (c.requires r);
+  not_made = λ e is. absurd (none-some e (sym (slice_get_past c.args.stated.now c.args.made c.if-made-stated.true) ∙ is));
+}
+
+pub returns-then-not-is_made-clause-steps : goal.returns-then-not-is_made-clause-steps
+returns-then-not-is_made-clause-steps c = record {
+  op = c.args.op.now;
+  asks = λ r. access_of_need c.args.thread.now r c.args.op.now (c.requires r);
+  not_made = other_at c.args.op.now c.args.stated.now c.args.made _ (c.if-not-is_made.ensures.not_made refl);
+}
+
+pub returns-in-Ok-clause-steps : goal.returns-in-Ok-clause-steps
+returns-in-Ok-clause-steps c =
+    let m = c.args.thread.now.program in
+    let old = config_of c.args.thread.now in
+    let new = config_of c.advance.new.self in
+    inr (
+      refl,
+      access_at m old new c.args.op.now c.args.stated.now c.args.made _ c.if-made-stated.false (c.if-not-is_made.ensures.made refl)
+          (λ r. access_of_need c.args.thread.now r c.args.op.now (c.requires r))
+          (subst (λ r. went (step m r old) ≡ Some new) c.reply_of.ensures.value c.in-Ok.ensures.ok),
+    )
+
+pub returns-in-Err-Stuck-clause-steps : goal.returns-in-Err-Stuck-clause-steps
+returns-in-Err-Stuck-clause-steps c =
+    let m = c.args.thread.now.program in
+    let old = config_of c.args.thread.now in
+    let stuck = c.in-Err-Stuck.ensures.stuck (ap Err c.in-Err-Stuck.field-0-is) in
+    absurd (access_goes (step m _ old) c.args.op.now (access_of_need c.args.thread.now _ c.args.op.now (c.requires _)) stuck)

@@ -1,0 +1,14 @@
+use Rattle.std.proofs.Common.{◌≡◌, ◌≤◌, Some, length}
+use Rattle.wm_machine.specs.Run.{steps}
+use Rattle.wm_machine.specs.State.{config_of}
+use Rattle.wm_replay.specs.Replay.{reads_of}
+use Rattle.wm_replay.proofs.Following.{so_far}
+use Rattle.wm_replay.proofs.compare.differing_place.Given as goal
+
+abbrev pub invariant-loop : goal.invariant-loop
+invariant-loop l = record {
+  within : l.made ≤ length l.stated.events;
+  program : l.thread.program ≡ l.initial.thread.program;
+  followed : steps l.thread.program l.number (config_of l.initial.thread) (reads_of l.stated.events) l.counter
+      ≡ Some (so_far (config_of l.thread) l.stated.events l.made);
+}

@@ -1,0 +1,30 @@
+-- From a body to its function, and from a function to its module.
+use Rattle.std.proofs.Common.{◌≡◌, ℕ, [], ◌∷◌, Some, Result, Ok, Err, sym, ap, subst, ◌∙◌, slice_get}
+use Rattle.wm_ast.specs.declared.module.Module.{Module}
+use Rattle.wm_ast.specs.declared.module.Func.{Func}
+use Rattle.wm_ast.specs.declared.types.FuncType.{FuncType}
+use Rattle.wm_valid.specs.Typing.{TypedBlock, TypedFunc, context}
+use Rattle.wm_valid.specs.Answers.{Decides, CountsBlock}
+use Rattle.wm_valid.specs.Blame.{JudgesBody, RefusesFunc, Breaks}
+use Rattle.wm_valid.specs.declared.fault.Refusal.{Refusal}
+use Rattle.wm_valid.specs.declared.fault.Refusal.TheVariants as refusal
+use Rattle.wm_valid.specs.declared.fault.Place.TheVariants as place
+use Rattle.wm_valid.specs.declared.fault.ValidFault.{ValidFault}
+use Rattle.wm_valid.specs.declared.fault.ValidFault.TheVariants.{At, OutOfMemory}
+use Rattle.wm_valid.proofs.StackLaws.{some_is}
+
+pub judged_body : {X : Type 0} (r : Result X Refusal) (m : Module) (f : Func) (ty : FuncType) (n : ℕ) → slice_get m.types f.type_index ≡ Some ty → Decides r (TypedBlock (context m f ty) 0 (ty.result ∷ []) ty.result)
+    → CountsBlock r (context m f ty) (ty.result ∷ []) 0 0 n → JudgesBody r m f n
+judged_body (Ok x) m f ty n there h counted = record { type = ty; is_type = there; body = h }
+judged_body (Err refusal.OutOfMemory) m f ty n there h counted = tt
+judged_body (Err (refusal.Breaks kind)) m f ty n there h counted = record {
+  untyped = λ (t : TypedFunc m f).
+      let same-is : t.type ≡ ty = some_is t.type ty (sym t.is_type ∙ there) in
+      h (subst (λ (u : FuncType). TypedBlock (context m f u) 0 (u.result ∷ []) u.result) same-is t.body);
+  place = λ other. let r = counted other in record { type = ty; is_type = there; body = r.0; is_body = r.1; broken = r.2 };
+}
+
+pub func_breaks : (e : ValidFault) (m : Module) (f : Func) (number : ℕ) → slice_get m.funcs number ≡ Some f → RefusesFunc m f number e → Breaks m e
+func_breaks OutOfMemory m f number there h = tt
+func_breaks (At kind place.Module) m f number there h = absurd h
+func_breaks (At kind (place.Instr func n)) m f number there h = (f, ap (λ (k : ℕ). slice_get m.funcs k) h.0 ∙ there, h.1)

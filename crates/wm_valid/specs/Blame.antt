@@ -1,0 +1,111 @@
+-- What a refusal says of the module.
+use Rattle.std.specs.Prelude.{ℕ, ◌≡◌, ◌≢◌, ◌+◌, ◌*◌, ◌<◌, ◌⊎◌, List, [], ◌∷◌, Some, None, Result, Ok, Err, length, slice_get, All}
+use Rattle.wm_ast.specs.declared.types.FuncType.{FuncType}
+use Rattle.wm_ast.specs.declared.types.ValType.TheVariants as value
+use Rattle.wm_ast.specs.declared.instr.Instr.{Instr}
+use Rattle.wm_ast.specs.declared.module.Module.{Module}
+use Rattle.wm_ast.specs.declared.module.Func.{Func}
+use Rattle.wm_ast.specs.declared.module.DataSegment.{DataSegment}
+use Rattle.wm_valid.specs.Typing.{TypedFunc, context}
+use Rattle.wm_valid.specs.Memory.{pages_of, start}
+use Rattle.wm_valid.specs.Valid.{GoodLimits, GoodGlobal, GoodExport, GoodData, HasMemory, IsConstant}
+use Rattle.wm_valid.specs.Places.{BrokenAt}
+use Rattle.wm_valid.specs.declared.fault.FaultKind.{FaultKind}
+use Rattle.wm_valid.specs.declared.fault.FaultKind.TheVariants.{BadType, Index, Label, Alignment, DataOutOfRange, MemoryAbsent, MemoryLimits}
+use Rattle.wm_valid.specs.declared.fault.Place.{Place}
+use Rattle.wm_valid.specs.declared.fault.Place.TheVariants as place
+use Rattle.wm_valid.specs.declared.fault.ValidFault.{ValidFault}
+use Rattle.wm_valid.specs.declared.fault.ValidFault.TheVariants.{At, OutOfMemory}
+use Rattle.wm_valid.specs.declared.fault.Refusal.{Refusal}
+use Rattle.wm_valid.specs.declared.fault.Refusal.TheVariants as refusal
+
+-- one of these items is so
+abbrev pub SomeOf : {X : Type 0} → List X → (X → Type 0) → Type 0
+SomeOf {X} xs P = (k : ℕ) × (x : X) × (slice_get xs k ≡ Some x) × P x
+
+-- item k, if there is one, is so
+abbrev pub IsGoodAt : {X : Type 0} → (X → Type 0) → List X → ℕ → Type 0
+IsGoodAt {X} P xs k = (x : X) → slice_get xs k ≡ Some x → P x
+
+-- the function's type isn't there
+abbrev pub HasNoType : Module → Func → Type 0
+HasNoType m f = slice_get m.types f.type_index ≡ None
+
+abbrev pub HasType : Module → Func → Type 0
+HasType m f = (type : FuncType) × (slice_get m.types f.type_index ≡ Some type)
+
+-- all is as it should be but the functions' instructions
+pub record GoodSections (m : Module) : Type 0 where
+  pub limits : GoodLimits m.memory
+  pub types : All (HasType m) m.funcs
+  pub globals : All GoodGlobal m.globals
+  pub exports : All (GoodExport m) m.exports
+  pub segments : All (GoodData m) m.data
+
+-- instruction n of the function breaks this rule
+pub record BreaksIn (m : Module) (f : Func) (kind : FaultKind) (n : ℕ) : Type 0 where
+  pub type : FuncType
+  pub is_type : slice_get m.types f.type_index ≡ Some type
+  pub body : List Instr
+  pub is_body : slice_get f.blocks 0 ≡ Some body
+  pub broken : BrokenAt (context m f type) (type.result ∷ []) body kind 0 n
+
+-- the data segment, at an i32, ends past the memory as it is at first
+pub record IsOutOfRange (m : Module) (d : DataSegment) : Type 0 where
+  pub memory : HasMemory m.memory
+  pub offset : IsConstant value.I32 d.offset
+  pub past : pages_of m.memory * 65536 < start d.offset + length d.bytes
+
+-- the module breaks this rule outside its functions' instructions
+abbrev pub BreaksModule : Module → FaultKind → Type 0
+BreaksModule m BadType = SomeOf m.globals (λ g. GoodGlobal g → ⊥) ⊎ SomeOf m.data (λ d. IsConstant value.I32 d.offset → ⊥)
+BreaksModule m Index = SomeOf m.funcs (HasNoType m) ⊎ SomeOf m.exports (λ e. GoodExport m e → ⊥)
+BreaksModule m Label = ⊥
+BreaksModule m Alignment = ⊥
+BreaksModule m DataOutOfRange = SomeOf m.data (IsOutOfRange m)
+BreaksModule m MemoryAbsent = (m.memory ≡ None) × SomeOf m.data (λ d. Unit {0})
+BreaksModule m MemoryLimits = GoodLimits m.memory → ⊥
+
+-- a data segment breaks this rule
+abbrev pub BreaksData : Module → DataSegment → FaultKind → Type 0
+BreaksData m d BadType = IsConstant value.I32 d.offset → ⊥
+BreaksData m d DataOutOfRange = IsOutOfRange m d
+BreaksData m d MemoryAbsent = m.memory ≡ None
+BreaksData m d _ = ⊥
+
+-- the function isn't typed, and where the rule isn't that of types, its instruction n breaks it
+pub record BreaksFunc (m : Module) (f : Func) (kind : FaultKind) (n : ℕ) : Type 0 where
+  pub untyped : TypedFunc m f → ⊥
+  pub place : kind ≢ BadType → BreaksIn m f kind n
+
+-- the module breaks the rule at the place
+abbrev pub BreaksAt : Module → FaultKind → Place → Type 0
+BreaksAt m kind place.Module = BreaksModule m kind
+BreaksAt m kind (place.Instr func n) = (f : Func) × (slice_get m.funcs func ≡ Some f) × BreaksFunc m f kind n
+
+-- memory was refused, or the fault is right
+abbrev pub Breaks : Module → ValidFault → Type 0
+Breaks m OutOfMemory = Unit {0}
+Breaks m (At kind place) = BreaksAt m kind place
+
+-- the fault of a function at its instruction n
+abbrev pub placed : Refusal → ℕ → ℕ → ValidFault
+placed refusal.OutOfMemory func n = OutOfMemory
+placed (refusal.Breaks kind) func n = At kind (place.Instr func n)
+
+-- memory was refused, or the function, of which there are so many before, breaks the rule at the place
+abbrev pub RefusesFunc : Module → Func → ℕ → ValidFault → Type 0
+RefusesFunc m f number OutOfMemory = Unit {0}
+RefusesFunc m f number (At kind place.Module) = ⊥
+RefusesFunc m f number (At kind (place.Instr func n)) = (func ≡ number) × BreaksFunc m f kind n
+
+-- the function is typed, or the fault is right of it
+abbrev pub JudgesFunc : {X : Type 0} → Result X ValidFault → Module → Func → ℕ → Type 0
+JudgesFunc (Ok x) m f number = TypedFunc m f
+JudgesFunc (Err e) m f number = RefusesFunc m f number e
+
+-- the same, seen before the place is known
+abbrev pub JudgesBody : {X : Type 0} → Result X Refusal → Module → Func → ℕ → Type 0
+JudgesBody (Ok x) m f n = TypedFunc m f
+JudgesBody (Err refusal.OutOfMemory) m f n = Unit {0}
+JudgesBody (Err (refusal.Breaks kind)) m f n = BreaksFunc m f kind n

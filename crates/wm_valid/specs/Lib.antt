@@ -1,0 +1,9 @@
+pub mod InstrTypes
+pub mod Typing
+pub mod Stacks
+pub mod Places
+pub mod Answers
+pub mod Memory
+pub mod Valid
+pub mod Blame
+pub mod Texts

@@ -1,0 +1,95 @@
+//! Why a module is refused.
+ghost use Rattle.std.specs.Prelude.{◌≡◌};
+ghost use Rattle.wm_valid.specs.declared.fault.ValidFault.TheVariants.{OutOfMemory as no_room};
+ghost use Rattle.wm_valid.specs.declared.fault.Refusal.TheVariants.{OutOfMemory as refused};
+
+use std::alloc::{AllocError, AllocFailed};
+use thiserror::Error;
+
+/// Which rule a module breaks.
+#[derive(Clone, Copy, Debug, PartialEq, Eq)]
+pub enum FaultKind {
+    /// Operands, labels, a global or a data segment's offset aren't of the types that are wanted there, or a
+    /// constant global is set (Core 1.0, section 3.3).
+    BadType,
+    /// A type, function, local, global or memory of this index isn't there.
+    Index,
+    /// There are fewer blocks around the instruction than its label says.
+    Label,
+    /// A plain access is said to be more aligned than it is wide, or an atomic one to be less or more.
+    Alignment,
+    /// A data segment doesn't lie in the memory as it is at first.
+    DataOutOfRange,
+    /// An instruction or a data segment needs a memory, and there is none.
+    MemoryAbsent,
+    /// A memory's maximum is below its minimum, or above 65,536 pages.
+    MemoryLimits,
+}
+
+/// Where a rule is broken.
+#[derive(Clone, Copy, Debug, PartialEq, Eq)]
+pub enum Place {
+    /// Outside the functions' instructions.
+    Module,
+    /// At an instruction of a function. Functions count from 0, and so do the instructions of each in the order of
+    /// their opcodes, each `else` and `end` counted; a number past the greatest usize is given as that.
+    Instr { func: usize, instr: usize },
+}
+
+/// Why a module is refused. It prints as `Label in function 0 instruction 2`, as `Index in module`, or as
+/// `OutOfMemory`.
+#[derive(Clone, Copy, Debug, PartialEq, Eq, Error)]
+pub enum ValidFault {
+    /// The module breaks this rule at this place.
+    At(FaultKind, Place),
+    /// Memory was refused.
+    OutOfMemory,
+}
+
+impl From<AllocError> for ValidFault {
+    ghost from_gives = { λ _ e. e ≡ no_room };
+
+    fn from(_refused: AllocError) -> ValidFault {
+        ValidFault::OutOfMemory
+    }
+}
+
+/// Why a function is refused, its place apart.
+#[derive(Clone, Copy, Debug, PartialEq, Eq)]
+pub(crate) enum Refusal {
+    /// It breaks this rule.
+    Breaks(FaultKind),
+    /// Memory was refused.
+    OutOfMemory,
+}
+
+impl Refusal {
+    ghost use Rattle.wm_valid.specs.declared.fault.ValidFault.{ValidFault};
+    ghost use Rattle.wm_valid.specs.Blame.{placed};
+
+    /// The fault at an instruction.
+    pub(crate) fn at(self, func: usize, instr: usize) -> ValidFault
+        ensures { result ≡ placed self func instr }
+    {
+        match self {
+            Refusal::Breaks(kind) => ValidFault::At(kind, Place::Instr { func, instr }),
+            Refusal::OutOfMemory => ValidFault::OutOfMemory,
+        }
+    }
+}
+
+impl From<AllocError> for Refusal {
+    ghost from_gives = { λ _ e. e ≡ refused };
+
+    fn from(_refused: AllocError) -> Refusal {
+        Refusal::OutOfMemory
+    }
+}
+
+impl<T: Drop> From<AllocFailed<T>> for Refusal {
+    ghost from_gives = { λ _ e. e ≡ refused };
+
+    fn from(_refused: AllocFailed<T>) -> Refusal {
+        Refusal::OutOfMemory
+    }
+}

@@ -1,0 +1,45 @@
+//! The bytes that a memory begins with: zeros, over which the data segments are laid in order
+//! (Core 1.0, section 4.5.4).
+ghost use Rattle.std.specs.Prelude.{◌≡◌, ◌<◌, ℕ, IfOk, length, slice_index, All};
+ghost use Rattle.wm_valid.specs.Memory.{Within, over, covered, start};
+
+use std::alloc::{AllocError, Global};
+use wm_ast::{ConstExpr, DataSegment};
+use wm_event::Initial;
+
+/// So many bytes, with the segments laid over them.
+pub(crate) fn image(
+    alloc: Global,
+    size: usize,
+    segments: &[DataSegment],
+) -> Result<Initial, AllocError>
+    requires { All (Within size) segments.now }
+    ensures size { IfOk result (λ bytes. length bytes ≡ size) }
+    ensures bytes { IfOk result (λ bytes. (k : ℕ) → k < size → slice_index bytes k ≡ covered segments.now 0 k) }
+{
+    let mut bytes = vec![in alloc; 0u8; size]?;
+    for segment in segments {
+        lay(bytes.as_mut_slice(), segment);
+    }
+    Initial::of(alloc, bytes.as_slice())
+}
+
+/// The address of a segment's first byte.
+fn start_of(offset: ConstExpr) -> usize
+    ensures { result ≡ start offset }
+{
+    match offset {
+        ConstExpr::I32(n) => n as usize,
+        ConstExpr::I64(n) => n as usize,
+    }
+}
+
+/// Lays a segment over the bytes.
+fn lay(bytes: &mut [u8], segment: &DataSegment)
+    requires { Within (length bytes.old) segment.now }
+    ensures { (k : ℕ) → k < length bytes.new → slice_index bytes.new k ≡ over segment.now (slice_index bytes.old k) k }
+{
+    let first = start_of(segment.offset);
+    let end = first + segment.bytes.len();
+    bytes[first..end].copy_from_slice(segment.bytes.as_slice());
+}

@@ -1,0 +1,89 @@
+//! The labels around an instruction.
+
+ghost use Rattle.std.specs.Prelude.{◌≡◌, IfErr, ◌∷◌, [], OnOk, slice_get, List, Option};
+ghost use Rattle.wm_valid.specs.Answers.{Answers, TableFault, IsLabelFault};
+ghost use Rattle.wm_valid.specs.InstrTypes.{all_same, table_type, same};
+
+use crate::fault::{FaultKind, Refusal};
+use std::alloc::{AllocFailed, Global};
+use std::marker::Model;
+use wm_ast::{BlockType, ValType};
+
+/// The types of labels, the innermost last.
+#[derive(Drop)]
+pub(crate) struct Labels {
+    types: Vec<BlockType>,
+}
+
+impl Model for Labels {
+    ghost use Rattle.std.specs.Prelude.{reverse, List, Option};
+    ghost use Rattle.wm_ast.specs.declared.types.ValType.{ValType};
+
+    ghost Value = { List (Option ValType) };
+
+    ghost view = { λ s. reverse s.types.items };
+}
+
+impl Labels {
+    /// No label.
+    pub(crate) fn new(alloc: Global) -> Labels
+        ensures { result ≡ [] }
+    {
+        Labels {
+            types: Vec::new(alloc),
+        }
+    }
+
+    /// Goes in. An `Err` changes nothing.
+    pub(crate) fn push(&mut self, label: BlockType) -> Result<(), AllocFailed<BlockType>>
+        ensures { OnOk result (self.new ≡ label ∷ self.old) }
+    {
+        self.types.push(label)
+    }
+
+    /// Goes out.
+    pub(crate) fn pop(&mut self)
+        ensures { (t : Option ValType) (ts : List (Option ValType)) → self.old ≡ t ∷ ts → self.new ≡ ts }
+    {
+        let _ = self.types.pop();
+    }
+
+    /// The type of a label, from the innermost on.
+    pub(crate) fn get(&self, label: u32) -> Result<BlockType, Refusal>
+        ensures found { Answers (λ t. t) result (slice_get self.now label) }
+        ensures kind { IfErr result IsLabelFault }
+    {
+        let label = label as usize;
+        if label < self.types.len() {
+            Ok(self.types[self.types.len() - 1 - label])
+        } else {
+            Err(Refusal::Breaks(FaultKind::Label))
+        }
+    }
+
+    /// The type of all these labels.
+    pub(crate) fn table(&self, labels: &[u32], last: u32) -> Result<BlockType, Refusal>
+        ensures found { Answers (λ t. t) result (table_type self.now labels.now last) }
+        ensures kind { IfErr result (λ e. TableFault self.now labels.now last e) }
+    {
+        let found = self.get(last)?;
+        for label in labels {
+            let other = self.get(*label)?;
+            if !is_same(other, found) {
+                return Err(Refusal::Breaks(FaultKind::BadType));
+            }
+        }
+        Ok(found)
+    }
+}
+
+fn is_same(one: BlockType, other: BlockType) -> bool
+    ensures { result ≡ same one other }
+{
+    match (one, other) {
+        (None, None) => true,
+        (Some(ValType::I32), Some(ValType::I32)) => true,
+        (Some(ValType::I64), Some(ValType::I64)) => true,
+        _ => false,
+    }
+}

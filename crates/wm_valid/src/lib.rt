@@ -1,0 +1,19 @@
+//! Which modules are valid (Core 1.0, chapter 3, and the threads proposal), and the bytes that their memory
+//! begins with.
+#![tactic(auto)]
+
+mod body;
+mod checker;
+mod fault;
+mod image;
+mod labels;
+mod sections;
+mod stack;
+mod text;
+mod valid;
+
+pub use fault::{FaultKind, Place, ValidFault};
+pub use valid::{ValidModule, validate};
+
+#[cfg(test)]
+mod tests;

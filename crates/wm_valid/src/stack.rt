@@ -1,0 +1,232 @@
+//! The operands of a block while it is checked. Behind an instruction that leaves the block, operands of any
+//! type stand below those that are known.
+ghost use Rattle.std.specs.Prelude.{◌≡◌, [], ◌∷◌, IfErr, Some, OnOk, MatchOption, None, reverse, is_some};
+ghost use Rattle.wm_valid.specs.Stacks.{pop, push, empty, opened, take_one, take_all, give_all, select_on, made_by, ended, joined};
+ghost use Rattle.wm_valid.specs.InstrTypes.{listed, turns, drops, leaves};
+ghost use Rattle.wm_valid.specs.Answers.{Turns, IsUntyped};
+ghost use Rattle.wm_ast.specs.declared.types.ValType.TheVariants.{I32};
+
+use crate::fault::{FaultKind, Refusal};
+use std::alloc::{AllocFailed, Global};
+use std::marker::Model;
+use wm_ast::{BlockType, ValType};
+
+/// The type of an operand, or None where any type may stand.
+pub(crate) type Operand = Option<ValType>;
+
+/// The operands of a block, the last on top.
+#[derive(Drop)]
+pub(crate) struct Stack {
+    known: Vec<Operand>,
+    /// Whether any operands may stand below those.
+    anything: bool,
+}
+
+impl Model for Stack {
+    ghost use Rattle.std.specs.Prelude.{reverse};
+    ghost use Rattle.wm_valid.specs.Stacks.{Stack as Seen};
+
+    ghost Value = { Seen };
+
+    ghost view = { λ s. record { known = reverse s.known.items; open_below = s.anything } };
+}
+
+impl Stack {
+    /// No operand.
+    pub(crate) fn new(alloc: Global) -> Stack
+        ensures { result ≡ empty }
+    {
+        Stack {
+            known: Vec::new(alloc),
+            anything: false,
+        }
+    }
+
+    /// Any operands.
+    pub(crate) fn clear(&mut self)
+        ensures { self.new ≡ opened }
+    {
+        self.known.clear();
+        self.anything = true;
+    }
+
+    /// Puts an operand on top. An `Err` changes nothing.
+    pub(crate) fn push(&mut self, operand: Operand) -> Result<(), AllocFailed<Operand>>
+        ensures ok { OnOk result (self.new ≡ push operand self.old) }
+    {
+        self.known.push(operand)
+    }
+
+    /// Takes the operand on top.
+    pub(crate) fn pop(&mut self) -> Option<Operand>
+        ensures { MatchOption result (pop self.old ≡ None) (λ o. pop self.old ≡ Some (record { operand = o; under = self.new })) }
+    {
+        match self.known.pop() {
+            Some(operand) => Some(operand),
+            None if self.anything => Some(None),
+            None => None,
+        }
+    }
+
+    /// Puts a result on top, if there is one.
+    pub(crate) fn give(&mut self, result_type: BlockType) -> Result<(), Refusal>
+        ensures turns { Turns result (Some (give_all (listed result_type) self.old)) self.new }
+        ensures kind { IfErr result IsUntyped }
+    {
+        match result_type {
+            Some(t) => Ok(self.push(Some(t))?),
+            None => Ok(()),
+        }
+    }
+
+    /// Takes an operand of this type.
+    pub(crate) fn take(&mut self, t: ValType) -> Result<(), Refusal>
+        ensures turns { Turns result (take_one t self.old) self.new }
+        ensures kind { IfErr result IsUntyped }
+    {
+        match self.pop() {
+            Some(operand) if agrees(t, operand) => Ok(()),
+            _ => Err(Refusal::Breaks(FaultKind::BadType)),
+        }
+    }
+
+    /// Takes an operand of whatever type.
+    pub(crate) fn take_any(&mut self) -> Result<(), Refusal>
+        ensures turns { Turns result (made_by drops self.old) self.new }
+        ensures kind { IfErr result IsUntyped }
+    {
+        match self.pop() {
+            Some(_) => Ok(()),
+            None => Err(Refusal::Breaks(FaultKind::BadType)),
+        }
+    }
+
+    /// Takes a result, if there is one.
+    pub(crate) fn take_result(&mut self, result_type: BlockType) -> Result<(), Refusal>
+        ensures turns { Turns result (take_all (listed result_type) self.old) self.new }
+        ensures kind { IfErr result IsUntyped }
+    {
+        match result_type {
+            Some(t) => self.take(t),
+            None => Ok(()),
+        }
+    }
+
+    /// Takes the arguments of a call.
+    pub(crate) fn take_params(&mut self, params: &[ValType]) -> Result<(), Refusal>
+        ensures turns { Turns result (take_all (reverse params.now) self.old) self.new }
+        ensures kind { IfErr result IsUntyped }
+    {
+        let mut left = params.len();
+        while left > 0 {
+            left -= 1;
+            self.take(params[left])?;
+        }
+        Ok(())
+    }
+
+    /// Takes an operand and gives a result.
+    pub(crate) fn unary(&mut self, operand: ValType, result_type: ValType) -> Result<(), Refusal>
+        ensures turns { Turns result (made_by (turns (operand ∷ []) (result_type ∷ [])) self.old) self.new }
+        ensures kind { IfErr result IsUntyped }
+    {
+        self.take(operand)?;
+        self.give(Some(result_type))
+    }
+
+    /// Takes two operands of one type and gives a result.
+    pub(crate) fn binary(&mut self, operand: ValType, result_type: ValType) -> Result<(), Refusal>
+        ensures turns { Turns result (made_by (turns (operand ∷ operand ∷ []) (result_type ∷ [])) self.old) self.new }
+        ensures kind { IfErr result IsUntyped }
+    {
+        self.take(operand)?;
+        self.take(operand)?;
+        self.give(Some(result_type))
+    }
+
+    /// Takes what a branch takes, and leaves the block.
+    pub(crate) fn branch(&mut self, label: BlockType) -> Result<(), Refusal>
+        ensures turns { Turns result (made_by (leaves (listed label)) self.old) self.new }
+        ensures kind { IfErr result IsUntyped }
+    {
+        self.take_result(label)?;
+        self.clear();
+        Ok(())
+    }
+
+    /// Takes an i32 and what a branch takes, and gives the latter back.
+    pub(crate) fn branch_if(&mut self, label: BlockType) -> Result<(), Refusal>
+        ensures turns { Turns result (made_by (turns (I32 ∷ listed label) (listed label)) self.old) self.new }
+        ensures kind { IfErr result IsUntyped }
+    {
+        self.take(ValType::I32)?;
+        self.take_result(label)?;
+        self.give(label)
+    }
+
+    /// Takes an i32 and what a branch takes, and leaves the block.
+    pub(crate) fn branch_table(&mut self, label: BlockType) -> Result<(), Refusal>
+        ensures turns { Turns result (made_by (leaves (I32 ∷ listed label)) self.old) self.new }
+        ensures kind { IfErr result IsUntyped }
+    {
+        self.take(ValType::I32)?;
+        self.branch(label)
+    }
+
+    /// Takes t t i32 for a t, and gives t.
+    pub(crate) fn select(&mut self) -> Result<(), Refusal>
+        ensures turns { Turns result (select_on self.old) self.new }
+        ensures kind { IfErr result IsUntyped }
+    {
+        self.take(ValType::I32)?;
+        let Some(first) = self.pop() else {
+            return Err(Refusal::Breaks(FaultKind::BadType));
+        };
+        let Some(second) = self.pop() else {
+            return Err(Refusal::Breaks(FaultKind::BadType));
+        };
+        let Some(operand) = join(first, second) else {
+            return Err(Refusal::Breaks(FaultKind::BadType));
+        };
+        self.push(operand)?;
+        Ok(())
+    }
+
+    /// Takes a result, if there is one, where nothing else is left.
+    pub(crate) fn end(&mut self, result_type: BlockType) -> Result<(), Refusal>
+        ensures turns { Turns result (ended result_type self.old) empty }
+        ensures kind { IfErr result IsUntyped }
+    {
+        self.take_result(result_type)?;
+        if self.known.is_empty() {
+            Ok(())
+        } else {
+            Err(Refusal::Breaks(FaultKind::BadType))
+        }
+    }
+}
+
+// The operand, if both are of one type.
+fn join(first: Operand, second: Operand) -> Option<Operand>
+    ensures { result ≡ joined first second }
+{
+    match (first, second) {
+        (None, o) => Some(o),
+        (Some(t), None) => Some(Some(t)),
+        (Some(ValType::I32), Some(ValType::I32)) => Some(Some(ValType::I32)),
+        (Some(ValType::I64), Some(ValType::I64)) => Some(Some(ValType::I64)),
+        (Some(_), Some(_)) => None,
+    }
+}
+
+// Whether the operand can be of this type.
+fn agrees(t: ValType, operand: Operand) -> bool
+    ensures { result ≡ is_some (joined (Some t) operand) }
+{
+    match (t, operand) {
+        (_, None) => true,
+        (ValType::I32, Some(ValType::I32)) => true,
+        (ValType::I64, Some(ValType::I64)) => true,
+        (_, Some(_)) => false,
+    }
+}

@@ -1,0 +1,108 @@
+//! Rules outside the functions' instructions, and modules without a memory.
+use super::*;
+use wm_ast::{
+    AccessKind, AccessOperands, ConstExpr, Export, ExportKind, Mutability, Storage, ValType,
+};
+
+#[test]
+fn memories_have_good_limits(rt: HostRuntime) -> Result<(), Fail> {
+    let mut program = module_of(rt.alloc(), Vec::new(rt.alloc()))?;
+    program.memory = memory_of(2, 1);
+    assert_eq!(rt;
+        validate(rt.alloc(), program).err(),
+        in_module(FaultKind::MemoryLimits)
+    );
+    let mut program = module_of(rt.alloc(), Vec::new(rt.alloc()))?;
+    program.memory = memory_of(0, 65537);
+    assert_eq!(rt;
+        validate(rt.alloc(), program).err(),
+        in_module(FaultKind::MemoryLimits)
+    );
+    let mut program = module_of(rt.alloc(), Vec::new(rt.alloc()))?;
+    program.memory = memory_of(0, 65536);
+    assert_eq!(rt; validate(rt.alloc(), program).err(), None);
+    Ok(())
+}
+
+#[test]
+fn some_instructions_need_a_memory(rt: HostRuntime) -> Result<(), Fail> {
+    let operands = AccessOperands {
+        alignment: 2,
+        offset: 0,
+    };
+    let body = vec![in rt.alloc();
+        Instr::I32Const(0),
+        Instr::Access(AccessKind::Read(Storage::I32), operands),
+        Instr::Drop,
+    ]?;
+    let mut program = module_of(rt.alloc(), body)?;
+    program.memory = None;
+    assert_eq!(rt;
+        validate(rt.alloc(), program).err(),
+        at(FaultKind::MemoryAbsent, 1)
+    );
+    let body = vec![in rt.alloc(); Instr::MemorySize, Instr::Drop]?;
+    let mut program = module_of(rt.alloc(), body)?;
+    program.memory = None;
+    assert_eq!(rt;
+        validate(rt.alloc(), program).err(),
+        at(FaultKind::MemoryAbsent, 0)
+    );
+    Ok(())
+}
+
+/// A module that exports this.
+fn exporting(alloc: Global, kind: ExportKind, index: u32) -> Result<Module, Fail> {
+    let mut program = module_of(alloc, Vec::new(alloc))?;
+    let mut exports = Exports::new(alloc);
+    exports.push(String::from_str(alloc, "a")?, Export { kind, index })?;
+    program.exports = exports;
+    Ok(program)
+}
+
+#[test]
+fn exports_are_there(rt: HostRuntime) -> Result<(), Fail> {
+    assert_eq!(rt;
+        validate(rt.alloc(), exporting(rt.alloc(), ExportKind::Func, 0)?).err(),
+        None
+    );
+    assert_eq!(rt;
+        validate(rt.alloc(), exporting(rt.alloc(), ExportKind::Func, 1)?).err(),
+        in_module(FaultKind::Index)
+    );
+    assert_eq!(rt;
+        validate(rt.alloc(), exporting(rt.alloc(), ExportKind::Memory, 0)?).err(),
+        None
+    );
+    assert_eq!(rt;
+        validate(rt.alloc(), exporting(rt.alloc(), ExportKind::Memory, 1)?).err(),
+        in_module(FaultKind::Index)
+    );
+    assert_eq!(rt;
+        validate(rt.alloc(), exporting(rt.alloc(), ExportKind::Global, 0)?).err(),
+        in_module(FaultKind::Index)
+    );
+    Ok(())
+}
+
+#[test]
+fn types_are_there_and_globals_are_of_them(rt: HostRuntime) -> Result<(), Fail> {
+    let mut program = module_of(rt.alloc(), Vec::new(rt.alloc()))?;
+    program.types = List::new(rt.alloc());
+    assert_eq!(rt;
+        validate(rt.alloc(), program).err(),
+        in_module(FaultKind::Index)
+    );
+    let mut program = module_of(rt.alloc(), Vec::new(rt.alloc()))?;
+    let global = wm_ast::Global {
+        ty: ValType::I64,
+        mutability: Mutability::Constant,
+        init: ConstExpr::I32(0),
+    };
+    program.globals = List::from_vec(vec![in rt.alloc(); global]?);
+    assert_eq!(rt;
+        validate(rt.alloc(), program).err(),
+        in_module(FaultKind::BadType)
+    );
+    Ok(())
+}

@@ -1,0 +1,159 @@
+//! Modules that are valid.
+ghost use Rattle.std.specs.Prelude.{◌≡◌, OnOk, ◌<◌, ◌≤◌, ◌*◌, ◌++◌, IfOk, IfErr, Some, None, All, ℕ, length, slice_index, slice_get};
+ghost use Rattle.wm_valid.specs.Typing.{TypedFunc};
+ghost use Rattle.wm_valid.specs.Memory.{init, pages_of};
+ghost use Rattle.wm_valid.specs.Valid.{Valid};
+ghost use Rattle.wm_valid.specs.Blame.{Breaks, HasType, JudgesFunc, JudgesBody};
+
+use crate::checker::Checker;
+use crate::fault::{Place, Refusal, ValidFault};
+use crate::image::image;
+use crate::labels::Labels;
+use crate::sections::{PAGE_BYTES, pages, sections};
+use std::alloc::{AllocError, Global};
+use std::marker::Model;
+use wm_ast::{Func, FuncType, Module, ValType};
+use wm_event::Initial;
+use wm_list::List;
+
+/// A module that is valid, with the bytes that its memory begins with.
+#[derive(Drop)]
+pub struct ValidModule {
+    program: Module,
+    initial: Initial,
+}
+
+impl Model for ValidModule {
+    ghost use Rattle.wm_ast.specs.declared.module.Module.{Module as Seen};
+    ghost use Rattle.wm_valid.specs.Valid.{Valid as IsValid, IsInit};
+
+    ghost Value = { Seen };
+
+    ghost view = { λ s. s.program };
+
+    ghost invariant = { λ s. IsValid s.program × IsInit s.program s.initial };
+}
+
+impl ValidModule {
+    /// The module.
+    pub fn module(&self) -> &Module
+        ensures same { result.now ≡ self.now }
+        ensures valid { Valid self.now }
+    {
+        &self.program
+    }
+
+    /// How many pages of 65,536 bytes its memory has at first, 0 without a memory.
+    pub fn pages(&self) -> u32
+        ensures { result ≡ pages_of self.now.memory }
+    {
+        pages(&self.program.memory)
+    }
+
+    /// The bytes that its memory begins with.
+    pub fn initial(&self) -> &Initial
+        ensures size { length result.now ≡ pages_of self.now.memory * 65536 }
+        ensures bytes { (k : ℕ) → k < pages_of self.now.memory * 65536 → slice_index result.now k ≡ init self.now k }
+    {
+        &self.initial
+    }
+
+    /// Byte `k` of its memory at first, None at the length and past it.
+    pub fn init_byte(&self, k: usize) -> Option<u8>
+        ensures within { k < pages_of self.now.memory * 65536 → result ≡ Some (init self.now k) }
+        ensures past { pages_of self.now.memory * 65536 ≤ k → result ≡ None }
+    {
+        self.initial.byte(k)
+    }
+}
+
+/// The parameters and the other locals.
+fn all_locals(
+    alloc: Global,
+    params: &[ValType],
+    others: &[ValType],
+) -> Result<List<ValType>, AllocError>
+    ensures { IfOk result (λ l. l ≡ params.now ++ others.now) }
+{
+    let mut locals = List::new(alloc);
+    for param in params {
+        locals.push(*param)?;
+    }
+    for other in others {
+        locals.push(*other)?;
+    }
+    Ok(locals)
+}
+
+/// The instructions of a function of this type. `position` begins at 0; on a refusal it is the number of the opcode at fault.
+fn body(
+    alloc: Global,
+    program: &Module,
+    func: &Func,
+    ty: &FuncType,
+    position: &mut usize,
+) -> Result<(), Refusal>
+    requires is_type { slice_get program.now.types func.now.type_index ≡ Some ty.now }
+    requires start { position.old ≡ 0 }
+    ensures { JudgesBody result program.now func.now position.new }
+{
+    let locals = all_locals(alloc, ty.params.as_slice(), func.locals.as_slice())?;
+    let checker = Checker {
+        program,
+        locals,
+        result_type: ty.result,
+        blocks: &func.blocks,
+    };
+    let mut labels = Labels::new(alloc);
+    labels.push(ty.result)?;
+    checker.block(alloc, 0, &mut labels, position, ty.result)
+}
+
+/// A function, of which there are `number` before.
+fn func(alloc: Global, program: &Module, number: usize, func: &Func) -> Result<(), ValidFault>
+    requires { HasType program.now func.now }
+    ensures { JudgesFunc result program.now func.now number }
+{
+    let Some(ty) = program.types.get(func.type_index as usize) else {
+        return Ok(());
+    };
+    let mut position = 0;
+    match body(alloc, program, func, ty, &mut position) {
+        Ok(()) => Ok(()),
+        Err(refusal) => Err(refusal.at(number, position)),
+    }
+}
+
+/// The functions of the module.
+fn funcs(alloc: Global, program: &Module) -> Result<(), ValidFault>
+    requires { All (HasType program.now) program.now.funcs }
+    ensures good { OnOk result (All (TypedFunc program.now) program.now.funcs) }
+    ensures bad { IfErr result (Breaks program.now) }
+{
+    for (number, one) in program.funcs.as_slice().iter().enumerate() {
+        if let Err(fault) = func(alloc, program, number, one) {
+            return Err(fault);
+        }
+    }
+    Ok(())
+}
+
+/// Checks a module and makes its memory's first bytes. It ends on every module, also on one whose blocks name one another
+/// in a circle: such a module has no typing.
+///
+/// A refusal says which rule is broken and where, or that memory was refused; which of several faults is named is
+/// open. At an instruction, its function has no typing, and where the rule isn't that of types, the instruction breaks it.
+/// A function whose type isn't there and an export of what isn't there are `Index` in the module. The module is given up
+/// on a refusal.
+pub fn validate(alloc: Global, program: Module) -> Result<ValidModule, ValidFault>
+    ensures found { IfOk result (λ valid. (valid ≡ program) × Valid program) }
+    ensures breaks { IfErr result (Breaks program) }
+{
+    if let Err(kind) = sections(&program) {
+        return Err(ValidFault::At(kind, Place::Module));
+    }
+    funcs(alloc, &program)?;
+    let size = pages(&program.memory) as usize * PAGE_BYTES;
+    let initial = image(alloc, size, program.data.as_slice())?;
+    Ok(ValidModule { program, initial })
+}
