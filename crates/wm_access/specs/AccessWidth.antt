@@ -1,4 +1,4 @@
-use Rattle.std.specs.Prelude.{ℕ}
+use Rattle.std.specs.Prelude.{ℕ, ◌*◌, ◌^◌, ◌<◌}
 use Rattle.wm_access.specs.declared.AccessWidth.{AccessWidth}
 use Rattle.wm_access.specs.declared.AccessWidth.TheVariants.{One, Two, Four, Eight}
 
@@ -8,3 +8,7 @@ bytes_of One = 1
 bytes_of Two = 2
 bytes_of Four = 4
 bytes_of Eight = 8
+
+-- a value of so many bytes
+abbrev pub Fits : AccessWidth → ℕ → Type 0
+Fits width v = v < 2 ^ (8 * bytes_of width)

@@ -1,7 +1,10 @@
-//! What every access to memory has: how many bytes it takes, and how it is ordered.
+//! What every access to memory has: how many bytes it takes, and how it is ordered; and the size of a page.
 #![tactic(auto)]
 
 ghost use Rattle.std.specs.Prelude.{◌≡◌};
+
+/// How many bytes a page of memory has (Core 1.0, section 4.2.8).
+pub const PAGE_BYTES: usize = 65_536;
 
 /// How many bytes an access takes.
 #[derive(Clone, Copy, Debug, PartialEq, Eq)]

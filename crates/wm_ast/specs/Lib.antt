@@ -1,4 +1,4 @@
 pub mod Types
 pub mod Access
 pub mod Exports
-pub mod Blocks
+pub mod Module

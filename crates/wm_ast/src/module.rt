@@ -70,13 +70,30 @@ pub struct Module {
 impl Module {
     ghost use Rattle.std.specs.Prelude.{option_copied};
     ghost use Rattle.wm_ast.specs.Exports.{export_at};
-    ghost use Rattle.wm_ast.specs.Blocks.{block_in};
+    ghost use Rattle.wm_ast.specs.Module.{block_in, func_type, pages_of};
 
     /// Block `number` of function `func`, both counted from 0; None where there is none. The body is block 0.
     pub fn block(&self, func: usize, number: usize) -> Option<&Block>
         ensures { option_copied result ≡ block_in self.now.funcs func number }
     {
         self.funcs.get(func)?.blocks.get(number)
+    }
+
+    /// The type of function `func`, counted from 0; None where the function or its type isn't there.
+    pub fn func_type(&self, func: usize) -> Option<&FuncType>
+        ensures { option_copied result ≡ func_type self.now func }
+    {
+        self.types.get(self.funcs.get(func)?.type_index as usize)
+    }
+
+    /// How many pages of memory there are at first, 0 without a memory.
+    pub fn pages(&self) -> u32
+        ensures { result ≡ pages_of self.now.memory }
+    {
+        match &self.memory {
+            Some(memory) => memory.limits.minimum,
+            None => 0,
+        }
     }
 
     /// The export of this name, None where there is none.

@@ -5,7 +5,6 @@ use Rattle.std.proofs.lemmas.Option.{get_or_from_slice_get, none-some, slice_get
 use Rattle.wm_ast.specs.declared.module.Module.{Module}
 use Rattle.wm_valid.specs.declared.fault.FaultKind.{FaultKind}
 use Rattle.wm_valid.specs.declared.fault.FaultKind.TheVariants.{BadType, Index, Label, Alignment, DataOutOfRange, MemoryAbsent, MemoryLimits}
-use Rattle.wm_valid.specs.declared.fault.Place.{Place}
 use Rattle.wm_valid.specs.declared.fault.Place.TheVariants as place
 use Rattle.wm_valid.specs.declared.fault.ValidFault.{ValidFault}
 use Rattle.wm_valid.specs.declared.fault.ValidFault.TheVariants.{At, OutOfMemory}

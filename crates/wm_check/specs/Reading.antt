@@ -1,5 +1,5 @@
 -- What the parts of a check find.
-use Rattle.std.specs.Prelude.{◌≡◌, ℕ, List}
+use Rattle.std.specs.Prelude.{ℕ, List}
 use Rattle.wm_ast.specs.declared.module.Module.{Module}
 use Rattle.wm_event.specs.declared.log.ThreadLog.{ThreadLog}
 use Rattle.wm_event.specs.declared.witness.Witness.{Witness}
@@ -11,7 +11,8 @@ use Rattle.wm_check.specs.declared.checker.Stop.TheVariants.{Refused, OutOfMemor
 use Rattle.wm_check.specs.declared.verdict.Refusal.{Refusal}
 use Rattle.wm_check.specs.declared.verdict.Refusal.TheVariants as refusal
 use Rattle.wm_check.specs.declared.verdict.Verdict.{Verdict}
-use Rattle.wm_check.specs.Run.{IsInitialOf, IsModuleOf}
+use Rattle.wm_valid.specs.Valid.{IsInit}
+use Rattle.wm_check.specs.Run.{IsModuleOf}
 use Rattle.wm_check.specs.Verdicts.{IsInvalid, IsNoModule, Says}
 
 -- why the bytes of a module give none
@@ -44,5 +45,5 @@ ComparesOver program log witness verdict =
 -- the same of a candidate over the module's initial memory
 abbrev pub Compares : Module → LoggedRun → Verdict → Type 0
 Compares program run verdict =
-    (module_bytes document_bytes : List ℕ) → IsModuleOf module_bytes program → IsDocumentOf document_bytes run.log run.witness → IsInitialOf program run.initial
+    (module_bytes document_bytes : List ℕ) → IsModuleOf module_bytes program → IsDocumentOf document_bytes run.log run.witness → IsInit program run.initial
     → IsWellShaped run → Says module_bytes document_bytes verdict

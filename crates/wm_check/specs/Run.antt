@@ -1,17 +1,11 @@
 -- What the bytes of a module and of a document stand for.
-use Rattle.std.specs.Prelude.{◌≡◌, ◌≢◌, ℕ, ◌*◌, ◌<◌, List, length, slice_index}
+use Rattle.std.specs.Prelude.{ℕ, List}
 use Rattle.wm_ast.specs.declared.module.Module.{Module}
 use Rattle.wm_decode.specs.Module.{SpellsWithin}
 use Rattle.wm_event.specs.LoggedRun.{LoggedRun}
 use Rattle.wm_event.specs.Shape.{IsWellShaped}
 use Rattle.wm_logfile.specs.DocumentBytes.{IsDocumentOf}
-use Rattle.wm_valid.specs.Memory.{init, pages_of}
-use Rattle.wm_valid.specs.Valid.{Valid}
-
--- the bytes that the module's memory begins with
-pub record IsInitialOf (program : Module) (initial : List ℕ) : Type 0 where
-  pub size : length initial ≡ pages_of program.memory * 65536
-  pub bytes : (k : ℕ) → k < pages_of program.memory * 65536 → slice_index initial k ≡ init program k
+use Rattle.wm_valid.specs.Valid.{IsInit, Valid}
 
 -- the bytes spell a valid module of the profile
 pub record IsModuleOf (module_bytes : List ℕ) (program : Module) : Type 0 where
@@ -22,7 +16,7 @@ pub record IsModuleOf (module_bytes : List ℕ) (program : Module) : Type 0 wher
 pub record IsRunOf (module_bytes document_bytes : List ℕ) (program : Module) (run : LoggedRun) : Type 0 where
   pub modules : IsModuleOf module_bytes program
   pub document : IsDocumentOf document_bytes run.log run.witness
-  pub initial : IsInitialOf program run.initial
+  pub initial : IsInit program run.initial
 
 -- the log, the witness and the initial memory are a candidate
 pub record IsCandidateOf (module_bytes document_bytes : List ℕ) (program : Module) (run : LoggedRun) : Type 0 where

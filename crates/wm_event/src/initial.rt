@@ -3,9 +3,7 @@ ghost use Rattle.std.specs.Prelude.{◌≡◌, ◌≤◌, ◌*◌, IfOk, length,
 
 use std::alloc::{AllocError, Global};
 use std::marker::Model;
-
-/// How many bytes a page of memory has (Core 1.0, section 4.2.8).
-pub const PAGE_BYTES: usize = 65_536;
+use wm_access::PAGE_BYTES;
 
 /// The bytes that a memory begins with. They are what Init writes.
 #[derive(Drop)]

@@ -1,5 +1,5 @@
 //! The whole program.
-ghost use Rattle.std.specs.Prelude.{◌≡◌, ◌+◌, ◌^◌, ◌∷◌, ◌++◌, [], ◌≤◌, ◌<◌, IfErr, IfOk, OnOk, string_bytes, vec_len};
+ghost use Rattle.std.specs.Prelude.{◌≡◌, ◌+◌, ◌^◌, ◌∷◌, ◌++◌, [], ◌≤◌, ◌<◌, IfErr, IfOk, IfSome, OnOk, string_bytes, take, vec_len};
 ghost use Rattle.std.specs.Io.KnownBytes.{Appends};
 ghost use Rattle.wm_logfile.specs.declared.TheConstants.{MAX_DOCUMENT_BYTES};
 ghost use Rattle.wm_litmus.specs.Answers.{IsAnswer, WritesAnswer};
@@ -13,7 +13,7 @@ use crate::command::{Command, CommandFault, read_command};
 use crate::files::{FileFault, Files};
 use crate::input::read_limited;
 use crate::rules::rules_answer;
-use std::alloc::AllocError;
+use std::alloc::{AllocError, Global};
 use std::io;
 use std::io::{Read, Write};
 use wm_decode::MODULE_BYTES;
@@ -53,6 +53,20 @@ fn read_file<'a, F: Files>(files: &mut F, name: &'a str, limit: usize) -> Result
     }
 }
 
+/// The bytes of the input, to so many and one more.
+fn read_input<'a, I: Read>(alloc: Global, input: &mut I, limit: usize) -> Result<Vec<u8>, Stop<'a>>
+    requires { limit + 1 < 2 ^ 64 }
+    ensures known { IfOk result (λ bytes. IfSome (I.remaining input.old)
+        (λ all. bytes.items ≡ take (limit + 1) all)) }
+    ensures unread { IfErr result (λ stop. IsUnreadFile stop → ⊥) }
+{
+    match read_limited(alloc, input, limit + 1) {
+        Ok(bytes) => Ok(bytes),
+        Err(FileFault::Device) => Err(Stop::UnreadInput),
+        Err(FileFault::OutOfMemory) => Err(Stop::OutOfMemory),
+    }
+}
+
 /// The bytes of the document `name`, or of `input` for `-`, to the limit and one more.
 fn read_document_bytes<'a, R: AllocGlobal, F: Files, I: Read>(
     rt: &R,
@@ -66,13 +80,10 @@ fn read_document_bytes<'a, R: AllocGlobal, F: Files, I: Read>(
     ensures unread { IfErr result (λ stop. IsUnreadFile stop
         → F.failures_of files.old < F.failures_of files.new) }
 {
-    if name != "-" {
-        return read_file(files, name, MAX_DOCUMENT_BYTES);
-    }
-    match read_limited(rt.alloc(), input, MAX_DOCUMENT_BYTES + 1) {
-        Ok(bytes) => Ok(bytes),
-        Err(FileFault::Device) => Err(Stop::UnreadInput),
-        Err(FileFault::OutOfMemory) => Err(Stop::OutOfMemory),
+    if name == "-" {
+        read_input(rt.alloc(), input, MAX_DOCUMENT_BYTES)
+    } else {
+        read_file(files, name, MAX_DOCUMENT_BYTES)
     }
 }
 

@@ -13,7 +13,8 @@ use Rattle.wm_machine.specs.declared.activation.Activation.{Activation}
 use Rattle.wm_machine.specs.declared.activation.Reached.TheVariants.{Within, Trapped}
 use Rattle.wm_machine.specs.declared.fault.AdvanceFault.{AdvanceFault}
 use Rattle.wm_machine.specs.declared.fault.AdvanceFault.TheVariants.{Stuck as StuckFault, OutOfMemory}
-use Rattle.wm_machine.specs.Functions.{func_type, callable, todo}
+use Rattle.wm_ast.specs.Module.{func_type}
+use Rattle.wm_machine.specs.Functions.{callable, todo}
 use Rattle.wm_machine.specs.Term.{Vars, Term, Here, Frame, Config, Over, Reduced, Next, Ends, Leaves, Returns, Traps, Stuck, Step, Went, NoStep}
 use Rattle.wm_machine.specs.Step.{reduce, step, went, out_of_call, out_of_thread, returned, carried, carried_by, gives, result_of}
 use Rattle.wm_machine.specs.Configuration.{around, left_of, waiting, under}

@@ -4,7 +4,7 @@ use Rattle.std.specs.Prelude.{slice_get, IfSome, drop, Bool, true, false, Result
 use Rattle.std.proofs.lemmas.Option.{slice_get-get_or}
 use Rattle.wm_ast.specs.declared.module.Module.{Module}
 use Rattle.wm_ast.specs.declared.instr.Instr.{Instr}
-use Rattle.wm_ast.specs.Blocks.{block_in}
+use Rattle.wm_ast.specs.Module.{block_in}
 use Rattle.wm_event.specs.declared.op.Access.{Access}
 use Rattle.wm_event.specs.declared.log.TrapKind.{TrapKind}
 use Rattle.wm_machine.specs.declared.value.TypedValue.{TypedValue}

@@ -20,7 +20,7 @@ use Rattle.wm_event.specs.declared.log.TrapKind.{TrapKind}
 use Rattle.wm_event.specs.declared.log.TrapKind.TheVariants.{Unaligned, OutOfBounds}
 use Rattle.wm_machine.specs.declared.value.TypedValue.{TypedValue}
 use Rattle.wm_machine.specs.Values.{typed, number_at}
-use Rattle.wm_machine.specs.Functions.{memory_size}
+use Rattle.wm_ast.specs.Module.{memory_size}
 
 -- what is asked of memory, at which address but for the offset, and the operands that are left
 pub record Asked : Type 0 where

@@ -1,16 +1,11 @@
--- What a call needs of its function, and how large the memory is.
-use Rattle.std.specs.Prelude.{ℕ, ◌*◌, List, [], drop, Option, Some, None, slice_get, option_and_then}
+-- What a call needs of its function.
+use Rattle.std.specs.Prelude.{ℕ, List, [], drop, Option, Some, None, slice_get}
 use Rattle.wm_ast.specs.declared.module.Module.{Module}
 use Rattle.wm_ast.specs.declared.module.Func.{Func}
 use Rattle.wm_ast.specs.declared.types.FuncType.{FuncType}
 use Rattle.wm_ast.specs.declared.types.ValType.{ValType}
 use Rattle.wm_ast.specs.declared.instr.Instr.{Instr}
-use Rattle.wm_ast.specs.Blocks.{block_in}
-use Rattle.wm_valid.specs.Memory.{pages_of}
-
--- the type of a function, by its index
-abbrev pub func_type : Module → ℕ → Option FuncType
-func_type m func = option_and_then (λ f. slice_get m.types f.type_index) (slice_get m.funcs func)
+use Rattle.wm_ast.specs.Module.{block_in, func_type}
 
 -- the parameters and locals of a function, and its body
 pub record Callable : Type 0 where
@@ -35,7 +30,3 @@ from_place (Some block) at = drop at block
 
 abbrev pub todo : Module → ℕ → ℕ → ℕ → List Instr
 todo m func block at = from_place (block_in m.funcs func block) at
-
--- how many bytes the memory has
-abbrev pub memory_size : Module → ℕ
-memory_size m = pages_of m.memory * 65536

@@ -4,7 +4,8 @@ use Rattle.wm_ast.specs.declared.module.Module.{Module}
 use Rattle.wm_event.specs.declared.log.End.{End}
 use Rattle.wm_event.specs.declared.op.Access.{Access}
 use Rattle.wm_event.specs.declared.op.Reply.{Reply}
-use Rattle.wm_event.specs.Op.{kind_finds, Fits}
+use Rattle.wm_event.specs.Op.{kind_finds}
+use Rattle.wm_access.specs.AccessWidth.{Fits}
 use Rattle.wm_access.specs.declared.AccessWidth.{AccessWidth}
 use Rattle.wm_machine.specs.declared.value.TypedValue.{TypedValue}
 use Rattle.wm_machine.specs.declared.activation.Activation.{Activation}

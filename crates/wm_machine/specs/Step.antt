@@ -15,7 +15,7 @@ use Rattle.wm_ast.specs.declared.types.ValType.{ValType}
 use Rattle.wm_ast.specs.declared.instr.Instr.{Instr}
 use Rattle.wm_ast.specs.declared.instr.Instr.TheVariants as instr
 use Rattle.wm_ast.specs.declared.access.AccessKind.{AccessKind}
-use Rattle.wm_ast.specs.Blocks.{block_in}
+use Rattle.wm_ast.specs.Module.{block_in, func_type, pages_of}
 use Rattle.wm_event.specs.declared.log.TrapKind.{TrapKind}
 use Rattle.wm_event.specs.declared.log.TrapKind.TheVariants.{Unreachable, DivideByZero, Overflow, Exhausted}
 use Rattle.wm_event.specs.declared.op.Access.{Access}
@@ -23,8 +23,7 @@ use Rattle.wm_event.specs.declared.log.End.TheVariants.{Done, Trap}
 use Rattle.wm_machine.specs.declared.value.TypedValue.{TypedValue}
 use Rattle.wm_machine.specs.declared.value.TypedValue.TheVariants.{I32, I64}
 use Rattle.wm_machine.specs.Values.{typed, number_at, bits_of, zero_of}
-use Rattle.wm_machine.specs.Functions.{func_type, Callable, callable}
-use Rattle.wm_valid.specs.Memory.{pages_of}
+use Rattle.wm_machine.specs.Functions.{Callable, callable}
 use Rattle.wm_machine.specs.Term.{Vars, Term, Here, Label, Frame, Config, Going, Over, Reduced, Next, Ends, Leaves, Returns, Traps, Stuck, Step, Went, NoStep}
 use Rattle.wm_machine.specs.Accesses.{Asked, asked, loaded, access_trap, op_at}
 

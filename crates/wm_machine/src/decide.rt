@@ -2,13 +2,12 @@
 ghost use Rattle.std.specs.Prelude.{◌≡◌, ◌≤◌, List, length};
 ghost use Rattle.wm_ast.specs.declared.module.Module.{Module};
 ghost use Rattle.wm_ast.specs.declared.instr.Instr.{Instr};
-ghost use Rattle.wm_valid.specs.Memory.{pages_of};
+ghost use Rattle.wm_ast.specs.Module.{pages_of};
 ghost use Rattle.wm_machine.specs.declared.value.TypedValue.{TypedValue};
 ghost use Rattle.wm_machine.specs.Term.{Vars};
 ghost use Rattle.wm_machine.specs.Action.{Acts, popped_by, SetsWithin, SetsNothing};
 
 use crate::action::Action;
-use crate::functions::pages;
 use crate::levels::Levels;
 use crate::memory::access;
 use crate::numeric::{calculated, comparison, converted, counted, eqz, number};
@@ -157,7 +156,7 @@ pub fn decide(
         Instr::GlobalGet(index) => got(globals, *index),
         Instr::GlobalSet(index) => set_global(levels, globals, *index),
         Instr::Access(kind, operands) => access(module, levels, *kind, *operands),
-        Instr::MemorySize => Action::Replace(0, Some(TypedValue::I32(pages(module)))),
+        Instr::MemorySize => Action::Replace(0, Some(TypedValue::I32(module.pages()))),
         Instr::I32Const(number) => Action::Replace(0, Some(TypedValue::I32(*number))),
         Instr::I64Const(number) => Action::Replace(0, Some(TypedValue::I64(*number))),
         Instr::Eqz(width) => eqz(levels, *width),

@@ -1,24 +1,23 @@
 //! What the memory instructions do (Core 1.0, section 4.4.4, and the threads proposal).
 ghost use Rattle.std.specs.Prelude.{◌≡◌, ◌≤◌, ◌<◌, ◌+◌, ◌^◌, IfSome, None, length, option_map};
-ghost use Rattle.wm_access.specs.AccessWidth.{bytes_of};
+ghost use Rattle.wm_access.specs.AccessWidth.{bytes_of, Fits};
 ghost use Rattle.wm_num.specs.declared.operator.Width.TheVariants.{W32};
 ghost use Rattle.wm_num.specs.Conversion.{low_part};
 ghost use Rattle.wm_ast.specs.Access.{access_order, access_width, storage_width, storage_operand, whole};
 ghost use Rattle.wm_ast.specs.Types.{width_of};
-ghost use Rattle.wm_event.specs.Op.{KindFits, Fits};
-ghost use Rattle.wm_valid.specs.Memory.{pages_of};
+ghost use Rattle.wm_event.specs.Op.{KindFits};
+ghost use Rattle.wm_ast.specs.Module.{memory_size, pages_of};
 ghost use Rattle.wm_machine.specs.Values.{number_at};
-ghost use Rattle.wm_machine.specs.Functions.{memory_size};
 ghost use Rattle.wm_machine.specs.Accesses.{asked, on_address, on_value, loaded, extended, access_trap, is_unaligned};
 ghost use Rattle.wm_machine.specs.Request.{asked_by};
 ghost use Rattle.wm_machine.specs.Term.{Vars};
 ghost use Rattle.wm_machine.specs.Action.{Acts, popped_by, SetsNothing};
 
 use crate::action::Action;
-use crate::functions::pages;
 use crate::levels::Levels;
 use crate::numeric::number;
 use crate::value::TypedValue;
+use wm_access::PAGE_BYTES;
 use wm_ast::{AccessKind, AccessOperands, Instr, Module, Storage, ValType};
 use wm_event::{Access, Op, OpKind, TrapKind};
 use wm_num::{Signedness, Width, extend_bytes, low_bytes};
@@ -91,10 +90,11 @@ fn access_trap(module: &Module, kind: AccessKind, address: u64) -> Option<TrapKi
     ensures inside { result ≡ None → address + bytes_of (access_width kind) ≤ memory_size «module».now }
 {
     let width = u64::from(kind.width().bytes());
+    let size = u64::from(module.pages()) * PAGE_BYTES as u64;
     if kind.order().is_atomic() && address % width != 0 {
         return Some(TrapKind::Unaligned);
     }
-    if u64::from(pages(module)) * 65_536 < address + width {
+    if size < address + width {
         return Some(TrapKind::OutOfBounds);
     }
     None

@@ -1,7 +1,7 @@
 //! One step within a call (Core 1.0, section 4.4).
 ghost use Rattle.std.specs.Prelude.{◌^◌, ◌≡◌, ◌≤◌, ◌<◌, ◌+◌, ℕ, List, [], ◌∷◌, ◌++◌, true, false, length, drop, slice_get, Some, None, IfSome, IfErr, OnOk, OnErr};
 ghost use Rattle.wm_ast.specs.declared.instr.Instr.{Instr};
-ghost use Rattle.wm_valid.specs.Memory.{pages_of};
+ghost use Rattle.wm_ast.specs.Module.{pages_of};
 ghost use Rattle.wm_machine.specs.declared.value.TypedValue.{TypedValue};
 ghost use Rattle.wm_machine.specs.Functions.{todo};
 ghost use Rattle.wm_machine.specs.Action.{does, popped_by, SetsWithin};
@@ -14,7 +14,6 @@ use crate::action::Action;
 use crate::activation::{Activation, Reached};
 use crate::decide::decide;
 use crate::fault::AdvanceFault;
-use crate::functions::func_type;
 use crate::memory::loaded;
 use crate::value::TypedValue;
 use wm_ast::{Instr, Module};
@@ -45,7 +44,7 @@ fn instr_at(module: &Module, func: usize, block: usize, at: usize) -> Option<&In
 fn give_back(module: &Module, running: &Activation, popped: usize) -> Result<Reached, AdvanceFault>
     ensures { GivesBack (returned «module».now running.now.func (drop popped running.now.levels.operands)) result }
 {
-    match func_type(module, running.func) {
+    match module.func_type(running.func) {
         None => Err(AdvanceFault::Stuck),
         Some(ty) => match ty.result {
             None => Ok(Reached::Left(None)),

@@ -1,6 +1,6 @@
 //! A thread, step by step.
 ghost use Rattle.std.specs.Prelude.{◌≡◌, ◌≤◌, ◌⊎◌, ℕ, Some, None, Ok, Err, OnOk, OnErr, IfErr, IfOk};
-ghost use Rattle.wm_valid.specs.Memory.{pages_of};
+ghost use Rattle.wm_ast.specs.Module.{pages_of};
 ghost use Rattle.wm_machine.specs.State.{config_of, need_of, read_in, Answers};
 ghost use Rattle.wm_machine.specs.Step.{step, went, result_of};
 ghost use Rattle.wm_machine.specs.Start.{started, started_in};
@@ -51,7 +51,7 @@ impl<'m> Model for Thread<'m> {
 
     ghost Value = { State };
 
-    ghost use Rattle.wm_valid.specs.Memory.{pages_of};
+    ghost use Rattle.wm_ast.specs.Module.{pages_of};
 
     ghost view = { λ t. record { program = t.program.now; ended = t.end; running = t.running; callers = reverse t.callers.items; globals = t.globals } };
 

@@ -1,16 +1,16 @@
 -- How a thread that has followed its log so far compares with it.
-use Rattle.std.proofs.Common.{◌≡◌, ℕ, suc, ◌+◌, ◌<◌, ◌≤◌, inl, inr, Bool, true, false, cond, nat_lt, List, [], ◌∷◌, length, take, drop, Option, Some, None, refl, sym, ap, subst, ◌∙◌, add-one, arith}
-use Rattle.std.specs.Prelude.{Ok, ◌≢◌, ◌⊎◌, slice_get}
+use Rattle.std.proofs.Common.{◌≡◌, ℕ, suc, ◌+◌, ◌<◌, ◌≤◌, inl, inr, Bool, true, false, cond, nat_lt, List, [], length, drop, Some, refl, sym, ap, subst, ◌∙◌, add-one, arith}
+use Rattle.std.specs.Prelude.{Ok, ◌≢◌, ◌⊎◌}
 use Rattle.std.proofs.lemmas.Bool.{ltb-false, ltb-true}
 use Rattle.std.proofs.lemmas.List.{drop_all, take_all}
 use Rattle.std.proofs.lemmas.Option.{slice_get_within}
 use Rattle.wm_ast.specs.declared.module.Module.{Module}
 use Rattle.wm_event.specs.declared.event.Event.{Event}
 use Rattle.wm_event.specs.declared.log.ThreadLog.{ThreadLog}
-use Rattle.wm_machine.specs.Term.{Config, NoStep, Went}
-use Rattle.wm_machine.specs.Step.{access_of, step}
+use Rattle.wm_machine.specs.Term.{Config, NoStep}
+use Rattle.wm_machine.specs.Step.{step}
 use Rattle.wm_machine.specs.Run.{Ran, end_of, outcome_of, outcome_with, run_from, steps}
-use Rattle.wm_replay.specs.Answers.{Accesses, AccessesOther, HasPlaces, Steps, end_place}
+use Rattle.wm_replay.specs.Answers.{AccessesOther, HasPlaces, Steps, end_place}
 use Rattle.wm_replay.specs.Replay.{DiffersAt, IsRun, Reaches, reads_of, start_of}
 use Rattle.wm_replay.specs.Replay.DiffersAt.{access, left_over, end}
 use Rattle.wm_replay.specs.declared.answer.Place.TheVariants as place

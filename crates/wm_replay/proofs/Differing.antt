@@ -1,6 +1,6 @@
 -- A thread that differs from its log isn't run by it.
-use Rattle.std.proofs.Common.{◌≡◌, ℕ, suc, ◌+◌, ◌-◌, ◌<◌, ◌≤◌, inl, inr, List, [], ◌∷◌, ◌++◌, length, take, Option, Some, None, refl, sym, ap, subst, ◌∙◌, length-take-le, arith}
-use Rattle.std.specs.Prelude.{Ok, ◌≢◌, ◌⊎◌, slice_get}
+use Rattle.std.proofs.Common.{◌≡◌, ℕ, suc, ◌-◌, ◌<◌, inl, inr, List, [], ◌∷◌, ◌++◌, length, take, Option, Some, None, refl, sym, ap, subst, ◌∙◌, length-take-le, arith}
+use Rattle.std.specs.Prelude.{Ok, ◌⊎◌, slice_get}
 use Rattle.std.proofs.Math.Nat.{eq-or-lt_of_le}
 use Rattle.std.proofs.lemmas.Option.{none-some, same_Some}
 use Rattle.wm_ast.specs.declared.module.Module.{Module}
@@ -10,9 +10,9 @@ use Rattle.wm_event.specs.declared.op.Access.{Access}
 use Rattle.wm_event.specs.Op.{event_made}
 use Rattle.wm_machine.specs.Term.{Config, NoStep}
 use Rattle.wm_machine.specs.Step.{access_of, step}
-use Rattle.wm_machine.specs.Run.{Ran, Taken, and_run_on, end_of, run_from, run_on, ran_with, take_read, steps}
+use Rattle.wm_machine.specs.Run.{Ran, and_run_on, end_of, run_from, run_on, steps}
 use Rattle.wm_replay.specs.declared.answer.Place.{Place}
-use Rattle.wm_replay.specs.Replay.{DiffersAt, EndsOtherwise, IsRun, MakesNo, Reaches, Rests, reads_of, start_of}
+use Rattle.wm_replay.specs.Replay.{DiffersAt, IsRun, MakesNo, Reaches, reads_of, start_of}
 use Rattle.wm_replay.specs.Replay.DiffersAt.{access, left_over, end}
 use Rattle.wm_replay.proofs.Runs.{more, more_grows, more_none, next_event, outcome_some, steps_more}
 

@@ -1,9 +1,9 @@
 -- A thread that follows its log, step by step.
-use Rattle.std.proofs.Common.{◌≡◌, ℕ, suc, ◌+◌, ◌*◌, ◌^◌, ◌<◌, ◌≤◌, Bool, true, false, cond, nat_lt, List, [], ◌∷◌, ◌++◌, length, take, drop, Option, Some, None, refl, sym, ap, subst, ◌∙◌, length-take-le, arith}
+use Rattle.std.proofs.Common.{◌≡◌, ℕ, suc, ◌+◌, ◌*◌, ◌^◌, ◌<◌, Bool, true, false, cond, List, [], ◌∷◌, ◌++◌, length, take, drop, Some, None, refl, sym, ap, ◌∙◌, length-take-le, arith}
 use Rattle.std.specs.Prelude.{slice_get, ◌==◌}
 use Rattle.std.proofs.lemmas.Bool.{lt-ltb}
 use Rattle.std.proofs.lemmas.List.{append-nil, drop_more, take_more}
-use Rattle.std.proofs.lemmas.Option.{get_or_from_slice_get, none-some, same_Some, slice_get_within}
+use Rattle.std.proofs.lemmas.Option.{get_or_from_slice_get, slice_get_within}
 use Rattle.wm_ast.specs.declared.module.Module.{Module}
 use Rattle.wm_event.specs.declared.event.Event.{Event}
 use Rattle.wm_event.specs.declared.event.EventKind.TheVariants as event
@@ -11,11 +11,11 @@ use Rattle.wm_event.specs.declared.op.Access.{Access}
 use Rattle.wm_event.specs.declared.op.OpKind.{OpKind}
 use Rattle.wm_event.specs.declared.op.OpKind.TheVariants.{Read, Write, Update, CompareExchange}
 use Rattle.wm_event.specs.Event.{key_of, kind_reads, reads}
-use Rattle.wm_event.specs.Op.{Fits, event_made, kind_finds, made_kind, made_read}
-use Rattle.wm_access.specs.AccessWidth.{bytes_of}
-use Rattle.wm_machine.specs.Term.{Config, Step, Went, NoStep}
-use Rattle.wm_machine.specs.Step.{access_of, step, went}
-use Rattle.wm_machine.specs.Run.{Ran, Taken, and_run_on, ran_on, ran_with, run_on, steps, take_fitting, take_read, take_where}
+use Rattle.wm_event.specs.Op.{event_made, kind_finds, made_kind, made_read}
+use Rattle.wm_access.specs.AccessWidth.{bytes_of, Fits}
+use Rattle.wm_machine.specs.Term.{Config, Went}
+use Rattle.wm_machine.specs.Step.{access_of, step}
+use Rattle.wm_machine.specs.Run.{Ran, and_run_on, ran_on, ran_with, run_on, steps, take_read, take_where}
 use Rattle.wm_replay.specs.Replay.{reads_of}
 
 -- how far a thread is that has made the first of these events, on the values that they read

@@ -1,20 +1,18 @@
 -- A run goes through what it has done after fewer steps.
-use Rattle.std.proofs.Common.{◌≡◌, ℕ, suc, zero, ◌+◌, ◌*◌, ◌^◌, ◌<◌, Bool, true, false, cond, nat_lt, List, [], ◌∷◌, ◌++◌, length, Option, Some, None, refl, sym, ap, subst, ◌∙◌, append_assoc, arith}
-use Rattle.std.specs.Prelude.{Result, Ok, Err, slice_get}
-use Rattle.std.proofs.lemmas.Option.{none-some, same_Some, cond_some}
+use Rattle.std.proofs.Common.{◌≡◌, ℕ, suc, zero, ◌+◌, ◌*◌, ◌^◌, Bool, true, false, cond, nat_lt, List, [], ◌∷◌, ◌++◌, length, Option, Some, None, refl, sym, ap, subst, ◌∙◌, append_assoc, arith}
+use Rattle.std.proofs.lemmas.Option.{none-some, same_Some}
 use Rattle.std.proofs.lemmas.Bool.{ltb-true}
 use Rattle.std.proofs.lemmas.List.{append-nil}
 use Rattle.wm_access.specs.declared.AccessWidth.{AccessWidth}
 use Rattle.wm_access.specs.declared.AccessWidth.TheVariants.{One, Two, Four, Eight}
-use Rattle.wm_access.specs.AccessWidth.{bytes_of}
+use Rattle.wm_access.specs.AccessWidth.{bytes_of, Fits}
 use Rattle.wm_ast.specs.declared.module.Module.{Module}
 use Rattle.wm_event.specs.declared.event.Event.{Event}
-use Rattle.wm_event.specs.declared.log.End.{End}
 use Rattle.wm_event.specs.declared.op.Access.{Access}
-use Rattle.wm_event.specs.Op.{Fits, event_made, kind_finds}
+use Rattle.wm_event.specs.Op.{event_made, kind_finds}
 use Rattle.wm_machine.specs.Term.{Config, Step, Went, NoStep}
 use Rattle.wm_machine.specs.Step.{access_of, step}
-use Rattle.wm_machine.specs.Run.{Ran, Taken, Outcome, and_run_on, end_of, noted, outcome_of, outcome_with, ran_on, ran_with, run_on, steps, take_fitting, take_read, take_where}
+use Rattle.wm_machine.specs.Run.{Ran, Taken, Outcome, and_run_on, end_of, noted, outcome_of, outcome_with, ran_on, ran_with, run_on, steps, take_read, take_where}
 
 -- ---- events are only added
 

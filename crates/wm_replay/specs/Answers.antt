@@ -5,8 +5,8 @@ use Rattle.wm_event.specs.declared.event.Event.{Event}
 use Rattle.wm_event.specs.declared.log.ThreadLog.{ThreadLog}
 use Rattle.wm_event.specs.declared.op.Access.{Access}
 use Rattle.wm_event.specs.Event.{key_of}
-use Rattle.wm_event.specs.Op.{Fits, event_made}
-use Rattle.wm_machine.specs.declared.fault.StartFault.{StartFault}
+use Rattle.wm_event.specs.Op.{event_made}
+use Rattle.wm_access.specs.AccessWidth.{Fits}
 use Rattle.wm_machine.specs.declared.fault.StartFault.TheVariants.{OutOfMemory}
 use Rattle.wm_machine.specs.Step.{access_of, step}
 use Rattle.wm_machine.specs.Term.{Config, Went, NoStep}

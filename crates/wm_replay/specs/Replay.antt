@@ -6,7 +6,8 @@ use Rattle.wm_event.specs.declared.event.EventKey.{EventKey}
 use Rattle.wm_event.specs.declared.log.ThreadLog.{ThreadLog}
 use Rattle.wm_event.specs.declared.op.Access.{Access}
 use Rattle.wm_event.specs.Event.{reads}
-use Rattle.wm_event.specs.Op.{Fits, event_made}
+use Rattle.wm_event.specs.Op.{event_made}
+use Rattle.wm_access.specs.AccessWidth.{Fits}
 use Rattle.wm_machine.specs.declared.fault.StartFault.{StartFault}
 use Rattle.wm_machine.specs.Start.{started}
 use Rattle.wm_machine.specs.Step.{access_of, step}

@@ -1,5 +1,5 @@
 -- What a refusal says of the module.
-use Rattle.std.specs.Prelude.{ℕ, ◌≡◌, ◌≢◌, ◌+◌, ◌*◌, ◌<◌, ◌⊎◌, List, [], ◌∷◌, Some, None, Result, Ok, Err, length, slice_get, All}
+use Rattle.std.specs.Prelude.{ℕ, ◌≡◌, ◌≢◌, ◌+◌, ◌<◌, ◌⊎◌, List, [], ◌∷◌, Some, None, Result, Ok, Err, length, slice_get, All}
 use Rattle.wm_ast.specs.declared.types.FuncType.{FuncType}
 use Rattle.wm_ast.specs.declared.types.ValType.TheVariants as value
 use Rattle.wm_ast.specs.declared.instr.Instr.{Instr}
@@ -7,7 +7,8 @@ use Rattle.wm_ast.specs.declared.module.Module.{Module}
 use Rattle.wm_ast.specs.declared.module.Func.{Func}
 use Rattle.wm_ast.specs.declared.module.DataSegment.{DataSegment}
 use Rattle.wm_valid.specs.Typing.{TypedFunc, context}
-use Rattle.wm_valid.specs.Memory.{pages_of, start}
+use Rattle.wm_ast.specs.Module.{memory_size}
+use Rattle.wm_valid.specs.Memory.{start}
 use Rattle.wm_valid.specs.Valid.{GoodLimits, GoodGlobal, GoodExport, GoodData, HasMemory, IsConstant}
 use Rattle.wm_valid.specs.Places.{BrokenAt}
 use Rattle.wm_valid.specs.declared.fault.FaultKind.{FaultKind}
@@ -54,7 +55,7 @@ pub record BreaksIn (m : Module) (f : Func) (kind : FaultKind) (n : ℕ) : Type 
 pub record IsOutOfRange (m : Module) (d : DataSegment) : Type 0 where
   pub memory : HasMemory m.memory
   pub offset : IsConstant value.I32 d.offset
-  pub past : pages_of m.memory * 65536 < start d.offset + length d.bytes
+  pub past : memory_size m < start d.offset + length d.bytes
 
 -- the module breaks this rule outside its functions' instructions
 abbrev pub BreaksModule : Module → FaultKind → Type 0

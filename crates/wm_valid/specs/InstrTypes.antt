@@ -16,6 +16,7 @@ use Rattle.wm_ast.specs.declared.types.Mutability.TheVariants.{Constant, Variabl
 use Rattle.wm_ast.specs.declared.access.AccessKind.{AccessKind}
 use Rattle.wm_ast.specs.declared.access.AccessKind.TheVariants.{Read, ReadSigned, Write, AtomicRead, AtomicWrite, Update, CompareExchange}
 use Rattle.wm_ast.specs.Access.{access_width, access_operand, access_order}
+use Rattle.wm_ast.specs.Module.{func_type}
 use Rattle.wm_ast.specs.declared.instr.Instr.{Instr}
 use Rattle.wm_ast.specs.declared.instr.Instr.TheVariants.{Unreachable, Nop, Block, Loop, If, Br, BrIf, BrTable, Return, Call, Drop, Select, LocalGet, LocalSet, LocalTee, GlobalGet, GlobalSet, Access, MemorySize, I32Const, I64Const, Eqz, Compare, Unary, Binary, Convert}
 
@@ -64,9 +65,6 @@ all_same labels t (k ∷ ks) = slice_get labels k >>= λ u. if same u t then all
 -- the type of all these labels
 abbrev pub table_type : Labels → List ℕ → ℕ → Option (Option ValType)
 table_type labels ks l = slice_get labels l >>= λ t. all_same labels t ks
-
-abbrev pub func_type : Module → ℕ → Option FuncType
-func_type m k = slice_get m.funcs k >>= λ f. slice_get m.types f.type_index
 
 abbrev pub is_variable : Mutability → Bool
 is_variable Constant = false

@@ -1,8 +1,7 @@
 -- The bytes that a module's memory begins with (Core 1.0, section 4.5.4).
-use Rattle.std.specs.Prelude.{ℕ, ◌≤◌, ◌+◌, ◌-◌, List, [], ◌∷◌, Option, Some, None, length, slice_index, nat_le, nat_lt, if◌then◌else◌}
+use Rattle.std.specs.Prelude.{ℕ, ◌≤◌, ◌+◌, ◌-◌, List, [], ◌∷◌, length, slice_index, nat_le, nat_lt, if◌then◌else◌}
 use Rattle.wm_ast.specs.declared.module.Module.{Module}
 use Rattle.wm_ast.specs.declared.module.DataSegment.{DataSegment}
-use Rattle.wm_ast.specs.declared.module.Memory.{Memory}
 use Rattle.wm_ast.specs.declared.module.ConstExpr.{ConstExpr}
 use Rattle.wm_ast.specs.declared.module.ConstExpr.TheVariants.{I32, I64}
 
@@ -23,11 +22,6 @@ covered (d ∷ ds) byte k = covered ds (over d byte k) k
 -- byte k of the initial memory
 abbrev pub init : Module → ℕ → ℕ
 init m k = covered m.data 0 k
-
--- how many pages the memory has at first
-abbrev pub pages_of : Option Memory → ℕ
-pages_of None = 0
-pages_of (Some memory) = memory.limits.minimum
 
 -- the segment lies in so many bytes
 abbrev pub Within : ℕ → DataSegment → Type 0

@@ -5,7 +5,8 @@ use Rattle.wm_ast.specs.declared.instr.Else.TheVariants.{Present, Absent}
 use Rattle.wm_ast.specs.declared.instr.Instr.{Instr}
 use Rattle.wm_ast.specs.declared.instr.Instr.TheVariants.{Block, Loop, If, Br, BrIf, BrTable, Call, LocalGet, LocalSet, LocalTee, GlobalGet, GlobalSet, Access, MemorySize}
 use Rattle.wm_ast.specs.Access.{access_width, access_order}
-use Rattle.wm_valid.specs.InstrTypes.{Context, Labels, func_type, is_aligned}
+use Rattle.wm_ast.specs.Module.{func_type}
+use Rattle.wm_valid.specs.InstrTypes.{Context, Labels, is_aligned}
 use Rattle.wm_valid.specs.declared.fault.FaultKind.{FaultKind}
 use Rattle.wm_valid.specs.declared.fault.FaultKind.TheVariants.{BadType, Index, Label, Alignment, DataOutOfRange, MemoryAbsent, MemoryLimits}
 

@@ -1,5 +1,5 @@
 -- Which modules are valid (Core 1.0, section 3.4).
-use Rattle.std.specs.Prelude.{ℕ, ◌≡◌, ◌≤◌, ◌<◌, ◌*◌, List, Option, Some, None, length, slice_index, All}
+use Rattle.std.specs.Prelude.{ℕ, ◌≡◌, ◌≤◌, ◌<◌, List, Option, Some, None, length, slice_index, All}
 use Rattle.wm_ast.specs.declared.types.ValType.{ValType}
 use Rattle.wm_ast.specs.declared.types.ValType.TheVariants as value
 use Rattle.wm_ast.specs.declared.module.Module.{Module}
@@ -11,8 +11,9 @@ use Rattle.wm_ast.specs.declared.module.ConstExpr.TheVariants.{I32, I64}
 use Rattle.wm_ast.specs.declared.exports.Export.{Export}
 use Rattle.wm_ast.specs.declared.exports.ExportKind.{ExportKind}
 use Rattle.wm_ast.specs.declared.exports.ExportKind.TheVariants as kind
+use Rattle.wm_ast.specs.Module.{memory_size}
 use Rattle.wm_valid.specs.Typing.{TypedFunc}
-use Rattle.wm_valid.specs.Memory.{init, pages_of, Within}
+use Rattle.wm_valid.specs.Memory.{init, Within}
 
 -- the memory, if there is one, has at most 65,536 pages, and no fewer than at first
 abbrev pub GoodLimits : Option Memory → Type 0
@@ -47,7 +48,7 @@ GoodExport m e = Exports m e.1.kind e.1.index
 pub record GoodData (m : Module) (d : DataSegment) : Type 0 where
   pub memory : HasMemory m.memory
   pub offset : IsConstant value.I32 d.offset
-  pub within : Within (pages_of m.memory * 65536) d
+  pub within : Within (memory_size m) d
 
 pub record Valid (m : Module) : Type 0 where
   pub limits : GoodLimits m.memory
@@ -58,5 +59,5 @@ pub record Valid (m : Module) : Type 0 where
 
 -- the bytes are those of the initial memory
 pub record IsInit (m : Module) (bytes : List ℕ) : Type 0 where
-  pub long : length bytes ≡ pages_of m.memory * 65536
-  pub each : (k : ℕ) → k < pages_of m.memory * 65536 → slice_index bytes k ≡ init m k
+  pub size : length bytes ≡ memory_size m
+  pub each : (k : ℕ) → k < memory_size m → slice_index bytes k ≡ init m k

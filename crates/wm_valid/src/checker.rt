@@ -4,7 +4,8 @@ ghost use Rattle.wm_num.specs.Conversion.{source_of, target_of};
 ghost use Rattle.wm_ast.specs.Access.{access_order, access_width};
 ghost use Rattle.wm_ast.specs.declared.instr.Instr.TheVariants.{Call, GlobalSet, Access, MemorySize};
 ghost use Rattle.wm_valid.specs.Answers.{Answers, Turns, BrokenBy, IsIndexFault, IsUntyped};
-ghost use Rattle.wm_valid.specs.InstrTypes.{turns, func_type, type_of, exponent_of, is_aligned, access_type};
+ghost use Rattle.wm_ast.specs.Module.{func_type};
+ghost use Rattle.wm_valid.specs.InstrTypes.{turns, type_of, exponent_of, is_aligned, access_type};
 ghost use Rattle.wm_valid.specs.Stacks.{plain_on, made_by};
 
 use crate::fault::{FaultKind, Refusal};
@@ -31,6 +32,7 @@ pub(crate) struct Checker<'m> {
 }
 
 impl<'m> Model for Checker<'m> {
+    ghost use Rattle.wm_ast.specs.Module.{func_type};
     ghost use Rattle.wm_valid.specs.InstrTypes.{Context};
 
     ghost Value = { Context };
@@ -43,13 +45,9 @@ fn type_of_func(program: &Module, func: u32) -> Result<&FuncType, Refusal>
     ensures found { Answers (λ t. t.now) result (func_type program.now func) }
     ensures kind { IfErr result IsIndexFault }
 {
-    let Some(callee) = program.funcs.get(func as usize) else {
-        return Err(Refusal::Breaks(FaultKind::Index));
-    };
-    let Some(ty) = program.types.get(callee.type_index as usize) else {
-        return Err(Refusal::Breaks(FaultKind::Index));
-    };
-    Ok(ty)
+    program
+        .func_type(func as usize)
+        .ok_or(Refusal::Breaks(FaultKind::Index))
 }
 
 /// The type of the numbers of a width.

@@ -1,28 +1,15 @@
 //! The rules of a module outside its functions' instructions.
 ghost use Rattle.std.specs.Prelude.{◌≡◌, true, false, OnOk, IfErr, All};
-ghost use Rattle.wm_valid.specs.Memory.{pages_of};
 ghost use Rattle.wm_valid.specs.Valid.{GoodLimits, GoodGlobal, GoodExport, GoodData, Exports as IsExported, IsConstant};
 ghost use Rattle.wm_valid.specs.declared.fault.FaultKind.TheVariants.{MemoryLimits};
 ghost use Rattle.wm_valid.specs.Blame.{BreaksModule, BreaksData, HasType, HasNoType, IsGoodAt, GoodSections};
 
 use crate::fault::FaultKind;
+use wm_access::PAGE_BYTES;
 use wm_ast::{ConstExpr, DataSegment, Export, ExportKind, Func, Memory, Module, ValType};
-
-/// How many bytes a page of memory has (Core 1.0, section 4.2.8).
-pub(crate) const PAGE_BYTES: usize = 65_536;
 
 /// How many pages a memory may have at most (Core 1.0, section 3.2.5).
 const MAX_PAGES: u32 = 65_536;
-
-/// How many pages the memory has at first, 0 without one.
-pub(crate) fn pages(memory: &Option<Memory>) -> u32
-    ensures { result ≡ pages_of memory.now }
-{
-    match memory {
-        Some(memory) => memory.limits.minimum,
-        None => 0,
-    }
-}
 
 /// The memory's limits.
 fn limits(memory: &Option<Memory>) -> Result<(), FaultKind>
@@ -137,7 +124,7 @@ fn segment(program: &Module, one: &DataSegment) -> Result<(), FaultKind>
     let ConstExpr::I32(start) = one.offset else {
         return Err(FaultKind::BadType);
     };
-    let size = pages(&program.memory) as usize * PAGE_BYTES;
+    let size = program.pages() as usize * PAGE_BYTES;
     let long = one.bytes.len();
     if long > size || start as usize > size - long {
         return Err(FaultKind::DataOutOfRange);

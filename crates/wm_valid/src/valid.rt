@@ -1,17 +1,19 @@
 //! Modules that are valid.
-ghost use Rattle.std.specs.Prelude.{◌≡◌, OnOk, ◌<◌, ◌≤◌, ◌*◌, ◌++◌, IfOk, IfErr, Some, None, All, ℕ, length, slice_index, slice_get};
+ghost use Rattle.std.specs.Prelude.{◌≡◌, OnOk, ◌<◌, ◌≤◌, ◌++◌, IfOk, IfErr, Some, None, All, ℕ, length, slice_index, slice_get};
 ghost use Rattle.wm_valid.specs.Typing.{TypedFunc};
-ghost use Rattle.wm_valid.specs.Memory.{init, pages_of};
-ghost use Rattle.wm_valid.specs.Valid.{Valid};
+ghost use Rattle.wm_ast.specs.Module.{memory_size, pages_of};
+ghost use Rattle.wm_valid.specs.Memory.{init};
+ghost use Rattle.wm_valid.specs.Valid.{IsInit, Valid};
 ghost use Rattle.wm_valid.specs.Blame.{Breaks, HasType, JudgesFunc, JudgesBody};
 
 use crate::checker::Checker;
 use crate::fault::{Place, Refusal, ValidFault};
 use crate::image::image;
 use crate::labels::Labels;
-use crate::sections::{PAGE_BYTES, pages, sections};
+use crate::sections::sections;
 use std::alloc::{AllocError, Global};
 use std::marker::Model;
+use wm_access::PAGE_BYTES;
 use wm_ast::{Func, FuncType, Module, ValType};
 use wm_event::Initial;
 use wm_list::List;
@@ -47,21 +49,20 @@ impl ValidModule {
     pub fn pages(&self) -> u32
         ensures { result ≡ pages_of self.now.memory }
     {
-        pages(&self.program.memory)
+        self.program.pages()
     }
 
     /// The bytes that its memory begins with.
     pub fn initial(&self) -> &Initial
-        ensures size { length result.now ≡ pages_of self.now.memory * 65536 }
-        ensures bytes { (k : ℕ) → k < pages_of self.now.memory * 65536 → slice_index result.now k ≡ init self.now k }
+        ensures { IsInit self.now result.now }
     {
         &self.initial
     }
 
     /// Byte `k` of its memory at first, None at the length and past it.
     pub fn init_byte(&self, k: usize) -> Option<u8>
-        ensures within { k < pages_of self.now.memory * 65536 → result ≡ Some (init self.now k) }
-        ensures past { pages_of self.now.memory * 65536 ≤ k → result ≡ None }
+        ensures within { k < memory_size self.now → result ≡ Some (init self.now k) }
+        ensures past { memory_size self.now ≤ k → result ≡ None }
     {
         self.initial.byte(k)
     }
@@ -153,7 +154,7 @@ pub fn validate(alloc: Global, program: Module) -> Result<ValidModule, ValidFaul
         return Err(ValidFault::At(kind, Place::Module));
     }
     funcs(alloc, &program)?;
-    let size = pages(&program.memory) as usize * PAGE_BYTES;
+    let size = program.pages() as usize * PAGE_BYTES;
     let initial = image(alloc, size, program.data.as_slice())?;
     Ok(ValidModule { program, initial })
 }

@@ -12,7 +12,7 @@ returns-in-Err g c = λ module_bytes document_bytes is_module is_document.
       is_run = record {
         modules = is_module;
         document = is_document;
-        initial = record { size = c.initial.ensures.size; bytes = c.initial.ensures.bytes };
+        initial = c.initial.ensures;
       };
       first = c.in-Err.ensures.fault no_want;
       no_want = no_want;

@@ -1,4 +1,4 @@
-use Rattle.std.proofs.Common.{◌≡◌, rules}
+use Rattle.std.proofs.Common.{rules}
 use Rattle.std.specs.Prelude.{◌≢◌}
 use Rattle.wm_valid.specs.declared.fault.ValidFault.TheVariants.{OutOfMemory}
 use Rattle.wm_check.proofs.Invalid.{is_invalid}

@@ -3,7 +3,7 @@ use Rattle.std.specs.Prelude.{◌≢◌}
 use Rattle.wm_machine.specs.Run.{end_of as config_end}
 use Rattle.wm_machine.specs.State.{config_of}
 use Rattle.wm_replay.specs.declared.compare.Progress.TheVariants.{Made, Other, Rests}
-use Rattle.wm_replay.proofs.Comparing.{end_differs, followed, follows_in, is_run, left_differs, other_differs, rests_differs, runs_in, steps_as}
+use Rattle.wm_replay.proofs.Comparing.{end_differs, followed, follows_in, left_differs, other_differs, rests_differs, runs_in, steps_as}
 use Rattle.wm_replay.proofs.compare.differing_place.Goals as goal
 
 pub returns-in-Ok-Other : goal.returns-in-Ok-Other

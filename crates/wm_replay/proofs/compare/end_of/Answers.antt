@@ -1,4 +1,4 @@
-use Rattle.std.proofs.Common.{ap, sym, ◌∙◌}
+use Rattle.std.proofs.Common.{ap, sym}
 use Rattle.wm_machine.specs.Run.{end_of as config_end}
 use Rattle.wm_replay.proofs.Needs.{ended_of_need, going_of_need, still_goes}
 use Rattle.wm_replay.proofs.compare.end_of.Goals as goal
