@@ -1,6 +1,5 @@
 -- What is found in a module by its number.
 use Rattle.std.specs.Prelude.{ℕ, ◌*◌, List, Option, Some, None, slice_get, option_and_then}
-use Rattle.wm_access.specs.declared.TheConstants.{PAGE_BYTES}
 use Rattle.wm_ast.specs.declared.instr.Instr.{Instr}
 use Rattle.wm_ast.specs.declared.module.Func.{Func}
 use Rattle.wm_ast.specs.declared.module.Memory.{Memory}
@@ -20,6 +19,6 @@ abbrev pub pages_of : Option Memory → ℕ
 pages_of None = 0
 pages_of (Some memory) = memory.limits.minimum
 
--- how many bytes it has
+-- how many bytes it has at first: a page has 65,536
 abbrev pub memory_size : Module → ℕ
-memory_size m = pages_of m.memory * PAGE_BYTES
+memory_size m = pages_of m.memory * 65536

@@ -1,7 +1,6 @@
 -- What the program answers: its line, and the exit status.
 use Rattle.std.specs.Prelude.{◌≡◌, ◌≢◌, ℕ, ◌*◌, ◌≤◌, List, [], ◌∷◌, ◌++◌, Option, length, replicate}
 use Rattle.std.specs.Io.KnownBytes.{Appends}
-use Rattle.wm_access.specs.declared.TheConstants.{PAGE_BYTES}
 use Rattle.wm_check.specs.declared.verdict.Breach.{Breach}
 use Rattle.wm_check.specs.declared.verdict.Certificate.{Certificate}
 use Rattle.wm_check.specs.declared.verdict.Refusal.{Refusal}
@@ -25,9 +24,9 @@ use Rattle.wm_litmus.specs.Lines.{document_line_text, judgement_status, judgemen
 
 -- ---- the command `rules`
 
--- so many pages of zeros
+-- so many pages of zeros, of 65,536 bytes each
 unfoldable pub zeros : ℕ → List ℕ
-zeros pages = replicate (pages * PAGE_BYTES) 0
+zeros pages = replicate (pages * 65536) 0
 
 abbrev pub run_over : ℕ → List ThreadLog → Witness → LoggedRun
 run_over pages log witness = record { log = log; witness = witness; initial = zeros pages }
