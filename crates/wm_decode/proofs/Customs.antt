@@ -9,7 +9,7 @@ use Rattle.wm_decode.specs.Numbers.{IsBytes}
 use Rattle.wm_decode.specs.Reading.{◌>>=◌}
 use Rattle.wm_decode.specs.ReadingVectors.{byte_vector_at, sized_at}
 use Rattle.wm_decode.specs.ReadingModule.{custom_at, customs_at, customs_in}
-use Rattle.wm_decode.proofs.Steps.{bound, met, pair_is, fits_behind}
+use Rattle.wm_decode.proofs.Steps.{bound, met, pair_is, fits_behind, bind_same}
 use Rattle.wm_decode.proofs.Lawful.{byte_vector_takes}
 use Rattle.wm_decode.proofs.SoFar.{tail_of, front_is}
 
@@ -24,10 +24,6 @@ sized_rest {X} item_at bytes x rest fits e =
     let m = met (eqb (length b.0.1) 0) (let k : Result (X × List ℕ) Stop = Ok (b.0.0, a.0.1) in k) (x, rest) b.2 in
     let is = pair_is (b.0.0, a.0.1) (x, rest) m.1 in
     (t.0, t.1 ∙ ap (λ (l : List ℕ). t.0 ++ l) is.1)
-
-bind_same : {A B : Type 0} (o : Result A Stop) (f g : A → Result B Stop) → ((x : A) → o ≡ Ok x → f x ≡ g x) → (o >>= f) ≡ (o >>= g)
-bind_same (Ok x) f g h = h x refl
-bind_same (Err e) f g h = refl
 
 pub customs_same : (f g : ℕ) (bytes : List ℕ) → IsBytes bytes → length bytes ≤ f → length bytes ≤ g → customs_at f bytes ≡ customs_at g bytes
 unfolding customs_at

@@ -9,7 +9,7 @@ use Rattle.wm_decode.specs.Instructions.{block_type}
 use Rattle.wm_decode.specs.Reading.{◌>>=◌}
 use Rattle.wm_decode.specs.ReadingInstructions.{opened_at, Body, One, then_one, else_one, Reader, closed_with, framed_with, if_with, instr_with, instrs_at, instrs_in, instr_in}
 use Rattle.wm_decode.proofs.BodyAgain.{after}
-use Rattle.wm_decode.proofs.Steps.{fits_behind}
+use Rattle.wm_decode.proofs.Steps.{fits_behind, bind_same}
 use Rattle.wm_decode.proofs.BodyTakes.{Sound, instrs_take, instr_takes, opened_takes}
 
 pub are_bytes : (bytes : List ℕ) → ((i : ℕ) → get_or bytes i 0 < 256) → IsBytes bytes
@@ -23,10 +23,6 @@ module _ (read : Reader) (sound : Sound read) where
 
   pub fits_with : (room next op : ℕ) (bytes : List ℕ) (one : One) → op < 256 → IsBytes bytes → instr_with read room next op bytes ≡ Ok one → IsBytes one.rest
   fits_with room next op bytes one small fits e = let t = instr_takes read sound room next op bytes one fits e in fits_behind (op ∷ bytes) t.text one.rest (small, fits) t.parts
-
-bind_same : {A B : Type 0} (o : Result A Stop) (f g : A → Result B Stop) → ((x : A) → o ≡ Ok x → f x ≡ g x) → (o >>= f) ≡ (o >>= g)
-bind_same (Ok x) f g h = h x refl
-bind_same (Err e) f g h = refl
 
 abbrev Agree : ℕ → Reader → Reader → Type 0
 Agree k r s = (room next : ℕ) (bytes : List ℕ) → length bytes ≤ k → IsBytes bytes → r room next bytes ≡ s room next bytes

@@ -1,8 +1,7 @@
 -- The closure of the edges leads where something happens before something.
-use Rattle.std.proofs.Common.{◌≡◌, ℕ, suc, ◌+◌, ◌<◌, List, [], ◌∷◌, Bool, true, length, get_or, Option, Some, IsSome, refl, sym, subst, arith, ⊎_elim}
+use Rattle.std.proofs.Common.{◌≡◌, ℕ, suc, ◌+◌, ◌<◌, List, [], ◌∷◌, Bool, true, length, get_or, refl, arith, ⊎_elim}
 use Rattle.wm_event.specs.declared.event.EventId.{EventId}
 use Rattle.wm_event.specs.declared.event.EventId.TheVariants.{Init, At}
-use Rattle.wm_event.specs.declared.event.Event.{Event}
 use Rattle.wm_event.specs.HappensBefore.{Edge, Chain, HappensBefore, SequencedBefore, SynchronizesWith}
 use Rattle.wm_event.specs.Log.{event_in}
 use Rattle.wm_event.specs.LoggedRun.{LoggedRun, execution}
@@ -11,20 +10,18 @@ use Rattle.wm_rules.specs.Closure.{Chained, Reaches, leads}
 use Rattle.wm_rules.specs.HappensBefore.{AreBefore}
 use Rattle.wm_rules.specs.Nodes.{StandsAt, AreEdges}
 use Rattle.wm_rules.proofs.ClosureLemmas.{marks_inside}
+use Rattle.wm_rules.proofs.FaultLemmas.{some_of}
 use Rattle.wm_rules.proofs.Edges.{stands_inside, stands_some}
-
-is_there : (o : Option Event) (e : Event) → o ≡ Some e → IsSome o
-is_there o e h = subst (λ (p : Option Event). IsSome p) (sym h) refl
 
 edge_from : (run : LoggedRun) (a b : EventId) → Edge (execution run) a b → IsThere run.log a
 edge_from run Init b e = tt
 edge_from run (At a) Init e = absurd e
-edge_from run (At a) (At b) e = ⊎_elim (λ (s : SequencedBefore (execution run) a b). s.first) (λ (s : SynchronizesWith (execution run) a b). is_there (event_in run.log a) s.writer s.is_writer) e
+edge_from run (At a) (At b) e = ⊎_elim (λ (s : SequencedBefore (execution run) a b). s.first) (λ (s : SynchronizesWith (execution run) a b). some_of (event_in run.log a) s.writer s.is_writer) e
 
 edge_to : (run : LoggedRun) (a b : EventId) → Edge (execution run) a b → IsThere run.log b
 edge_to run a Init e = tt
 edge_to run Init (At b) e = e
-edge_to run (At a) (At b) e = ⊎_elim (λ (s : SequencedBefore (execution run) a b). s.second) (λ (s : SynchronizesWith (execution run) a b). is_there (event_in run.log b) s.reader s.is_reader) e
+edge_to run (At a) (At b) e = ⊎_elim (λ (s : SequencedBefore (execution run) a b). s.second) (λ (s : SynchronizesWith (execution run) a b). some_of (event_in run.log b) s.reader s.is_reader) e
 
 -- what happens before something is there
 pub before_from : (run : LoggedRun) (a b : EventId) → HappensBefore (execution run) a b → IsThere run.log a

@@ -1,5 +1,5 @@
 -- The cases of V5, and its faults at a byte.
-use Rattle.std.proofs.Common.{◌≡◌, ℕ, ◌<◌, ◌≤◌, [], ◌∷◌, Bool, IsTrue, ◌↔◌, Option, None, Some, IsSome, arith, refl, sym, subst}
+use Rattle.std.proofs.Common.{◌≡◌, ℕ, ◌<◌, ◌≤◌, [], ◌∷◌, Bool, IsTrue, ◌↔◌, Option, None, Some, IsSome, arith, refl, subst}
 use Rattle.std.specs.Option.{option_map}
 use Rattle.wm_event.specs.declared.event.Event.{Event}
 use Rattle.wm_event.specs.declared.event.EventKey.{EventKey}
@@ -18,7 +18,7 @@ use Rattle.wm_event.specs.Shape.{ListsEachOnce}
 use Rattle.wm_rules.specs.Others.{FindsListed}
 use Rattle.wm_rules.specs.Scan.{Finds, IsEventOf}
 use Rattle.wm_rules.proofs.CaseLemmas.{finds_other}
-use Rattle.wm_rules.proofs.FaultLemmas.{read_moves, rule_five, same_key_parts}
+use Rattle.wm_rules.proofs.FaultLemmas.{read_moves, rule_five, same_key_parts, some_of}
 
 -- of a writer that synchronizes with the read
 pub synchronized_if : (x : Execution) (w v : EventId) (u r : EventKey) (e : Event) (b : Bool) → w ≡ At u → SynchronizesWith x u r → IsTrue b ↔ HasRange x v e → IsTrue b ↔ Overtakes x w v r e 1
@@ -69,14 +69,11 @@ consistency_case x e k w there reads f u =
 under_case : (x : Execution) (t i k c : ℕ) (f : RuleFault) → Under (rank x) (Breaks x) (5 ∷ t ∷ i ∷ k ∷ c ∷ []) f → Under (rank x) (Breaks x) (5 ∷ t ∷ i ∷ k ∷ []) f
 under_case x t i k c f u = (u.0, (u.1.0, (u.1.1.0, (u.1.1.1.0, (u.1.1.1.1.0, tt)))))
 
-is_there : (o : Option Event) (e : Event) → o ≡ Some e → IsSome o
-is_there o e h = subst (λ (p : Option Event). IsSome p) (sym h) refl
-
 -- an atomic write is an event
 event_of_write : (x : Execution) (r : EventKey) (e : Event) (w v : EventId) (o : Option EventId) (c : ℕ) → o ≡ Some v → BreaksV5 x r e w v c
     → (u : EventKey) × (o ≡ Some (At u)) × IsSome (x.event_of u) × BreaksV5 x r e w (At u) c
 event_of_write x r e w Init o c is b = absurd (let none : None ≡ Some b.write.0 = b.write.1 in cc)
-event_of_write x r e w (At u) o c is b = (u, is, is_there (x.event_of u) b.write.0 b.write.1, b)
+event_of_write x r e w (At u) o c is b = (u, is, some_of (x.event_of u) b.write.0 b.write.1, b)
 
 pub out_of_order_finds : (run : LoggedRun) (e : Event) (k : ℕ) (w : EventId) (c : ℕ) → ListsEachOnce run.log run.witness.order → IsEventOf (execution run) e → ReadsFrom (execution run) (key_of e) k w
     → (r : Option EventKey) → FindsListed run.witness.order (λ v. BreaksV5 (execution run) (key_of e) e w (At v) c) r

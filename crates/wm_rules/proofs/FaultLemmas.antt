@@ -76,7 +76,7 @@ value_fault_some x e k w c there reads found = record {
     after : (f : RuleFault) → c ≤ f.case → NoLater (c ∷ 0 ∷ []) (f.case ∷ option_map_or (place x) f.other 0 ∷ [])
     after f h = (h, λ _. (omega arith, λ _. tt))
 
-some_of : {X : Type 0} (o : Option X) (y : X) → o ≡ Some y → IsSome o
+pub some_of : {X : Type 0} (o : Option X) (y : X) → o ≡ Some y → IsSome o
 some_of o y h = subst (λ o. IsSome o) (sym h) refl
 
 edge_listed : (x : Execution) (r p : EventKey) (k c : ℕ) → BreaksV2 x r p k c → IsSome (x.event_of r)

@@ -17,7 +17,7 @@ use Rattle.wm_event.specs.Shape.{ListsEachOnce}
 use Rattle.wm_rules.specs.Others.{FindsListed}
 use Rattle.wm_rules.specs.Scan.{Finds, IsEventOf}
 use Rattle.wm_rules.proofs.CaseLemmas.{finds_other, first_case, last_case}
-use Rattle.wm_rules.proofs.FaultLemmas.{read_moves, rule_four, same_key_parts}
+use Rattle.wm_rules.proofs.FaultLemmas.{read_moves, rule_four, same_key_parts, some_of}
 
 -- what a fault of V4 under a byte says
 tearing_says : (x : Execution) (e : Event) (k : ℕ) (w : EventId) → IsEventOf x e → ReadsFrom x (key_of e) k w
@@ -33,14 +33,11 @@ tearing_says x e k w there reads f u =
       ),
     )
 
-is_there : (o : Option Event) (e : Event) → o ≡ Some e → IsSome o
-is_there o e h = subst (λ (p : Option Event). IsSome p) (sym h) refl
-
 -- a tear-free writer is an event
 event_of_writer : (x : Execution) (r : EventKey) (e : Event) (k : ℕ) (w v : EventId) (o : Option EventId) → o ≡ Some v → BreaksV4 x r e k w v
     → (u : EventKey) × (o ≡ Some (At u)) × IsSome (x.event_of u) × BreaksV4 x r e k w (At u)
 event_of_writer x r e k w Init o is b = absurd (let none : None ≡ Some b.first.0 = b.first.1 in cc)
-event_of_writer x r e k w (At u) o is b = (u, is, is_there (x.event_of u) b.first.0 b.first.1, b)
+event_of_writer x r e k w (At u) o is b = (u, is, some_of (x.event_of u) b.first.0 b.first.1, b)
 
 pub tearing_finds : (run : LoggedRun) (e : Event) (k : ℕ) (w : EventId) → ListsEachOnce run.log run.witness.order → IsEventOf (execution run) e → ReadsFrom (execution run) (key_of e) k w
     → (r : Option EventKey) → FindsListed run.witness.order (λ v. BreaksV4 (execution run) (key_of e) e k w (At v)) r
