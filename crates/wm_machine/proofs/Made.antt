@@ -1,5 +1,5 @@
 -- The access that a step makes, seen from outside.
-use Rattle.std.proofs.Common.{◌≡◌, ℕ, zero, suc, ◌+◌, List, [], ◌∷◌, length, Option, Some, None, refl, ap, ◌∙◌, Bool, true, false}
+use Rattle.std.proofs.Common.{◌≡◌, ℕ, zero, suc, List, [], ◌∷◌, length, Option, Some, None, refl, ap, ◌∙◌, Bool, true, false}
 use Rattle.std.specs.Prelude.{if◌then◌else◌, nat_lt}
 use Rattle.wm_ast.specs.declared.module.Module.{Module}
 use Rattle.wm_ast.specs.declared.instr.Instr.{Instr}
@@ -16,7 +16,7 @@ use Rattle.wm_machine.specs.Nest.{Place}
 use Rattle.wm_machine.specs.Action.{does, op_of}
 use Rattle.wm_machine.specs.Configuration.{left_of}
 use Rattle.wm_machine.specs.Inside.{out_of_labels, call_step, vars_of, made_of}
-use Rattle.wm_machine.proofs.Lift.{labels_lift, acts}
+use Rattle.wm_machine.proofs.Lift.{labels_lift}
 use Rattle.wm_machine.proofs.Calls.{out_of_calls, calls_lift, running_in}
 
 made_gives : (vars : Vars) (operands : List TypedValue) (rest : List Instr) (o : Option (List TypedValue)) → made_of (gives vars operands rest o) ≡ None
@@ -110,10 +110,10 @@ made_at_end m read depth a globals h =
     ∙ made_labels m a.func vars a.levels.outer (reduce m read depth a.func vars here)
     ∙ ap (λ (i : List Instr). made_of (reduce m read depth a.func vars (Here a.levels.operands i))) h
 
-pub made_acting : (m : Module) (read depth : ℕ) (a : Activation) (globals : List TypedValue) (i : Instr) (action : Action) → todo m a.func a.levels.block a.levels.at ≡ i ∷ todo m a.func a.levels.block (a.levels.at + 1) → ((d r f : ℕ) (rest : List Instr) → act m d r f (vars_of a globals) a.levels.operands i rest ≡ does m d r f (vars_of a globals) a.levels.operands (i ∷ rest) action) → made_of (call_step m read depth a globals) ≡ op_of action
-made_acting m read depth a globals i action h f =
+pub made_first : (m : Module) (read depth : ℕ) (a : Activation) (globals : List TypedValue) (i : Instr) (rest : List Instr) → todo m a.func a.levels.block a.levels.at ≡ i ∷ rest → made_of (call_step m read depth a globals) ≡ made_of (act m depth read a.func (vars_of a globals) a.levels.operands i rest)
+made_first m read depth a globals i rest h =
     let vars = vars_of a globals in
-    let instrs = todo m a.func a.levels.block a.levels.at in
-    ap made_of (acts m read depth a.func vars a.levels i action h f)
-    ∙ made_labels m a.func vars a.levels.outer (does m depth read a.func vars a.levels.operands instrs action)
-    ∙ made_does m depth read a.func vars a.levels.operands instrs action
+    let here = Here a.levels.operands (todo m a.func a.levels.block a.levels.at) in
+    ap made_of (labels_lift m read depth a.func vars a.levels.outer here)
+    ∙ made_labels m a.func vars a.levels.outer (reduce m read depth a.func vars here)
+    ∙ ap (λ (is : List Instr). made_of (reduce m read depth a.func vars (Here a.levels.operands is))) h

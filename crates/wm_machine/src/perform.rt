@@ -6,7 +6,7 @@ ghost use Rattle.wm_machine.specs.declared.value.TypedValue.{TypedValue};
 ghost use Rattle.wm_machine.specs.Functions.{todo};
 ghost use Rattle.wm_machine.specs.Action.{does, popped_by, SetsWithin};
 ghost use Rattle.wm_machine.specs.Inside.{Goes, GivesBack, out_of_labels, call_step, vars_of, made_of};
-ghost use Rattle.wm_machine.specs.Step.{returned, land, stays, put_on};
+ghost use Rattle.wm_machine.specs.Step.{act, returned, land, stays, put_on};
 ghost use Rattle.wm_machine.specs.Term.{Leaves, Stuck, Vars};
 ghost use Rattle.wm_machine.specs.Nest.{carried_top};
 
@@ -14,7 +14,8 @@ use crate::action::Action;
 use crate::activation::{Activation, Reached};
 use crate::decide::decide;
 use crate::fault::AdvanceFault;
-use crate::memory::loaded;
+use crate::levels::Levels;
+use crate::memory::{access, loaded};
 use crate::value::TypedValue;
 use wm_ast::{Instr, Module};
 use wm_event::Op;
@@ -208,10 +209,23 @@ pub fn go_on(
     }
 }
 
-/// The access of the next step within a call, if it is one that does not trap.
-pub fn next_op(module: &Module, running: &Activation, globals: &[TypedValue]) -> Option<Op>
+/// The access that an instruction makes with these operands, if it is one that does not trap.
+fn op_of(module: &Module, instr: &Instr, levels: &Levels) -> Option<Op>
     requires { pages_of «module».now.memory ≤ 65536 }
-    ensures { (depth : ℕ) → (read : ℕ) → made_of (call_step «module».now read depth running.now globals.now) ≡ result }
+    ensures { (depth read func : ℕ) (vars : Vars) (rest : List Instr)
+        → made_of (act «module».now depth read func vars levels.now.operands instr.now rest) ≡ result }
+{
+    match instr {
+        Instr::Access(kind, operands) => access(module, levels, *kind, *operands).op(),
+        _ => None,
+    }
+}
+
+/// The access of the next step within a call, if it is one that does not trap.
+pub fn next_op(module: &Module, running: &Activation) -> Option<Op>
+    requires { pages_of «module».now.memory ≤ 65536 }
+    ensures { (depth read : ℕ) (globals : List TypedValue)
+        → made_of (call_step «module».now read depth running.now globals) ≡ result }
 {
     match instr_at(
         module,
@@ -220,13 +234,6 @@ pub fn next_op(module: &Module, running: &Activation, globals: &[TypedValue]) ->
         running.levels.at(),
     ) {
         None => None,
-        Some(instr) => decide(
-            module,
-            instr,
-            &running.levels,
-            running.locals.as_slice(),
-            globals,
-        )
-        .op(),
+        Some(instr) => op_of(module, instr, &running.levels),
     }
 }

@@ -128,7 +128,7 @@ impl<'m> Thread<'m> {
     {
         match self.end {
             Some(end) => Need::Ended(end),
-            None => match next_op(self.program, &self.running, self.globals.as_slice()) {
+            None => match next_op(self.program, &self.running) {
                 Some(op) => Need::Access(op),
                 None => Need::Local,
             },

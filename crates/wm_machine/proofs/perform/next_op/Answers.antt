@@ -1,16 +1,19 @@
-use Rattle.std.proofs.Common.{◌≡◌, ◌+◌, [], ◌∷◌, sym, refl, ◌∙◌}
+use Rattle.std.proofs.Common.{◌≡◌, ◌+◌, [], ◌∷◌, refl, ◌∙◌}
 use Rattle.wm_machine.specs.Functions.{todo}
-use Rattle.wm_machine.proofs.Made.{made_at_end, made_acting}
+use Rattle.wm_machine.specs.Inside.{vars_of}
+use Rattle.wm_machine.proofs.Made.{made_at_end, made_first}
 use Rattle.wm_machine.proofs.perform.next_op.Goals as goal
 
 pub returns-in-None : goal.returns-in-None
-returns-in-None c = λ depth read.
+returns-in-None c = λ depth read globals.
     let a = c.args.running.now in
     let h : todo c.args.module.now a.func a.levels.block a.levels.at ≡ [] = rw (c.block.ensures, c.at.ensures) at (c.in-None.ensures.none refl) in
-    made_at_end c.args.module.now read depth a c.args.globals.now h
+    made_at_end c.args.module.now read depth a globals h
 
 pub returns-in-Some : goal.returns-in-Some
-returns-in-Some c = λ depth read.
+returns-in-Some c = λ depth read globals.
+    let m = c.args.module.now in
     let a = c.args.running.now in
-    let h : todo c.args.module.now a.func a.levels.block a.levels.at ≡ c.in-Some.instr.now ∷ todo c.args.module.now a.func a.levels.block (a.levels.at + 1) = rw (c.block.ensures, c.at.ensures) at c.in-Some.ensures.some in
-    made_acting c.args.module.now read depth a c.args.globals.now c.in-Some.instr.now c.decide.result h (λ d r f rest. rw c.as_slice.ensures at (c.decide.ensures.means d r f rest)) ∙ sym c.op.ensures
+    let rest = todo m a.func a.levels.block (a.levels.at + 1) in
+    let h : todo m a.func a.levels.block a.levels.at ≡ c.in-Some.instr.now ∷ rest = rw (c.block.ensures, c.at.ensures) at c.in-Some.ensures.some in
+    made_first m read depth a globals c.in-Some.instr.now rest h ∙ c.op_of.ensures depth read a.func (vars_of a globals) rest

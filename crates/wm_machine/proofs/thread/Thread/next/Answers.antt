@@ -8,7 +8,7 @@ returns-in-Some-next_op c = λ read.
     let s = c.self.inside in
     let cs = reverse s.callers.items in
     let e : s.end ≡ None = c.in-None.is in
-    let g = rw c.as_slice.ensures at (c.in-Some-next_op.ensures (suc (length cs)) read) in
+    let g = c.in-Some-next_op.ensures (suc (length cs)) read s.globals in
     let t = made_step s.program.now read s.globals cs s.running ∙ g in
     rw (← c.self.view_is, e) (sym (ap as_need t))
 
@@ -17,6 +17,6 @@ returns-in-None-next_op c = λ read.
     let s = c.self.inside in
     let cs = reverse s.callers.items in
     let e : s.end ≡ None = c.in-None.is in
-    let g = rw c.as_slice.ensures at (c.in-None-next_op.ensures (suc (length cs)) read) in
+    let g = c.in-None-next_op.ensures (suc (length cs)) read s.globals in
     let t = made_step s.program.now read s.globals cs s.running ∙ g in
     rw (← c.self.view_is, e) (sym (ap as_need t))
