@@ -1,5 +1,6 @@
 -- What the program answers: its line, and the exit status.
-use Rattle.std.specs.Prelude.{◌≡◌, ◌≢◌, ℕ, ◌*◌, ◌≤◌, List, [], ◌∷◌, ◌++◌, Option, length, replicate}
+use Rattle.std.specs.Prelude.{◌≡◌, ℕ, ◌*◌, List, [], ◌∷◌, ◌++◌, Option, replicate}
+use Rattle.std.specs.Borrow.{Bor}
 use Rattle.std.specs.Io.KnownBytes.{Appends}
 use Rattle.wm_check.specs.declared.verdict.Breach.{Breach}
 use Rattle.wm_check.specs.declared.verdict.Certificate.{Certificate}
@@ -19,6 +20,9 @@ use Rattle.wm_logfile.specs.declared.TheConstants.{MAX_DOCUMENT_BYTES}
 use Rattle.wm_logfile.specs.declared.fault.DocFault.{DocFault}
 use Rattle.wm_logfile.specs.DocumentBytes.{IsDocumentOf, IsNoDocument}
 use Rattle.wm_litmus.specs.declared.TheConstants.{INITIAL_PAGES}
+use Rattle.clap.specs.Words.{Text}
+use Rattle.wm_litmus.specs.declared.command.Command.TheVariants.{Rules, Check}
+use Rattle.wm_litmus.specs.Commands.{IsCommand, IsNoCommand}
 use Rattle.wm_litmus.specs.Input.{IsReadOf}
 use Rattle.wm_litmus.specs.Lines.{document_line_text, judgement_status, judgement_text, shape_line_text, verdict_text, words_line_text}
 
@@ -59,15 +63,16 @@ pub data AnswersCheck (module_bytes document_bytes : List ℕ) (status : ℕ) (l
 -- ---- the program
 
 -- the status and the line that answer the words, where those of `input` are the bytes of `-`
-pub data IsAnswer (input : Option (List ℕ)) (status : ℕ) (line : List ℕ) : Type 0 where
-  no_command : status ≡ 2 → line ≡ words_line_text → IsAnswer input status line
-  rules_of : (name bytes : List ℕ) → IsReadOf input MAX_DOCUMENT_BYTES name bytes
-      → AnswersRules bytes status line → IsAnswer input status line
-  check_of : (module_bytes name bytes : List ℕ) → IsReadOf input MAX_DOCUMENT_BYTES name bytes
-      → AnswersCheck module_bytes bytes status line → IsAnswer input status line
+pub data IsAnswer (words : List Text) (input : Option (List ℕ)) (status : ℕ) (line : List ℕ) : Type 0 where
+  no_command : IsNoCommand words → status ≡ 2 → line ≡ words_line_text → IsAnswer words input status line
+  rules_of : (document : Bor Text) (bytes : List ℕ) → IsCommand words (Rules document) → IsReadOf input MAX_DOCUMENT_BYTES document.now bytes
+      → AnswersRules bytes status line → IsAnswer words input status line
+  check_of : (program document : Bor Text) (module_bytes bytes : List ℕ) → IsCommand words (Check program document)
+      → IsReadOf input MAX_DOCUMENT_BYTES document.now bytes
+      → AnswersCheck module_bytes bytes status line → IsAnswer words input status line
 
 -- the writer gains one line, that of an answer of this status
-pub record WritesAnswer (input old new : Option (List ℕ)) (status : ℕ) : Type 0 where
+pub record WritesAnswer (words : List Text) (input old new : Option (List ℕ)) (status : ℕ) : Type 0 where
   pub line : List ℕ
-  pub answers : IsAnswer input status line
+  pub answers : IsAnswer words input status line
   pub gains : Appends old new (line ++ 10 ∷ [])

@@ -1,11 +1,12 @@
 //! The command line.
-ghost use Rattle.std.specs.Prelude.{◌≡◌};
-ghost use Rattle.clap.specs.Words.{kind_of};
-ghost use Rattle.wm_litmus.specs.Commands.{fault_of_kind};
-ghost use Rattle.wm_litmus.specs.declared.command.CommandFault.TheVariants.{OutOfMemory};
+ghost use Rattle.std.specs.Prelude.{◌≡◌, false, Err, IfOk, IfSome, None, map};
+ghost use Rattle.clap.specs.Words.{app_of, kind_of, rule_of, subcommand_rows_of};
+ghost use Rattle.wm_litmus.specs.Commands.{IsCommand, IsNoCommand, Means, fault_of_kind, wmlab_app, word_rule};
+ghost use Rattle.wm_litmus.specs.declared.command.Command.{Command};
+ghost use Rattle.wm_litmus.specs.declared.command.CommandFault.TheVariants.{OutOfMemory, Words};
 
 use clap::error::ErrorKind;
-use clap::{Arg, ArgAction, Command as Parser, Error};
+use clap::{Arg, ArgAction, ArgMatches, Command as Parser, Error};
 use std::alloc::{AllocError, Global};
 
 /// What the program is to do.
@@ -43,25 +44,25 @@ impl From<Error> for CommandFault {
     }
 }
 
-/// A command that prints no help and no version.
-fn plain<'a>(alloc: Global, name: &'a str) -> Parser<'a> {
-    Parser::new(alloc, name)
-        .disable_help_flag(true)
-        .disable_version_flag(true)
-}
-
 /// A word that has to stand.
-fn word<'a>(alloc: Global, name: &'a str) -> Arg<'a> {
+fn word<'a>(alloc: Global, name: &'a str) -> Arg<'a>
+    ensures rule { rule_of result ≡ word_rule name.now }
+    ensures own { result.global ≡ false }
+{
     Arg::new(alloc, name).required(true).action(ArgAction::Set)
 }
 
 /// The commands and their words.
-fn parser<'a>(alloc: Global) -> Result<Parser<'a>, AllocError> {
-    let rules = plain(alloc, "rules").arg(word(alloc, "document"))?;
-    let check = plain(alloc, "check")
+fn parser<'a>(alloc: Global) -> Result<Parser<'a>, AllocError>
+    ensures { IfOk result (λ parser. app_of parser ≡ wmlab_app) }
+{
+    let rules = Parser::new(alloc, "rules").arg(word(alloc, "document"))?;
+    let check = Parser::new(alloc, "check")
         .arg(word(alloc, "module"))?
         .arg(word(alloc, "document"))?;
-    plain(alloc, "wmlab")
+    Parser::new(alloc, "wmlab")
+        .disable_help_flag(true)
+        .disable_version_flag(true)
         .no_binary_name(true)
         .disable_help_subcommand(true)
         .subcommand_required(true)
@@ -69,21 +70,39 @@ fn parser<'a>(alloc: Global) -> Result<Parser<'a>, AllocError> {
         .subcommand(check)
 }
 
-/// The command that `words`, those after the program's name, give. A word other than `-` that begins with
-/// `-` is in none.
-pub fn read_command<'a>(alloc: Global, words: &'a [&'a str]) -> Result<Command<'a>, CommandFault> {
+/// The command that was named, with its words.
+fn named<'a>(matches: &ArgMatches<'a>) -> Option<Command<'a>>
+    ensures some { IfSome result (Means (subcommand_rows_of matches.now)) }
+    ensures none { result ≡ None → (command : Command) → Means (subcommand_rows_of matches.now) command → ⊥ }
+{
+    let (name, words) = matches.subcommand()?;
+    match name {
+        "rules" => {
+            let document = words.get_str("document")?;
+            Some(Command::Rules { document })
+        }
+        "check" => {
+            let module = words.get_str("module")?;
+            let document = words.get_str("document")?;
+            Some(Command::Check { module, document })
+        }
+        _ => None,
+    }
+}
+
+/// The command that `words`, those after the program's name, are by clap's model of the parse. A word other than `-`
+/// that begins with `-` is in none.
+pub fn read_command<'a>(alloc: Global, words: &'a [&'a str]) -> Result<Command<'a>, CommandFault>
+    ensures read { IfOk result (IsCommand (map (λ word. word.now) words.now)) }
+    ensures refused { result ≡ Err Words → IsNoCommand (map (λ word. word.now) words.now) }
+{
     // clap takes `--` as the end of the options.
     if words.contains(&"--") {
         return Err(CommandFault::Words);
     }
-    let parser = parser(alloc)?;
-    let matches = parser.try_get_matches_from(words)?;
-    let Some((name, words)) = matches.subcommand() else {
-        return Err(CommandFault::Words);
-    };
-    match (name, words.get_str("module"), words.get_str("document")) {
-        ("rules", _, Some(document)) => Ok(Command::Rules { document }),
-        ("check", Some(module), Some(document)) => Ok(Command::Check { module, document }),
-        _ => Err(CommandFault::Words),
+    let matches = parser(alloc)?.try_get_matches_from(words)?;
+    match named(&matches) {
+        Some(command) => Ok(command),
+        None => Err(CommandFault::Words),
     }
 }

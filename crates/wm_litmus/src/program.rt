@@ -1,5 +1,5 @@
 //! The whole program.
-ghost use Rattle.std.specs.Prelude.{◌≡◌, ◌+◌, ◌^◌, ◌∷◌, ◌++◌, [], ◌≤◌, ◌<◌, IfErr, IfOk, IfSome, OnOk, string_bytes, take, vec_len};
+ghost use Rattle.std.specs.Prelude.{◌≡◌, ◌+◌, ◌^◌, ◌∷◌, ◌++◌, [], ◌≤◌, ◌<◌, IfErr, IfOk, IfSome, OnOk, map, string_bytes, take, vec_len};
 ghost use Rattle.std.specs.Io.KnownBytes.{Appends};
 ghost use Rattle.wm_logfile.specs.declared.TheConstants.{MAX_DOCUMENT_BYTES};
 ghost use Rattle.wm_litmus.specs.Answers.{IsAnswer, WritesAnswer};
@@ -96,7 +96,7 @@ fn answer_of<'a, R: AllocGlobal, F: Files, I: Read>(
 ) -> Result<Answer, Stop<'a>>
     requires { F.failures_of files.old + 1 < 2 ^ 64 }
     ensures answers { IfOk result (λ answer.
-        IsAnswer (I.remaining input.old) answer.status (string_bytes answer.text)) }
+        IsAnswer (map (λ word. word.now) words.now) (I.remaining input.old) answer.status (string_bytes answer.text)) }
     ensures unread { IfErr result (λ stop. IsUnreadFile stop
         → F.failures_of files.old < F.failures_of files.new) }
 {
@@ -132,8 +132,8 @@ fn write_line<W: Write>(out: &mut W, line: &str) -> io::Result<()>
 /// then the document, and checks its run against the module and the memory rules.
 ///
 /// Each file is read to its limit and one byte more, in at most that many reads, and any failed read ends
-/// the program. The clauses speak of the line and the status, and of the bytes of `input` where the document
-/// is `-`; which words are a command, what a file holds and the lines on `err` are shown by tests.
+/// the program. The clauses speak of the words, by clap's model of the parse, of the line and the status, and of the
+/// bytes of `input` where the document is `-`; what a file holds and the lines on `err` are shown by tests.
 ///
 /// # Errors
 ///
@@ -151,7 +151,7 @@ pub fn serve<R: AllocGlobal, F: Files, I: Read, O: Write, E: Write>(
     requires { F.failures_of files.old + 1 < 2 ^ 64 }
     ensures status { result ≤ 3 }
     ensures answers { result < 3
-        → WritesAnswer (I.remaining input.old) (O.contents out.old) (O.contents out.new) result }
+        → WritesAnswer (map (λ word. word.now) words.now) (I.remaining input.old) (O.contents out.old) (O.contents out.new) result }
     ensures silent { result < 3 → err.new ≡ err.old }
 {
     match answer_of(rt, words, files, input) {

@@ -7,7 +7,7 @@ pub returns-in_ok-rules_answer-in-Ok-Rules-clause-answers : goal.returns-in_ok-r
 returns-in_ok-rules_answer-in-Ok-Rules-clause-answers g c =
     let answer = c.in_ok-rules_answer-in-Ok-Rules.field-0 in
     let slice : c.as_slice.result.now ≡ c.in_ok-bytes-in-Ok-Rules.bytes.items = c.as_slice.ensures.value in
-    rules_of _ c.in_ok-bytes-in-Ok-Rules.bytes.items c.in_ok-bytes-in-Ok-Rules.ensures.known
+    rules_of c.in-Ok-Rules.document c.in_ok-bytes-in-Ok-Rules.bytes.items (rw c.in-Ok-Rules.field-0-is at c.in-Ok-Rules.ensures.read) c.in_ok-bytes-in-Ok-Rules.ensures.known
     (subst (λ bytes. AnswersRules bytes answer.status (string_bytes answer.text)) slice c.in_ok-rules_answer-in-Ok-Rules.ensures)
 
 pub returns-in_ok-check_answer-in-Ok-Check-clause-answers :
@@ -18,7 +18,7 @@ returns-in_ok-check_answer-in-Ok-Check-clause-answers g c =
     let modules = c.in_ok-module_bytes-in-Ok-Check.module_bytes in
     let of_module : c.as_slice-in-Ok-Check.result.now ≡ modules.items = c.as_slice-in-Ok-Check.ensures.value in
     let of_document : c.as_slice-in-Ok-Check-2.result.now ≡ read.document_bytes.items = c.as_slice-in-Ok-Check-2.ensures.value in
-    check_of modules.items _ read.document_bytes.items read.ensures.known
+    check_of c.in-Ok-Check.module c.in-Ok-Check.document modules.items read.document_bytes.items (rw c.in-Ok-Check.field-0-is at c.in-Ok-Check.ensures.read) read.ensures.known
     (subst (λ bytes. AnswersCheck modules.items bytes answer.status (string_bytes answer.text)) of_document
     (subst (λ bytes. AnswersCheck bytes c.as_slice-in-Ok-Check-2.result.now answer.status (string_bytes answer.text)) of_module
     c.in_ok-check_answer-in-Ok-Check.ensures))

@@ -1,0 +1,87 @@
+-- The subcommand that was met, and what its words mean.
+use Rattle.std.proofs.Common.{◌≡◌, ℕ, zero, suc, ◌<◌, ◌≤◌, true, false, List, [], ◌∷◌, length, get_or, map, slice_index, Option, None, Some, option_map, codes, refl, sym, ap, ap₂, ◌∙◌, arith, Bor}
+use Rattle.std.specs.Prelude.{Contains}
+use Rattle.std.specs.Str.{bytes_eq}
+use Rattle.std.proofs.lemmas.List.{length-map}
+use Rattle.std.proofs.lemmas.Slice.Eq.{bytes_eq-Decides}
+use Rattle.std.proofs.lemmas.Option.{same_Some}
+use Rattle.clap.specs.Words.{Row, Text, first_of, first_value, found_of, rows_of, subcommand_name_of, subcommand_rows_of}
+use Rattle.clap.specs.declared.parser.matches.ArgMatches.{ArgMatches}
+use Rattle.clap.specs.declared.parser.matches.Found.{Found}
+use Rattle.clap.proofs.WalkLemmas.{first_value-rows}
+use Rattle.wm_litmus.specs.Commands.{Means}
+use Rattle.wm_litmus.specs.declared.command.Command.{Command}
+use Rattle.wm_litmus.specs.declared.command.Command.TheVariants.{Rules, Check}
+
+-- the first parts of pairs
+first_parts : {X Y Z : Type 0} (f : X → Y) (g : X → Z) (o : Option X) → option_map f o ≡ option_map (λ (p : Y × Z). p.0) (option_map (λ x. (f x, g x)) o)
+first_parts f g None = refl
+first_parts f g (Some x) = refl
+
+pair_of : (o : Option (Text × List Row)) (name : Text) (rows : List Row) → Some name ≡ option_map (λ (p : Text × List Row). p.0) o → Some rows ≡ option_map (λ (p : Text × List Row). p.1) o → o ≡ Some (name, rows)
+pair_of None name rows h k = absurd cc
+pair_of (Some p) name rows h k = let a : p.0 ≡ name = cc in let b : p.1 ≡ rows = cc in ap₂ (λ (x : Text) (y : List Row). Some (x, y)) a b
+
+-- its name and its rows
+pub entered_is : (m : ArgMatches) (r : Option (Bor Text × Bor ArgMatches)) (name : Bor Text) (words : Bor ArgMatches) → r ≡ Some (name, words)
+    → option_map (λ (p : Bor Text × Bor ArgMatches). p.0.now) r ≡ subcommand_name_of m
+    → option_map (λ (p : Bor Text × Bor ArgMatches). rows_of (found_of p.1.now)) r ≡ option_map (λ (p : Text × List Row). p.1) (subcommand_rows_of m)
+    → subcommand_rows_of m ≡ Some (name.now, rows_of (found_of words.now))
+entered_is m r name words is named rows =
+    pair_of (subcommand_rows_of m) name.now (rows_of (found_of words.now))
+    (sym (ap (option_map (λ (p : Bor Text × Bor ArgMatches). p.0.now)) is) ∙ named ∙ first_parts _ _ _)
+    (sym (ap (option_map (λ (p : Bor Text × Bor ArgMatches). rows_of (found_of p.1.now))) is) ∙ rows)
+
+-- the value of a word, and that there is none
+pub value_is : (f : Found) (id : Text) (o : Option (Bor Text)) (v : Bor Text) → o ≡ Some v → option_map (λ (s : Bor Text). s.now) o ≡ first_value f id → first_of id (rows_of f) ≡ Some v.now
+value_is f id o v is got = sym (first_value-rows f id) ∙ sym got ∙ ap (option_map (λ (s : Bor Text). s.now)) is
+
+pub no_value : (f : Found) (id : Text) (o : Option (Bor Text)) → o ≡ None → option_map (λ (s : Bor Text). s.now) o ≡ first_value f id → first_of id (rows_of f) ≡ None
+no_value f id o is got = sym (first_value-rows f id) ∙ sym got ∙ ap (option_map (λ (s : Bor Text). s.now)) is
+
+-- one subcommand has one name and one list of rows
+parts : (found : Option (Text × List Row)) (name other : Text) (rows others : List Row) → found ≡ Some (name, rows) → found ≡ Some (other, others) → (name ≡ other) × (rows ≡ others)
+parts found name other rows others is also =
+    let same = same_Some (name, rows) (other, others) (sym is ∙ also) in
+    (ap (λ (p : Text × List Row). p.0) same, ap (λ (p : Text × List Row). p.1) same)
+
+apart : (name : Text) → codes "rules" ≡ name → codes "check" ≡ name → ⊥
+apart name e h = let first : slice_index (codes "rules") 0 ≡ slice_index (codes "check") 0 = ap (λ (t : Text). slice_index t 0) (e ∙ sym h) in absurd (omega arith)
+
+-- a subcommand without one of its words is no command
+pub no_rules : (found : Option (Text × List Row)) (rows : List Row) → found ≡ Some (codes "rules", rows) → first_of (codes "document") rows ≡ None → (command : Command) → Means found command → ⊥
+no_rules found rows is none (Rules d) means =
+    let same = parts found (codes "rules") (codes "rules") rows means.0 is means.1 in
+    let no : None ≡ Some d.now = sym none ∙ ap (first_of (codes "document")) same.1 ∙ means.2 in cc
+no_rules found rows is none (Check m d) means = apart (codes "check") (parts found (codes "rules") (codes "check") rows means.0 is means.1).0 refl
+
+pub no_module : (found : Option (Text × List Row)) (rows : List Row) → found ≡ Some (codes "check", rows) → first_of (codes "module") rows ≡ None → (command : Command) → Means found command → ⊥
+no_module found rows is none (Rules d) means = apart (codes "rules") refl (parts found (codes "check") (codes "rules") rows means.0 is means.1).0
+no_module found rows is none (Check m d) means =
+    let same = parts found (codes "check") (codes "check") rows means.0 is means.1 in
+    let no : None ≡ Some m.now = sym none ∙ ap (first_of (codes "module")) same.1 ∙ means.2 in cc
+
+pub no_document : (found : Option (Text × List Row)) (rows : List Row) → found ≡ Some (codes "check", rows) → first_of (codes "document") rows ≡ None → (command : Command) → Means found command → ⊥
+no_document found rows is none (Rules d) means = apart (codes "rules") refl (parts found (codes "check") (codes "rules") rows means.0 is means.1).0
+no_document found rows is none (Check m d) means =
+    let same = parts found (codes "check") (codes "check") rows means.0 is means.1 in
+    let no : None ≡ Some d.now = sym none ∙ ap (first_of (codes "document")) same.1 ∙ means.3 in cc
+
+-- a word is there as a text where one of the words is that text
+word_at : (ws : List (Bor Text)) (t : Text) (k : ℕ) → k < length ws → ((d : Bor Text) → bytes_eq (get_or ws k d).now t ≡ true) → get_or (map (λ (w : Bor Text). w.now) ws) k t ≡ t
+word_at [] t k below same = absurd (omega arith)
+word_at (w ∷ ws) t zero below same = (bytes_eq-Decides w.now t).0 (same w)
+word_at (w ∷ ws) t (suc k) below same = word_at ws t k (omega arith) same
+
+no_word_at : (ws : List (Bor Text)) (t : Text) (k : ℕ) → k < length ws → ((d : Bor Text) → bytes_eq (get_or ws k d).now t ≡ false) → get_or (map (λ (w : Bor Text). w.now) ws) k t ≡ t → ⊥
+no_word_at [] t k below other is = absurd (omega arith)
+no_word_at (w ∷ ws) t zero below other is = let both : true ≡ false = sym ((bytes_eq-Decides w.now t).1 is) ∙ other w in cc
+no_word_at (w ∷ ws) t (suc k) below other is = no_word_at ws t k (omega arith) other is
+
+pub has_word : (ws : List (Bor Text)) (t : Text) (k : ℕ) → k < length ws → ((d : Bor Text) → bytes_eq (get_or ws k d).now t ≡ true) → Contains (map (λ (w : Bor Text). w.now) ws) t
+has_word ws t k below same = (k, omega (arith, below, length-map ws (λ (w : Bor Text). w.now)), word_at ws t k below same)
+
+pub has_no_word : (ws : List (Bor Text)) (t : Text) → ((k : ℕ) (d : Bor Text) → 0 ≤ k → k < length ws → bytes_eq (get_or ws k d).now t ≡ false) → Contains (map (λ (w : Bor Text). w.now) ws) t → ⊥
+has_no_word ws t none has =
+    let below : has.0 < length ws = omega (arith, has.1, length-map ws (λ (w : Bor Text). w.now)) in
+    no_word_at ws t has.0 below (λ d. none has.0 d (omega arith) below) has.2

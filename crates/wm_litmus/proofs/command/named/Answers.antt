@@ -1,0 +1,48 @@
+use Rattle.std.proofs.Common.{◌≡◌, ◌∙◌, ap, codes, Some}
+use Rattle.clap.specs.Words.{Text, found_of, rows_of, subcommand_rows_of}
+use Rattle.wm_litmus.proofs.Entered.{entered_is, no_document, no_module, no_rules, no_value, value_is}
+use Rattle.wm_litmus.proofs.command.named.Goals as goal
+
+pub returns-in_err-document-in-rules-clause-none : goal.returns-in_err-document-in-rules-clause-none
+returns-in_err-document-in-rules-clause-none c = λ _.
+    let f = found_of c.in_ok-name.words.now in
+    let is : subcommand_rows_of c.args.matches.now ≡ Some (codes "rules", rows_of f) =
+    entered_is c.args.matches.now c.subcommand.result c.in_ok-name.name c.in_ok-name.words c.in_ok-name.was c.subcommand.ensures.name c.subcommand.ensures.rows
+    ∙ ap (λ (t : Text). Some (t, rows_of f)) c.in-rules.is in
+    no_rules (subcommand_rows_of c.args.matches.now) (rows_of f) is (no_value f (codes "document") c.get_str.result c.in_err-document-in-rules.was c.get_str.ensures)
+
+pub returns-in_err-module-in-check-clause-none : goal.returns-in_err-module-in-check-clause-none
+returns-in_err-module-in-check-clause-none c = λ _.
+    let f = found_of c.in_ok-name.words.now in
+    let is : subcommand_rows_of c.args.matches.now ≡ Some (codes "check", rows_of f) =
+    entered_is c.args.matches.now c.subcommand.result c.in_ok-name.name c.in_ok-name.words c.in_ok-name.was c.subcommand.ensures.name c.subcommand.ensures.rows
+    ∙ ap (λ (t : Text). Some (t, rows_of f)) c.in-check.is in
+    no_module (subcommand_rows_of c.args.matches.now) (rows_of f) is (no_value f (codes "module") c.get_str-in-check.result c.in_err-module-in-check.was c.get_str-in-check.ensures)
+
+pub returns-in_err-document-in-check-clause-none : goal.returns-in_err-document-in-check-clause-none
+returns-in_err-document-in-check-clause-none c = λ _.
+    let f = found_of c.in_ok-name.words.now in
+    let is : subcommand_rows_of c.args.matches.now ≡ Some (codes "check", rows_of f) =
+    entered_is c.args.matches.now c.subcommand.result c.in_ok-name.name c.in_ok-name.words c.in_ok-name.was c.subcommand.ensures.name c.subcommand.ensures.rows
+    ∙ ap (λ (t : Text). Some (t, rows_of f)) c.in-check.is in
+    no_document (subcommand_rows_of c.args.matches.now) (rows_of f) is (no_value f (codes "document") c.get_str-in-check-2.result c.in_err-document-in-check.was c.get_str-in-check-2.ensures)
+
+pub returns-in_ok-document-in-rules-clause-some : goal.returns-in_ok-document-in-rules-clause-some
+returns-in_ok-document-in-rules-clause-some c =
+    let f = found_of c.in_ok-name.words.now in
+    let is : subcommand_rows_of c.args.matches.now ≡ Some (codes "rules", rows_of f) =
+    entered_is c.args.matches.now c.subcommand.result c.in_ok-name.name c.in_ok-name.words c.in_ok-name.was c.subcommand.ensures.name c.subcommand.ensures.rows
+    ∙ ap (λ (t : Text). Some (t, rows_of f)) c.in-rules.is in
+    (rows_of f, is, value_is f (codes "document") c.get_str.result c.in_ok-document-in-rules.document c.in_ok-document-in-rules.was c.get_str.ensures)
+
+pub returns-in_ok-document-in-check-clause-some : goal.returns-in_ok-document-in-check-clause-some
+returns-in_ok-document-in-check-clause-some c =
+    let f = found_of c.in_ok-name.words.now in
+    let is : subcommand_rows_of c.args.matches.now ≡ Some (codes "check", rows_of f) =
+    entered_is c.args.matches.now c.subcommand.result c.in_ok-name.name c.in_ok-name.words c.in_ok-name.was c.subcommand.ensures.name c.subcommand.ensures.rows
+    ∙ ap (λ (t : Text). Some (t, rows_of f)) c.in-check.is in (
+      rows_of f,
+      is,
+      value_is f (codes "module") c.get_str-in-check.result c.in_ok-module-in-check.module c.in_ok-module-in-check.was c.get_str-in-check.ensures,
+      value_is f (codes "document") c.get_str-in-check-2.result c.in_ok-document-in-check.document c.in_ok-document-in-check.was c.get_str-in-check-2.ensures,
+    )
