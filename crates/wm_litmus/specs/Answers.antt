@@ -16,6 +16,7 @@ use Rattle.wm_event.specs.Faults.{Judges}
 use Rattle.wm_event.specs.First.{IsFirst}
 use Rattle.wm_event.specs.LoggedRun.{LoggedRun, execution}
 use Rattle.wm_event.specs.Shape.{IsWellShaped, Misshapes, shape_rank}
+use Rattle.wm_decode.specs.declared.bounds.TheConstants.{MODULE_BYTES}
 use Rattle.wm_logfile.specs.declared.TheConstants.{MAX_DOCUMENT_BYTES}
 use Rattle.wm_logfile.specs.declared.fault.DocFault.{DocFault}
 use Rattle.wm_logfile.specs.DocumentBytes.{IsDocumentOf, IsNoDocument}
@@ -23,7 +24,7 @@ use Rattle.wm_litmus.specs.declared.TheConstants.{INITIAL_PAGES}
 use Rattle.clap.specs.Words.{Text}
 use Rattle.wm_litmus.specs.declared.command.Command.TheVariants.{Rules, Check}
 use Rattle.wm_litmus.specs.Commands.{IsCommand, IsNoCommand}
-use Rattle.wm_litmus.specs.Input.{IsReadOf}
+use Rattle.wm_litmus.specs.Input.{IsDocumentRead, IsReadOf}
 use Rattle.wm_litmus.specs.Lines.{document_line_text, judgement_status, judgement_text, shape_line_text, verdict_text, words_line_text}
 
 -- ---- the command `rules`
@@ -62,17 +63,28 @@ pub data AnswersCheck (module_bytes document_bytes : List ℕ) (status : ℕ) (l
 
 -- ---- the program
 
--- the status and the line that answer the words, where those of `input` are the bytes of `-`
-pub data IsAnswer (words : List Text) (input : Option (List ℕ)) (status : ℕ) (line : List ℕ) : Type 0 where
-  no_command : IsNoCommand words → status ≡ 2 → line ≡ words_line_text → IsAnswer words input status line
-  rules_of : (document : Bor Text) (bytes : List ℕ) → IsCommand words (Rules document) → IsReadOf input MAX_DOCUMENT_BYTES document.now bytes
-      → AnswersRules bytes status line → IsAnswer words input status line
-  check_of : (program document : Bor Text) (module_bytes bytes : List ℕ) → IsCommand words (Check program document)
-      → IsReadOf input MAX_DOCUMENT_BYTES document.now bytes
-      → AnswersCheck module_bytes bytes status line → IsAnswer words input status line
+-- what the program is given: the words, and what the files and the input hold, where that is known
+pub record Given : Type 0 where
+  pub words : List Text
+  pub files : List ℕ → Option (List ℕ)
+  pub input : Option (List ℕ)
+
+abbrev pub given : List Text → (List ℕ → Option (List ℕ)) → Option (List ℕ) → Given
+given words files input = record { words = words; files = files; input = input }
+
+-- the status and the line that answer what is given
+pub data IsAnswer (given : Given) (status : ℕ) (line : List ℕ) : Type 0 where
+  no_command : IsNoCommand given.words → status ≡ 2 → line ≡ words_line_text → IsAnswer given status line
+  rules_of : (document : Bor Text) (bytes : List ℕ) → IsCommand given.words (Rules document)
+      → IsDocumentRead given.files given.input MAX_DOCUMENT_BYTES document.now bytes
+      → AnswersRules bytes status line → IsAnswer given status line
+  check_of : (program document : Bor Text) (module_bytes bytes : List ℕ) → IsCommand given.words (Check program document)
+      → IsReadOf (given.files program.now) MODULE_BYTES module_bytes
+      → IsDocumentRead given.files given.input MAX_DOCUMENT_BYTES document.now bytes
+      → AnswersCheck module_bytes bytes status line → IsAnswer given status line
 
 -- the writer gains one line, that of an answer of this status
-pub record WritesAnswer (words : List Text) (input old new : Option (List ℕ)) (status : ℕ) : Type 0 where
+pub record WritesAnswer (given : Given) (old new : Option (List ℕ)) (status : ℕ) : Type 0 where
   pub line : List ℕ
-  pub answers : IsAnswer words input status line
+  pub answers : IsAnswer given status line
   pub gains : Appends old new (line ++ 10 ∷ [])

@@ -1,6 +1,11 @@
--- What was read of the input.
+-- What was read of the input and of files.
 use Rattle.std.specs.Prelude.{◌≡◌, ℕ, ◌+◌, List, Option, IfSome, codes, take}
 
--- the bytes are those of the input, to the limit and one more, where the name is `-` and the input is known
-abbrev pub IsReadOf : Option (List ℕ) → ℕ → List ℕ → List ℕ → Type 0
-IsReadOf input limit name bytes = name ≡ codes "-" → IfSome input (λ all. bytes ≡ take (limit + 1) all)
+-- the bytes are these, to the limit and one more, where they are known
+abbrev pub IsReadOf : Option (List ℕ) → ℕ → List ℕ → Type 0
+IsReadOf known limit bytes = IfSome known (λ all. bytes ≡ take (limit + 1) all)
+
+-- the bytes are those of the input for `-`, and else those of the file of that name
+pub record IsDocumentRead (files : List ℕ → Option (List ℕ)) (input : Option (List ℕ)) (limit : ℕ) (name bytes : List ℕ) : Type 0 where
+  pub of_input : name ≡ codes "-" → IsReadOf input limit bytes
+  pub of_file : (name ≡ codes "-" → ⊥) → IsReadOf (files name) limit bytes

@@ -1,5 +1,5 @@
 //! Files, as a trait, so that a test can stand in for them.
-ghost use Rattle.std.specs.Prelude.{ℕ, ◌≡◌, ◌+◌, ◌^◌, ◌<◌, ◌≤◌, IfErr, IfOk, OnOk, vec_len};
+ghost use Rattle.std.specs.Prelude.{ℕ, ◌≡◌, ◌+◌, ◌^◌, ◌<◌, ◌≤◌, IfErr, IfOk, IfSome, List, OnOk, Option, take, vec_len};
 ghost use Rattle.wm_litmus.specs.declared.files.FileFault.TheVariants.{Device, OutOfMemory};
 
 use std::alloc::AllocError;
@@ -28,6 +28,9 @@ impl From<AllocError> for FileFault {
 pub trait Files {
     ghost failures_of: { Self → ℕ };
 
+    // What the file of a name holds, where that is known.
+    ghost content_of: { Self → List ℕ → Option (List ℕ) };
+
     /// At most the first `limit` bytes of the file `name`.
     ///
     /// # Errors
@@ -37,6 +40,9 @@ pub trait Files {
     fn read(&mut self, name: &str, limit: usize) -> Result<Vec<u8>, FileFault>
         requires { failures_of self.old + 1 < 2 ^ 64 }
         ensures bound { IfOk result (λ bytes. vec_len bytes ≤ limit) }
+        ensures known { IfOk result (λ bytes. IfSome (content_of self.old name.now)
+            (λ all. bytes.items ≡ take limit all)) }
+        ensures same { (file : List ℕ) → content_of self.new file ≡ content_of self.old file }
         ensures device { IfErr result (λ fault. fault ≡ Device
             → failures_of self.old < failures_of self.new) }
         ensures monotone { failures_of self.old ≤ failures_of self.new }

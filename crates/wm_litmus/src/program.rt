@@ -1,10 +1,10 @@
 //! The whole program.
-ghost use Rattle.std.specs.Prelude.{◌≡◌, ◌+◌, ◌^◌, ◌∷◌, ◌++◌, [], ◌≤◌, ◌<◌, IfErr, IfOk, IfSome, OnOk, map, string_bytes, take, vec_len};
+ghost use Rattle.std.specs.Prelude.{◌≡◌, ◌+◌, ◌^◌, ◌∷◌, ◌++◌, [], ◌≤◌, ◌<◌, IfErr, IfOk, OnOk, List, ℕ, map, string_bytes, vec_len};
 ghost use Rattle.std.specs.Io.KnownBytes.{Appends};
 ghost use Rattle.wm_logfile.specs.declared.TheConstants.{MAX_DOCUMENT_BYTES};
-ghost use Rattle.wm_litmus.specs.Answers.{IsAnswer, WritesAnswer};
+ghost use Rattle.wm_litmus.specs.Answers.{IsAnswer, WritesAnswer, given};
 ghost use Rattle.wm_litmus.specs.Failures.{IsUnreadFile};
-ghost use Rattle.wm_litmus.specs.Input.{IsReadOf};
+ghost use Rattle.wm_litmus.specs.Input.{IsDocumentRead, IsReadOf};
 ghost use Rattle.wm_litmus.specs.declared.program.Stop.TheVariants.{OutOfMemory};
 
 use crate::answer::Answer;
@@ -42,7 +42,9 @@ impl From<AllocError> for Stop<'_> {
 fn read_file<'a, F: Files>(files: &mut F, name: &'a str, limit: usize) -> Result<Vec<u8>, Stop<'a>>
     requires failures { F.failures_of files.old + 1 < 2 ^ 64 }
     requires limit { limit + 1 < 2 ^ 64 }
+    ensures known { IfOk result (λ bytes. IsReadOf (F.content_of files.old name.now) limit bytes.items) }
     ensures read { OnOk result (F.failures_of files.new ≡ F.failures_of files.old) }
+    ensures same { (file : List ℕ) → F.content_of files.new file ≡ F.content_of files.old file }
     ensures unread { IfErr result (λ stop. IsUnreadFile stop
         → F.failures_of files.old < F.failures_of files.new) }
 {
@@ -56,8 +58,7 @@ fn read_file<'a, F: Files>(files: &mut F, name: &'a str, limit: usize) -> Result
 /// The bytes of the input, to so many and one more.
 fn read_input<'a, I: Read>(alloc: Global, input: &mut I, limit: usize) -> Result<Vec<u8>, Stop<'a>>
     requires { limit + 1 < 2 ^ 64 }
-    ensures known { IfOk result (λ bytes. IfSome (I.remaining input.old)
-        (λ all. bytes.items ≡ take (limit + 1) all)) }
+    ensures known { IfOk result (λ bytes. IsReadOf (I.remaining input.old) limit bytes.items) }
     ensures unread { IfErr result (λ stop. IsUnreadFile stop → ⊥) }
 {
     match read_limited(alloc, input, limit + 1) {
@@ -76,7 +77,7 @@ fn read_document_bytes<'a, R: AllocGlobal, F: Files, I: Read>(
 ) -> Result<Vec<u8>, Stop<'a>>
     requires { F.failures_of files.old + 1 < 2 ^ 64 }
     ensures known { IfOk result (λ bytes.
-        IsReadOf (I.remaining input.old) MAX_DOCUMENT_BYTES name.now bytes.items) }
+        IsDocumentRead (F.content_of files.old) (I.remaining input.old) MAX_DOCUMENT_BYTES name.now bytes.items) }
     ensures unread { IfErr result (λ stop. IsUnreadFile stop
         → F.failures_of files.old < F.failures_of files.new) }
 {
@@ -96,7 +97,8 @@ fn answer_of<'a, R: AllocGlobal, F: Files, I: Read>(
 ) -> Result<Answer, Stop<'a>>
     requires { F.failures_of files.old + 1 < 2 ^ 64 }
     ensures answers { IfOk result (λ answer.
-        IsAnswer (map (λ word. word.now) words.now) (I.remaining input.old) answer.status (string_bytes answer.text)) }
+        IsAnswer (given (map (λ word. word.now) words.now) (F.content_of files.old) (I.remaining input.old))
+        answer.status (string_bytes answer.text)) }
     ensures unread { IfErr result (λ stop. IsUnreadFile stop
         → F.failures_of files.old < F.failures_of files.new) }
 {
@@ -132,8 +134,8 @@ fn write_line<W: Write>(out: &mut W, line: &str) -> io::Result<()>
 /// then the document, and checks its run against the module and the memory rules.
 ///
 /// Each file is read to its limit and one byte more, in at most that many reads, and any failed read ends
-/// the program. The clauses speak of the words, by clap's model of the parse, of the line and the status, and of the
-/// bytes of `input` where the document is `-`; what a file holds and the lines on `err` are shown by tests.
+/// the program. The clauses speak of the words, by clap's model of the parse, of what `files` and `input` hold, where
+/// that is known, and of the line and the status; the lines on `err` are shown by tests.
 ///
 /// # Errors
 ///
@@ -151,7 +153,8 @@ pub fn serve<R: AllocGlobal, F: Files, I: Read, O: Write, E: Write>(
     requires { F.failures_of files.old + 1 < 2 ^ 64 }
     ensures status { result ≤ 3 }
     ensures answers { result < 3
-        → WritesAnswer (map (λ word. word.now) words.now) (I.remaining input.old) (O.contents out.old) (O.contents out.new) result }
+        → WritesAnswer (given (map (λ word. word.now) words.now) (F.content_of files.old) (I.remaining input.old))
+        (O.contents out.old) (O.contents out.new) result }
     ensures silent { result < 3 → err.new ≡ err.old }
 {
     match answer_of(rt, words, files, input) {

@@ -1,5 +1,5 @@
 //! The files of the system.
-ghost use Rattle.std.specs.Prelude.{◌≡◌, ◌≤◌, IfOk, vec_len};
+ghost use Rattle.std.specs.Prelude.{◌≡◌, ◌≤◌, IfOk, None, vec_len};
 
 use std::fs;
 use std::fs::Files as FileSystem;
@@ -34,6 +34,9 @@ impl<'a, R: FileSystem + AllocGlobal> Disk<'a, R> {
 
 impl<R: FileSystem + AllocGlobal> Files for Disk<'_, R> {
     ghost failures_of = { λ disk. disk.failures };
+
+    // No clause knows what the system's files hold.
+    ghost content_of = { λ _ _. None };
 
     fn read(&mut self, name: &str, limit: usize) -> Result<Vec<u8>, FileFault> {
         let result = self.read_once(name, limit);

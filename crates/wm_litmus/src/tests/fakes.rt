@@ -104,6 +104,13 @@ pub(super) fn shelf_of<'a>(
 impl Files for Shelf<'_> {
     ghost failures_of = { λ shelf. shelf.failures };
 
+    ghost use Rattle.std.specs.Prelude.{None, codes, if◌then◌else◌, option_map};
+    ghost use Rattle.std.specs.Str.{bytes_eq};
+
+    ghost content_of = { λ shelf name.
+        if bytes_eq name (codes "module.wasm") then option_map (λ bytes. bytes.now) shelf.module else (
+        if bytes_eq name (codes "log.json") then option_map (λ bytes. bytes.now) shelf.document else None) };
+
     fn read(&mut self, name: &str, limit: usize) -> Result<Vec<u8>, FileFault> {
         self.limit = limit;
         let file = match name {

@@ -1,4 +1,6 @@
-use Rattle.std.proofs.Common.{◌≡◌, subst, string_bytes}
+use Rattle.std.proofs.Common.{◌≡◌, ℕ, List, Option, subst, string_bytes}
+use Rattle.wm_logfile.specs.declared.TheConstants.{MAX_DOCUMENT_BYTES}
+use Rattle.wm_litmus.specs.Input.{IsReadOf}
 use Rattle.wm_litmus.specs.Answers.{AnswersCheck, AnswersRules}
 use Rattle.wm_litmus.specs.Answers.IsAnswer.{check_of, rules_of}
 use Rattle.wm_litmus.proofs.program.answer_of.Goals as goal
@@ -18,7 +20,13 @@ returns-in_ok-check_answer-in-Ok-Check-clause-answers g c =
     let modules = c.in_ok-module_bytes-in-Ok-Check.module_bytes in
     let of_module : c.as_slice-in-Ok-Check.result.now ≡ modules.items = c.as_slice-in-Ok-Check.ensures.value in
     let of_document : c.as_slice-in-Ok-Check-2.result.now ≡ read.document_bytes.items = c.as_slice-in-Ok-Check-2.ensures.value in
-    check_of c.in-Ok-Check.module c.in-Ok-Check.document modules.items read.document_bytes.items (rw c.in-Ok-Check.field-0-is at c.in-Ok-Check.ensures.read) read.ensures.known
+    let known = read.ensures.known in
+    check_of c.in-Ok-Check.module c.in-Ok-Check.document modules.items read.document_bytes.items (rw c.in-Ok-Check.field-0-is at c.in-Ok-Check.ensures.read)
+    c.in_ok-module_bytes-in-Ok-Check.ensures.known
+    (record {
+      of_input = known.of_input;
+      of_file = λ other. subst (λ (all : Option (List ℕ)). IsReadOf all MAX_DOCUMENT_BYTES read.document_bytes.items) (c.read_file.ensures.same c.in-Ok-Check.document.now) (known.of_file other);
+    })
     (subst (λ bytes. AnswersCheck modules.items bytes answer.status (string_bytes answer.text)) of_document
     (subst (λ bytes. AnswersCheck bytes c.as_slice-in-Ok-Check-2.result.now answer.status (string_bytes answer.text)) of_module
     c.in_ok-check_answer-in-Ok-Check.ensures))
