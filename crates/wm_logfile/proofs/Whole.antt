@@ -3,6 +3,7 @@ use Rattle.std.proofs.Common.{◌≡◌, ℕ, suc, ◌+◌, ◌<◌, ◌≤◌, 
 use Rattle.std.specs.Prelude.{codes}
 use Rattle.std.specs.Str.{bytes_eq}
 use Rattle.std.specs.List.{All}
+use Rattle.std.proofs.lemmas.List.{length-map}
 use Rattle.std.proofs.lemmas.List.Elements.{All-nil, All-cons, All-head, All-tail}
 use Rattle.wm_logfile.specs.declared.TheConstants.{MAX_THREADS}
 use Rattle.std.proofs.lemmas.Bool.{leb-true, le-leb, eqb-true}
@@ -119,23 +120,18 @@ pub record ThreadsFit (ls : List ThreadLog) : Type 0 where
   pub few : length ls ≤ MAX_THREADS
   pub each : All ThreadFits ls
 
--- as many items are read as there are
-pub length-map : {A B : Type 0} (f : A → B) (xs : List A) → length (map f xs) ≡ length xs
-length-map f [] = refl
-length-map f (x ∷ xs) = ap suc (length-map f xs)
-
 threads_take : (ds : List Data) (ls : List ThreadLog) → threads_from ds ≡ Some ls → (ds ≡ map thread ls) × ThreadsFit ls
 threads_take ds ls h =
     let g = when_some (leb (length ds) MAX_THREADS) (traverse limited_thread_at 0 ds) ls h in
     let one = traverse_takes limited_thread_at thread IsLimited threads 0 ds ls g.1 in
     let apart = threads_apart 0 ls one.1 in
     let few : length ds ≤ MAX_THREADS = leb-true (length ds) MAX_THREADS g.0 in
-    let len : length ds ≡ length ls = ap length one.0 ∙ length-map thread ls in
+    let len : length ds ≡ length ls = ap length one.0 ∙ length-map ls thread in
     (one.0, record { placed = apart.0; few = omega arith; each = apart.1 })
 
 threads_again : (ls : List ThreadLog) → ThreadsFit ls → threads_from (map thread ls) ≡ Some ls
 threads_again ls h =
-    let few : length (map thread ls) ≤ MAX_THREADS = omega (arith, length-map thread ls, h.few) in
+    let few : length (map thread ls) ≤ MAX_THREADS = omega (arith, length-map ls thread, h.few) in
     ap (λ (b : Bool). cond b (traverse limited_thread_at 0 (map thread ls)) None) (le-leb (length (map thread ls)) MAX_THREADS few)
     ∙ traverse_again limited_thread_at thread IsLimited threads 0 ls (threads_together 0 ls (omega (arith, h.few)) h.placed h.each)
 
