@@ -79,7 +79,7 @@ impl Write for Paper {
 #[derive(Drop)]
 pub(super) struct Shelf<'a> {
     alloc: Global,
-    module: Option<&'a [u8]>,
+    program: Option<&'a [u8]>,
     document: Option<&'a [u8]>,
     pub limit: usize,
     failures: u64,
@@ -87,14 +87,14 @@ pub(super) struct Shelf<'a> {
 
 pub(super) fn shelf_of<'a>(
     alloc: Global,
-    module: Option<&'a [u8]>,
+    program: Option<&'a [u8]>,
     document: Option<&'a [u8]>,
 ) -> Shelf<'a>
     ensures { result.failures ≡ 0 }
 {
     Shelf {
         alloc,
-        module,
+        program,
         document,
         limit: 0,
         failures: 0,
@@ -108,13 +108,13 @@ impl Files for Shelf<'_> {
     ghost use Rattle.std.specs.Str.{bytes_eq};
 
     ghost content_of = { λ shelf name.
-        if bytes_eq name (codes "module.wasm") then option_map (λ bytes. bytes.now) shelf.module else (
+        if bytes_eq name (codes "module.wasm") then option_map (λ bytes. bytes.now) shelf.program else (
         if bytes_eq name (codes "log.json") then option_map (λ bytes. bytes.now) shelf.document else None) };
 
     fn read(&mut self, name: &str, limit: usize) -> Result<Vec<u8>, FileFault> {
         self.limit = limit;
         let file = match name {
-            "module.wasm" => self.module,
+            "module.wasm" => self.program,
             "log.json" => self.document,
             _ => None,
         };
