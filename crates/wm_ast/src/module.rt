@@ -18,7 +18,7 @@ pub struct Func {
     pub blocks: List<Block>,
 }
 
-/// An initial value: one constant (Core 1.0, section 2.5.10), modulo 2 to the power 32 or 64.
+/// An initial value: one constant (Core 1.0, section 3.3.7), modulo 2 to the power 32 or 64.
 #[derive(Clone, Copy, Debug, PartialEq, Eq)]
 pub enum ConstExpr {
     I32(u32),

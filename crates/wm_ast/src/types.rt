@@ -43,7 +43,7 @@ pub struct Limits {
     pub maximum: u32,
 }
 
-/// Whether a global may be set (Core 1.0, section 2.3.6).
+/// Whether a global may be set (Core 1.0, section 2.3.7).
 #[derive(Clone, Copy, Debug, PartialEq, Eq)]
 pub enum Mutability {
     Constant,

@@ -8,7 +8,7 @@ use crate::fault::FaultKind;
 use wm_access::PAGE_BYTES;
 use wm_ast::{ConstExpr, DataSegment, Export, ExportKind, Func, Memory, Module, ValType};
 
-/// How many pages a memory may have at most (Core 1.0, section 3.2.5).
+/// How many pages a memory may have at most (Core 1.0, section 3.2.4).
 const MAX_PAGES: u32 = 65_536;
 
 /// The memory's limits.
