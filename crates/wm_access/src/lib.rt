@@ -25,7 +25,7 @@ pub enum MemoryOrder {
 
 /// How an atomic read-modify-write makes the value written from the one read and its operand.
 #[derive(Clone, Copy, Debug, PartialEq, Eq)]
-pub enum UpdateOperator {
+pub enum RmwOperator {
     Add,
     Sub,
     And,

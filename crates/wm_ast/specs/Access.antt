@@ -10,7 +10,7 @@ use Rattle.wm_ast.specs.declared.access.Storage.TheVariants as storage
 use Rattle.wm_ast.specs.declared.access.Narrow.{Narrow}
 use Rattle.wm_ast.specs.declared.access.Narrow.TheVariants as narrow
 use Rattle.wm_ast.specs.declared.access.AccessKind.{AccessKind}
-use Rattle.wm_ast.specs.declared.access.AccessKind.TheVariants.{Read, ReadSigned, Write, AtomicRead, AtomicWrite, Update, CompareExchange}
+use Rattle.wm_ast.specs.declared.access.AccessKind.TheVariants.{Read, ReadSigned, Write, AtomicRead, AtomicWrite, Rmw, CmpXchg}
 
 -- how many bytes are in memory
 abbrev pub storage_width : Storage → AccessWidth
@@ -51,8 +51,8 @@ access_storage (ReadSigned n) = narrow_storage n
 access_storage (Write s) = s
 access_storage (AtomicRead s) = s
 access_storage (AtomicWrite s) = s
-access_storage (Update op s) = s
-access_storage (CompareExchange ty) = whole ty
+access_storage (Rmw op s) = s
+access_storage (CmpXchg ty) = whole ty
 
 -- how many bytes are accessed
 abbrev pub access_width : AccessKind → AccessWidth
@@ -69,5 +69,5 @@ access_order (ReadSigned n) = Unordered
 access_order (Write s) = Unordered
 access_order (AtomicRead s) = SeqCst
 access_order (AtomicWrite s) = SeqCst
-access_order (Update op s) = SeqCst
-access_order (CompareExchange ty) = SeqCst
+access_order (Rmw op s) = SeqCst
+access_order (CmpXchg ty) = SeqCst

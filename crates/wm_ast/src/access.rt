@@ -2,7 +2,7 @@
 ghost use Rattle.std.specs.Prelude.{◌≡◌};
 
 use crate::types::ValType;
-use wm_access::{AccessWidth, MemoryOrder, UpdateOperator};
+use wm_access::{AccessWidth, MemoryOrder, RmwOperator};
 
 /// The type of the operand, and how many of its low bytes are in memory.
 /// `I32` and `I64` take all of them.
@@ -84,9 +84,9 @@ pub enum AccessKind {
     /// An atomic store of the low bytes.
     AtomicWrite(Storage),
     /// An atomic read-modify-write, which gives the value read.
-    Update(UpdateOperator, Storage),
+    Rmw(RmwOperator, Storage),
     /// An atomic compare-exchange of all bytes of the operand, which gives the value read.
-    CompareExchange(ValType),
+    CmpXchg(ValType),
 }
 
 impl AccessKind {
@@ -102,9 +102,9 @@ impl AccessKind {
             | AccessKind::Write(storage)
             | AccessKind::AtomicRead(storage)
             | AccessKind::AtomicWrite(storage)
-            | AccessKind::Update(_, storage) => storage,
-            AccessKind::CompareExchange(ValType::I32) => Storage::I32,
-            AccessKind::CompareExchange(ValType::I64) => Storage::I64,
+            | AccessKind::Rmw(_, storage) => storage,
+            AccessKind::CmpXchg(ValType::I32) => Storage::I32,
+            AccessKind::CmpXchg(ValType::I64) => Storage::I64,
         }
     }
 
@@ -132,8 +132,8 @@ impl AccessKind {
             }
             AccessKind::AtomicRead(_)
             | AccessKind::AtomicWrite(_)
-            | AccessKind::Update(_, _)
-            | AccessKind::CompareExchange(_) => MemoryOrder::SeqCst,
+            | AccessKind::Rmw(_, _)
+            | AccessKind::CmpXchg(_) => MemoryOrder::SeqCst,
         }
     }
 }

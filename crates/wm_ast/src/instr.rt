@@ -17,7 +17,7 @@ pub enum Else {
 
 /// What stands beside a memory instruction (Core 1.0, section 2.4.4).
 #[derive(Clone, Copy, Debug, PartialEq, Eq)]
-pub struct AccessOperands {
+pub struct MemArg {
     /// The exponent: the address is said to be a multiple of 2 to this power.
     pub alignment: u32,
     /// What is added to the address, in bytes.
@@ -50,7 +50,7 @@ pub enum Instr {
     GlobalGet(u32),
     GlobalSet(u32),
     /// A load, a store or an atomic access.
-    Access(AccessKind, AccessOperands),
+    Access(AccessKind, MemArg),
     MemorySize,
     /// The constant modulo 2 to the power 32.
     I32Const(u32),

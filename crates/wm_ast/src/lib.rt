@@ -10,6 +10,6 @@ mod types;
 
 pub use access::{AccessKind, Narrow, Storage};
 pub use exports::{Export, ExportKind, Exports};
-pub use instr::{AccessOperands, Block, Else, Instr};
+pub use instr::{Block, Else, Instr, MemArg};
 pub use module::{ConstExpr, DataSegment, Func, Global, ImportName, Memory, Module};
 pub use types::{BlockType, FuncType, Limits, Mutability, ValType};

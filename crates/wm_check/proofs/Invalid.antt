@@ -5,7 +5,7 @@ use Rattle.std.proofs.lemmas.Option.{get_or_from_slice_get, none-some, slice_get
 use Rattle.wm_ast.specs.declared.module.Module.{Module}
 use Rattle.wm_valid.specs.declared.fault.FaultKind.{FaultKind}
 use Rattle.wm_valid.specs.declared.fault.FaultKind.TheVariants.{BadType, Index, Label, Alignment, DataOutOfRange, MemoryAbsent, MemoryLimits}
-use Rattle.wm_valid.specs.declared.fault.Place.TheVariants as place
+use Rattle.wm_valid.specs.declared.fault.Location.TheVariants as place
 use Rattle.wm_valid.specs.declared.fault.ValidFault.{ValidFault}
 use Rattle.wm_valid.specs.declared.fault.ValidFault.TheVariants.{At, OutOfMemory}
 use Rattle.wm_valid.specs.Blame.{Breaks, BreaksModule, HasNoType, IsOutOfRange, SomeOf}

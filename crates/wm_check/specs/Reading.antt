@@ -6,8 +6,8 @@ use Rattle.wm_event.specs.declared.witness.Witness.{Witness}
 use Rattle.wm_event.specs.LoggedRun.{LoggedRun}
 use Rattle.wm_event.specs.Shape.{IsWellShaped}
 use Rattle.wm_logfile.specs.DocumentBytes.{IsDocumentOf, IsNoDocument}
-use Rattle.wm_check.specs.declared.checker.Stop.{Stop}
-use Rattle.wm_check.specs.declared.checker.Stop.TheVariants.{Refused, OutOfMemory}
+use Rattle.wm_check.specs.declared.checker.Unread.{Unread}
+use Rattle.wm_check.specs.declared.checker.Unread.TheVariants.{Refused, OutOfMemory}
 use Rattle.wm_check.specs.declared.verdict.Refusal.{Refusal}
 use Rattle.wm_check.specs.declared.verdict.Refusal.TheVariants as refusal
 use Rattle.wm_check.specs.declared.verdict.Verdict.{Verdict}
@@ -22,7 +22,7 @@ IsModuleRefusal bytes (refusal.Valid fault) = IsInvalid bytes fault
 IsModuleRefusal bytes (refusal.Document fault) = ⊥
 IsModuleRefusal bytes (refusal.Shape fault) = ⊥
 
-abbrev pub IsUnreadModule : List ℕ → Stop → Type 0
+abbrev pub IsUnreadModule : List ℕ → Unread → Type 0
 IsUnreadModule bytes (Refused r) = IsModuleRefusal bytes r
 IsUnreadModule bytes OutOfMemory = Unit {0}
 
@@ -33,17 +33,17 @@ IsDocumentRefusal bytes (refusal.Valid fault) = ⊥
 IsDocumentRefusal bytes (refusal.Document fault) = IsNoDocument bytes fault
 IsDocumentRefusal bytes (refusal.Shape fault) = ⊥
 
-abbrev pub IsUnreadDocument : List ℕ → Stop → Type 0
+abbrev pub IsUnreadDocument : List ℕ → Unread → Type 0
 IsUnreadDocument bytes (Refused r) = IsDocumentRefusal bytes r
 IsUnreadDocument bytes OutOfMemory = Unit {0}
 
 -- what the verdict says of all bytes that spell the module, and the log with the witness
 abbrev pub ComparesOver : Module → List ThreadLog → Witness → Verdict → Type 0
-ComparesOver program log witness verdict =
-    (module_bytes document_bytes : List ℕ) → IsModuleOf module_bytes program → IsDocumentOf document_bytes log witness → Says module_bytes document_bytes verdict
+ComparesOver «module» log witness verdict =
+    (module_bytes document_bytes : List ℕ) → IsModuleOf module_bytes «module» → IsDocumentOf document_bytes log witness → Says module_bytes document_bytes verdict
 
 -- the same of a candidate over the module's initial memory
-abbrev pub Compares : Module → LoggedRun → Verdict → Type 0
-Compares program run verdict =
-    (module_bytes document_bytes : List ℕ) → IsModuleOf module_bytes program → IsDocumentOf document_bytes run.log run.witness → IsInit program run.initial
+abbrev pub ComparesLog : Module → LoggedRun → Verdict → Type 0
+ComparesLog «module» run verdict =
+    (module_bytes document_bytes : List ℕ) → IsModuleOf module_bytes «module» → IsDocumentOf document_bytes run.log run.witness → IsInit «module» run.initial
     → IsWellShaped run → Says module_bytes document_bytes verdict

@@ -36,10 +36,10 @@ use Rattle.wm_check.specs.Run.{IsCandidateOf, IsModuleOf, IsRunOf}
 -- The bytes spell a valid module, and a log with a witness. Each thread's events and end are those that the module gives it on the values
 -- that it read, and the memory rules permit the events.
 pub record IsAllowed (module_bytes document_bytes : List ℕ) (certificate : Certificate) : Type 0 where
-  pub program : Module
+  pub «module» : Module
   pub run : LoggedRun
-  pub candidate : IsCandidateOf module_bytes document_bytes program run
-  pub threads_are_runs : AreRuns program run.log
+  pub candidate : IsCandidateOf module_bytes document_bytes «module» run
+  pub threads_are_runs : AreRuns «module» run.log
   pub execution_is_valid : IsValid (execution run)
   pub threads : certificate.threads ≡ length run.log
   pub events : certificate.events ≡ event_count run.log
@@ -48,22 +48,22 @@ pub record IsAllowed (module_bytes document_bytes : List ℕ) (certificate : Cer
 
 -- no module is spelled
 pub record IsNoModule (bytes : List ℕ) (fault : DecodeFault) : Type 0 where
-  pub no_module : (program : Module) → ¬ SpellsWithin bytes program
+  pub no_module : («module» : Module) → ¬ SpellsWithin bytes «module»
   pub no_want : fault ≢ decode.OutOfMemory
 
 -- the module that is spelled isn't valid, and breaks a rule as the fault says
 pub record IsInvalid (bytes : List ℕ) (fault : ValidFault) : Type 0 where
-  pub program : Module
-  pub spelled : SpellsWithin bytes program
-  pub invalid : ¬ Valid program
-  pub breaks : Breaks program fault
+  pub «module» : Module
+  pub spelled : SpellsWithin bytes «module»
+  pub invalid : ¬ Valid «module»
+  pub breaks : Breaks «module» fault
   pub no_want : fault ≢ valid.OutOfMemory
 
 -- the log and the witness are no candidate, and this is the first fault of their shape
 pub record IsMisshapen (module_bytes document_bytes : List ℕ) (fault : ShapeFault) : Type 0 where
-  pub program : Module
+  pub «module» : Module
   pub run : LoggedRun
-  pub is_run : IsRunOf module_bytes document_bytes program run
+  pub is_run : IsRunOf module_bytes document_bytes «module» run
   pub first : IsFirst shape_rank (Misshapes run) fault
   pub no_want : fault ≢ shape.OutOfMemory
 
@@ -71,25 +71,25 @@ abbrev pub IsRefusedFor : List ℕ → List ℕ → Refusal → Type 0
 IsRefusedFor module_bytes document_bytes (refusal.Decode fault) = IsNoModule module_bytes fault
 IsRefusedFor module_bytes document_bytes (refusal.Valid fault) = IsInvalid module_bytes fault
 IsRefusedFor module_bytes document_bytes (refusal.Document fault) =
-    ((program : Module) × IsModuleOf module_bytes program) × IsNoDocument document_bytes fault
+    ((«module» : Module) × IsModuleOf module_bytes «module») × IsNoDocument document_bytes fault
 IsRefusedFor module_bytes document_bytes (refusal.Shape fault) = IsMisshapen module_bytes document_bytes fault
 
 -- ---- broken
 
 -- some thread's log isn't its run, and this is the first difference
 pub record IsNoRun (module_bytes document_bytes : List ℕ) (answer : ReplayAnswer) : Type 0 where
-  pub program : Module
+  pub «module» : Module
   pub run : LoggedRun
-  pub candidate : IsCandidateOf module_bytes document_bytes program run
+  pub candidate : IsCandidateOf module_bytes document_bytes «module» run
   pub differs : answer ≢ replay.Same
-  pub first : Replays program run.log answer
+  pub first : Replays «module» run.log answer
 
 -- each thread's log is its run, but a memory rule is broken, and this is the first fault
 pub record IsForbidden (module_bytes document_bytes : List ℕ) (fault : RuleFault) : Type 0 where
-  pub program : Module
+  pub «module» : Module
   pub run : LoggedRun
-  pub candidate : IsCandidateOf module_bytes document_bytes program run
-  pub threads_are_runs : AreRuns program run.log
+  pub candidate : IsCandidateOf module_bytes document_bytes «module» run
+  pub threads_are_runs : AreRuns «module» run.log
   pub first : Judges (execution run) (judgement.Broken fault)
 
 abbrev pub IsBrokenBy : List ℕ → List ℕ → Breach → Type 0

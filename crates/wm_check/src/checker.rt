@@ -5,9 +5,9 @@ ghost use Rattle.wm_event.specs.declared.TheConstants.{MAX_EVENTS};
 ghost use Rattle.wm_event.specs.Shape.{IsWellShaped};
 ghost use Rattle.wm_logfile.specs.DocumentBytes.{IsDocumentOf};
 ghost use Rattle.wm_check.specs.Run.{IsModuleOf};
-ghost use Rattle.wm_check.specs.Reading.{Compares, ComparesOver, IsUnreadDocument, IsUnreadModule};
+ghost use Rattle.wm_check.specs.Reading.{ComparesLog, ComparesOver, IsUnreadDocument, IsUnreadModule};
 ghost use Rattle.wm_check.specs.Verdicts.{IfAllowed, IfBroken, IfRefused, IsAllowed, IsBrokenBy, IsRefusedFor, Says};
-ghost use Rattle.wm_check.specs.declared.checker.Stop.TheVariants.{OutOfMemory};
+ghost use Rattle.wm_check.specs.declared.checker.Unread.TheVariants.{OutOfMemory};
 
 use crate::verdict::{Breach, Certificate, Refusal, Verdict};
 use std::alloc::{AllocError, Global};
@@ -20,38 +20,38 @@ use wm_valid::{ValidFault, ValidModule, validate};
 
 /// Why there is no run to compare.
 #[derive(Debug, Drop)]
-enum Stop {
+enum Unread {
     Refused(Refusal),
     /// Memory was refused.
     OutOfMemory,
 }
 
 /// The module that the bytes spell, where it is valid.
-fn read_module(alloc: Global, bytes: &[u8]) -> Result<ValidModule, Stop>
+fn read_module(alloc: Global, bytes: &[u8]) -> Result<ValidModule, Unread>
     ensures read { IfOk result (IsModuleOf bytes.now) }
     ensures refused { IfErr result (IsUnreadModule bytes.now) }
 {
-    let program = match decode(alloc, bytes) {
-        Ok(program) => program,
-        Err(DecodeFault::OutOfMemory) => return Err(Stop::OutOfMemory),
-        Err(fault) => return Err(Stop::Refused(Refusal::Decode(fault))),
+    let module = match decode(alloc, bytes) {
+        Ok(module) => module,
+        Err(DecodeFault::OutOfMemory) => return Err(Unread::OutOfMemory),
+        Err(fault) => return Err(Unread::Refused(Refusal::Decode(fault))),
     };
-    match validate(alloc, program) {
-        Ok(program) => Ok(program),
-        Err(ValidFault::OutOfMemory) => Err(Stop::OutOfMemory),
-        Err(fault) => Err(Stop::Refused(Refusal::Valid(fault))),
+    match validate(alloc, module) {
+        Ok(module) => Ok(module),
+        Err(ValidFault::OutOfMemory) => Err(Unread::OutOfMemory),
+        Err(fault) => Err(Unread::Refused(Refusal::Valid(fault))),
     }
 }
 
 /// The log with its witness that the bytes spell.
-fn read_log(alloc: Global, bytes: &[u8]) -> Result<(Log, Witness), Stop>
+fn read_log(alloc: Global, bytes: &[u8]) -> Result<(Log, Witness), Unread>
     ensures read { IfOk result (λ p. IsDocumentOf bytes.now p.0 p.1) }
     ensures refused { IfErr result (IsUnreadDocument bytes.now) }
 {
     match read_document(alloc, bytes) {
         Ok(read) => Ok(read),
-        Err(DocFault::OutOfMemory) => Err(Stop::OutOfMemory),
-        Err(fault) => Err(Stop::Refused(Refusal::Document(fault))),
+        Err(DocFault::OutOfMemory) => Err(Unread::OutOfMemory),
+        Err(fault) => Err(Unread::Refused(Refusal::Document(fault))),
     }
 }
 
@@ -70,12 +70,12 @@ fn count_events(threads: &[ThreadLog]) -> usize
 /// The verdict on a candidate.
 fn compare<R: AllocGlobal>(
     rt: &R,
-    program: &ValidModule,
+    module: &ValidModule,
     candidate: &Candidate,
 ) -> Result<Verdict, AllocError>
-    ensures { IfOk result (Compares program.now candidate.now) }
+    ensures { IfOk result (ComparesLog «module».now candidate.now) }
 {
-    let answer = replay(rt.alloc(), program, candidate.log())?;
+    let answer = replay(rt.alloc(), module, candidate.log())?;
     if answer != ReplayAnswer::Same {
         return Ok(Verdict::Broken(Breach::Replay(answer)));
     }
@@ -94,14 +94,14 @@ fn compare<R: AllocGlobal>(
 /// The verdict on a log with a witness over the initial memory of a module.
 fn compare_log<R: AllocGlobal>(
     rt: &R,
-    program: &ValidModule,
+    module: &ValidModule,
     log: Log,
     witness: Witness,
 ) -> Result<Verdict, AllocError>
-    ensures { IfOk result (ComparesOver program.now log witness) }
+    ensures { IfOk result (ComparesOver «module».now log witness) }
 {
-    match Candidate::new(rt.alloc(), log, witness, program.initial()) {
-        Ok(candidate) => compare(rt, program, &candidate),
+    match Candidate::new(rt.alloc(), log, witness, module.initial()) {
+        Ok(candidate) => compare(rt, module, &candidate),
         Err(ShapeFault::OutOfMemory) => Err(AllocError),
         Err(fault) => Ok(Verdict::Refused(Refusal::Shape(fault))),
     }
@@ -115,15 +115,15 @@ fn verdict_of<R: AllocGlobal>(
 ) -> Result<Verdict, AllocError>
     ensures { IfOk result (Says module_bytes.now document_bytes.now) }
 {
-    let program = match read_module(rt.alloc(), module_bytes) {
-        Ok(program) => program,
-        Err(Stop::Refused(refusal)) => return Ok(Verdict::Refused(refusal)),
-        Err(Stop::OutOfMemory) => return Err(AllocError),
+    let module = match read_module(rt.alloc(), module_bytes) {
+        Ok(module) => module,
+        Err(Unread::Refused(refusal)) => return Ok(Verdict::Refused(refusal)),
+        Err(Unread::OutOfMemory) => return Err(AllocError),
     };
     match read_log(rt.alloc(), document_bytes) {
-        Ok((log, witness)) => compare_log(rt, &program, log, witness),
-        Err(Stop::Refused(refusal)) => Ok(Verdict::Refused(refusal)),
-        Err(Stop::OutOfMemory) => Err(AllocError),
+        Ok((log, witness)) => compare_log(rt, &module, log, witness),
+        Err(Unread::Refused(refusal)) => Ok(Verdict::Refused(refusal)),
+        Err(Unread::OutOfMemory) => Err(AllocError),
     }
 }
 

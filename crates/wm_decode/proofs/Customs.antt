@@ -1,8 +1,8 @@
 -- Custom sections are skipped.
 use Rattle.std.proofs.Common.{◌≡◌, ℕ, zero, suc, ◌≤◌, ◌<◌, cond, eqb, List, [], ◌∷◌, ◌++◌, length, get_or, Result, Ok, Err, refl, sym, ap, subst, ◌∙◌, arith, length-append}
 use Rattle.std.proofs.lemmas.Bool.{ne_eqb}
-use Rattle.wm_decode.specs.declared.fault.ReadFault.{ReadFault}
-use Rattle.wm_decode.specs.declared.fault.ReadFault.TheVariants.{OutOfMemory, At}
+use Rattle.wm_decode.specs.declared.fault.ItemFault.{ItemFault}
+use Rattle.wm_decode.specs.declared.fault.ItemFault.TheVariants.{OutOfMemory, At}
 use Rattle.wm_decode.specs.Stop.{Stop, bad}
 use Rattle.wm_decode.specs.Answers.{Fails, stop_of}
 use Rattle.wm_decode.specs.Numbers.{IsBytes}
@@ -76,6 +76,6 @@ module _ (rest bytes : List ℕ) (s : Skipped rest bytes) (long : 0 < length res
       let t = sized_rest custom_at (tail_of rest) name after tail_fits e in
       omega (arith, ap length t.1, length-append t.0 after, ap length (front_is rest long))
 
-  pub fails : (e : ReadFault) → Fails e (sized_at custom_at (tail_of rest)) → Fails e (customs_in bytes)
+  pub fails : (e : ItemFault) → Fails e (sized_at custom_at (tail_of rest)) → Fails e (customs_in bytes)
   fails OutOfMemory h = tt
   fails (At kind left) h = let one : customs_in rest ≡ Err (stop_of kind) = unfolds ∙ rw h refl in sym s.same ∙ one

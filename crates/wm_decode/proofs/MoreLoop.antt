@@ -4,8 +4,8 @@ use Rattle.std.proofs.Math.Seq.{drop-cons}
 use Rattle.wm_ast.specs.declared.types.ValType.{ValType}
 use Rattle.wm_ast.specs.declared.types.FuncType.{FuncType}
 use Rattle.wm_ast.specs.declared.module.Func.{Func}
-use Rattle.wm_decode.specs.declared.fault.ReadFault.{ReadFault}
-use Rattle.wm_decode.specs.declared.fault.ReadFault.TheVariants.{OutOfMemory, At}
+use Rattle.wm_decode.specs.declared.fault.ItemFault.{ItemFault}
+use Rattle.wm_decode.specs.declared.fault.ItemFault.TheVariants.{OutOfMemory, At}
 use Rattle.wm_decode.specs.Bounds.{Bounds}
 use Rattle.wm_decode.specs.Stop.{Stop}
 use Rattle.wm_decode.specs.Answers.{Fails, stop_of}
@@ -23,7 +23,7 @@ module _ {S : Type 0} (step : S → List ℕ → Result (S × List ℕ) Stop) wh
       let one : more_at step (count - i) state bytes ≡ more_at step (count - (i + 1)) next after = rw (k, h) refl in
       sym one ∙ so_far
 
-  pub fails : (e : ReadFault) (count i : ℕ) (state : S) (bytes : List ℕ) (total : Result (S × List ℕ) Stop) → i < count → Fails e (step state bytes)
+  pub fails : (e : ItemFault) (count i : ℕ) (state : S) (bytes : List ℕ) (total : Result (S × List ℕ) Stop) → i < count → Fails e (step state bytes)
       → more_at step (count - i) state bytes ≡ total → Fails e total
   unfolding more_at
   fails OutOfMemory count i state bytes total lt h so_far = tt
@@ -44,7 +44,7 @@ pub stepped : {X S : Type 0} (read : Result (X × List ℕ) Stop) (make : X → 
     → (read >>= λ e. let k : Result (S × List ℕ) Stop = Ok (make e.0, e.1) in k) ≡ Ok (make x, after)
 stepped read make x after h = rw h refl
 
-pub step_fails : {X S : Type 0} (e : ReadFault) (read : Result (X × List ℕ) Stop) (make : X → S) → Fails e read
+pub step_fails : {X S : Type 0} (e : ItemFault) (read : Result (X × List ℕ) Stop) (make : X → S) → Fails e read
     → Fails e (read >>= λ e. let k : Result (S × List ℕ) Stop = Ok (make e.0, e.1) in k)
 step_fails OutOfMemory read make h = tt
 step_fails (At kind left) read make h = rw h refl
@@ -67,7 +67,7 @@ module _ (bounds : Bounds) (types : List FuncType) where
       ap (λ (l : List ℕ). more_functions_at bounds types l earlier bytes) (front_is indices i lt) ∙ rw h refl in
       sym one ∙ so_far
 
-  pub functions_fail : (e : ReadFault) (indices : List ℕ) (i : ℕ) (earlier : List Func) (bytes : List ℕ) (total : Result (List Func × List ℕ) Stop) → i < length indices
+  pub functions_fail : (e : ItemFault) (indices : List ℕ) (i : ℕ) (earlier : List Func) (bytes : List ℕ) (total : Result (List Func × List ℕ) Stop) → i < length indices
       → Fails e (sized_at (body_at bounds types (get_or indices i 0)) bytes) → more_functions_at bounds types (drop i indices) earlier bytes ≡ total → Fails e total
   unfolding more_functions_at
   functions_fail OutOfMemory indices i earlier bytes total lt h so_far = tt

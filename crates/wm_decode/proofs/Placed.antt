@@ -6,8 +6,8 @@ use Rattle.std.proofs.Common.{◌-◌, Err, Option}
 use Rattle.std.proofs.lemmas.Bool.{ne_eqb}
 use Rattle.wm_ast.specs.declared.instr.Instr.{Instr}
 use Rattle.wm_ast.specs.declared.types.ValType.{ValType}
-use Rattle.wm_decode.specs.declared.fault.ReadFault.{ReadFault}
-use Rattle.wm_decode.specs.declared.fault.ReadFault.TheVariants.{OutOfMemory, At}
+use Rattle.wm_decode.specs.declared.fault.ItemFault.{ItemFault}
+use Rattle.wm_decode.specs.declared.fault.ItemFault.TheVariants.{OutOfMemory, At}
 use Rattle.wm_decode.specs.Answers.{Fails, stop_of}
 use Rattle.wm_decode.specs.ReadingInstructions.{Body, instrs_in, closed_in, opened_at, if_with}
 
@@ -29,7 +29,7 @@ placed room old mid new bytes kept body nested number closer rest n-is mid-is ne
 }
 
 -- an else part that could not be read
-pub else_fails : (e : ReadFault) (room : ℕ) (old new : List (List Instr)) (bytes mid rest : List ℕ) (ty : Option ValType) (b : Body) (closer : ℕ) → opened_at room bytes ≡ Ok (ty, mid) → new ≡ old ++ b.instrs ∷ b.nested
+pub else_fails : (e : ItemFault) (room : ℕ) (old new : List (List Instr)) (bytes mid rest : List ℕ) (ty : Option ValType) (b : Body) (closer : ℕ) → opened_at room bytes ≡ Ok (ty, mid) → new ≡ old ++ b.instrs ∷ b.nested
     → instrs_in (room - 1) (length old + 1) mid ≡ Ok b → b.closer ≡ closer → b.rest ≡ rest → (closer ≡ 0x0B → ⊥) → Fails e (closed_in (room - 1) (length new + 1) rest) → Fails e (if_with instrs_in room (length old) bytes)
 unfolding if_with
 else_fails OutOfMemory room old new bytes mid rest ty b closer opened new-is read closer-is rest-is other h = tt

@@ -4,8 +4,8 @@ use Rattle.std.proofs.lemmas.Bool.{ne_eqb, eq-eqb}
 use Rattle.std.proofs.lemmas.List.{append-nil}
 use Rattle.std.proofs.Math.Seq.{take-length}
 use Rattle.wm_ast.specs.declared.instr.Instr.{Instr}
-use Rattle.wm_decode.specs.declared.fault.ReadFault.{ReadFault}
-use Rattle.wm_decode.specs.declared.fault.ReadFault.TheVariants.{OutOfMemory, At}
+use Rattle.wm_decode.specs.declared.fault.ItemFault.{ItemFault}
+use Rattle.wm_decode.specs.declared.fault.ItemFault.TheVariants.{OutOfMemory, At}
 use Rattle.wm_decode.specs.Numbers.{IsBytes}
 use Rattle.wm_decode.specs.Stop.{Stop, bad}
 use Rattle.wm_decode.specs.Answers.{Fails}
@@ -71,7 +71,7 @@ goes_on room old new newer bytes rest found s long n1 n2 i nested left grew read
       fits = one_fits room (length new) (get_or rest 0 0) (tail_of rest) one fits.0 fits.1 read;
     }
 
-pub fails : (e : ReadFault) (room : ℕ) (old new : List (List Instr)) (bytes rest : List ℕ) (found : List Instr) (s : SoFar room old new bytes rest found) → 0 < length rest → (get_or rest 0 0 ≡ 0x0B → ⊥) → (get_or rest 0 0 ≡ 0x05 → ⊥)
+pub fails : (e : ItemFault) (room : ℕ) (old new : List (List Instr)) (bytes rest : List ℕ) (found : List Instr) (s : SoFar room old new bytes rest found) → 0 < length rest → (get_or rest 0 0 ≡ 0x0B → ⊥) → (get_or rest 0 0 ≡ 0x05 → ⊥)
     → Fails e (instr_in room (length new) (get_or rest 0 0) (tail_of rest)) → Fails e (instrs_in room (length old) bytes)
 fails OutOfMemory room old new bytes rest found s long n1 n2 h = tt
 fails (At kind left) room old new bytes rest found s long n1 n2 h =

@@ -1,8 +1,8 @@
 -- Reading items one after the other, as a loop does.
 use Rattle.std.proofs.Common.{◌≡◌, ℕ, suc, ◌-◌, ◌+◌, ◌≤◌, ◌<◌, List, [], ◌∷◌, ◌++◌, Result, Ok, Err, refl, sym, ap, ◌∙◌, append_assoc, arith}
 use Rattle.std.proofs.lemmas.List.{append-nil}
-use Rattle.wm_decode.specs.declared.fault.ReadFault.{ReadFault}
-use Rattle.wm_decode.specs.declared.fault.ReadFault.TheVariants.{OutOfMemory, At}
+use Rattle.wm_decode.specs.declared.fault.ItemFault.{ItemFault}
+use Rattle.wm_decode.specs.declared.fault.ItemFault.TheVariants.{OutOfMemory, At}
 use Rattle.wm_decode.specs.Stop.{Stop}
 use Rattle.wm_decode.specs.Answers.{Fails, stop_of}
 use Rattle.wm_decode.specs.Reading.{◌>>=◌}
@@ -25,7 +25,7 @@ module _ {X : Type 0} where
       let one : found_before front (items_at item_at (count - i) bytes) ≡ found_before (front ++ n ∷ []) (items_at item_at (count - (i + 1)) after) = rw (k, h) (regroup front n (items_at item_at (count - (i + 1)) after)) in
       sym one ∙ so_far
 
-  pub fails : (item_at : List ℕ → Result (X × List ℕ) Stop) (e : ReadFault) (front : List X) (count i : ℕ) (bytes : List ℕ) (total : Result (List X × List ℕ) Stop) → i < count → Fails e (item_at bytes)
+  pub fails : (item_at : List ℕ → Result (X × List ℕ) Stop) (e : ItemFault) (front : List X) (count i : ℕ) (bytes : List ℕ) (total : Result (List X × List ℕ) Stop) → i < count → Fails e (item_at bytes)
       → found_before front (items_at item_at (count - i) bytes) ≡ total → Fails e total
   unfolding items_at
   fails item_at OutOfMemory front count i bytes total lt h so_far = tt

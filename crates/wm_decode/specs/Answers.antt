@@ -3,8 +3,8 @@ use Rattle.std.specs.Prelude.{◌≡◌, ℕ, Result, Ok, Err}
 use Rattle.wm_decode.specs.declared.fault.Limit.{Limit}
 use Rattle.wm_decode.specs.declared.fault.FaultKind.{FaultKind}
 use Rattle.wm_decode.specs.declared.fault.FaultKind.TheVariants as kind
-use Rattle.wm_decode.specs.declared.fault.ReadFault.{ReadFault}
-use Rattle.wm_decode.specs.declared.fault.ReadFault.TheVariants.{OutOfMemory, At}
+use Rattle.wm_decode.specs.declared.fault.ItemFault.{ItemFault}
+use Rattle.wm_decode.specs.declared.fault.ItemFault.TheVariants.{OutOfMemory, At}
 use Rattle.wm_decode.specs.declared.fault.DecodeFault.{DecodeFault}
 use Rattle.wm_decode.specs.declared.fault.DecodeFault.TheVariants as decode
 use Rattle.wm_decode.specs.Stop.{Stop, bad, past}
@@ -24,28 +24,28 @@ stop_of (kind.UnknownOpcode byte) = bad
 stop_of (kind.Unsupported feature) = bad
 stop_of kind.DuplicateExport = bad
 
-abbrev pub Fails : {Y : Type 0} → ReadFault → Result Y Stop → Type 0
+abbrev pub Fails : {Y : Type 0} → ItemFault → Result Y Stop → Type 0
 Fails OutOfMemory read = Unit {0}
 Fails (At kind left) read = read ≡ Err (stop_of kind)
 
-abbrev pub Answers : {X Y : Type 0} → (X → Y) → Result X ReadFault → Result Y Stop → Type 0
+abbrev pub Answers : {X Y : Type 0} → (X → Y) → Result X ItemFault → Result Y Stop → Type 0
 Answers view (Ok x) read = read ≡ Ok (view x)
 Answers view (Err e) read = Fails e read
 
 -- both are want of memory, or both stop reading alike
-abbrev pub SameStop : ReadFault → ReadFault → Type 0
+abbrev pub SameStop : ItemFault → ItemFault → Type 0
 SameStop OutOfMemory OutOfMemory = Unit {0}
 SameStop OutOfMemory (At kind left) = ⊥
 SameStop (At kind left) OutOfMemory = ⊥
 SameStop (At kind left) (At kind2 left2) = stop_of kind2 ≡ stop_of kind
 
 -- memory isn't what was wanting, nor was a limit passed
-abbrev pub IsBad : ReadFault → Type 0
+abbrev pub IsBad : ItemFault → Type 0
 IsBad OutOfMemory = ⊥
 IsBad (At kind left) = stop_of kind ≡ bad
 
 -- memory was wanting, or no limit was passed
-abbrev pub IsNoLimit : ReadFault → Type 0
+abbrev pub IsNoLimit : ItemFault → Type 0
 IsNoLimit OutOfMemory = Unit {0}
 IsNoLimit (At kind left) = stop_of kind ≡ bad
 
@@ -56,7 +56,7 @@ Decodes (Err decode.OutOfMemory) read = Unit {0}
 Decodes (Err (decode.At kind offset)) read = read ≡ Err (stop_of kind)
 
 -- the same fault for the caller
-abbrev pub SameFault : ReadFault → DecodeFault → Type 0
+abbrev pub SameFault : ItemFault → DecodeFault → Type 0
 SameFault OutOfMemory decode.OutOfMemory = Unit {0}
 SameFault OutOfMemory (decode.At kind offset) = ⊥
 SameFault (At kind left) decode.OutOfMemory = ⊥

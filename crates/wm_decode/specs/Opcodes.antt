@@ -10,9 +10,9 @@ use Rattle.wm_ast.specs.declared.types.ValType.TheVariants as value
 use Rattle.wm_ast.specs.declared.access.Storage.{Storage}
 use Rattle.wm_ast.specs.declared.access.Storage.TheVariants as storage
 use Rattle.wm_ast.specs.declared.access.Narrow.TheVariants as narrow
-use Rattle.wm_access.specs.declared.UpdateOperator.TheVariants as update
+use Rattle.wm_access.specs.declared.RmwOperator.TheVariants as update
 use Rattle.wm_ast.specs.declared.access.AccessKind.{AccessKind}
-use Rattle.wm_ast.specs.declared.access.AccessKind.TheVariants.{Read, ReadSigned, Write, AtomicRead, AtomicWrite, Update, CompareExchange}
+use Rattle.wm_ast.specs.declared.access.AccessKind.TheVariants.{Read, ReadSigned, Write, AtomicRead, AtomicWrite, Rmw, CmpXchg}
 use Rattle.wm_ast.specs.declared.instr.Instr.TheVariants as instr
 use Rattle.wm_decode.specs.declared.opcode.Indexed.TheVariants.{Br, BrIf, Call, LocalGet, LocalSet, LocalTee, GlobalGet, GlobalSet}
 use Rattle.wm_decode.specs.declared.opcode.Opcode.{Opcode}
@@ -84,13 +84,13 @@ abbrev pub storages : List Storage
 storages = storage.I32 ∷ storage.I64 ∷ storage.I32As8 ∷ storage.I32As16 ∷ storage.I64As8 ∷ storage.I64As16 ∷ storage.I64As32 ∷ []
 
 abbrev pub atomic_moves : List (ℕ × AccessKind)
-atomic_moves = from 0x10 (map AtomicRead storages ++ map AtomicWrite storages) ++ (0x48, CompareExchange value.I32) ∷ (0x49, CompareExchange value.I64) ∷ []
+atomic_moves = from 0x10 (map AtomicRead storages ++ map AtomicWrite storages) ++ (0x48, CmpXchg value.I32) ∷ (0x49, CmpXchg value.I64) ∷ []
 
 abbrev pub first_updates : List (ℕ × AccessKind)
-first_updates = from 0x1E (map (Update update.Add) storages ++ map (Update update.Sub) storages ++ map (Update update.And) storages)
+first_updates = from 0x1E (map (Rmw update.Add) storages ++ map (Rmw update.Sub) storages ++ map (Rmw update.And) storages)
 
 abbrev pub last_updates : List (ℕ × AccessKind)
-last_updates = from 0x33 (map (Update update.Or) storages ++ map (Update update.Xor) storages ++ map (Update update.Xchg) storages)
+last_updates = from 0x33 (map (Rmw update.Or) storages ++ map (Rmw update.Xor) storages ++ map (Rmw update.Xchg) storages)
 
 -- the access that a code after the prefix FE means
 unfoldable pub atomic_at : ℕ → Option AccessKind

@@ -6,13 +6,13 @@ ghost use Rattle.wm_decode.specs.Instructions.{indexed_instr};
 ghost use Rattle.wm_decode.specs.ReadingInstructions.{block_type_at, opened_at, access_at, access_of, operands_at, plain_at, instrs_in, instr_in, closed_in, blocks_at};
 ghost use Rattle.wm_decode.specs.InstructionAnswers.{InstrsRead, BlockRead, ClosedRead, InstrRead};
 
-use crate::fault::{FaultKind, Feature, Limit, ReadFault};
+use crate::fault::{FaultKind, Feature, ItemFault, Limit};
 use crate::number::{signed_32, signed_64, unsigned_32};
 use crate::opcode::{Indexed, Opcode, atomic_access, opcode_of};
 use crate::types::value_type_fault;
 use crate::vectors::vector;
 use std::alloc::Global;
-use wm_ast::{AccessKind, AccessOperands, Block, BlockType, Else, Instr, ValType};
+use wm_ast::{AccessKind, Block, BlockType, Else, Instr, MemArg, ValType};
 use wm_list::List;
 
 /// The byte that ends a block.
@@ -36,15 +36,15 @@ fn block_type_fault(byte: u8) -> FaultKind
 
 /// Reads the type of a block (Core 1.0, section 5.4.1).
 #[tactic(auto, unfolding(crate::specs::ReadingInstructions::block_type_at))]
-fn block_type(bytes: &[u8]) -> Result<(BlockType, &[u8]), ReadFault>
+fn block_type(bytes: &[u8]) -> Result<(BlockType, &[u8]), ItemFault>
     ensures { Answers (λ x. (x.0, x.1.now)) result (block_type_at bytes.now) }
 {
     match bytes {
-        [] => Err(ReadFault::At(FaultKind::Truncated, 0)),
+        [] => Err(ItemFault::At(FaultKind::Truncated, 0)),
         [0x40, rest @ ..] => Ok((None, rest)),
         [0x7F, rest @ ..] => Ok((Some(ValType::I32), rest)),
         [0x7E, rest @ ..] => Ok((Some(ValType::I64), rest)),
-        [byte, ..] => Err(ReadFault::At(block_type_fault(*byte), bytes.len())),
+        [byte, ..] => Err(ItemFault::At(block_type_fault(*byte), bytes.len())),
     }
 }
 
@@ -68,15 +68,12 @@ impl Indexed {
 
 /// Reads what stands behind an access (Core 1.0, section 5.4.4).
 #[tactic(auto, unfolding(crate::specs::ReadingInstructions::access_at))]
-fn access(kind: AccessKind, bytes: &[u8]) -> Result<(Instr, &[u8]), ReadFault>
+fn access(kind: AccessKind, bytes: &[u8]) -> Result<(Instr, &[u8]), ItemFault>
     ensures { Answers (λ x. (x.0, x.1.now)) result (access_at kind bytes.now) }
 {
     let (alignment, rest) = unsigned_32(bytes)?;
     let (offset, rest) = unsigned_32(rest)?;
-    Ok((
-        Instr::Access(kind, AccessOperands { alignment, offset }),
-        rest,
-    ))
+    Ok((Instr::Access(kind, MemArg { alignment, offset }), rest))
 }
 
 /// Why a code after the prefix `FE` is none of an access.
@@ -94,7 +91,7 @@ fn atomic_fault(code: u32) -> FaultKind
 
 /// Reads the rest of an atomic access, behind its prefix, at which its code is faulted.
 #[tactic(auto, unfolding(crate::specs::ReadingInstructions::operands_at))]
-fn atomic(bytes: &[u8]) -> Result<(Instr, &[u8]), ReadFault>
+fn atomic(bytes: &[u8]) -> Result<(Instr, &[u8]), ItemFault>
     ensures { Answers (λ x. (x.0, x.1.now)) result (operands_at Opcode.Atomic bytes.now) }
 {
     let prefix = bytes.len().saturating_add(1);
@@ -104,13 +101,13 @@ fn atomic(bytes: &[u8]) -> Result<(Instr, &[u8]), ReadFault>
     };
     match atomic_access(code) {
         Some(kind) => access(kind, rest),
-        None => Err(ReadFault::At(atomic_fault(code), prefix)),
+        None => Err(ItemFault::At(atomic_fault(code), prefix)),
     }
 }
 
 /// Reads the rest of an instruction that has no block of its own.
 #[tactic(auto, unfolding(crate::specs::ReadingInstructions::operands_at))]
-fn operands(alloc: Global, opcode: Opcode, bytes: &[u8]) -> Result<(Instr, &[u8]), ReadFault>
+fn operands(alloc: Global, opcode: Opcode, bytes: &[u8]) -> Result<(Instr, &[u8]), ItemFault>
     ensures { Answers (λ x. (x.0, x.1.now)) result (operands_at opcode bytes.now) }
 {
     match opcode {
@@ -126,9 +123,9 @@ fn operands(alloc: Global, opcode: Opcode, bytes: &[u8]) -> Result<(Instr, &[u8]
         }
         Opcode::Access(kind) => access(kind, bytes),
         Opcode::MemorySize => match bytes {
-            [] => Err(ReadFault::At(FaultKind::Truncated, 0)),
+            [] => Err(ItemFault::At(FaultKind::Truncated, 0)),
             [0x00, rest @ ..] => Ok((Instr::MemorySize, rest)),
-            [_, ..] => Err(ReadFault::At(FaultKind::BadNumber, bytes.len())),
+            [_, ..] => Err(ItemFault::At(FaultKind::BadNumber, bytes.len())),
         },
         Opcode::I32Const => {
             let (value, rest) = signed_32(bytes)?;
@@ -163,12 +160,12 @@ fn opcode_fault(code: u8) -> FaultKind
 
 /// Reads an instruction that has no block of its own, behind its first byte, at which it is faulted.
 #[tactic(auto, unfolding(crate::specs::ReadingInstructions::plain_at))]
-fn plain(alloc: Global, code: u8, bytes: &[u8]) -> Result<(Instr, &[u8]), ReadFault>
+fn plain(alloc: Global, code: u8, bytes: &[u8]) -> Result<(Instr, &[u8]), ItemFault>
     ensures { Answers (λ x. (x.0, x.1.now)) result (plain_at code bytes.now) }
 {
     match opcode_of(code) {
         Some(opcode) => operands(alloc, opcode, bytes),
-        None => Err(ReadFault::At(opcode_fault(code), bytes.len().saturating_add(1))),
+        None => Err(ItemFault::At(opcode_fault(code), bytes.len().saturating_add(1))),
     }
 }
 
@@ -179,7 +176,7 @@ fn instrs<'a>(
     room: u32,
     blocks: &mut Blocks,
     bytes: &'a [u8],
-) -> Result<(Block, u8, &'a [u8]), ReadFault>
+) -> Result<(Block, u8, &'a [u8]), ItemFault>
     ensures { InstrsRead blocks.old.items blocks.new.items (λ x. (x.0, x.1, x.2.now)) result (instrs_in room (length blocks.old.items) bytes.now) }
 {
     let mut found = List::new(alloc);
@@ -193,7 +190,7 @@ fn instrs<'a>(
         found.push(one)?;
         rest = after;
     }
-    Err(ReadFault::At(FaultKind::Truncated, 0))
+    Err(ItemFault::At(FaultKind::Truncated, 0))
 }
 
 // Reads a block up to the byte that closes it, and adds it and the blocks that begin in it.
@@ -203,7 +200,7 @@ fn nested<'a>(
     room: u32,
     blocks: &mut Blocks,
     bytes: &'a [u8],
-) -> Result<(usize, u8, &'a [u8]), ReadFault>
+) -> Result<(usize, u8, &'a [u8]), ItemFault>
     ensures { BlockRead blocks.old.items blocks.new.items (λ x. (x.0, x.1, x.2.now)) result (instrs_in room (length blocks.old.items + 1) bytes.now) }
 {
     let number = blocks.len();
@@ -221,14 +218,14 @@ fn closed<'a>(
     room: u32,
     blocks: &mut Blocks,
     bytes: &'a [u8],
-) -> Result<(usize, &'a [u8]), ReadFault>
+) -> Result<(usize, &'a [u8]), ItemFault>
     ensures { ClosedRead blocks.old.items blocks.new.items (λ x. (x.0, x.1.now)) result (closed_in room (length blocks.old.items + 1) bytes.now) }
 {
     let (number, closer, rest) = nested(alloc, room, blocks, bytes)?;
     if closer == END {
         return Ok((number, rest));
     }
-    Err(ReadFault::At(
+    Err(ItemFault::At(
         FaultKind::UnknownOpcode(closer),
         rest.len().saturating_add(1),
     ))
@@ -236,12 +233,12 @@ fn closed<'a>(
 
 /// Reads the type of a block, behind the opcode, at which it is faulted where there is no room for the block.
 #[tactic(auto, unfolding(crate::specs::ReadingInstructions::opened_at))]
-fn opening(room: u32, bytes: &[u8]) -> Result<(BlockType, &[u8]), ReadFault>
+fn opening(room: u32, bytes: &[u8]) -> Result<(BlockType, &[u8]), ItemFault>
     ensures read { Answers (λ x. (x.0, x.1.now)) result (opened_at room bytes.now) }
     ensures has_room { OnOk result (0 < room) }
 {
     if room == 0 {
-        return Err(ReadFault::At(
+        return Err(ItemFault::At(
             FaultKind::Limit(Limit::Nesting),
             bytes.len().saturating_add(1),
         ));
@@ -258,7 +255,7 @@ fn instr<'a>(
     blocks: &mut Blocks,
     op: u8,
     bytes: &'a [u8],
-) -> Result<(Instr, &'a [u8]), ReadFault>
+) -> Result<(Instr, &'a [u8]), ItemFault>
     ensures { InstrRead blocks.old.items blocks.new.items (λ x. (x.0, x.1.now)) result (instr_in room (length blocks.old.items) op bytes.now) }
 {
     match op {
@@ -294,7 +291,7 @@ pub(crate) fn blocks(
     alloc: Global,
     room: u32,
     bytes: &[u8],
-) -> Result<(List<Block>, &[u8]), ReadFault>
+) -> Result<(List<Block>, &[u8]), ItemFault>
     ensures { Answers (λ x. (x.0, x.1.now)) result (blocks_at room bytes.now) }
 {
     let mut blocks = Vec::new(alloc);

@@ -9,7 +9,7 @@ ghost use Rattle.wm_decode.specs.ReadingParts.{local_entry_at, local_step, local
 
 use crate::body::blocks;
 use crate::bounds::{LOCALS, NESTING};
-use crate::fault::{FaultKind, Limit, ReadFault};
+use crate::fault::{FaultKind, ItemFault, Limit};
 use crate::number::unsigned_32;
 use crate::section::Content;
 use crate::vectors::Item;
@@ -29,12 +29,12 @@ fn add_locals(found: &mut List<ValType>, count: u32, ty: ValType) -> Result<(), 
 
 /// Reads an entry of at most `room` locals.
 #[tactic(auto, unfolding(crate::specs::ReadingParts::local_entry_at))]
-fn local_entry(alloc: Global, room: usize, bytes: &[u8]) -> Result<(u32, ValType, &[u8]), ReadFault>
+fn local_entry(alloc: Global, room: usize, bytes: &[u8]) -> Result<(u32, ValType, &[u8]), ItemFault>
     ensures { Answers (λ x. ((x.0, x.1), x.2.now)) result (local_entry_at room bytes.now) }
 {
     let (count, rest) = unsigned_32(bytes)?;
     if room < count as usize {
-        return Err(ReadFault::At(FaultKind::Limit(Limit::Locals), bytes.len()));
+        return Err(ItemFault::At(FaultKind::Limit(Limit::Locals), bytes.len()));
     }
     let (ty, rest) = ValType::read(alloc, rest)?;
     Ok((count, ty, rest))
@@ -46,7 +46,7 @@ fn more_locals(
     most: usize,
     entries: u32,
     bytes: &[u8],
-) -> Result<(List<ValType>, &[u8]), ReadFault>
+) -> Result<(List<ValType>, &[u8]), ItemFault>
     ensures { Answers (λ x. (x.0, x.1.now)) result (more_at (local_step most) entries [] bytes.now) }
 {
     let mut found = List::new(alloc);
@@ -66,7 +66,7 @@ fn function(
     most: usize,
     type_index: u32,
     bytes: &[u8],
-) -> Result<(Func, &[u8]), ReadFault>
+) -> Result<(Func, &[u8]), ItemFault>
     ensures { Answers (λ x. (x.0, x.1.now)) result (function_at profile most type_index bytes.now) }
 {
     let (entries, rest) = unsigned_32(bytes)?;
@@ -92,13 +92,13 @@ fn parameters(types: &[FuncType], type_index: u32) -> usize
 
 /// Splits off as many bytes as are said before them, all of which stand in the section.
 #[tactic(auto, unfolding(crate::specs::ReadingVectors::byte_vector_at))]
-fn own_bytes(bytes: &[u8]) -> Result<(&[u8], &[u8]), ReadFault>
+fn own_bytes(bytes: &[u8]) -> Result<(&[u8], &[u8]), ItemFault>
     ensures { Answers (λ x. (x.0.now, x.1.now)) result (byte_vector_at bytes.now) }
 {
     let (size, rest) = unsigned_32(bytes)?;
     let size = size as usize;
     if rest.len() < size {
-        return Err(ReadFault::At(FaultKind::SectionSize, bytes.len()));
+        return Err(ItemFault::At(FaultKind::SectionSize, bytes.len()));
     }
     Ok(rest.split_at(size))
 }
@@ -110,20 +110,20 @@ fn sized_function<'a>(
     types: &[FuncType],
     type_index: u32,
     bytes: &'a [u8],
-) -> Result<(Func, &'a [u8]), ReadFault>
+) -> Result<(Func, &'a [u8]), ItemFault>
     ensures { Answers (λ x. (x.0, x.1.now)) result (sized_at (body_at profile types.now type_index) bytes.now) }
 {
     let (inner, after) = own_bytes(bytes)?;
     let parameters = parameters(types, type_index);
     if LOCALS < parameters {
-        return Err(ReadFault::At(FaultKind::Limit(Limit::Locals), bytes.len()));
+        return Err(ItemFault::At(FaultKind::Limit(Limit::Locals), bytes.len()));
     }
     let (function, left) = match function(alloc, LOCALS - parameters, type_index, inner) {
         Ok(found) => found,
         Err(fault) => return Err(fault.inside(after.len())),
     };
     if !left.is_empty() {
-        return Err(ReadFault::At(
+        return Err(ItemFault::At(
             FaultKind::SectionSize,
             left.len().saturating_add(after.len()),
         ));
@@ -137,7 +137,7 @@ fn functions<'a>(
     types: &[FuncType],
     indices: &[u32],
     bytes: &'a [u8],
-) -> Result<(List<Func>, &'a [u8]), ReadFault>
+) -> Result<(List<Func>, &'a [u8]), ItemFault>
     ensures { Answers (λ x. (x.0, x.1.now)) result (more_functions_at profile types.now indices.now [] bytes.now) }
 {
     let mut found = List::new(alloc);
@@ -167,10 +167,10 @@ impl Content for Code<'_> {
         &self,
         alloc: Global,
         bytes: &'a [u8],
-    ) -> Result<(List<Func>, &'a [u8]), ReadFault> {
+    ) -> Result<(List<Func>, &'a [u8]), ItemFault> {
         let (count, rest) = unsigned_32(bytes)?;
         if count as usize != self.indices.len() {
-            return Err(ReadFault::At(FaultKind::CountMismatch, bytes.len()));
+            return Err(ItemFault::At(FaultKind::CountMismatch, bytes.len()));
         }
         functions(alloc, self.types, self.indices, rest)
     }

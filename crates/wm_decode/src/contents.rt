@@ -8,7 +8,7 @@ ghost use Rattle.wm_decode.specs.ReadingVectors.{u32_at, vector_at, more_at};
 ghost use Rattle.wm_decode.specs.ReadingParts.{func_type_at, import_at, imports_at, memories_at, indices_at, no_items_at, initial_at, mutability_at, global_at, export_kind_at, export_entry_at, exports_at, export_step, byte_at, segment_at, segments_at, agrees};
 
 use crate::bounds::FUNCTIONS;
-use crate::fault::{FaultKind, Feature, Limit, ReadFault};
+use crate::fault::{FaultKind, Feature, ItemFault, Limit};
 use crate::number::{signed_32, signed_64, unsigned_32};
 use crate::section::Content;
 use crate::types::limits;
@@ -33,7 +33,7 @@ impl Content for Types {
         &self,
         alloc: Global,
         bytes: &'a [u8],
-    ) -> Result<(List<FuncType>, &'a [u8]), ReadFault> {
+    ) -> Result<(List<FuncType>, &'a [u8]), ItemFault> {
         vector(alloc, bytes)
     }
 }
@@ -50,15 +50,15 @@ fn import_kind_fault(byte: u8) -> FaultKind
 
 /// Reads an import, which is a memory.
 #[tactic(auto, unfolding(crate::specs::ReadingParts::import_at))]
-fn import(alloc: Global, bytes: &[u8]) -> Result<(Memory, &[u8]), ReadFault>
+fn import(alloc: Global, bytes: &[u8]) -> Result<(Memory, &[u8]), ItemFault>
     ensures { Answers (λ x. (x.0, x.1.now)) result (import_at profile bytes.now) }
 {
     let (module, rest) = owned_name(alloc, bytes)?;
     let (name, rest) = owned_name(alloc, rest)?;
     let rest = match rest {
-        [] => return Err(ReadFault::At(FaultKind::Truncated, 0)),
+        [] => return Err(ItemFault::At(FaultKind::Truncated, 0)),
         [0x02, after @ ..] => after,
-        [byte, ..] => return Err(ReadFault::At(import_kind_fault(*byte), rest.len())),
+        [byte, ..] => return Err(ItemFault::At(import_kind_fault(*byte), rest.len())),
     };
     let (limits, rest) = limits(rest)?;
     let import = Some(ImportName { module, name });
@@ -66,7 +66,7 @@ fn import(alloc: Global, bytes: &[u8]) -> Result<(Memory, &[u8]), ReadFault>
 }
 
 /// Why an import behind a memory can't be read: a second memory is one too many.
-fn second_import_fault(bytes: &[u8]) -> ReadFault
+fn second_import_fault(bytes: &[u8]) -> ItemFault
     ensures { IsNoLimit result }
 {
     let rest = match name(bytes) {
@@ -78,9 +78,9 @@ fn second_import_fault(bytes: &[u8]) -> ReadFault
         Err(fault) => return fault,
     };
     match left {
-        [] => ReadFault::At(FaultKind::Truncated, 0),
-        [0x02, ..] => ReadFault::At(FaultKind::Unsupported(Feature::SeveralMemories), left.len()),
-        [byte, ..] => ReadFault::At(import_kind_fault(*byte), left.len()),
+        [] => ItemFault::At(FaultKind::Truncated, 0),
+        [0x02, ..] => ItemFault::At(FaultKind::Unsupported(Feature::SeveralMemories), left.len()),
+        [byte, ..] => ItemFault::At(import_kind_fault(*byte), left.len()),
     }
 }
 
@@ -98,7 +98,7 @@ impl Content for Imports {
         &self,
         alloc: Global,
         bytes: &'a [u8],
-    ) -> Result<(Option<Memory>, &'a [u8]), ReadFault> {
+    ) -> Result<(Option<Memory>, &'a [u8]), ItemFault> {
         let (count, rest) = unsigned_32(bytes)?;
         if count == 0 {
             return Ok((None, rest));
@@ -121,10 +121,10 @@ impl Content for TypeIndices {
     ghost content_at = { λ _. indices_at profile };
 
     #[tactic(auto, unfolding(crate::specs::ReadingParts::indices_at))]
-    fn read<'a>(&self, alloc: Global, bytes: &'a [u8]) -> Result<(List<u32>, &'a [u8]), ReadFault> {
+    fn read<'a>(&self, alloc: Global, bytes: &'a [u8]) -> Result<(List<u32>, &'a [u8]), ItemFault> {
         let (count, rest) = unsigned_32(bytes)?;
         if count > FUNCTIONS {
-            return Err(ReadFault::At(FaultKind::Limit(Limit::Functions), bytes.len()));
+            return Err(ItemFault::At(FaultKind::Limit(Limit::Functions), bytes.len()));
         }
         items(alloc, count, rest)
     }
@@ -140,10 +140,10 @@ impl Content for NoItems {
     ghost content_at = { λ _. no_items_at };
 
     #[tactic(auto, unfolding(crate::specs::ReadingParts::no_items_at))]
-    fn read<'a>(&self, _alloc: Global, bytes: &'a [u8]) -> Result<(u32, &'a [u8]), ReadFault> {
+    fn read<'a>(&self, _alloc: Global, bytes: &'a [u8]) -> Result<(u32, &'a [u8]), ItemFault> {
         let (count, rest) = unsigned_32(bytes)?;
         if count != 0 {
-            return Err(ReadFault::At(FaultKind::Unsupported(Feature::Table), bytes.len()));
+            return Err(ItemFault::At(FaultKind::Unsupported(Feature::Table), bytes.len()));
         }
         Ok((count, rest))
     }
@@ -165,13 +165,13 @@ impl Content for Memories {
         &self,
         _alloc: Global,
         bytes: &'a [u8],
-    ) -> Result<(Option<Limits>, &'a [u8]), ReadFault> {
+    ) -> Result<(Option<Limits>, &'a [u8]), ItemFault> {
         let (count, rest) = unsigned_32(bytes)?;
         if count == 0 {
             return Ok((None, rest));
         }
         if self.imported || count != 1 {
-            return Err(ReadFault::At(
+            return Err(ItemFault::At(
                 FaultKind::Unsupported(Feature::SeveralMemories),
                 bytes.len(),
             ));
@@ -182,13 +182,13 @@ impl Content for Memories {
 }
 
 /// Reads the `end` of an initial value.
-fn initial_end(bytes: &[u8]) -> Result<&[u8], ReadFault>
+fn initial_end(bytes: &[u8]) -> Result<&[u8], ItemFault>
     ensures { Answers (λ x. x.now) result (byte_at 0x0B bytes.now) }
 {
     match bytes {
-        [] => Err(ReadFault::At(FaultKind::Truncated, 0)),
+        [] => Err(ItemFault::At(FaultKind::Truncated, 0)),
         [0x0B, rest @ ..] => Ok(rest),
-        [_, ..] => Err(ReadFault::At(
+        [_, ..] => Err(ItemFault::At(
             FaultKind::Unsupported(Feature::ConstExpression),
             bytes.len(),
         )),
@@ -197,11 +197,11 @@ fn initial_end(bytes: &[u8]) -> Result<&[u8], ReadFault>
 
 /// Reads an initial value: one constant.
 #[tactic(auto, unfolding(crate::specs::ReadingParts::initial_at))]
-fn initial(bytes: &[u8]) -> Result<(ConstExpr, &[u8]), ReadFault>
+fn initial(bytes: &[u8]) -> Result<(ConstExpr, &[u8]), ItemFault>
     ensures { Answers (λ x. (x.0, x.1.now)) result (initial_at bytes.now) }
 {
     match bytes {
-        [] => Err(ReadFault::At(FaultKind::Truncated, 0)),
+        [] => Err(ItemFault::At(FaultKind::Truncated, 0)),
         [0x41, rest @ ..] => {
             let (value, rest) = signed_32(rest)?;
             let rest = initial_end(rest)?;
@@ -212,7 +212,7 @@ fn initial(bytes: &[u8]) -> Result<(ConstExpr, &[u8]), ReadFault>
             let rest = initial_end(rest)?;
             Ok((ConstExpr::I64(value), rest))
         }
-        [_, ..] => Err(ReadFault::At(
+        [_, ..] => Err(ItemFault::At(
             FaultKind::Unsupported(Feature::ConstExpression),
             bytes.len(),
         )),
@@ -221,14 +221,14 @@ fn initial(bytes: &[u8]) -> Result<(ConstExpr, &[u8]), ReadFault>
 
 /// Reads whether a global may be set.
 #[tactic(auto, unfolding(crate::specs::ReadingParts::mutability_at))]
-fn mutability(bytes: &[u8]) -> Result<(Mutability, &[u8]), ReadFault>
+fn mutability(bytes: &[u8]) -> Result<(Mutability, &[u8]), ItemFault>
     ensures { Answers (λ x. (x.0, x.1.now)) result (mutability_at bytes.now) }
 {
     match bytes {
-        [] => Err(ReadFault::At(FaultKind::Truncated, 0)),
+        [] => Err(ItemFault::At(FaultKind::Truncated, 0)),
         [0x00, rest @ ..] => Ok((Mutability::Constant, rest)),
         [0x01, rest @ ..] => Ok((Mutability::Variable, rest)),
-        [_, ..] => Err(ReadFault::At(FaultKind::BadNumber, bytes.len())),
+        [_, ..] => Err(ItemFault::At(FaultKind::BadNumber, bytes.len())),
     }
 }
 
@@ -236,7 +236,7 @@ impl Item for GlobalEntry {
     ghost item_at = { global_at };
 
     #[tactic(auto, unfolding(crate::specs::ReadingParts::global_at))]
-    fn read(alloc: Global, bytes: &[u8]) -> Result<(GlobalEntry, &[u8]), ReadFault> {
+    fn read(alloc: Global, bytes: &[u8]) -> Result<(GlobalEntry, &[u8]), ItemFault> {
         let (ty, rest) = ValType::read(alloc, bytes)?;
         let (mutability, rest) = mutability(rest)?;
         let (init, rest) = initial(rest)?;
@@ -262,23 +262,23 @@ impl Content for Globals {
         &self,
         alloc: Global,
         bytes: &'a [u8],
-    ) -> Result<(List<GlobalEntry>, &'a [u8]), ReadFault> {
+    ) -> Result<(List<GlobalEntry>, &'a [u8]), ItemFault> {
         vector(alloc, bytes)
     }
 }
 
 /// Reads what an export names.
 #[tactic(auto, unfolding(crate::specs::ReadingParts::export_kind_at))]
-fn export_kind(bytes: &[u8]) -> Result<(ExportKind, &[u8]), ReadFault>
+fn export_kind(bytes: &[u8]) -> Result<(ExportKind, &[u8]), ItemFault>
     ensures { Answers (λ x. (x.0, x.1.now)) result (export_kind_at bytes.now) }
 {
     match bytes {
-        [] => Err(ReadFault::At(FaultKind::Truncated, 0)),
+        [] => Err(ItemFault::At(FaultKind::Truncated, 0)),
         [0x00, rest @ ..] => Ok((ExportKind::Func, rest)),
         [0x02, rest @ ..] => Ok((ExportKind::Memory, rest)),
         [0x03, rest @ ..] => Ok((ExportKind::Global, rest)),
-        [0x01, ..] => Err(ReadFault::At(FaultKind::Unsupported(Feature::Table), bytes.len())),
-        [_, ..] => Err(ReadFault::At(FaultKind::BadNumber, bytes.len())),
+        [0x01, ..] => Err(ItemFault::At(FaultKind::Unsupported(Feature::Table), bytes.len())),
+        [_, ..] => Err(ItemFault::At(FaultKind::BadNumber, bytes.len())),
     }
 }
 
@@ -287,13 +287,13 @@ fn export_kind(bytes: &[u8]) -> Result<(ExportKind, &[u8]), ReadFault>
 fn export_entry<'a>(
     earlier: &Exports,
     bytes: &'a [u8],
-) -> Result<(&'a str, Export, &'a [u8]), ReadFault>
+) -> Result<(&'a str, Export, &'a [u8]), ItemFault>
     ensures read { Answers (λ x. ((x.0.now, x.1), x.2.now)) result (export_entry_at earlier.now bytes.now) }
     ensures is_new { IfOk result (λ x. export_at x.0.now earlier.now ≡ None) }
 {
     let (name, rest) = name(bytes)?;
     if earlier.get(name).is_some() {
-        return Err(ReadFault::At(FaultKind::DuplicateExport, bytes.len()));
+        return Err(ItemFault::At(FaultKind::DuplicateExport, bytes.len()));
     }
     let (kind, rest) = export_kind(rest)?;
     let (index, rest) = unsigned_32(rest)?;
@@ -310,14 +310,14 @@ impl Content for ExportNames {
     ghost content_at = { λ _. exports_at };
 
     #[tactic(auto, unfolding(crate::specs::ReadingParts::exports_at))]
-    fn read<'a>(&self, alloc: Global, bytes: &'a [u8]) -> Result<(Exports, &'a [u8]), ReadFault> {
+    fn read<'a>(&self, alloc: Global, bytes: &'a [u8]) -> Result<(Exports, &'a [u8]), ItemFault> {
         let (count, rest) = unsigned_32(bytes)?;
         more_exports(alloc, count, rest)
     }
 }
 
 /// Reads so many exports.
-fn more_exports(alloc: Global, count: u32, bytes: &[u8]) -> Result<(Exports, &[u8]), ReadFault>
+fn more_exports(alloc: Global, count: u32, bytes: &[u8]) -> Result<(Exports, &[u8]), ItemFault>
     ensures { Answers (λ x. (x.0, x.1.now)) result (more_at export_step count [] bytes.now) }
 {
     let mut found = Exports::new(alloc);
@@ -339,7 +339,7 @@ impl Content for DataCount {
 
     ghost content_at = { λ _. u32_at };
 
-    fn read<'a>(&self, _alloc: Global, bytes: &'a [u8]) -> Result<(u32, &'a [u8]), ReadFault> {
+    fn read<'a>(&self, _alloc: Global, bytes: &'a [u8]) -> Result<(u32, &'a [u8]), ItemFault> {
         unsigned_32(bytes)
     }
 }
@@ -348,11 +348,11 @@ impl Item for DataSegment {
     ghost item_at = { segment_at };
 
     #[tactic(auto, unfolding(crate::specs::ReadingParts::segment_at))]
-    fn read(alloc: Global, bytes: &[u8]) -> Result<(DataSegment, &[u8]), ReadFault> {
+    fn read(alloc: Global, bytes: &[u8]) -> Result<(DataSegment, &[u8]), ItemFault> {
         let rest = match bytes {
-            [] => return Err(ReadFault::At(FaultKind::Truncated, 0)),
+            [] => return Err(ItemFault::At(FaultKind::Truncated, 0)),
             [0x00, rest @ ..] => rest,
-            [flag, ..] => return Err(ReadFault::At(segment_flag_fault(*flag), bytes.len())),
+            [flag, ..] => return Err(ItemFault::At(segment_flag_fault(*flag), bytes.len())),
         };
         let (offset, rest) = initial(rest)?;
         let (content, rest) = byte_vector(rest)?;
@@ -398,10 +398,10 @@ impl Content for Segments {
         &self,
         alloc: Global,
         bytes: &'a [u8],
-    ) -> Result<(List<DataSegment>, &'a [u8]), ReadFault> {
+    ) -> Result<(List<DataSegment>, &'a [u8]), ItemFault> {
         let (count, rest) = unsigned_32(bytes)?;
         if !is_agreed(self.declared, count as usize) {
-            return Err(ReadFault::At(FaultKind::CountMismatch, bytes.len()));
+            return Err(ItemFault::At(FaultKind::CountMismatch, bytes.len()));
         }
         items(alloc, count, rest)
     }

@@ -1,6 +1,6 @@
 //! Why bytes aren't a module within the limits.
 ghost use Rattle.std.specs.Prelude.{◌≡◌};
-ghost use Rattle.wm_decode.specs.declared.fault.ReadFault.TheVariants.{OutOfMemory};
+ghost use Rattle.wm_decode.specs.declared.fault.ItemFault.TheVariants.{OutOfMemory};
 
 use std::alloc::{AllocError, AllocFailed};
 
@@ -84,60 +84,60 @@ pub enum DecodeFault {
 
 /// Why a part could not be read.
 #[derive(Clone, Copy, Debug, PartialEq, Eq)]
-pub(crate) enum ReadFault {
+pub(crate) enum ItemFault {
     /// What is wrong, and how many bytes are left from the faulty item's first byte on.
     At(FaultKind, usize),
     /// Memory was refused.
     OutOfMemory,
 }
 
-impl From<AllocError> for ReadFault {
+impl From<AllocError> for ItemFault {
     ghost from_gives = { λ _ e. e ≡ OutOfMemory };
 
-    fn from(_refused: AllocError) -> ReadFault {
-        ReadFault::OutOfMemory
+    fn from(_refused: AllocError) -> ItemFault {
+        ItemFault::OutOfMemory
     }
 }
 
-impl<T: Drop> From<AllocFailed<T>> for ReadFault {
+impl<T: Drop> From<AllocFailed<T>> for ItemFault {
     ghost from_gives = { λ _ e. e ≡ OutOfMemory };
 
-    fn from(_refused: AllocFailed<T>) -> ReadFault {
-        ReadFault::OutOfMemory
+    fn from(_refused: AllocFailed<T>) -> ItemFault {
+        ItemFault::OutOfMemory
     }
 }
 
-impl ReadFault {
+impl ItemFault {
     ghost use Rattle.wm_decode.specs.Answers.{SameStop, SameFault};
 
     /// The fault at a byte from which `left` bytes are left.
-    pub(crate) fn at(self, left: usize) -> ReadFault
+    pub(crate) fn at(self, left: usize) -> ItemFault
         ensures { SameStop self result }
     {
         match self {
-            ReadFault::OutOfMemory => ReadFault::OutOfMemory,
-            ReadFault::At(kind, _) => ReadFault::At(kind, left),
+            ItemFault::OutOfMemory => ItemFault::OutOfMemory,
+            ItemFault::At(kind, _) => ItemFault::At(kind, left),
         }
     }
 
     /// The fault as the bytes around the part see it, of which `behind` follow the part.
-    pub(crate) fn before(self, behind: usize) -> ReadFault
+    pub(crate) fn before(self, behind: usize) -> ItemFault
         ensures { SameStop self result }
     {
         match self {
-            ReadFault::OutOfMemory => ReadFault::OutOfMemory,
-            ReadFault::At(kind, left) => ReadFault::At(kind, left.saturating_add(behind)),
+            ItemFault::OutOfMemory => ItemFault::OutOfMemory,
+            ItemFault::At(kind, left) => ItemFault::At(kind, left.saturating_add(behind)),
         }
     }
 
     /// The fault as the bytes around a section's content see it, of which `behind` follow the section:
     /// what runs past the section's end has the wrong size.
-    pub(crate) fn inside(self, behind: usize) -> ReadFault
+    pub(crate) fn inside(self, behind: usize) -> ItemFault
         ensures { SameStop self result }
     {
         match self {
-            ReadFault::At(FaultKind::Truncated, left) => {
-                ReadFault::At(FaultKind::SectionSize, left.saturating_add(behind))
+            ItemFault::At(FaultKind::Truncated, left) => {
+                ItemFault::At(FaultKind::SectionSize, left.saturating_add(behind))
             }
             other => other.before(behind),
         }
@@ -148,9 +148,9 @@ impl ReadFault {
         ensures { SameFault self result }
     {
         match self {
-            ReadFault::OutOfMemory => DecodeFault::OutOfMemory,
-            ReadFault::At(FaultKind::Truncated, _) => DecodeFault::At(FaultKind::Truncated, bytes),
-            ReadFault::At(kind, left) => DecodeFault::At(kind, bytes.saturating_sub(left)),
+            ItemFault::OutOfMemory => DecodeFault::OutOfMemory,
+            ItemFault::At(FaultKind::Truncated, _) => DecodeFault::At(FaultKind::Truncated, bytes),
+            ItemFault::At(kind, left) => DecodeFault::At(kind, bytes.saturating_sub(left)),
         }
     }
 }

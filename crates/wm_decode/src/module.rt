@@ -14,34 +14,34 @@ use crate::contents::{
     DataCount, ExportNames, Globals, Imports, Memories, NoItems, Segments, TypeIndices, Types,
     is_agreed,
 };
-use crate::fault::{DecodeFault, FaultKind, Feature, Limit, ReadFault};
+use crate::fault::{DecodeFault, FaultKind, Feature, ItemFault, Limit};
 use crate::section::{customs, section};
 use std::alloc::Global;
 use wm_ast::{Exports, FuncType, Global as GlobalEntry, Limits, Memory, Module};
 use wm_list::List;
 
 /// Why bytes don't begin with the header.
-fn header_fault(bytes: &[u8]) -> ReadFault
+fn header_fault(bytes: &[u8]) -> ItemFault
     ensures { IsBad result }
 {
     let magic = [0x00, 0x61, 0x73, 0x6D];
     let version = [0x01, 0x00, 0x00, 0x00];
     for (byte, wanted) in bytes.iter().zip(magic.iter()) {
         if *byte != *wanted {
-            return ReadFault::At(FaultKind::Magic, bytes.len());
+            return ItemFault::At(FaultKind::Magic, bytes.len());
         }
     }
     for (byte, wanted) in bytes.iter().skip(4).zip(version.iter()) {
         if *byte != *wanted {
-            return ReadFault::At(FaultKind::Version, bytes.len().saturating_sub(4));
+            return ItemFault::At(FaultKind::Version, bytes.len().saturating_sub(4));
         }
     }
-    ReadFault::At(FaultKind::Truncated, 0)
+    ItemFault::At(FaultKind::Truncated, 0)
 }
 
 /// Reads the header.
 #[tactic(auto, unfolding(crate::specs::ReadingModule::header_at))]
-fn header(bytes: &[u8]) -> Result<&[u8], ReadFault>
+fn header(bytes: &[u8]) -> Result<&[u8], ItemFault>
     ensures { Answers (λ x. x.now) result (header_at bytes.now) }
 {
     match bytes {
@@ -106,7 +106,7 @@ struct Declared {
 
 /// Reads the sections of types, imports and functions.
 #[tactic(auto, unfolding(crate::specs::ReadingModule::front_at))]
-fn read_front(alloc: Global, bytes: &[u8]) -> Result<(Front, &[u8]), ReadFault>
+fn read_front(alloc: Global, bytes: &[u8]) -> Result<(Front, &[u8]), ItemFault>
     ensures { Answers (λ x. (x.0, x.1.now)) result (front_at profile bytes.now) }
 {
     let rest = header(bytes)?;
@@ -124,7 +124,7 @@ fn read_front(alloc: Global, bytes: &[u8]) -> Result<(Front, &[u8]), ReadFault>
 
 /// Reads the sections up to that of elements.
 #[tactic(auto, unfolding(crate::specs::ReadingModule::declared_at))]
-fn read_declared(alloc: Global, bytes: &[u8]) -> Result<(Declared, &[u8]), ReadFault>
+fn read_declared(alloc: Global, bytes: &[u8]) -> Result<(Declared, &[u8]), ItemFault>
     ensures { Answers (λ x. (x.0, x.1.now)) result (declared_at profile bytes.now) }
 {
     let (front, rest) = read_front(alloc, bytes)?;
@@ -165,7 +165,7 @@ fn section_fault(id: u8) -> FaultKind
 
 /// Reads a module.
 #[tactic(auto, unfolding(crate::specs::ReadingModule::module_at))]
-pub(crate) fn read_module(alloc: Global, bytes: &[u8]) -> Result<Module, ReadFault>
+pub(crate) fn read_module(alloc: Global, bytes: &[u8]) -> Result<Module, ItemFault>
     ensures { Answers (λ x. x) result (module_at profile bytes.now) }
 {
     let (declared, rest) = read_declared(alloc, bytes)?;
@@ -177,12 +177,12 @@ pub(crate) fn read_module(alloc: Global, bytes: &[u8]) -> Result<Module, ReadFau
     let (funcs, rest) = section(alloc, 10, &code, rest)?;
     let (data, rest) = section(alloc, 11, &Segments { declared: count }, rest)?;
     if let [id, ..] = rest {
-        return Err(ReadFault::At(section_fault(*id), rest.len()));
+        return Err(ItemFault::At(section_fault(*id), rest.len()));
     }
     let funcs = items_or_none(alloc, funcs);
     let data = items_or_none(alloc, data);
     if funcs.len() != declared.indices.len() || !is_agreed(count, data.len()) {
-        return Err(ReadFault::At(FaultKind::CountMismatch, 0));
+        return Err(ItemFault::At(FaultKind::CountMismatch, 0));
     }
     let Declared {
         types,

@@ -5,7 +5,7 @@ ghost use Rattle.wm_decode.specs.Answers.{Answers, stop_of};
 ghost use Rattle.wm_decode.specs.Stop.{bad};
 ghost use Rattle.wm_decode.specs.Reading.{Gives, unsigned_at, signed_at};
 
-use crate::fault::{FaultKind, ReadFault};
+use crate::fault::{FaultKind, ItemFault};
 
 /// Why a number could not be read.
 #[derive(Clone, Copy, Debug, PartialEq, Eq)]
@@ -78,18 +78,18 @@ impl NumberFault {
     ghost use Rattle.wm_decode.specs.Answers.{IsBad};
 
     // The fault at the number's first byte, from which `left` bytes are left.
-    fn at(self, left: usize) -> ReadFault
+    fn at(self, left: usize) -> ItemFault
         ensures { IsBad result }
     {
         match self {
-            NumberFault::Short => ReadFault::At(FaultKind::Truncated, left),
-            NumberFault::Bad => ReadFault::At(FaultKind::BadNumber, left),
+            NumberFault::Short => ItemFault::At(FaultKind::Truncated, left),
+            NumberFault::Bad => ItemFault::At(FaultKind::BadNumber, left),
         }
     }
 }
 
 /// Reads a number of 32 binary digits.
-pub(crate) fn unsigned_32(bytes: &[u8]) -> Result<(u32, &[u8]), ReadFault>
+pub(crate) fn unsigned_32(bytes: &[u8]) -> Result<(u32, &[u8]), ItemFault>
     ensures { Answers (λ x. (x.0, x.1.now)) result (unsigned_at (2 ^ 32 - 1) bytes.now) }
 {
     match unsigned(u32::MAX as u64, bytes) {
@@ -99,7 +99,7 @@ pub(crate) fn unsigned_32(bytes: &[u8]) -> Result<(u32, &[u8]), ReadFault>
 }
 
 /// Reads a number of 32 binary digits with a sign, as its two's complement.
-pub(crate) fn signed_32(bytes: &[u8]) -> Result<(u32, &[u8]), ReadFault>
+pub(crate) fn signed_32(bytes: &[u8]) -> Result<(u32, &[u8]), ItemFault>
     ensures { Answers (λ x. (x.0, x.1.now)) result (signed_at (2 ^ 32 - 1) bytes.now) }
 {
     match signed(u32::MAX as u64, bytes) {
@@ -109,7 +109,7 @@ pub(crate) fn signed_32(bytes: &[u8]) -> Result<(u32, &[u8]), ReadFault>
 }
 
 /// Reads a number of 64 binary digits with a sign, as its two's complement.
-pub(crate) fn signed_64(bytes: &[u8]) -> Result<(u64, &[u8]), ReadFault>
+pub(crate) fn signed_64(bytes: &[u8]) -> Result<(u64, &[u8]), ItemFault>
     ensures { Answers (λ x. (x.0, x.1.now)) result (signed_at (2 ^ 64 - 1) bytes.now) }
 {
     match signed(u64::MAX, bytes) {

@@ -2,7 +2,7 @@
 ghost use Rattle.std.specs.Prelude.{◌≡◌};
 ghost use Rattle.wm_decode.specs.Opcodes.{lookup, opcode_at, atomic_at, control_opcodes, memory_opcodes, comparison_opcodes, arithmetic_32_opcodes, arithmetic_64_opcodes, other_opcodes, atomic_moves, first_updates, last_updates};
 
-use wm_access::UpdateOperator;
+use wm_access::RmwOperator;
 use wm_ast::{AccessKind, Instr, Narrow, Storage, ValType};
 use wm_num::{BinaryOperator, Comparison, Conversion, UnaryOperator, Width};
 
@@ -233,8 +233,8 @@ fn atomic_move(code: u32) -> Option<AccessKind>
         0x1B => Some(AccessKind::AtomicWrite(Storage::I64As8)),
         0x1C => Some(AccessKind::AtomicWrite(Storage::I64As16)),
         0x1D => Some(AccessKind::AtomicWrite(Storage::I64As32)),
-        0x48 => Some(AccessKind::CompareExchange(ValType::I32)),
-        0x49 => Some(AccessKind::CompareExchange(ValType::I64)),
+        0x48 => Some(AccessKind::CmpXchg(ValType::I32)),
+        0x49 => Some(AccessKind::CmpXchg(ValType::I64)),
         _ => None,
     }
 }
@@ -244,27 +244,27 @@ fn first_update(code: u32) -> Option<AccessKind>
     ensures { result ≡ lookup code first_updates }
 {
     match code {
-        0x1E => Some(AccessKind::Update(UpdateOperator::Add, Storage::I32)),
-        0x1F => Some(AccessKind::Update(UpdateOperator::Add, Storage::I64)),
-        0x20 => Some(AccessKind::Update(UpdateOperator::Add, Storage::I32As8)),
-        0x21 => Some(AccessKind::Update(UpdateOperator::Add, Storage::I32As16)),
-        0x22 => Some(AccessKind::Update(UpdateOperator::Add, Storage::I64As8)),
-        0x23 => Some(AccessKind::Update(UpdateOperator::Add, Storage::I64As16)),
-        0x24 => Some(AccessKind::Update(UpdateOperator::Add, Storage::I64As32)),
-        0x25 => Some(AccessKind::Update(UpdateOperator::Sub, Storage::I32)),
-        0x26 => Some(AccessKind::Update(UpdateOperator::Sub, Storage::I64)),
-        0x27 => Some(AccessKind::Update(UpdateOperator::Sub, Storage::I32As8)),
-        0x28 => Some(AccessKind::Update(UpdateOperator::Sub, Storage::I32As16)),
-        0x29 => Some(AccessKind::Update(UpdateOperator::Sub, Storage::I64As8)),
-        0x2A => Some(AccessKind::Update(UpdateOperator::Sub, Storage::I64As16)),
-        0x2B => Some(AccessKind::Update(UpdateOperator::Sub, Storage::I64As32)),
-        0x2C => Some(AccessKind::Update(UpdateOperator::And, Storage::I32)),
-        0x2D => Some(AccessKind::Update(UpdateOperator::And, Storage::I64)),
-        0x2E => Some(AccessKind::Update(UpdateOperator::And, Storage::I32As8)),
-        0x2F => Some(AccessKind::Update(UpdateOperator::And, Storage::I32As16)),
-        0x30 => Some(AccessKind::Update(UpdateOperator::And, Storage::I64As8)),
-        0x31 => Some(AccessKind::Update(UpdateOperator::And, Storage::I64As16)),
-        0x32 => Some(AccessKind::Update(UpdateOperator::And, Storage::I64As32)),
+        0x1E => Some(AccessKind::Rmw(RmwOperator::Add, Storage::I32)),
+        0x1F => Some(AccessKind::Rmw(RmwOperator::Add, Storage::I64)),
+        0x20 => Some(AccessKind::Rmw(RmwOperator::Add, Storage::I32As8)),
+        0x21 => Some(AccessKind::Rmw(RmwOperator::Add, Storage::I32As16)),
+        0x22 => Some(AccessKind::Rmw(RmwOperator::Add, Storage::I64As8)),
+        0x23 => Some(AccessKind::Rmw(RmwOperator::Add, Storage::I64As16)),
+        0x24 => Some(AccessKind::Rmw(RmwOperator::Add, Storage::I64As32)),
+        0x25 => Some(AccessKind::Rmw(RmwOperator::Sub, Storage::I32)),
+        0x26 => Some(AccessKind::Rmw(RmwOperator::Sub, Storage::I64)),
+        0x27 => Some(AccessKind::Rmw(RmwOperator::Sub, Storage::I32As8)),
+        0x28 => Some(AccessKind::Rmw(RmwOperator::Sub, Storage::I32As16)),
+        0x29 => Some(AccessKind::Rmw(RmwOperator::Sub, Storage::I64As8)),
+        0x2A => Some(AccessKind::Rmw(RmwOperator::Sub, Storage::I64As16)),
+        0x2B => Some(AccessKind::Rmw(RmwOperator::Sub, Storage::I64As32)),
+        0x2C => Some(AccessKind::Rmw(RmwOperator::And, Storage::I32)),
+        0x2D => Some(AccessKind::Rmw(RmwOperator::And, Storage::I64)),
+        0x2E => Some(AccessKind::Rmw(RmwOperator::And, Storage::I32As8)),
+        0x2F => Some(AccessKind::Rmw(RmwOperator::And, Storage::I32As16)),
+        0x30 => Some(AccessKind::Rmw(RmwOperator::And, Storage::I64As8)),
+        0x31 => Some(AccessKind::Rmw(RmwOperator::And, Storage::I64As16)),
+        0x32 => Some(AccessKind::Rmw(RmwOperator::And, Storage::I64As32)),
         _ => None,
     }
 }
@@ -274,27 +274,27 @@ fn last_update(code: u32) -> Option<AccessKind>
     ensures { result ≡ lookup code last_updates }
 {
     match code {
-        0x33 => Some(AccessKind::Update(UpdateOperator::Or, Storage::I32)),
-        0x34 => Some(AccessKind::Update(UpdateOperator::Or, Storage::I64)),
-        0x35 => Some(AccessKind::Update(UpdateOperator::Or, Storage::I32As8)),
-        0x36 => Some(AccessKind::Update(UpdateOperator::Or, Storage::I32As16)),
-        0x37 => Some(AccessKind::Update(UpdateOperator::Or, Storage::I64As8)),
-        0x38 => Some(AccessKind::Update(UpdateOperator::Or, Storage::I64As16)),
-        0x39 => Some(AccessKind::Update(UpdateOperator::Or, Storage::I64As32)),
-        0x3A => Some(AccessKind::Update(UpdateOperator::Xor, Storage::I32)),
-        0x3B => Some(AccessKind::Update(UpdateOperator::Xor, Storage::I64)),
-        0x3C => Some(AccessKind::Update(UpdateOperator::Xor, Storage::I32As8)),
-        0x3D => Some(AccessKind::Update(UpdateOperator::Xor, Storage::I32As16)),
-        0x3E => Some(AccessKind::Update(UpdateOperator::Xor, Storage::I64As8)),
-        0x3F => Some(AccessKind::Update(UpdateOperator::Xor, Storage::I64As16)),
-        0x40 => Some(AccessKind::Update(UpdateOperator::Xor, Storage::I64As32)),
-        0x41 => Some(AccessKind::Update(UpdateOperator::Xchg, Storage::I32)),
-        0x42 => Some(AccessKind::Update(UpdateOperator::Xchg, Storage::I64)),
-        0x43 => Some(AccessKind::Update(UpdateOperator::Xchg, Storage::I32As8)),
-        0x44 => Some(AccessKind::Update(UpdateOperator::Xchg, Storage::I32As16)),
-        0x45 => Some(AccessKind::Update(UpdateOperator::Xchg, Storage::I64As8)),
-        0x46 => Some(AccessKind::Update(UpdateOperator::Xchg, Storage::I64As16)),
-        0x47 => Some(AccessKind::Update(UpdateOperator::Xchg, Storage::I64As32)),
+        0x33 => Some(AccessKind::Rmw(RmwOperator::Or, Storage::I32)),
+        0x34 => Some(AccessKind::Rmw(RmwOperator::Or, Storage::I64)),
+        0x35 => Some(AccessKind::Rmw(RmwOperator::Or, Storage::I32As8)),
+        0x36 => Some(AccessKind::Rmw(RmwOperator::Or, Storage::I32As16)),
+        0x37 => Some(AccessKind::Rmw(RmwOperator::Or, Storage::I64As8)),
+        0x38 => Some(AccessKind::Rmw(RmwOperator::Or, Storage::I64As16)),
+        0x39 => Some(AccessKind::Rmw(RmwOperator::Or, Storage::I64As32)),
+        0x3A => Some(AccessKind::Rmw(RmwOperator::Xor, Storage::I32)),
+        0x3B => Some(AccessKind::Rmw(RmwOperator::Xor, Storage::I64)),
+        0x3C => Some(AccessKind::Rmw(RmwOperator::Xor, Storage::I32As8)),
+        0x3D => Some(AccessKind::Rmw(RmwOperator::Xor, Storage::I32As16)),
+        0x3E => Some(AccessKind::Rmw(RmwOperator::Xor, Storage::I64As8)),
+        0x3F => Some(AccessKind::Rmw(RmwOperator::Xor, Storage::I64As16)),
+        0x40 => Some(AccessKind::Rmw(RmwOperator::Xor, Storage::I64As32)),
+        0x41 => Some(AccessKind::Rmw(RmwOperator::Xchg, Storage::I32)),
+        0x42 => Some(AccessKind::Rmw(RmwOperator::Xchg, Storage::I64)),
+        0x43 => Some(AccessKind::Rmw(RmwOperator::Xchg, Storage::I32As8)),
+        0x44 => Some(AccessKind::Rmw(RmwOperator::Xchg, Storage::I32As16)),
+        0x45 => Some(AccessKind::Rmw(RmwOperator::Xchg, Storage::I64As8)),
+        0x46 => Some(AccessKind::Rmw(RmwOperator::Xchg, Storage::I64As16)),
+        0x47 => Some(AccessKind::Rmw(RmwOperator::Xchg, Storage::I64As32)),
         _ => None,
     }
 }

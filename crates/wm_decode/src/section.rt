@@ -4,7 +4,7 @@ ghost use Rattle.wm_decode.specs.Answers.{Answers};
 ghost use Rattle.wm_decode.specs.ReadingVectors.{sized_at};
 ghost use Rattle.wm_decode.specs.ReadingModule.{custom_at, customs_in, section_at};
 
-use crate::fault::{FaultKind, ReadFault};
+use crate::fault::{FaultKind, ItemFault};
 use crate::vectors::{byte_vector, owned_name};
 use std::alloc::Global;
 use wm_list::Text;
@@ -20,7 +20,7 @@ pub(crate) trait Content {
     ghost content_at: { Self → List ℕ → Result (Self.Value × List ℕ) Stop };
 
     /// Reads the value at the front.
-    fn read<'a>(&self, alloc: Global, bytes: &'a [u8]) -> Result<(Self::Value, &'a [u8]), ReadFault>
+    fn read<'a>(&self, alloc: Global, bytes: &'a [u8]) -> Result<(Self::Value, &'a [u8]), ItemFault>
         ensures { Answers (λ x. (x.0, x.1.now)) result (content_at self.now bytes.now) };
 }
 
@@ -30,7 +30,7 @@ fn sized<'a, C: Content>(
     alloc: Global,
     content: &C,
     bytes: &'a [u8],
-) -> Result<(C::Value, &'a [u8]), ReadFault>
+) -> Result<(C::Value, &'a [u8]), ItemFault>
     ensures { Answers (λ x. (x.0, x.1.now)) result (sized_at (C.content_at content.now) bytes.now) }
 {
     let (inner, after) = byte_vector(bytes)?;
@@ -39,7 +39,7 @@ fn sized<'a, C: Content>(
         Err(fault) => return Err(fault.inside(after.len())),
     };
     if !left.is_empty() {
-        return Err(ReadFault::At(
+        return Err(ItemFault::At(
             FaultKind::SectionSize,
             left.len().saturating_add(after.len()),
         ));
@@ -56,14 +56,14 @@ impl Content for Custom {
     ghost content_at = { λ _. custom_at };
 
     #[tactic(auto, unfolding(crate::specs::ReadingModule::custom_at))]
-    fn read<'a>(&self, alloc: Global, bytes: &'a [u8]) -> Result<(Text, &'a [u8]), ReadFault> {
+    fn read<'a>(&self, alloc: Global, bytes: &'a [u8]) -> Result<(Text, &'a [u8]), ItemFault> {
         let (name, _) = owned_name(alloc, bytes)?;
         Ok((name, &[]))
     }
 }
 
 /// Skips custom sections.
-pub(crate) fn customs(alloc: Global, bytes: &[u8]) -> Result<&[u8], ReadFault>
+pub(crate) fn customs(alloc: Global, bytes: &[u8]) -> Result<&[u8], ItemFault>
     ensures { Answers (λ x. x.now) result (customs_in bytes.now) }
 {
     let mut rest = bytes;
@@ -84,7 +84,7 @@ pub(crate) fn section<'a, C: Content>(
     id: u8,
     content: &C,
     bytes: &'a [u8],
-) -> Result<(Option<C::Value>, &'a [u8]), ReadFault>
+) -> Result<(Option<C::Value>, &'a [u8]), ItemFault>
     ensures { Answers (λ x. (x.0, x.1.now)) result (section_at (C.content_at content.now) id bytes.now) }
 {
     match bytes {

@@ -3,8 +3,8 @@ use std::alloc::{AllocError, Global};
 use std::process::Abort;
 use std::test::Fail;
 use wm_ast::{
-    AccessKind, AccessOperands, Block, ConstExpr, DataSegment, Export, ExportKind, Exports, Func,
-    FuncType, Instr, Limits, Memory, Module, Storage, ValType,
+    AccessKind, Block, ConstExpr, DataSegment, Export, ExportKind, Exports, Func, FuncType, Instr,
+    Limits, MemArg, Memory, Module, Storage, ValType,
 };
 use wm_list::List;
 use wm_num::Width;
@@ -275,7 +275,7 @@ fn same_module(one: &Module, two: &Module, names: &[&str]) -> bool {
 fn access(kind: AccessKind, alignment: u32) -> Instr {
     Instr::Access(
         kind,
-        AccessOperands {
+        MemArg {
             alignment,
             offset: 0,
         },

@@ -7,7 +7,7 @@ ghost use Rattle.wm_decode.specs.ReadingInstructions.{value_type_at};
 ghost use Rattle.wm_decode.specs.ReadingParts.{func_type_at, result_at, limits_at};
 
 use crate::bounds::PAGES;
-use crate::fault::{FaultKind, Feature, Limit, ReadFault};
+use crate::fault::{FaultKind, Feature, ItemFault, Limit};
 use crate::number::unsigned_32;
 use crate::vectors::{Item, vector};
 use std::alloc::Global;
@@ -29,19 +29,19 @@ impl Item for ValType {
     ghost item_at = { value_type_at };
 
     #[tactic(auto, unfolding(crate::specs::ReadingInstructions::value_type_at))]
-    fn read(_alloc: Global, bytes: &[u8]) -> Result<(ValType, &[u8]), ReadFault> {
+    fn read(_alloc: Global, bytes: &[u8]) -> Result<(ValType, &[u8]), ItemFault> {
         match bytes {
-            [] => Err(ReadFault::At(FaultKind::Truncated, 0)),
+            [] => Err(ItemFault::At(FaultKind::Truncated, 0)),
             [0x7F, rest @ ..] => Ok((ValType::I32, rest)),
             [0x7E, rest @ ..] => Ok((ValType::I64, rest)),
-            [byte, ..] => Err(ReadFault::At(value_type_fault(*byte), bytes.len())),
+            [byte, ..] => Err(ItemFault::At(value_type_fault(*byte), bytes.len())),
         }
     }
 }
 
 /// Reads at most one result.
 #[tactic(auto, unfolding(crate::specs::ReadingParts::result_at))]
-fn result_type(alloc: Global, bytes: &[u8]) -> Result<(Option<ValType>, &[u8]), ReadFault>
+fn result_type(alloc: Global, bytes: &[u8]) -> Result<(Option<ValType>, &[u8]), ItemFault>
     ensures { Answers (λ x. (x.0, x.1.now)) result (result_at bytes.now) }
 {
     let (count, rest) = unsigned_32(bytes)?;
@@ -51,7 +51,7 @@ fn result_type(alloc: Global, bytes: &[u8]) -> Result<(Option<ValType>, &[u8]), 
             let (ty, rest) = ValType::read(alloc, rest)?;
             Ok((Some(ty), rest))
         }
-        _ => Err(ReadFault::At(FaultKind::Unsupported(Feature::MultiValue), bytes.len())),
+        _ => Err(ItemFault::At(FaultKind::Unsupported(Feature::MultiValue), bytes.len())),
     }
 }
 
@@ -59,35 +59,35 @@ impl Item for FuncType {
     ghost item_at = { func_type_at };
 
     #[tactic(auto, unfolding(crate::specs::ReadingParts::func_type_at))]
-    fn read(alloc: Global, bytes: &[u8]) -> Result<(FuncType, &[u8]), ReadFault> {
+    fn read(alloc: Global, bytes: &[u8]) -> Result<(FuncType, &[u8]), ItemFault> {
         match bytes {
-            [] => Err(ReadFault::At(FaultKind::Truncated, 0)),
+            [] => Err(ItemFault::At(FaultKind::Truncated, 0)),
             [0x60, rest @ ..] => {
                 let (params, rest) = vector::<ValType>(alloc, rest)?;
                 let (result, rest) = result_type(alloc, rest)?;
                 Ok((FuncType { params, result }, rest))
             }
-            [_, ..] => Err(ReadFault::At(FaultKind::BadNumber, bytes.len())),
+            [_, ..] => Err(ItemFault::At(FaultKind::BadNumber, bytes.len())),
         }
     }
 }
 
 /// Reads the limits of a shared memory.
 #[tactic(auto, unfolding(crate::specs::ReadingParts::limits_at))]
-pub(crate) fn limits(bytes: &[u8]) -> Result<(Limits, &[u8]), ReadFault>
+pub(crate) fn limits(bytes: &[u8]) -> Result<(Limits, &[u8]), ItemFault>
     ensures { Answers (λ x. (x.0, x.1.now)) result (limits_at profile bytes.now) }
 {
     let rest = match bytes {
-        [] => return Err(ReadFault::At(FaultKind::Truncated, 0)),
+        [] => return Err(ItemFault::At(FaultKind::Truncated, 0)),
         [0x03, rest @ ..] => rest,
         [0x00 | 0x01, ..] => {
-            return Err(ReadFault::At(FaultKind::Unsupported(Feature::UnsharedMemory), bytes.len()));
+            return Err(ItemFault::At(FaultKind::Unsupported(Feature::UnsharedMemory), bytes.len()));
         }
-        [_, ..] => return Err(ReadFault::At(FaultKind::BadNumber, bytes.len())),
+        [_, ..] => return Err(ItemFault::At(FaultKind::BadNumber, bytes.len())),
     };
     let (minimum, after) = unsigned_32(rest)?;
     if minimum > PAGES {
-        return Err(ReadFault::At(FaultKind::Limit(Limit::Pages), rest.len()));
+        return Err(ItemFault::At(FaultKind::Limit(Limit::Pages), rest.len()));
     }
     let (maximum, after) = unsigned_32(after)?;
     Ok((Limits { minimum, maximum }, after))

@@ -3,7 +3,7 @@ ghost use Rattle.std.specs.Prelude.{◌≡◌};
 ghost use Rattle.wm_decode.specs.Answers.{Answers};
 ghost use Rattle.wm_decode.specs.ReadingVectors.{vector_at, items_at, byte_vector_at, name_at};
 
-use crate::fault::{FaultKind, ReadFault};
+use crate::fault::{FaultKind, ItemFault};
 use crate::number::unsigned_32;
 use std::alloc::Global;
 use std::str::from_utf8;
@@ -18,7 +18,7 @@ pub(crate) trait Item: Drop {
     ghost item_at: { List ℕ → Result (Self × List ℕ) Stop };
 
     /// Reads the item at the front.
-    fn read(alloc: Global, bytes: &[u8]) -> Result<(Self, &[u8]), ReadFault>
+    fn read(alloc: Global, bytes: &[u8]) -> Result<(Self, &[u8]), ItemFault>
         ensures { Answers (λ x. (x.0, x.1.now)) result (item_at bytes.now) };
 }
 
@@ -27,7 +27,7 @@ impl Item for u32 {
 
     ghost item_at = { u32_at };
 
-    fn read(_alloc: Global, bytes: &[u8]) -> Result<(u32, &[u8]), ReadFault> {
+    fn read(_alloc: Global, bytes: &[u8]) -> Result<(u32, &[u8]), ItemFault> {
         unsigned_32(bytes)
     }
 }
@@ -37,7 +37,7 @@ pub(crate) fn items<T: Item>(
     alloc: Global,
     count: u32,
     bytes: &[u8],
-) -> Result<(List<T>, &[u8]), ReadFault>
+) -> Result<(List<T>, &[u8]), ItemFault>
     ensures { Answers (λ x. (x.0, x.1.now)) result (items_at T.item_at count bytes.now) }
 {
     let mut found = List::new(alloc);
@@ -52,7 +52,7 @@ pub(crate) fn items<T: Item>(
 
 /// Reads a vector.
 #[tactic(auto, unfolding(crate::specs::ReadingVectors::vector_at))]
-pub(crate) fn vector<T: Item>(alloc: Global, bytes: &[u8]) -> Result<(List<T>, &[u8]), ReadFault>
+pub(crate) fn vector<T: Item>(alloc: Global, bytes: &[u8]) -> Result<(List<T>, &[u8]), ItemFault>
     ensures { Answers (λ x. (x.0, x.1.now)) result (vector_at T.item_at bytes.now) }
 {
     let (count, rest) = unsigned_32(bytes)?;
@@ -61,20 +61,20 @@ pub(crate) fn vector<T: Item>(alloc: Global, bytes: &[u8]) -> Result<(List<T>, &
 
 /// Reads a vector of bytes. Missing ones are faulted where the first of them would stand.
 #[tactic(auto, unfolding(crate::specs::ReadingVectors::byte_vector_at))]
-pub(crate) fn byte_vector(bytes: &[u8]) -> Result<(&[u8], &[u8]), ReadFault>
+pub(crate) fn byte_vector(bytes: &[u8]) -> Result<(&[u8], &[u8]), ItemFault>
     ensures { Answers (λ x. (x.0.now, x.1.now)) result (byte_vector_at bytes.now) }
 {
     let (count, rest) = unsigned_32(bytes)?;
     let count = count as usize;
     if rest.len() < count {
-        return Err(ReadFault::At(FaultKind::Truncated, 0));
+        return Err(ItemFault::At(FaultKind::Truncated, 0));
     }
     Ok(rest.split_at(count))
 }
 
 /// Reads a name. It is faulted at its length.
 #[tactic(auto, unfolding(crate::specs::ReadingVectors::name_at))]
-pub(crate) fn name(bytes: &[u8]) -> Result<(&str, &[u8]), ReadFault>
+pub(crate) fn name(bytes: &[u8]) -> Result<(&str, &[u8]), ItemFault>
     ensures { Answers (λ x. (x.0.now, x.1.now)) result (name_at bytes.now) }
 {
     let (text, rest) = match byte_vector(bytes) {
@@ -83,12 +83,12 @@ pub(crate) fn name(bytes: &[u8]) -> Result<(&str, &[u8]), ReadFault>
     };
     match from_utf8(text) {
         Ok(text) => Ok((text, rest)),
-        Err(_) => Err(ReadFault::At(FaultKind::BadName, bytes.len())),
+        Err(_) => Err(ItemFault::At(FaultKind::BadName, bytes.len())),
     }
 }
 
 /// Reads a name and copies it.
-pub(crate) fn owned_name(alloc: Global, bytes: &[u8]) -> Result<(Text, &[u8]), ReadFault>
+pub(crate) fn owned_name(alloc: Global, bytes: &[u8]) -> Result<(Text, &[u8]), ItemFault>
     ensures { Answers (λ x. (x.0, x.1.now)) result (name_at bytes.now) }
 {
     let (name, rest) = name(bytes)?;

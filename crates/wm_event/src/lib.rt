@@ -20,7 +20,7 @@ pub use candidate::Candidate;
 pub use event::{Event, EventId, EventKey, EventKind, Range, byte_of};
 pub use initial::Initial;
 pub use log::{End, Log, Start, ThreadLog, TrapKind};
-pub use op::{Access, Op, OpKind, Reply, updated};
+pub use op::{Op, OpFields, OpKind, Reply, updated};
 pub use rule::{Judgement, Rule, RuleFault};
 pub use shape_fault::ShapeFault;
 pub use witness::Witness;

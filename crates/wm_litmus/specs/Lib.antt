@@ -3,4 +3,4 @@ pub mod Commands
 pub mod Failures
 pub mod Input
 pub mod Lines
-pub mod Says
+pub mod Prints

@@ -1,7 +1,7 @@
 //! What a command answers.
 ghost use Rattle.std.specs.Prelude.{◌≡◌, ◌≢◌, IfOk};
 ghost use Rattle.wm_litmus.specs.Lines.{document_line_text, judgement_status, judgement_text, shape_line_text, verdict_status, verdict_text, words_line_text};
-ghost use Rattle.wm_litmus.specs.Says.{Says};
+ghost use Rattle.wm_litmus.specs.Prints.{Prints};
 
 use crate::line::{document_line, rules_line, shape_line, verdict_line, words_line};
 use std::alloc::{AllocError, Global};
@@ -40,7 +40,7 @@ fn verdict_status_of(verdict: &Verdict) -> u8
 impl Answer {
     /// The answer that a judgement is.
     pub fn judged(alloc: Global, judgement: &Judgement) -> Result<Answer, AllocError>
-        ensures { IfOk result (Says (judgement_status judgement.now) (judgement_text judgement.now)) }
+        ensures { IfOk result (Prints (judgement_status judgement.now) (judgement_text judgement.now)) }
     {
         let text = rules_line(alloc, judgement)?;
         let status = status_of(judgement);
@@ -50,7 +50,7 @@ impl Answer {
     /// The refusal of a document; want of memory is no answer.
     pub fn refused_document(alloc: Global, fault: &DocFault) -> Result<Answer, AllocError>
         ensures { IfOk result (λ answer. (fault.now ≢ DocFault.OutOfMemory)
-            × Says 2 (document_line_text fault.now) answer) }
+            × Prints 2 (document_line_text fault.now) answer) }
     {
         match fault {
             DocFault::OutOfMemory => Err(AllocError),
@@ -64,7 +64,7 @@ impl Answer {
     /// The refusal of a log and a witness that are no candidate; want of memory is no answer.
     pub fn refused_shape(alloc: Global, fault: ShapeFault) -> Result<Answer, AllocError>
         ensures { IfOk result (λ answer. (fault ≢ ShapeFault.OutOfMemory)
-            × Says 2 (shape_line_text fault) answer) }
+            × Prints 2 (shape_line_text fault) answer) }
     {
         match fault {
             ShapeFault::OutOfMemory => Err(AllocError),
@@ -77,7 +77,7 @@ impl Answer {
 
     /// The answer that a verdict is.
     pub fn of_verdict(alloc: Global, verdict: &Verdict) -> Result<Answer, AllocError>
-        ensures { IfOk result (Says (verdict_status verdict.now) (verdict_text verdict.now)) }
+        ensures { IfOk result (Prints (verdict_status verdict.now) (verdict_text verdict.now)) }
     {
         let text = verdict_line(alloc, verdict)?;
         let status = verdict_status_of(verdict);
@@ -86,7 +86,7 @@ impl Answer {
 
     /// The refusal of the words.
     pub fn refused_words(alloc: Global) -> Result<Answer, AllocError>
-        ensures { IfOk result (Says 2 words_line_text) }
+        ensures { IfOk result (Prints 2 words_line_text) }
     {
         let text = words_line(alloc)?;
         Ok(Answer { text, status: 2 })

@@ -5,7 +5,7 @@ ghost use Rattle.wm_logfile.specs.declared.TheConstants.{MAX_DOCUMENT_BYTES};
 ghost use Rattle.wm_litmus.specs.Answers.{IsAnswer, WritesAnswer, given};
 ghost use Rattle.wm_litmus.specs.Failures.{IsUnreadFile};
 ghost use Rattle.wm_litmus.specs.Input.{IsDocumentRead, IsReadOf};
-ghost use Rattle.wm_litmus.specs.declared.program.Stop.TheVariants.{OutOfMemory};
+ghost use Rattle.wm_litmus.specs.declared.program.Failure.TheVariants.{OutOfMemory};
 
 use crate::answer::Answer;
 use crate::check::check_answer;
@@ -21,7 +21,7 @@ use wm_logfile::MAX_DOCUMENT_BYTES;
 
 /// Why there is no answer.
 #[derive(Clone, Copy, Debug)]
-enum Stop<'a> {
+enum Failure<'a> {
     /// The file of this name was not read.
     UnreadFile(&'a str),
     /// The input was not read.
@@ -30,16 +30,20 @@ enum Stop<'a> {
     OutOfMemory,
 }
 
-impl From<AllocError> for Stop<'_> {
+impl From<AllocError> for Failure<'_> {
     ghost from_gives = { λ _ stop. stop ≡ OutOfMemory };
 
     fn from(_refused: AllocError) -> Self {
-        Stop::OutOfMemory
+        Failure::OutOfMemory
     }
 }
 
 /// The bytes of the file `name`, to so many and one more.
-fn read_file<'a, F: Files>(files: &mut F, name: &'a str, limit: usize) -> Result<Vec<u8>, Stop<'a>>
+fn read_file<'a, F: Files>(
+    files: &mut F,
+    name: &'a str,
+    limit: usize,
+) -> Result<Vec<u8>, Failure<'a>>
     requires failures { F.failures_of files.old + 1 < 2 ^ 64 }
     requires limit { limit + 1 < 2 ^ 64 }
     ensures known { IfOk result (λ bytes. IsReadOf (F.content_of files.old name.now) limit bytes.items) }
@@ -50,21 +54,25 @@ fn read_file<'a, F: Files>(files: &mut F, name: &'a str, limit: usize) -> Result
 {
     match files.read(name, limit + 1) {
         Ok(bytes) => Ok(bytes),
-        Err(FileFault::Device) => Err(Stop::UnreadFile(name)),
-        Err(FileFault::OutOfMemory) => Err(Stop::OutOfMemory),
+        Err(FileFault::Device) => Err(Failure::UnreadFile(name)),
+        Err(FileFault::OutOfMemory) => Err(Failure::OutOfMemory),
     }
 }
 
 /// The bytes of the input, to so many and one more.
-fn read_input<'a, I: Read>(alloc: Global, input: &mut I, limit: usize) -> Result<Vec<u8>, Stop<'a>>
+fn read_input<'a, I: Read>(
+    alloc: Global,
+    input: &mut I,
+    limit: usize,
+) -> Result<Vec<u8>, Failure<'a>>
     requires { limit + 1 < 2 ^ 64 }
     ensures known { IfOk result (λ bytes. IsReadOf (I.remaining input.old) limit bytes.items) }
     ensures unread { IfErr result (λ stop. IsUnreadFile stop → ⊥) }
 {
     match read_limited(alloc, input, limit + 1) {
         Ok(bytes) => Ok(bytes),
-        Err(FileFault::Device) => Err(Stop::UnreadInput),
-        Err(FileFault::OutOfMemory) => Err(Stop::OutOfMemory),
+        Err(FileFault::Device) => Err(Failure::UnreadInput),
+        Err(FileFault::OutOfMemory) => Err(Failure::OutOfMemory),
     }
 }
 
@@ -74,7 +82,7 @@ fn read_document_bytes<'a, R: AllocGlobal, F: Files, I: Read>(
     files: &mut F,
     input: &mut I,
     name: &'a str,
-) -> Result<Vec<u8>, Stop<'a>>
+) -> Result<Vec<u8>, Failure<'a>>
     requires { F.failures_of files.old + 1 < 2 ^ 64 }
     ensures known { IfOk result (λ bytes.
         IsDocumentRead (F.content_of files.old) (I.remaining input.old) MAX_DOCUMENT_BYTES name.now bytes.items) }
@@ -94,7 +102,7 @@ fn answer_of<'a, R: AllocGlobal, F: Files, I: Read>(
     words: &'a [&'a str],
     files: &mut F,
     input: &mut I,
-) -> Result<Answer, Stop<'a>>
+) -> Result<Answer, Failure<'a>>
     requires { F.failures_of files.old + 1 < 2 ^ 64 }
     ensures answers { IfOk result (λ answer.
         IsAnswer (given (map (λ word. word.now) words.now) (F.content_of files.old) (I.remaining input.old))
@@ -113,7 +121,7 @@ fn answer_of<'a, R: AllocGlobal, F: Files, I: Read>(
             Ok(check_answer(rt, module_bytes.as_slice(), document_bytes.as_slice())?)
         }
         Err(CommandFault::Words) => Ok(Answer::refused_words(rt.alloc())?),
-        Err(CommandFault::OutOfMemory) => Err(Stop::OutOfMemory),
+        Err(CommandFault::OutOfMemory) => Err(Failure::OutOfMemory),
     }
 }
 
@@ -165,15 +173,15 @@ pub fn serve<R: AllocGlobal, F: Files, I: Read, O: Write, E: Write>(
             }
             answer.status
         }
-        Err(Stop::UnreadFile(name)) => {
+        Err(Failure::UnreadFile(name)) => {
             let _ = writeln!(err, "cannot read {name}");
             3
         }
-        Err(Stop::UnreadInput) => {
+        Err(Failure::UnreadInput) => {
             let _ = writeln!(err, "cannot read -");
             3
         }
-        Err(Stop::OutOfMemory) => {
+        Err(Failure::OutOfMemory) => {
             let _ = writeln!(err, "out of memory");
             3
         }

@@ -4,7 +4,7 @@ use Rattle.std.specs.Prelude.{drop, true, false, Ok, Err}
 use Rattle.wm_ast.specs.declared.module.Module.{Module}
 use Rattle.wm_ast.specs.declared.types.FuncType.{FuncType}
 use Rattle.wm_ast.specs.declared.types.ValType.{ValType}
-use Rattle.wm_event.specs.declared.op.Access.{Access}
+use Rattle.wm_event.specs.declared.op.OpFields.{OpFields}
 use Rattle.wm_event.specs.declared.log.TrapKind.{TrapKind}
 use Rattle.wm_event.specs.declared.log.TrapKind.TheVariants.{Exhausted}
 use Rattle.wm_event.specs.declared.log.End.TheVariants.{Trap, Done}
@@ -36,7 +36,7 @@ module _ (m : Module) (read : ℕ) where
       ∙ ap (out_of_calls m vars.globals cs c.func) (labels_lift m read (suc (length cs)) c.func (vars_of c vars.globals) c.levels.outer (Frame c.levels.operands (todo m c.func c.levels.block c.levels.at) func vars.locals t))
 
 module _ (m : Module) where
-  pub calls_next : (globals : List TypedValue) (cs : List Activation) (func : ℕ) (vars : Vars) (made : Option Access) (t : Term) → out_of_calls m globals cs func (Next made vars t) ≡ Went made (under m cs func vars t)
+  pub calls_next : (globals : List TypedValue) (cs : List Activation) (func : ℕ) (vars : Vars) (made : Option OpFields) (t : Term) → out_of_calls m globals cs func (Next made vars t) ≡ Went made (under m cs func vars t)
   calls_next globals [] func vars made t = refl
   calls_next globals (c ∷ cs) func vars made t =
       ap (out_of_calls m globals cs c.func) (labels_next m 0 c.func (vars_of c globals) (vars_of c vars.globals) made c.levels.outer (Frame c.levels.operands (todo m c.func c.levels.block c.levels.at) func vars.locals t))

@@ -5,7 +5,7 @@ use Rattle.std.proofs.lemmas.Option.{slice_get-get_or}
 use Rattle.wm_ast.specs.declared.module.Module.{Module}
 use Rattle.wm_ast.specs.declared.instr.Instr.{Instr}
 use Rattle.wm_ast.specs.Module.{block_in}
-use Rattle.wm_event.specs.declared.op.Access.{Access}
+use Rattle.wm_event.specs.declared.op.OpFields.{OpFields}
 use Rattle.wm_event.specs.declared.log.TrapKind.{TrapKind}
 use Rattle.wm_machine.specs.declared.value.TypedValue.{TypedValue}
 use Rattle.wm_machine.specs.declared.action.Action.{Action}
@@ -17,97 +17,97 @@ use Rattle.wm_machine.specs.declared.fault.AdvanceFault.TheVariants.{Stuck as St
 use Rattle.wm_machine.specs.Functions.{todo, from_place}
 use Rattle.wm_machine.specs.Term.{Vars, Term, Here, Label, Reduced, Next, Leaves, Returns, Traps, Stuck}
 use Rattle.wm_machine.specs.Step.{reduce, land, stays, act, after, enter, returned}
-use Rattle.wm_machine.specs.Nest.{Nest, Place, landed, carried_top, joined}
+use Rattle.wm_machine.specs.Nest.{Nest, Position, landed, carried_top, joined}
 use Rattle.wm_machine.specs.Action.{does}
 use Rattle.wm_machine.specs.Configuration.{around, left_of}
 use Rattle.wm_machine.specs.Inside.{out_of_labels, seen, back, Goes, GivesBack}
 
 module _ (m : Module) (read : ℕ) where
-  pub labels_lift : (depth func : ℕ) (vars : Vars) (ps : List Place) (t : Term) → reduce m read depth func vars (around m func ps t) ≡ out_of_labels m func vars ps (reduce m read depth func vars t)
+  pub labels_lift : (depth func : ℕ) (vars : Vars) (ps : List Position) (t : Term) → reduce m read depth func vars (around m func ps t) ≡ out_of_labels m func vars ps (reduce m read depth func vars t)
   labels_lift depth func vars [] t = refl
   labels_lift depth func vars (p ∷ ps) t = labels_lift depth func vars ps (Label p.operands (todo m func p.block p.at) t)
 
-  pub labels_next : (func : ℕ) (vars vars' : Vars) (made : Option Access) (ps : List Place) (t : Term) → out_of_labels m func vars ps (Next made vars' t) ≡ Next made vars' (around m func ps t)
+  pub labels_next : (func : ℕ) (vars vars' : Vars) (made : Option OpFields) (ps : List Position) (t : Term) → out_of_labels m func vars ps (Next made vars' t) ≡ Next made vars' (around m func ps t)
   labels_next func vars vars' made [] t = refl
   labels_next func vars vars' made (p ∷ ps) t = labels_next func vars vars' made ps (Label p.operands (todo m func p.block p.at) t)
 
-  pub labels_traps : (func : ℕ) (vars : Vars) (kind : TrapKind) (ps : List Place) → out_of_labels m func vars ps (Traps kind) ≡ Traps kind
+  pub labels_traps : (func : ℕ) (vars : Vars) (kind : TrapKind) (ps : List Position) → out_of_labels m func vars ps (Traps kind) ≡ Traps kind
   labels_traps func vars kind [] = refl
   labels_traps func vars kind (p ∷ ps) = labels_traps func vars kind ps
 
-  pub labels_returns : (func : ℕ) (vars : Vars) (values : List TypedValue) (ps : List Place) → out_of_labels m func vars ps (Returns values) ≡ Returns values
+  pub labels_returns : (func : ℕ) (vars : Vars) (values : List TypedValue) (ps : List Position) → out_of_labels m func vars ps (Returns values) ≡ Returns values
   labels_returns func vars values [] = refl
   labels_returns func vars values (p ∷ ps) = labels_returns func vars values ps
 
-  pub labels_stuck : (func : ℕ) (vars : Vars) (ps : List Place) → out_of_labels m func vars ps Stuck ≡ Stuck
+  pub labels_stuck : (func : ℕ) (vars : Vars) (ps : List Position) → out_of_labels m func vars ps Stuck ≡ Stuck
   labels_stuck func vars [] = refl
   labels_stuck func vars (p ∷ ps) = labels_stuck func vars ps
 
 -- an instruction that stays in its place
-pub stays_within : (m : Module) (func block at : ℕ) (vars vars' : Vars) (operands : List TypedValue) (outer : List Place) (made : Option Access) (i : Instr) → todo m func block at ≡ i ∷ todo m func block (at + 1) → seen m func (out_of_labels m func vars outer (Next made vars' (Here operands (after (todo m func block at))))) ≡ Next None vars' (around m func outer (Here operands (todo m func block (at + 1))))
+pub stays_within : (m : Module) (func block at : ℕ) (vars vars' : Vars) (operands : List TypedValue) (outer : List Position) (made : Option OpFields) (i : Instr) → todo m func block at ≡ i ∷ todo m func block (at + 1) → seen m func (out_of_labels m func vars outer (Next made vars' (Here operands (after (todo m func block at))))) ≡ Next None vars' (around m func outer (Here operands (todo m func block (at + 1))))
 stays_within m func block at vars vars' operands outer made i h =
     let e = labels_next m 0 func vars vars' made outer (Here operands (todo m func block (at + 1))) in
     rw h (ap (seen m func) e)
 
 -- an instruction that enters a block
-pub enters_within : (m : Module) (func block : ℕ) (vars : Vars) (operands : List TypedValue) (outer : List Place) (instrs instrs' : List Instr) → block_in m.funcs func block ≡ Some instrs' → seen m func (out_of_labels m func vars outer (enter (block_in m.funcs func block) vars operands instrs)) ≡ Next None vars (around m func outer (Label operands instrs (Here [] (todo m func block 0))))
+pub enters_within : (m : Module) (func block : ℕ) (vars : Vars) (operands : List TypedValue) (outer : List Position) (instrs instrs' : List Instr) → block_in m.funcs func block ≡ Some instrs' → seen m func (out_of_labels m func vars outer (enter (block_in m.funcs func block) vars operands instrs)) ≡ Next None vars (around m func outer (Label operands instrs (Here [] (todo m func block 0))))
 enters_within m func block vars operands outer instrs instrs' h =
     let e = labels_next m 0 func vars vars None outer (Label operands instrs (Here [] instrs')) in
     rw h (ap (seen m func) e)
 
-pub enters_none : (m : Module) (func block : ℕ) (vars : Vars) (operands : List TypedValue) (outer : List Place) (instrs : List Instr) → block_in m.funcs func block ≡ None → seen m func (out_of_labels m func vars outer (enter (block_in m.funcs func block) vars operands instrs)) ≡ Stuck
+pub enters_none : (m : Module) (func block : ℕ) (vars : Vars) (operands : List TypedValue) (outer : List Position) (instrs : List Instr) → block_in m.funcs func block ≡ None → seen m func (out_of_labels m func vars outer (enter (block_in m.funcs func block) vars operands instrs)) ≡ Stuck
 enters_none m func block vars operands outer instrs h = rw h (ap (seen m func) (labels_stuck m 0 func vars outer))
 
 -- a return through the labels round it
-pub returns_out : (m : Module) (func : ℕ) (vars : Vars) (operands : List TypedValue) (outer : List Place) → seen m func (out_of_labels m func vars outer (Returns operands)) ≡ back (returned m func operands)
+pub returns_out : (m : Module) (func : ℕ) (vars : Vars) (operands : List TypedValue) (outer : List Position) → seen m func (out_of_labels m func vars outer (Returns operands)) ≡ back (returned m func operands)
 returns_out m func vars operands outer = ap (seen m func) (labels_returns m 0 func vars operands outer)
 
-pub traps_out : (m : Module) (func : ℕ) (vars : Vars) (kind : TrapKind) (outer : List Place) → seen m func (out_of_labels m func vars outer (Traps kind)) ≡ Traps kind
+pub traps_out : (m : Module) (func : ℕ) (vars : Vars) (kind : TrapKind) (outer : List Position) → seen m func (out_of_labels m func vars outer (Traps kind)) ≡ Traps kind
 traps_out m func vars kind outer = ap (seen m func) (labels_traps m 0 func vars kind outer)
 
-pub stuck_out : (m : Module) (func : ℕ) (vars : Vars) (outer : List Place) → seen m func (out_of_labels m func vars outer Stuck) ≡ Stuck
+pub stuck_out : (m : Module) (func : ℕ) (vars : Vars) (outer : List Position) → seen m func (out_of_labels m func vars outer Stuck) ≡ Stuck
 stuck_out m func vars outer = ap (seen m func) (labels_stuck m 0 func vars outer)
 
 -- a branch out of the function
-pub leaves_func : (m : Module) (func : ℕ) (vars : Vars) (values : List TypedValue) (outer : List Place) (label : ℕ) → length outer ≤ label → out_of_labels m func vars outer (Leaves label values) ≡ Leaves (label - length outer) values
+pub leaves_func : (m : Module) (func : ℕ) (vars : Vars) (values : List TypedValue) (outer : List Position) (label : ℕ) → length outer ≤ label → out_of_labels m func vars outer (Leaves label values) ≡ Leaves (label - length outer) values
 leaves_func m func vars values [] label h = ap (λ k. Leaves k values) (omega arith)
 leaves_func m func vars values (p ∷ ps) zero h = absurd (omega arith)
 leaves_func m func vars values (p ∷ ps) (suc l) h = leaves_func m func vars values ps l (omega arith) ∙ ap (λ k. Leaves k values) (omega arith)
 
 -- a branch to a block round it
-pub leaves_at : (m : Module) (func : ℕ) (vars : Vars) (values : List TypedValue) (outer : List Place) (label : ℕ) (p : Place) → slice_get outer label ≡ Some p → out_of_labels m func vars outer (Leaves label values) ≡ out_of_labels m func vars (drop (label + 1) outer) (land vars p.operands (todo m func p.block p.at) values)
+pub leaves_at : (m : Module) (func : ℕ) (vars : Vars) (values : List TypedValue) (outer : List Position) (label : ℕ) (p : Position) → slice_get outer label ≡ Some p → out_of_labels m func vars outer (Leaves label values) ≡ out_of_labels m func vars (drop (label + 1) outer) (land vars p.operands (todo m func p.block p.at) values)
 leaves_at m func vars values [] label p h = cc
-leaves_at m func vars values (q ∷ ps) zero p h = let e : q ≡ p = cc in ap (λ (r : Place). out_of_labels m func vars ps (land vars r.operands (todo m func r.block r.at) values)) e
+leaves_at m func vars values (q ∷ ps) zero p h = let e : q ≡ p = cc in ap (λ (r : Position). out_of_labels m func vars ps (land vars r.operands (todo m func r.block r.at) values)) e
 leaves_at m func vars values (q ∷ ps) (suc l) p h =
     let e : suc (l + 1) ≡ suc l + 1 = omega arith in
     leaves_at m func vars values ps l p h ∙ ap (λ (k : ℕ). out_of_labels m func vars (drop k (q ∷ ps)) (land vars p.operands (todo m func p.block p.at) values)) e
 
 -- where unwinding leads
-pub landed_at : (label : ℕ) (values : List TypedValue) (outer : List Place) (p : Place) → slice_get outer label ≡ Some p → landed label values outer ≡ Some record { operands = values ++ p.operands; block = p.block; at = p.at; outer = drop (label + 1) outer }
+pub landed_at : (label : ℕ) (values : List TypedValue) (outer : List Position) (p : Position) → slice_get outer label ≡ Some p → landed label values outer ≡ Some record { operands = values ++ p.operands; block = p.block; at = p.at; outer = drop (label + 1) outer }
 landed_at label values [] p h = cc
-landed_at zero values (q ∷ ps) p h = let e : q ≡ p = cc in ap (λ (r : Place). Some record { operands = values ++ r.operands; block = r.block; at = r.at; outer = ps }) e
+landed_at zero values (q ∷ ps) p h = let e : q ≡ p = cc in ap (λ (r : Position). Some record { operands = values ++ r.operands; block = r.block; at = r.at; outer = ps }) e
 landed_at (suc l) values (q ∷ ps) p h =
     let e : suc (l + 1) ≡ suc l + 1 = omega arith in
     landed_at l values ps p h ∙ ap (λ (k : ℕ). Some record { operands = values ++ p.operands; block = p.block; at = p.at; outer = drop k (q ∷ ps) }) e
 
-abbrev pub At : List Place → ℕ → ℕ → ℕ → Type 0
+abbrev pub At : List Position → ℕ → ℕ → ℕ → Type 0
 At outer label block at = IfSome (slice_get outer label) (λ p. (block ≡ p.block) × (at ≡ p.at))
 
-record Found (outer : List Place) (label block at : ℕ) : Type 0 where
-  place : Place
+record Found (outer : List Position) (label block at : ℕ) : Type 0 where
+  place : Position
   found : slice_get outer label ≡ Some place
   block_is : block ≡ place.block
   at_is : at ≡ place.at
 
-find : (outer : List Place) (label block at : ℕ) → label < length outer → At outer label block at → Found outer label block at
+find : (outer : List Position) (label block at : ℕ) → label < length outer → At outer label block at → Found outer label block at
 find outer label block at within is =
-    let d : Place = record { operands = []; block = 0; at = 0 } in
+    let d : Position = record { operands = []; block = 0; at = 0 } in
     let e = slice_get-get_or outer label d within in
     let h = rw e at is in
     record { place = get_or outer label d; found = e; block_is = h.0; at_is = h.1 }
 
 -- the branch and the unwinding agree
-pub branches_to : (m : Module) (func : ℕ) (vars : Vars) (values : List TypedValue) (outer : List Place) (label block at next : ℕ) (carry : Bool) (n : Nest) → label < length outer → At outer label block at → landed label (carried_top carry values) outer ≡ Some n → ((operands : List TypedValue) → land vars operands (todo m func block at) values ≡ stays vars (carried_top carry values ++ operands) (todo m func block next)) → seen m func (out_of_labels m func vars outer (Leaves label values)) ≡ Next None vars (around m func n.outer (Here n.operands (todo m func n.block next)))
+pub branches_to : (m : Module) (func : ℕ) (vars : Vars) (values : List TypedValue) (outer : List Position) (label block at next : ℕ) (carry : Bool) (n : Nest) → label < length outer → At outer label block at → landed label (carried_top carry values) outer ≡ Some n → ((operands : List TypedValue) → land vars operands (todo m func block at) values ≡ stays vars (carried_top carry values ++ operands) (todo m func block next)) → seen m func (out_of_labels m func vars outer (Leaves label values)) ≡ Next None vars (around m func n.outer (Here n.operands (todo m func n.block next)))
 branches_to m func vars values outer label block at next carry n within is h lands =
     let f = find outer label block at within is in
     let p = f.place in
@@ -123,7 +123,7 @@ branches_to m func vars values outer label block at next carry n within is h lan
     ap (seen m func) (e1 ∙ ap (out_of_labels m func vars (drop (label + 1) outer)) e2 ∙ e3)
     ∙ e5 ∙ ap (λ (k : Nest). Next None vars (around m func k.outer (Here k.operands (todo m func k.block next)))) inj
 
-pub branches_stuck : (m : Module) (func : ℕ) (vars : Vars) (values : List TypedValue) (outer : List Place) (label block at : ℕ) → label < length outer → At outer label block at → ((operands : List TypedValue) → land vars operands (todo m func block at) values ≡ Stuck) → seen m func (out_of_labels m func vars outer (Leaves label values)) ≡ Stuck
+pub branches_stuck : (m : Module) (func : ℕ) (vars : Vars) (values : List TypedValue) (outer : List Position) (label block at : ℕ) → label < length outer → At outer label block at → ((operands : List TypedValue) → land vars operands (todo m func block at) values ≡ Stuck) → seen m func (out_of_labels m func vars outer (Leaves label values)) ≡ Stuck
 branches_stuck m func vars values outer label block at within is lands =
     let f = find outer label block at within is in
     let p = f.place in
@@ -133,7 +133,7 @@ branches_stuck m func vars values outer label block at within is lands =
     ap (seen m func) (e1 ∙ ap (out_of_labels m func vars (drop (label + 1) outer)) e2 ∙ labels_stuck m 0 func vars (drop (label + 1) outer))
 
 -- a branch past the function
-pub branches_past : (m : Module) (func : ℕ) (vars : Vars) (values : List TypedValue) (outer : List Place) (label : ℕ) → length outer < label → seen m func (out_of_labels m func vars outer (Leaves label values)) ≡ Stuck
+pub branches_past : (m : Module) (func : ℕ) (vars : Vars) (values : List TypedValue) (outer : List Position) (label : ℕ) → length outer < label → seen m func (out_of_labels m func vars outer (Leaves label values)) ≡ Stuck
 branches_past m func vars values outer label h =
     let k = label - length outer - 1 in
     let e : label - length outer ≡ suc k = omega arith in
@@ -141,7 +141,7 @@ branches_past m func vars values outer label h =
     ap (seen m func) (leaves_func m func vars values outer label le ∙ ap (λ (j : ℕ). Leaves j values) e)
 
 -- a branch to the function's label
-pub branches_out : (m : Module) (func : ℕ) (vars : Vars) (values : List TypedValue) (outer : List Place) (label : ℕ) → length outer ≡ label → seen m func (out_of_labels m func vars outer (Leaves label values)) ≡ back (returned m func values)
+pub branches_out : (m : Module) (func : ℕ) (vars : Vars) (values : List TypedValue) (outer : List Position) (label : ℕ) → length outer ≡ label → seen m func (out_of_labels m func vars outer (Leaves label values)) ≡ back (returned m func values)
 branches_out m func vars values outer label h =
     let e : label - length outer ≡ 0 = omega arith in
     let le : length outer ≤ label = omega arith in
@@ -167,7 +167,7 @@ after_from (Some b) at = after_drop b at
     after_drop (x ∷ xs) (suc k) = let e : suc (k + 1) ≡ suc k + 1 = omega arith in after_drop xs k ∙ ap (λ (j : ℕ). drop j (x ∷ xs)) e
 
 -- the end of a block that is in another
-pub closes_within : (m : Module) (read depth func : ℕ) (vars : Vars) (operands : List TypedValue) (block at : ℕ) (outer : List Place) (n : Nest) → todo m func block at ≡ [] → joined operands outer ≡ Some n → seen m func (reduce m read depth func vars (around m func outer (Here operands (todo m func block at)))) ≡ Next None vars (around m func n.outer (Here n.operands (todo m func n.block (n.at + 1))))
+pub closes_within : (m : Module) (read depth func : ℕ) (vars : Vars) (operands : List TypedValue) (block at : ℕ) (outer : List Position) (n : Nest) → todo m func block at ≡ [] → joined operands outer ≡ Some n → seen m func (reduce m read depth func vars (around m func outer (Here operands (todo m func block at)))) ≡ Next None vars (around m func n.outer (Here n.operands (todo m func n.block (n.at + 1))))
 closes_within m read depth func vars operands block at [] n h e = cc
 closes_within m read depth func vars operands block at (p ∷ ps) n h e =
     let r : Nest = record { operands = operands ++ p.operands; block = p.block; at = p.at; outer = ps } in
@@ -183,7 +183,7 @@ not_false true h = refl
 not_false false h = absurd (h refl)
 
 -- the end of a body
-pub ends_out : (m : Module) (read depth func : ℕ) (vars : Vars) (operands : List TypedValue) (block at : ℕ) (outer : List Place) → todo m func block at ≡ [] → length outer ≡ 0 → seen m func (reduce m read depth func vars (around m func outer (Here operands (todo m func block at)))) ≡ back (returned m func operands)
+pub ends_out : (m : Module) (read depth func : ℕ) (vars : Vars) (operands : List TypedValue) (block at : ℕ) (outer : List Position) → todo m func block at ≡ [] → length outer ≡ 0 → seen m func (reduce m read depth func vars (around m func outer (Here operands (todo m func block at)))) ≡ back (returned m func operands)
 ends_out m read depth func vars operands block at [] h q = ap (λ (i : List Instr). seen m func (reduce m read depth func vars (Here operands i))) h
 ends_out m read depth func vars operands block at (p ∷ ps) h q = absurd (omega arith)
 
@@ -193,7 +193,7 @@ acts m read depth func vars nest i action h f =
     labels_lift m read depth func vars nest.outer (Here nest.operands (todo m func nest.block nest.at))
     ∙ ap (out_of_labels m func vars nest.outer) (rw h (f depth read func (todo m func nest.block (nest.at + 1))))
 
-pub closed_at : (operands : List TypedValue) (outer : List Place) (n : Nest) (block at : ℕ) → joined operands outer ≡ Some n → At outer 0 block at → at ≡ n.at
+pub closed_at : (operands : List TypedValue) (outer : List Position) (n : Nest) (block at : ℕ) → joined operands outer ≡ Some n → At outer 0 block at → at ≡ n.at
 closed_at operands [] n block at e h = cc
 closed_at operands (p ∷ ps) n block at e h =
     let r : Nest = record { operands = operands ++ p.operands; block = p.block; at = p.at; outer = ps } in

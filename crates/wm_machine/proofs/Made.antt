@@ -12,7 +12,7 @@ use Rattle.wm_machine.specs.declared.action.Action.TheVariants as action
 use Rattle.wm_machine.specs.Functions.{Callable, callable, todo}
 use Rattle.wm_machine.specs.Term.{Vars, Here, Reduced, Next, Ends, Leaves, Returns, Traps, Stuck}
 use Rattle.wm_machine.specs.Step.{reduce, act, step, access_of, out_of_label, out_of_call, out_of_thread, land, gives, carried, returned, ended, enter, begin, invoke}
-use Rattle.wm_machine.specs.Nest.{Place}
+use Rattle.wm_machine.specs.Nest.{Position}
 use Rattle.wm_machine.specs.Action.{does, op_of}
 use Rattle.wm_machine.specs.Configuration.{left_of}
 use Rattle.wm_machine.specs.Inside.{out_of_labels, call_step, vars_of, made_of}
@@ -38,7 +38,7 @@ made_label vars operands instrs (Returns v) = refl
 made_label vars operands instrs (Traps k) = refl
 made_label vars operands instrs Stuck = refl
 
-made_labels : (m : Module) (func : ℕ) (vars : Vars) (ps : List Place) (r : Reduced) → made_of (out_of_labels m func vars ps r) ≡ made_of r
+made_labels : (m : Module) (func : ℕ) (vars : Vars) (ps : List Position) (r : Reduced) → made_of (out_of_labels m func vars ps r) ≡ made_of r
 made_labels m func vars [] r = refl
 made_labels m func vars (p ∷ ps) r = made_labels m func vars ps (out_of_label vars p.operands (todo m func p.block p.at) r) ∙ made_label vars p.operands (todo m func p.block p.at) r
 

@@ -10,10 +10,10 @@ use Rattle.wm_num.specs.Conversion.{low_part, extension_meaning}
 use Rattle.wm_ast.specs.declared.module.Module.{Module}
 use Rattle.wm_ast.specs.declared.access.Storage.{Storage}
 use Rattle.wm_ast.specs.declared.access.AccessKind.{AccessKind}
-use Rattle.wm_ast.specs.declared.access.AccessKind.TheVariants.{Read, ReadSigned, Write, AtomicRead, AtomicWrite, Update, CompareExchange}
+use Rattle.wm_ast.specs.declared.access.AccessKind.TheVariants.{Read, ReadSigned, Write, AtomicRead, AtomicWrite, Rmw, CmpXchg}
 use Rattle.wm_ast.specs.Access.{storage_width, storage_operand, narrow_storage, whole, access_width, access_order}
 use Rattle.wm_ast.specs.Types.{width_of}
-use Rattle.wm_event.specs.declared.op.Access.{Access}
+use Rattle.wm_event.specs.declared.op.OpFields.{OpFields}
 use Rattle.wm_event.specs.declared.op.OpKind.{OpKind}
 use Rattle.wm_event.specs.declared.op.OpKind.TheVariants as op
 use Rattle.wm_event.specs.declared.log.TrapKind.{TrapKind}
@@ -47,7 +47,7 @@ on_value width kind operands = asked_with kind (number_at width operands 0) (num
 abbrev pub on_expected : Option ℕ → Width → List TypedValue → Option Asked
 on_expected None width operands = None
 on_expected (Some new) width operands =
-    asked_with (λ expected. op.CompareExchange expected new) (number_at width operands 1) (number_at W32 operands 2) (drop 3 operands)
+    asked_with (λ expected. op.CmpXchg expected new) (number_at width operands 1) (number_at W32 operands 2) (drop 3 operands)
 
 -- a store keeps the low bytes of its operand, and so does an update
 abbrev pub asked : AccessKind → List TypedValue → Option Asked
@@ -56,8 +56,8 @@ asked (ReadSigned n) operands = on_address op.Read operands
 asked (AtomicRead s) operands = on_address op.Read operands
 asked (Write s) operands = on_value (width_of (storage_operand s)) (λ v. op.Write (low_part (storage_width s) v)) operands
 asked (AtomicWrite s) operands = on_value (width_of (storage_operand s)) (λ v. op.Write (low_part (storage_width s) v)) operands
-asked (Update u s) operands = on_value (width_of (storage_operand s)) (λ v. op.Update u (low_part (storage_width s) v)) operands
-asked (CompareExchange ty) operands = on_expected (number_at (width_of ty) operands 0) (width_of ty) operands
+asked (Rmw u s) operands = on_value (width_of (storage_operand s)) (λ v. op.Rmw u (low_part (storage_width s) v)) operands
+asked (CmpXchg ty) operands = on_expected (number_at (width_of ty) operands 0) (width_of ty) operands
 
 -- the value read as an operand
 abbrev pub extended : Signedness → Storage → ℕ → TypedValue
@@ -71,8 +71,8 @@ loaded (ReadSigned n) read = Some (extended Signed (narrow_storage n) read)
 loaded (AtomicRead s) read = Some (extended Unsigned s read)
 loaded (Write s) read = None
 loaded (AtomicWrite s) read = None
-loaded (Update u s) read = Some (extended Unsigned s read)
-loaded (CompareExchange ty) read = Some (extended Unsigned (whole ty) read)
+loaded (Rmw u s) read = Some (extended Unsigned s read)
+loaded (CmpXchg ty) read = Some (extended Unsigned (whole ty) read)
 
 -- an atomic access at an address that isn't a multiple of its width
 abbrev pub is_unaligned : AccessKind → ℕ → Bool
@@ -88,5 +88,5 @@ access_trap m kind address =
     if is_unaligned kind address then Some Unaligned else if is_outside m kind address then Some OutOfBounds else None
 
 -- the access that is made
-abbrev pub op_at : AccessKind → OpKind → ℕ → Access
+abbrev pub op_at : AccessKind → OpKind → ℕ → OpFields
 op_at kind asks address = record { kind = asks; order = access_order kind; address = address; width = access_width kind }

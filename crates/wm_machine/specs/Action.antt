@@ -3,7 +3,7 @@ use Rattle.std.specs.Prelude.{ℕ, ◌<◌, List, ◌∷◌, ◌≡◌, Option, 
 use Rattle.wm_ast.specs.declared.module.Module.{Module}
 use Rattle.wm_ast.specs.declared.instr.Instr.{Instr}
 use Rattle.wm_ast.specs.Module.{block_in}
-use Rattle.wm_event.specs.declared.op.Access.{Access as Op}
+use Rattle.wm_event.specs.declared.op.OpFields.{OpFields as Op}
 use Rattle.wm_machine.specs.declared.value.TypedValue.{TypedValue}
 use Rattle.wm_machine.specs.declared.action.Action.{Action}
 use Rattle.wm_machine.specs.declared.action.Action.TheVariants as action

@@ -5,10 +5,10 @@ use Rattle.wm_machine.specs.declared.value.TypedValue.{TypedValue}
 use Rattle.wm_machine.specs.declared.activation.Activation.{Activation}
 use Rattle.wm_machine.specs.Term.{Vars, Term, Here, Label, Frame, Config, Going}
 use Rattle.wm_machine.specs.Functions.{todo}
-use Rattle.wm_machine.specs.Nest.{Nest, Place}
+use Rattle.wm_machine.specs.Nest.{Nest, Position}
 
 -- a term in the labels round it, the innermost first
-abbrev pub around : Module → ℕ → List Place → Term → Term
+abbrev pub around : Module → ℕ → List Position → Term → Term
 around m func [] t = t
 around m func (p ∷ ps) t = around m func ps (Label p.operands (todo m func p.block p.at) t)
 

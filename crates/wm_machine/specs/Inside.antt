@@ -1,7 +1,7 @@
 -- A step inside one call, whatever the calls round it are.
 use Rattle.std.specs.Prelude.{ℕ, zero, suc, ◌+◌, ◌<◌, ◌^◌, ◌≡◌, List, [], ◌∷◌, ◌++◌, Bool, true, false, Option, Some, None, Result, Ok, Err, length, drop}
 use Rattle.wm_ast.specs.declared.module.Module.{Module}
-use Rattle.wm_event.specs.declared.op.Access.{Access}
+use Rattle.wm_event.specs.declared.op.OpFields.{OpFields}
 use Rattle.wm_event.specs.declared.log.TrapKind.TheVariants.{Exhausted}
 use Rattle.wm_machine.specs.declared.value.TypedValue.{TypedValue}
 use Rattle.wm_machine.specs.declared.activation.Activation.{Activation}
@@ -12,7 +12,7 @@ use Rattle.wm_machine.specs.declared.fault.AdvanceFault.TheVariants.{Stuck as St
 use Rattle.wm_machine.specs.Functions.{Callable, callable, todo}
 use Rattle.wm_machine.specs.Term.{Vars, Frame, Reduced, Next, Ends, Leaves, Returns, Traps, Stuck}
 use Rattle.wm_machine.specs.Step.{reduce, returned, invoke, out_of_label}
-use Rattle.wm_machine.specs.Nest.{Place}
+use Rattle.wm_machine.specs.Nest.{Position}
 use Rattle.wm_machine.specs.Configuration.{left_of}
 
 -- the variables that a call sees
@@ -40,7 +40,7 @@ as_list None = []
 as_list (Some v) = v ∷ []
 
 -- out of the labels round a place
-abbrev pub out_of_labels : Module → ℕ → Vars → List Place → Reduced → Reduced
+abbrev pub out_of_labels : Module → ℕ → Vars → List Position → Reduced → Reduced
 out_of_labels m func vars [] r = r
 out_of_labels m func vars (p ∷ ps) r =
     out_of_labels m func vars ps (out_of_label vars p.operands (todo m func p.block p.at) r)
@@ -105,7 +105,7 @@ Called m callee r old globals callers new callers' (Err StuckFault) = (r ≡ Stu
 Called m callee r old globals callers new callers' (Err OutOfMemory) = (new ≡ old) × (callers' ≡ callers)
 
 -- the access of a step within a call
-abbrev pub made_of : Reduced → Option Access
+abbrev pub made_of : Reduced → Option OpFields
 made_of (Next made vars t) = made
 made_of (Ends values) = None
 made_of (Leaves l values) = None

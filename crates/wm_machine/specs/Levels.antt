@@ -2,10 +2,10 @@
 use Rattle.std.specs.Prelude.{ℕ, List, [], ◌∷◌, take, drop, reverse, ◌≤◌, ◌<◌, ◌+◌, ◌^◌, All, ⊤}
 use Rattle.wm_machine.specs.declared.value.TypedValue.{TypedValue}
 use Rattle.wm_machine.specs.declared.levels.Level.{Level}
-use Rattle.wm_machine.specs.Nest.{Nest, Place}
+use Rattle.wm_machine.specs.Nest.{Nest, Position}
 
 -- the blocks round, whose operands are these values
-abbrev pub places_of : List Level → List TypedValue → List Place
+abbrev pub places_of : List Level → List TypedValue → List Position
 places_of [] values = []
 places_of (l ∷ ls) values =
     record { operands = reverse (drop l.base values); block = l.block; at = l.at } ∷ places_of ls (take l.base values)

@@ -2,7 +2,7 @@
 use Rattle.std.specs.Prelude.{ℕ, zero, suc, List, [], ◌∷◌, ◌++◌, take, Bool, true, false, Option, Some, None}
 use Rattle.wm_machine.specs.declared.value.TypedValue.{TypedValue}
 
-pub record Place : Type 0 where
+pub record Position : Type 0 where
   pub operands : List TypedValue
   pub block : ℕ
   pub at : ℕ
@@ -11,10 +11,10 @@ pub record Nest : Type 0 where
   pub operands : List TypedValue
   pub block : ℕ
   pub at : ℕ
-  pub outer : List Place
+  pub outer : List Position
 
 -- the block round, once operands of the inner one have joined its own
-abbrev pub joined : List TypedValue → List Place → Option Nest
+abbrev pub joined : List TypedValue → List Position → Option Nest
 joined operands [] = None
 joined operands (p ∷ ps) =
     Some record { operands = operands ++ p.operands; block = p.block; at = p.at; outer = ps }
@@ -30,7 +30,7 @@ abbrev pub given_up : Bool → Nest → Option Nest
 given_up carry n = joined (carried_top carry n.operands) n.outer
 
 -- the block round so many more, which takes over what is carried
-abbrev pub landed : ℕ → List TypedValue → List Place → Option Nest
+abbrev pub landed : ℕ → List TypedValue → List Position → Option Nest
 landed label values [] = None
 landed zero values (p ∷ ps) =
     Some record { operands = values ++ p.operands; block = p.block; at = p.at; outer = ps }

@@ -5,7 +5,7 @@ use Rattle.wm_ast.specs.declared.module.Module.{Module}
 use Rattle.wm_event.specs.declared.event.Event.{Event}
 use Rattle.wm_event.specs.declared.log.End.{End}
 use Rattle.wm_event.specs.declared.log.End.TheVariants.{Cut}
-use Rattle.wm_event.specs.declared.op.Access.{Access}
+use Rattle.wm_event.specs.declared.op.OpFields.{OpFields}
 use Rattle.wm_event.specs.Op.{kind_finds, event_made}
 use Rattle.wm_machine.specs.declared.fault.StartFault.{StartFault}
 use Rattle.wm_machine.specs.Term.{Config, Going, Over, Step, Went, NoStep}
@@ -24,21 +24,21 @@ pub record Taken : Type 0 where
   pub others : List ℕ
 
 -- a value that fits its access
-abbrev pub take_fitting : Access → List ℕ → Option Taken
+abbrev pub take_fitting : OpFields → List ℕ → Option Taken
 take_fitting op [] = None
 take_fitting op (r ∷ reads) = if nat_lt r (2 ^ (8 * bytes_of op.width)) then Some record { read = r; others = reads } else None
 
-abbrev pub take_where : Bool → Access → List ℕ → Option Taken
+abbrev pub take_where : Bool → OpFields → List ℕ → Option Taken
 take_where true op reads = take_fitting op reads
 take_where false op reads = Some record { read = 0; others = reads }
 
 -- one for each access that reads
-abbrev pub take_read : Option Access → List ℕ → Option Taken
+abbrev pub take_read : Option OpFields → List ℕ → Option Taken
 take_read None reads = Some record { read = 0; others = reads }
 take_read (Some op) reads = take_where (kind_finds op.kind) op reads
 
 -- the event of a step of this thread, if it has one
-abbrev pub noted : ℕ → ℕ → Option Access → ℕ → List Event
+abbrev pub noted : ℕ → ℕ → Option OpFields → ℕ → List Event
 noted thread number None read = []
 noted thread number (Some op) read = event_made record { thread = thread; number = number } op read ∷ []
 

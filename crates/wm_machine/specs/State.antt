@@ -2,7 +2,7 @@
 use Rattle.std.specs.Prelude.{ℕ, List, Bool, true, false, Option, Some, None, ⊤}
 use Rattle.wm_ast.specs.declared.module.Module.{Module}
 use Rattle.wm_event.specs.declared.log.End.{End}
-use Rattle.wm_event.specs.declared.op.Access.{Access}
+use Rattle.wm_event.specs.declared.op.OpFields.{OpFields}
 use Rattle.wm_event.specs.declared.op.Reply.{Reply}
 use Rattle.wm_event.specs.Op.{kind_finds}
 use Rattle.wm_access.specs.AccessWidth.{Fits}
@@ -18,7 +18,7 @@ use Rattle.wm_machine.specs.Inside.{vars_of}
 
 -- the calls of a thread, the innermost apart and its callers after it
 pub record State : Type 0 where
-  pub program : Module
+  pub «module» : Module
   pub ended : Option End
   pub running : Activation
   pub callers : List Activation
@@ -27,20 +27,20 @@ pub record State : Type 0 where
 abbrev pub config_from : Option End → State → Config
 config_from (Some end) s = Over end
 config_from None s =
-    under s.program s.callers s.running.func (vars_of s.running s.globals) (left_of s.program s.running.func s.running.levels)
+    under s.module s.callers s.running.func (vars_of s.running s.globals) (left_of s.module s.running.func s.running.levels)
 
 -- the configuration of a thread
 abbrev pub config_of : State → Config
 config_of s = config_from s.ended s
 
 -- what a thread needs for its next step
-abbrev pub as_need : Option Access → Need
+abbrev pub as_need : Option OpFields → Need
 as_need None = need.Local
 as_need (Some op) = need.Access op
 
 abbrev pub need_in : Option End → ℕ → State → Need
 need_in (Some end) read s = need.Ended end
-need_in None read s = as_need (access_of (step s.program read (config_of s)))
+need_in None read s = as_need (access_of (step s.module read (config_of s)))
 
 abbrev pub need_of : ℕ → State → Need
 need_of read s = need_in s.ended read s

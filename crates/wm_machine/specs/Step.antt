@@ -18,7 +18,7 @@ use Rattle.wm_ast.specs.declared.access.AccessKind.{AccessKind}
 use Rattle.wm_ast.specs.Module.{block_in, func_type, pages_of}
 use Rattle.wm_event.specs.declared.log.TrapKind.{TrapKind}
 use Rattle.wm_event.specs.declared.log.TrapKind.TheVariants.{Unreachable, DivideByZero, Overflow, Exhausted}
-use Rattle.wm_event.specs.declared.op.Access.{Access}
+use Rattle.wm_event.specs.declared.op.OpFields.{OpFields}
 use Rattle.wm_event.specs.declared.log.End.TheVariants.{Done, Trap}
 use Rattle.wm_machine.specs.declared.value.TypedValue.{TypedValue}
 use Rattle.wm_machine.specs.declared.value.TypedValue.TheVariants.{I32, I64}
@@ -246,6 +246,6 @@ went (Went made c) = Some c
 went NoStep = None
 
 -- the access of a step
-abbrev pub access_of : Step → Option Access
+abbrev pub access_of : Step → Option OpFields
 access_of (Went made c) = made
 access_of NoStep = None

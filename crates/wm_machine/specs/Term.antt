@@ -4,7 +4,7 @@ use Rattle.std.specs.Prelude.{ℕ, List, Option}
 use Rattle.wm_ast.specs.declared.instr.Instr.{Instr}
 use Rattle.wm_event.specs.declared.log.End.{End}
 use Rattle.wm_event.specs.declared.log.TrapKind.{TrapKind}
-use Rattle.wm_event.specs.declared.op.Access.{Access}
+use Rattle.wm_event.specs.declared.op.OpFields.{OpFields}
 use Rattle.wm_machine.specs.declared.value.TypedValue.{TypedValue}
 
 -- the locals of a call and the globals of its thread
@@ -28,7 +28,7 @@ pub data Config : Type 0 where
 -- What becomes of a term by one step of its innermost place.
 pub data Reduced : Type 0 where
   -- it goes on, after an access if there was one
-  Next : (made : Option Access) (vars : Vars) (term : Term) → Reduced
+  Next : (made : Option OpFields) (vars : Vars) (term : Term) → Reduced
   -- it is at its end
   Ends : (operands : List TypedValue) → Reduced
   -- it branches out of so many labels more
@@ -41,5 +41,5 @@ pub data Reduced : Type 0 where
 
 -- A step of a thread.
 pub data Step : Type 0 where
-  Went : (made : Option Access) (after : Config) → Step
+  Went : (made : Option OpFields) (after : Config) → Step
   NoStep : Step

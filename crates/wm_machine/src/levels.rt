@@ -1,6 +1,6 @@
 //! The blocks that a call is in, with their operands on one stack.
 ghost use Rattle.std.specs.Prelude.{◌≡◌, ◌≤◌, ◌<◌, ◌-◌, ◌+◌, ◌^◌, List, [], ◌∷◌, ◌++◌, length, drop, take, reverse, slice_get, slice_index_or, OnOk, OnErr, IfOk, IfSome, Some, None, true, false};
-ghost use Rattle.wm_machine.specs.Nest.{Nest, Place, closed, given_up, unwound};
+ghost use Rattle.wm_machine.specs.Nest.{Nest, Position, closed, given_up, unwound};
 
 use crate::value::TypedValue;
 use std::alloc::{AllocError, Global};

@@ -18,8 +18,8 @@ use crate::levels::Levels;
 use crate::numeric::number;
 use crate::value::TypedValue;
 use wm_access::PAGE_BYTES;
-use wm_ast::{AccessKind, AccessOperands, Instr, Module, Storage, ValType};
-use wm_event::{Access, Op, OpKind, TrapKind};
+use wm_ast::{AccessKind, Instr, MemArg, Module, Storage, ValType};
+use wm_event::{Op, OpFields, OpKind, TrapKind};
 use wm_num::{Signedness, Width, extend_bytes, low_bytes};
 
 /// What a memory instruction asks for, the i32 that its address is but for the offset, and how many operands it takes.
@@ -71,14 +71,14 @@ fn requested(levels: &Levels, kind: AccessKind) -> Option<Request>
             let value = low_operand(levels, storage)?;
             at_address(levels, OpKind::Write(value), 1)
         }
-        AccessKind::Update(operator, storage) => {
+        AccessKind::Rmw(operator, storage) => {
             let value = low_operand(levels, storage)?;
-            at_address(levels, OpKind::Update(operator, value), 1)
+            at_address(levels, OpKind::Rmw(operator, value), 1)
         }
-        AccessKind::CompareExchange(ty) => {
+        AccessKind::CmpXchg(ty) => {
             let new = number(levels, 0, ty.width())?;
             let expected = number(levels, 1, ty.width())?;
-            at_address(levels, OpKind::CompareExchange(expected, new), 2)
+            at_address(levels, OpKind::CmpXchg(expected, new), 2)
         }
     }
 }
@@ -117,15 +117,14 @@ pub fn loaded(kind: AccessKind, read: u64) -> Option<TypedValue>
 {
     match kind {
         AccessKind::Write(_) | AccessKind::AtomicWrite(_) => None,
-        AccessKind::Read(storage)
-        | AccessKind::AtomicRead(storage)
-        | AccessKind::Update(_, storage) => Some(extended(Signedness::Unsigned, storage, read)),
+        AccessKind::Read(storage) | AccessKind::AtomicRead(storage) | AccessKind::Rmw(_, storage) =>
+            Some(extended(Signedness::Unsigned, storage, read)),
         AccessKind::ReadSigned(narrow) => Some(extended(
             Signedness::Signed,
             narrow.storage(),
             read,
         )),
-        AccessKind::CompareExchange(ty) => Some(extended(Signedness::Unsigned, whole(ty), read)),
+        AccessKind::CmpXchg(ty) => Some(extended(Signedness::Unsigned, whole(ty), read)),
     }
 }
 
@@ -140,12 +139,7 @@ fn whole(ty: ValType) -> Storage
 }
 
 /// A memory instruction. Its effective address is its operand plus the offset, not wrapped.
-pub fn access(
-    module: &Module,
-    levels: &Levels,
-    kind: AccessKind,
-    operands: AccessOperands,
-) -> Action
+pub fn access(module: &Module, levels: &Levels, kind: AccessKind, operands: MemArg) -> Action
     requires { pages_of «module».now.memory ≤ 65536 }
     ensures means { (vars : Vars) → Acts «module».now (Instr.Access kind operands) vars levels.now.operands result }
     ensures room { popped_by result ≤ length levels.now.operands }
@@ -158,7 +152,7 @@ pub fn access(
     if let Some(trap) = access_trap(module, kind, address) {
         return Action::Trap(trap);
     }
-    let op = Op::new(Access {
+    let op = Op::new(OpFields {
         kind: request.kind,
         order: kind.order(),
         address: address as u32,

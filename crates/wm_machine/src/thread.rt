@@ -37,7 +37,7 @@ pub enum Need {
 /// `config_of` is its configuration in the semantics.
 #[derive(Drop)]
 pub struct Thread<'m> {
-    program: &'m Module,
+    module: &'m Module,
     end: Option<End>,
     running: Activation,
     callers: Vec<Activation>,
@@ -53,24 +53,24 @@ impl<'m> Model for Thread<'m> {
 
     ghost use Rattle.wm_ast.specs.Module.{pages_of};
 
-    ghost view = { λ t. record { program = t.program.now; ended = t.end; running = t.running; callers = reverse t.callers.items; globals = t.globals } };
+    ghost view = { λ t. record { «module» = t.module.now; ended = t.end; running = t.running; callers = reverse t.callers.items; globals = t.globals } };
 
-    ghost invariant = { λ t. pages_of t.program.now.memory ≤ 65536 };
+    ghost invariant = { λ t. pages_of t.module.now.memory ≤ 65536 };
 }
 
 impl<'m> Thread<'m> {
     /// Calls a function of a module with these arguments.
     fn begin(
         alloc: Global,
-        program: &'m Module,
+        module: &'m Module,
         func: usize,
         args: &[u64],
     ) -> Result<Thread<'m>, StartFault>
-        requires { pages_of program.now.memory ≤ 65536 }
-        ensures ok { IfOk result (λ t. (started_in program.now func (callable_in program.now func) args.now ≡ Ok (config_of t)) × (t.program ≡ program.now)) }
-        ensures fault { IfErr result (λ f. (f ≡ StartFault.OutOfMemory) ⊎ (started_in program.now func (callable_in program.now func) args.now ≡ Err f)) }
+        requires { pages_of «module».now.memory ≤ 65536 }
+        ensures ok { IfOk result (λ t. (started_in «module».now func (callable_in «module».now func) args.now ≡ Ok (config_of t)) × (t.module ≡ «module».now)) }
+        ensures fault { IfErr result (λ f. (f ≡ StartFault.OutOfMemory) ⊎ (started_in «module».now func (callable_in «module».now func) args.now ≡ Err f)) }
     {
-        let Some(types) = callable(program, func) else {
+        let Some(types) = callable(module, func) else {
             return Err(StartFault::NotFunction);
         };
         if args.len() != types.params.len() {
@@ -80,9 +80,9 @@ impl<'m> Thread<'m> {
             return Err(StartFault::ArgRange);
         }
         let locals = first_locals(alloc, types.params, types.locals, args)?;
-        let globals = first_globals(alloc, program)?;
+        let globals = first_globals(alloc, module)?;
         Ok(Thread {
-            program,
+            module,
             end: None,
             running: Activation {
                 func,
@@ -109,15 +109,15 @@ impl<'m> Thread<'m> {
         name: &str,
         args: &[u64],
     ) -> Result<Thread<'m>, StartFault>
-        ensures ok { IfOk result (λ t. (started «module».now name.now args.now ≡ Ok (config_of t)) × (t.program ≡ «module».now)) }
+        ensures ok { IfOk result (λ t. (started «module».now name.now args.now ≡ Ok (config_of t)) × (t.module ≡ «module».now)) }
         ensures fault { IfErr result (λ f. (f ≡ StartFault.OutOfMemory) ⊎ (started «module».now name.now args.now ≡ Err f)) }
     {
-        let program = module.module();
-        match program.export(name) {
+        let module = module.module();
+        match module.export(name) {
             None => Err(StartFault::NoExport),
             Some(export) => match func_of(export) {
                 None => Err(StartFault::NotFunction),
-                Some(func) => Thread::begin(alloc, program, func as usize, args),
+                Some(func) => Thread::begin(alloc, module, func as usize, args),
             },
         }
     }
@@ -128,7 +128,7 @@ impl<'m> Thread<'m> {
     {
         match self.end {
             Some(end) => Need::Ended(end),
-            None => match next_op(self.program, &self.running) {
+            None => match next_op(self.module, &self.running) {
                 Some(op) => Need::Access(op),
                 None => Need::Local,
             },
@@ -143,13 +143,13 @@ impl<'m> Thread<'m> {
     /// `Stuck` where there is no step, `OutOfMemory` where memory was refused.
     pub fn advance(&mut self, reply: Option<Reply>) -> Result<(), AdvanceFault>
         requires { Answers (need_of 0 self.old) reply }
-        ensures ok { OnOk result (went (step self.old.program (read_in reply) (config_of self.old)) ≡ Some (config_of self.new)) }
-        ensures stuck { result ≡ Err AdvanceFault.Stuck → went (step self.old.program (read_in reply) (config_of self.old)) ≡ None }
+        ensures ok { OnOk result (went (step self.old.module (read_in reply) (config_of self.old)) ≡ Some (config_of self.new)) }
+        ensures stuck { result ≡ Err AdvanceFault.Stuck → went (step self.old.module (read_in reply) (config_of self.old)) ≡ None }
         ensures err { OnErr result (self.new ≡ self.old) }
-        ensures same { self.new.program ≡ self.old.program }
+        ensures same { self.new.module ≡ self.old.module }
     {
         match go_on(
-            self.program,
+            self.module,
             &mut self.running,
             &mut self.globals,
             value_read(reply),
@@ -170,7 +170,7 @@ impl<'m> Thread<'m> {
             },
             Ok(Reached::Calling(callee)) => {
                 match call(
-                    self.program,
+                    self.module,
                     self.alloc,
                     &mut self.running,
                     &mut self.callers,

@@ -3,23 +3,23 @@
 
 mod arithmetic;
 mod bitwise;
+mod comparison;
+mod conversion;
 mod counting;
 mod dispatch;
 mod division;
-mod extension;
+mod low_part;
 mod operator;
-mod order;
 mod shift;
 mod sign;
 mod view;
-mod widths;
 
+pub use comparison::compare;
+pub use conversion::convert;
 pub use dispatch::{binary, unary};
-pub use extension::{extend_bytes, low_bytes};
+pub use low_part::{extend_bytes, low_bytes};
 pub use operator::{BinaryOperator, Comparison, Conversion, NumTrap, UnaryOperator, Width};
-pub use order::compare;
 pub use sign::Signedness;
-pub use widths::convert;
 
 #[cfg(test)]
 mod tests;

@@ -29,7 +29,7 @@ pub reaches : (m : Module) (k : ℕ) (t : ThreadLog) (start c : Config) (j n : �
 reaches m k t start c j n f within =
     record { start = start; is_start = f.is_start; within = within; ran_so = f.ran_so; made = refl; listed = f.listed }
 
--- the same, where the program, the list of events and the progress are named otherwise
+-- the same, where the module, the list of events and the progress are named otherwise
 pub follows_in : (m m' : Module) (k : ℕ) (t : ThreadLog) (start c : Config) (j n : ℕ) → m' ≡ m → start_of m t ≡ Ok start → HasPlaces k t.events → n ≤ length t.events
     → steps m' k start (reads_of t.events) j ≡ Some (so_far c t.events n) → Follows m k t start c j n
 follows_in m m' k t start c j n same is_start places listed so =

@@ -6,7 +6,7 @@ use Rattle.std.proofs.lemmas.Option.{none-some, same_Some}
 use Rattle.wm_ast.specs.declared.module.Module.{Module}
 use Rattle.wm_event.specs.declared.event.Event.{Event}
 use Rattle.wm_event.specs.declared.log.ThreadLog.{ThreadLog}
-use Rattle.wm_event.specs.declared.op.Access.{Access}
+use Rattle.wm_event.specs.declared.op.OpFields.{OpFields}
 use Rattle.wm_event.specs.Op.{event_made}
 use Rattle.wm_machine.specs.Term.{Config, NoStep}
 use Rattle.wm_machine.specs.Step.{access_of, step}
@@ -55,7 +55,7 @@ get_behind : (xs : List Event) (e : Event) (es : List Event) → slice_get ((xs 
 get_behind [] e es = refl
 get_behind (x ∷ xs) e es = get_behind xs e es
 
-not_access : (m : Module) (k : ℕ) (t : ThreadLog) (j n : ℕ) (ran : Ran) (a : Access) → (r : Reaches m k t j n ran) → j < t.steps
+not_access : (m : Module) (k : ℕ) (t : ThreadLog) (j n : ℕ) (ran : Ran) (a : OpFields) → (r : Reaches m k t j n ran) → j < t.steps
     → ((v : ℕ) → access_of (step m v ran.config) ≡ Some a) → MakesNo record { thread = k; number = n } a (slice_get t.events n) → Whole m k t r.start → ⊥
 not_access m k t j n ran a r lt is none w =
     let next = goes_on m k t r.start w j ran r.ran_so lt in

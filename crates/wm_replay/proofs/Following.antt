@@ -7,9 +7,9 @@ use Rattle.std.proofs.lemmas.Option.{get_or_from_slice_get, slice_get_within}
 use Rattle.wm_ast.specs.declared.module.Module.{Module}
 use Rattle.wm_event.specs.declared.event.Event.{Event}
 use Rattle.wm_event.specs.declared.event.EventKind.TheVariants as event
-use Rattle.wm_event.specs.declared.op.Access.{Access}
+use Rattle.wm_event.specs.declared.op.OpFields.{OpFields}
 use Rattle.wm_event.specs.declared.op.OpKind.{OpKind}
-use Rattle.wm_event.specs.declared.op.OpKind.TheVariants.{Read, Write, Update, CompareExchange}
+use Rattle.wm_event.specs.declared.op.OpKind.TheVariants.{Read, Write, Rmw, CmpXchg}
 use Rattle.wm_event.specs.Event.{key_of, kind_reads, reads}
 use Rattle.wm_event.specs.Op.{event_made, kind_finds, made_kind, made_read}
 use Rattle.wm_access.specs.AccessWidth.{bytes_of, Fits}
@@ -39,8 +39,8 @@ local_on m k start old new es j n so e = ap (and_run_on m k) so ∙ local_step m
 made_reads : (kind : OpKind) (r : ℕ) → kind_reads (made_kind kind r) ≡ kind_finds kind
 made_reads Read r = refl
 made_reads (Write v) r = refl
-made_reads (Update op v) r = refl
-made_reads (CompareExchange expected new) r = either (r == expected)
+made_reads (Rmw op v) r = refl
+made_reads (CmpXchg expected new) r = either (r == expected)
   where
     either : (b : Bool) → kind_reads (cond b event.Update event.Read) ≡ true
     either true = refl
@@ -50,17 +50,17 @@ made_reads (CompareExchange expected new) r = either (r == expected)
 no_read : (kind : OpKind) (r : ℕ) → kind_finds kind ≡ false → made_read kind r ≡ 0
 no_read Read r e = absurd (cc e)
 no_read (Write v) r e = refl
-no_read (Update op v) r e = absurd (cc e)
-no_read (CompareExchange expected new) r e = absurd (cc e)
+no_read (Rmw op v) r e = absurd (cc e)
+no_read (CmpXchg expected new) r e = absurd (cc e)
 
 -- the value that an access reads is the next of those to come
-taken_so : (a : Access) (b : Bool) (e : Event) (rest : List ℕ) → Fits a.width e.read → (b ≡ false → e.read ≡ 0)
+taken_so : (a : OpFields) (b : Bool) (e : Event) (rest : List ℕ) → Fits a.width e.read → (b ≡ false → e.read ≡ 0)
     → take_where b a (cond b (e.read ∷ rest) rest) ≡ Some record { read = e.read; others = rest }
 taken_so a false e rest fits zero = ap (λ r. Some (record { read = r; others = rest })) (sym (zero refl))
 taken_so a true e rest fits zero = ap (λ b. cond b (Some record { read = e.read; others = rest }) None) (lt-ltb e.read (2 ^ (8 * bytes_of a.width)) fits)
 
 -- a step with the access that makes the event
-access_step : (m : Module) (k : ℕ) (ran : Ran) (a : Access) (e : Event) (c : Config) (rest : List ℕ) → event_made (key_of e) a e.read ≡ e → Fits a.width e.read
+access_step : (m : Module) (k : ℕ) (ran : Ran) (a : OpFields) (e : Event) (c : Config) (rest : List ℕ) → event_made (key_of e) a e.read ≡ e → Fits a.width e.read
     → access_of (step m 0 ran.config) ≡ Some a → step m e.read ran.config ≡ Went (Some a) c → e.thread ≡ k → e.number ≡ length ran.events
     → ran.reads ≡ cond (reads e) (e.read ∷ rest) rest
     → run_on m k ran ≡ Some record { events = ran.events ++ e ∷ []; config = c; reads = rest }
@@ -75,7 +75,7 @@ access_step m k ran a e c rest made fits is goes thread number given =
     ap (ran_with m k ran) taken ∙ ap (ran_on k ran record { read = e.read; others = rest }) goes
     ∙ ap (λ x. Some (record { events = ran.events ++ x ∷ []; config = c; reads = rest })) event
 
-pub access_on : (m : Module) (k : ℕ) (start old new : Config) (es : List Event) (j n : ℕ) (a : Access) (e : Event)
+pub access_on : (m : Module) (k : ℕ) (start old new : Config) (es : List Event) (j n : ℕ) (a : OpFields) (e : Event)
     → steps m k start (reads_of es) j ≡ Some (so_far old es n) → slice_get es n ≡ Some e
     → event_made (key_of e) a e.read ≡ e → Fits a.width e.read → access_of (step m 0 old) ≡ Some a → step m e.read old ≡ Went (Some a) new
     → e.thread ≡ k → e.number ≡ n → steps m k start (reads_of es) (suc j) ≡ Some (so_far new es (n + 1))

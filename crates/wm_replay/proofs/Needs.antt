@@ -5,7 +5,7 @@ use Rattle.std.proofs.lemmas.Option.{get_or_from_slice_get, none-some, same_Some
 use Rattle.wm_event.specs.declared.event.Event.{Event}
 use Rattle.wm_event.specs.declared.log.End.{End}
 use Rattle.wm_event.specs.declared.log.End.TheVariants.{Cut}
-use Rattle.wm_event.specs.declared.op.Access.{Access}
+use Rattle.wm_event.specs.declared.op.OpFields.{OpFields}
 use Rattle.wm_machine.specs.declared.thread.Need.{Need}
 use Rattle.wm_machine.specs.declared.thread.Need.TheVariants as need
 use Rattle.wm_machine.specs.Run.{end_of}
@@ -18,46 +18,46 @@ use Rattle.wm_machine.specs.Inside.{vars_of}
 use Rattle.wm_machine.specs.declared.activation.Activation.{Activation}
 use Rattle.wm_ast.specs.declared.module.Module.{Module}
 
-as_access : (o : Option Access) (op : Access) → as_need o ≡ need.Access op → o ≡ Some op
+as_access : (o : Option OpFields) (op : OpFields) → as_need o ≡ need.Access op → o ≡ Some op
 as_access None op e = absurd (cc e)
 as_access (Some x) op e = cc e
 
-as_local : (o : Option Access) → as_need o ≡ need.Local → o ≡ None
+as_local : (o : Option OpFields) → as_need o ≡ need.Local → o ≡ None
 as_local None e = refl
 as_local (Some x) e = absurd (cc e)
 
-never_ended : (o : Option Access) (end : End) → as_need o ≡ need.Ended end → ⊥
+never_ended : (o : Option OpFields) (end : End) → as_need o ≡ need.Ended end → ⊥
 never_ended None end e = absurd (cc e)
 never_ended (Some x) end e = absurd (cc e)
 
 -- the next step of a thread makes the access that it needs
-access_in : (o : Option End) (s : State) (r : ℕ) (op : Access) → need_in o r s ≡ need.Access op → access_of (step s.program r (config_of s)) ≡ Some op
-access_in None s r op e = as_access (access_of (step s.program r (config_of s))) op e
+access_in : (o : Option End) (s : State) (r : ℕ) (op : OpFields) → need_in o r s ≡ need.Access op → access_of (step s.module r (config_of s)) ≡ Some op
+access_in None s r op e = as_access (access_of (step s.module r (config_of s))) op e
 access_in (Some end) s r op e = absurd (cc e)
 
-pub access_of_need : (s : State) (r : ℕ) (op : Access) → need_of r s ≡ need.Access op → access_of (step s.program r (config_of s)) ≡ Some op
+pub access_of_need : (s : State) (r : ℕ) (op : OpFields) → need_of r s ≡ need.Access op → access_of (step s.module r (config_of s)) ≡ Some op
 access_of_need s r op e = access_in s.ended s r op e
 
-local_in : (o : Option End) (s : State) (r : ℕ) → need_in o r s ≡ need.Local → access_of (step s.program r (config_of s)) ≡ None
-local_in None s r e = as_local (access_of (step s.program r (config_of s))) e
+local_in : (o : Option End) (s : State) (r : ℕ) → need_in o r s ≡ need.Local → access_of (step s.module r (config_of s)) ≡ None
+local_in None s r e = as_local (access_of (step s.module r (config_of s))) e
 local_in (Some end) s r e = absurd (cc e)
 
-pub local_of_need : (s : State) (r : ℕ) → need_of r s ≡ need.Local → access_of (step s.program r (config_of s)) ≡ None
+pub local_of_need : (s : State) (r : ℕ) → need_of r s ≡ need.Local → access_of (step s.module r (config_of s)) ≡ None
 local_of_need s r e = local_in s.ended s r e
 
 ended_in : (o : Option End) (s : State) (r : ℕ) (end : End) → need_in o r s ≡ need.Ended end → config_from o s ≡ Over end
-ended_in None s r end e = absurd (never_ended (access_of (step s.program r (config_of s))) end e)
+ended_in None s r end e = absurd (never_ended (access_of (step s.module r (config_of s))) end e)
 ended_in (Some x) s r end e = ap Over (let same : x ≡ end = cc e in same)
 
 -- a thread that has ended is at its end
 pub ended_of_need : (s : State) (r : ℕ) (end : End) → need_of r s ≡ need.Ended end → config_of s ≡ Over end
 ended_of_need s r end e = ended_in s.ended s r end e
 
-pub no_step_of_need : (s : State) (r : ℕ) (end : End) → need_of r s ≡ need.Ended end → step s.program 0 (config_of s) ≡ NoStep
-no_step_of_need s r end e = ap (step s.program 0) (ended_of_need s r end e)
+pub no_step_of_need : (s : State) (r : ℕ) (end : End) → need_of r s ≡ need.Ended end → step s.module 0 (config_of s) ≡ NoStep
+no_step_of_need s r end e = ap (step s.module 0) (ended_of_need s r end e)
 
 -- a step that is made, by its access
-pub made_access : (s : Step) (op : Access) (c : Config) → access_of s ≡ Some op → went s ≡ Some c → s ≡ Went (Some op) c
+pub made_access : (s : Step) (op : OpFields) (c : Config) → access_of s ≡ Some op → went s ≡ Some c → s ≡ Went (Some op) c
 made_access NoStep op c is goes = absurd (none-some op is)
 made_access (Went made after) op c is goes = ap (λ o. Went o after) is ∙ ap (Went (Some op)) (same_Some after c goes)
 
@@ -70,7 +70,7 @@ no_step NoStep e = refl
 no_step (Went made after) e = absurd (none-some after (sym e))
 
 -- a step that makes an access is one
-pub access_goes : (s : Step) (op : Access) → access_of s ≡ Some op → went s ≡ None → ⊥
+pub access_goes : (s : Step) (op : OpFields) → access_of s ≡ Some op → went s ≡ None → ⊥
 access_goes NoStep op is e = none-some op is
 access_goes (Went made after) op is e = none-some after (sym e)
 
@@ -80,7 +80,7 @@ under_goes m [] func vars t = refl
 under_goes m (c ∷ cs) func vars t = under_goes m cs c.func (record vars { locals = c.locals }) (waiting m c func vars.locals t)
 
 going_in : (o : Option End) (s : State) (r : ℕ) (n : Need) → need_in o r s ≡ n → ((end : End) → n ≢ need.Ended end) → end_of (config_from o s) ≡ Cut
-going_in None s r n is none = under_goes s.program s.callers s.running.func (vars_of s.running s.globals) (left_of s.program s.running.func s.running.levels)
+going_in None s r n is none = under_goes s.module s.callers s.running.func (vars_of s.running s.globals) (left_of s.module s.running.func s.running.levels)
 going_in (Some end) s r n is none = absurd (none end (sym is))
 
 -- a thread that needs something hasn't ended
@@ -88,18 +88,18 @@ pub going_of_need : (s : State) (r : ℕ) (n : Need) → need_of r s ≡ n → (
 going_of_need s r n is none = going_in s.ended s r n is none
 
 -- what needs no step or an access hasn't ended
-pub still_goes : (n : Need) → (n ≡ need.Local) ⊎ ((op : Access) × (n ≡ need.Access op)) → (end : End) → n ≢ need.Ended end
+pub still_goes : (n : Need) → (n ≡ need.Local) ⊎ ((op : OpFields) × (n ≡ need.Access op)) → (end : End) → n ≢ need.Ended end
 still_goes n (inl e) end f = absurd (cc (e, f))
 still_goes n (inr e) end f = absurd (cc (e.1, f))
 
 -- ---- an event by its number
 
 -- an event of the list isn't made by an access, as far as the list has it
-pub other_at : (op : Access) (es : List Event) (n : ℕ) (d : Event) → IsNotMade op (get_or es n d) → (e : Event) → slice_get es n ≡ Some e → IsNotMade op e
+pub other_at : (op : OpFields) (es : List Event) (n : ℕ) (d : Event) → IsNotMade op (get_or es n d) → (e : Event) → slice_get es n ≡ Some e → IsNotMade op e
 other_at op es n d other e is = subst (IsNotMade op) (get_or_from_slice_get es n e d is) other
 
 -- the step makes the access that is the event of this number
-pub access_at : (m : Module) (old new : Config) (op : Access) (es : List Event) (n : ℕ) (d : Event) → n < length es → IsMade op (get_or es n d)
+pub access_at : (m : Module) (old new : Config) (op : OpFields) (es : List Event) (n : ℕ) (d : Event) → n < length es → IsMade op (get_or es n d)
     → ((r : ℕ) → access_of (step m r old) ≡ Some op) → went (step m (get_or es n d).read old) ≡ Some new → Accesses m old new es n
 access_at m old new op es n d lt made asks goes = record {
   op = op;

@@ -8,7 +8,7 @@ use Rattle.wm_access.specs.declared.AccessWidth.TheVariants.{One, Two, Four, Eig
 use Rattle.wm_access.specs.AccessWidth.{bytes_of, Fits}
 use Rattle.wm_ast.specs.declared.module.Module.{Module}
 use Rattle.wm_event.specs.declared.event.Event.{Event}
-use Rattle.wm_event.specs.declared.op.Access.{Access}
+use Rattle.wm_event.specs.declared.op.OpFields.{OpFields}
 use Rattle.wm_event.specs.Op.{event_made, kind_finds}
 use Rattle.wm_machine.specs.Term.{Config, Step, Went, NoStep}
 use Rattle.wm_machine.specs.Step.{access_of, step}
@@ -65,17 +65,17 @@ fits_zero Four = omega arith
 fits_zero Eight = omega arith
 
 -- a step that makes this access makes its event
-made_event : (k : ℕ) (ran : Ran) (taken : Taken) (a : Access) (s : Step) (ran' : Ran) → access_of s ≡ Some a → ran_on k ran taken s ≡ Some ran'
+made_event : (k : ℕ) (ran : Ran) (taken : Taken) (a : OpFields) (s : Step) (ran' : Ran) → access_of s ≡ Some a → ran_on k ran taken s ≡ Some ran'
     → ran'.events ≡ ran.events ++ event_made record { thread = k; number = length ran.events } a taken.read ∷ []
 made_event k ran taken a NoStep ran' is e = absurd (none-some a is)
 made_event k ran taken a (Went made c) ran' is e =
     ap (λ (r : Ran). r.events) (sym (same_Some _ _ e)) ∙ ap (λ o. ran.events ++ noted k (length ran.events) o taken.read) is
 
 -- the event of one step more that makes the access a
-abbrev pub MakesEvent : ℕ → Ran → Access → Ran → Type 0
+abbrev pub MakesEvent : ℕ → Ran → OpFields → Ran → Type 0
 MakesEvent k ran a ran' = (r : ℕ) × Fits a.width r × (ran'.events ≡ ran.events ++ event_made record { thread = k; number = length ran.events } a r ∷ [])
 
-taken_event : (m : Module) (k : ℕ) (ran : Ran) (a : Access) (b : Bool) (reads : List ℕ) (ran' : Ran) → ((r : ℕ) → access_of (step m r ran.config) ≡ Some a)
+taken_event : (m : Module) (k : ℕ) (ran : Ran) (a : OpFields) (b : Bool) (reads : List ℕ) (ran' : Ran) → ((r : ℕ) → access_of (step m r ran.config) ≡ Some a)
     → ran_with m k ran (take_where b a reads) ≡ Some ran' → MakesEvent k ran a ran'
 taken_event m k ran a false reads ran' is e =
     (0, fits_zero a.width, made_event k ran record { read = 0; others = reads } a (step m 0 ran.config) ran' (is 0) e)
@@ -86,7 +86,7 @@ taken_event m k ran a true (r ∷ reads) ran' is e = fitting (nat_lt r (2 ^ (8 *
     fitting false n e' = absurd (none-some ran' e')
     fitting true fits e' = (r, ltb-true _ _ fits, made_event k ran record { read = r; others = reads } a (step m r ran.config) ran' (is r) e')
 
-pub next_event : (m : Module) (k : ℕ) (ran : Ran) (a : Access) (ran' : Ran) → ((r : ℕ) → access_of (step m r ran.config) ≡ Some a)
+pub next_event : (m : Module) (k : ℕ) (ran : Ran) (a : OpFields) (ran' : Ran) → ((r : ℕ) → access_of (step m r ran.config) ≡ Some a)
     → run_on m k ran ≡ Some ran' → MakesEvent k ran a ran'
 next_event m k ran a ran' is e =
     taken_event m k ran a (kind_finds a.kind) ran.reads ran' is

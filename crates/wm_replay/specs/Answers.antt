@@ -3,7 +3,7 @@ use Rattle.std.specs.Prelude.{◌≡◌, ◌≢◌, ℕ, ◌+◌, ◌<◌, ◌�
 use Rattle.wm_ast.specs.declared.module.Module.{Module}
 use Rattle.wm_event.specs.declared.event.Event.{Event}
 use Rattle.wm_event.specs.declared.log.ThreadLog.{ThreadLog}
-use Rattle.wm_event.specs.declared.op.Access.{Access}
+use Rattle.wm_event.specs.declared.op.OpFields.{OpFields}
 use Rattle.wm_event.specs.Event.{key_of}
 use Rattle.wm_event.specs.Op.{event_made}
 use Rattle.wm_access.specs.AccessWidth.{Fits}
@@ -21,16 +21,16 @@ use Rattle.wm_replay.specs.Replay.{AreRuns, DiffersAt, IsRun, start_of}
 -- ---- a step beside the log
 
 -- the access makes the event, where it reads the value that the event read
-abbrev pub IsMade : Access → Event → Type 0
+abbrev pub IsMade : OpFields → Event → Type 0
 IsMade a e = (event_made (key_of e) a e.read ≡ e) × Fits a.width e.read
 
 -- it doesn't make it, whatever value it reads
-abbrev pub IsNotMade : Access → Event → Type 0
+abbrev pub IsNotMade : OpFields → Event → Type 0
 IsNotMade a e = (r : ℕ) → Fits a.width r → event_made (key_of e) a r ≢ e
 
 -- the step makes the access that is the log's event n
 pub record Accesses (m : Module) (old new : Config) (events : List Event) (n : ℕ) : Type 0 where
-  pub op : Access
+  pub op : OpFields
   pub event : Event
   pub listed : slice_get events n ≡ Some event
   pub made : IsMade op event
@@ -39,7 +39,7 @@ pub record Accesses (m : Module) (old new : Config) (events : List Event) (n : �
 
 -- the step would make an access that isn't the log's event n
 pub record AccessesOther (m : Module) (old : Config) (events : List Event) (n : ℕ) : Type 0 where
-  pub op : Access
+  pub op : OpFields
   pub asks : (r : ℕ) → access_of (step m r old) ≡ Some op
   pub not_made : (e : Event) → slice_get events n ≡ Some e → IsNotMade op e
 
@@ -59,9 +59,9 @@ end_place made stated = if nat_lt made stated then place.Event made else place.E
 abbrev pub HasPlaces : ℕ → List Event → Type 0
 HasPlaces k events = (i : ℕ) (e : Event) → slice_get events i ≡ Some e → (e.thread ≡ k) × (e.number ≡ i)
 
-abbrev pub Compares : Module → ℕ → ThreadLog → Option Place → Type 0
-Compares m k t None = IsRun m k t
-Compares m k t (Some place) = DiffersAt m k t place
+abbrev pub IsDifference : Module → ℕ → ThreadLog → Option Place → Type 0
+IsDifference m k t None = IsRun m k t
+IsDifference m k t (Some place) = DiffersAt m k t place
 
 -- why the log of thread k isn't its run
 abbrev pub IsOther : Module → ℕ → ThreadLog → ReplayAnswer → Type 0

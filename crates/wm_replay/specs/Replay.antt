@@ -4,7 +4,7 @@ use Rattle.wm_ast.specs.declared.module.Module.{Module}
 use Rattle.wm_event.specs.declared.event.Event.{Event}
 use Rattle.wm_event.specs.declared.event.EventKey.{EventKey}
 use Rattle.wm_event.specs.declared.log.ThreadLog.{ThreadLog}
-use Rattle.wm_event.specs.declared.op.Access.{Access}
+use Rattle.wm_event.specs.declared.op.OpFields.{OpFields}
 use Rattle.wm_event.specs.Event.{reads}
 use Rattle.wm_event.specs.Op.{event_made}
 use Rattle.wm_access.specs.AccessWidth.{Fits}
@@ -41,7 +41,7 @@ pub record Reaches (m : Module) (k : ℕ) (t : ThreadLog) (j n : ℕ) (ran : Ran
   pub listed : n ≤ length t.events
 
 -- no value that the access may read makes it the log's event, which may be missing
-abbrev pub MakesNo : EventKey → Access → Option Event → Type 0
+abbrev pub MakesNo : EventKey → OpFields → Option Event → Type 0
 MakesNo key a stated = (r : ℕ) → Fits a.width r → stated ≢ Some (event_made key a r)
 
 -- it has made its stated steps, or makes no further one
@@ -55,7 +55,7 @@ EndsOtherwise m t j c = ((j ≡ t.steps) × (end_of c ≢ t.end)) ⊎ ((j < t.st
 -- where thread k differs from its log
 pub data DiffersAt (m : Module) (k : ℕ) (t : ThreadLog) : Place → Type 0 where
   -- it makes an access that isn't the log's event n, or the log has none
-  access : {j n : ℕ} {ran : Ran} {a : Access} → Reaches m k t j n ran → j < t.steps → ((r : ℕ) → access_of (step m r ran.config) ≡ Some a)
+  access : {j n : ℕ} {ran : Ran} {a : OpFields} → Reaches m k t j n ran → j < t.steps → ((r : ℕ) → access_of (step m r ran.config) ≡ Some a)
       → MakesNo record { thread = k; number = n } a (slice_get t.events n) → DiffersAt m k t (place.Event n)
   -- the log's event n is left over
   left_over : {j n : ℕ} {ran : Ran} → Reaches m k t j n ran → n < length t.events → Rests m t j ran.config → DiffersAt m k t (place.Event n)

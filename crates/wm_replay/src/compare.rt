@@ -3,7 +3,7 @@ ghost use Rattle.std.specs.Prelude.{◌≡◌, ℕ, Ok, true, false, IfOk, lengt
 ghost use Rattle.wm_event.specs.Op.{kind_finds};
 ghost use Rattle.wm_machine.specs.Run.{end_of as config_end};
 ghost use Rattle.wm_machine.specs.State.{ReadAnswers, config_of, need_of, value_or_zero};
-ghost use Rattle.wm_replay.specs.Answers.{Compares, ComparesThread, HasPlaces, IsMade, IsNotMade, Replays, Steps, end_place};
+ghost use Rattle.wm_replay.specs.Answers.{IsDifference, ComparesThread, HasPlaces, IsMade, IsNotMade, Replays, Steps, end_place};
 ghost use Rattle.wm_replay.specs.Replay.{start_of};
 
 use crate::answer::{Place, ReplayAnswer};
@@ -54,8 +54,8 @@ fn access_on(
     made: usize,
 ) -> Result<Progress, AllocError>
     requires { (read : ℕ) → need_of read thread.old ≡ Need.Access op.now }
-    ensures steps { IfOk result (Steps thread.old.program (config_of thread.old) (config_of thread.new) stated.now made) }
-    ensures same { thread.new.program ≡ thread.old.program }
+    ensures steps { IfOk result (Steps thread.old.module (config_of thread.old) (config_of thread.new) stated.now made) }
+    ensures same { thread.new.module ≡ thread.old.module }
 {
     if made >= stated.len() {
         return Ok(Progress::Other);
@@ -73,8 +73,8 @@ fn access_on(
 
 /// Makes the next step of a thread, where an access has to be the log's next event, behind so many that are made.
 fn step_on(thread: &mut Thread, stated: &[Event], made: usize) -> Result<Progress, AllocError>
-    ensures steps { IfOk result (Steps thread.old.program (config_of thread.old) (config_of thread.new) stated.now made) }
-    ensures same { thread.new.program ≡ thread.old.program }
+    ensures steps { IfOk result (Steps thread.old.module (config_of thread.old) (config_of thread.new) stated.now made) }
+    ensures same { thread.new.module ≡ thread.old.module }
 {
     match thread.next() {
         Need::Ended(_) => Ok(Progress::Rests),
@@ -114,9 +114,9 @@ fn differing_place(
     stated: &ThreadLog,
     number: usize,
 ) -> Result<Option<Place>, AllocError>
-    requires start { start_of thread.old.program stated.now ≡ Ok (config_of thread.old) }
+    requires start { start_of thread.old.module stated.now ≡ Ok (config_of thread.old) }
     requires places { HasPlaces number stated.now.events }
-    ensures { IfOk result (Compares thread.old.program number stated.now) }
+    ensures { IfOk result (IsDifference thread.old.module number stated.now) }
 {
     let events = stated.events.as_slice();
     let mut made = 0usize;
@@ -140,16 +140,16 @@ fn differing_place(
 /// Why the log of a thread isn't its run, None where it is.
 fn difference(
     alloc: Global,
-    program: &ValidModule,
+    module: &ValidModule,
     stated: &ThreadLog,
     number: usize,
 ) -> Result<Option<ReplayAnswer>, AllocError>
     requires { HasPlaces number stated.now.events }
-    ensures { IfOk result (ComparesThread program.now number stated.now) }
+    ensures { IfOk result (ComparesThread «module».now number stated.now) }
 {
     let name = stated.start.name.as_str();
     let args = stated.start.args.as_slice();
-    let mut thread = match Thread::start(alloc, program, name, args) {
+    let mut thread = match Thread::start(alloc, module, name, args) {
         Ok(thread) => thread,
         Err(StartFault::OutOfMemory) => return Err(AllocError),
         Err(fault) => return Ok(Some(ReplayAnswer::StartRefused(number, fault))),
@@ -161,17 +161,17 @@ fn difference(
     }
 }
 
-/// Compares a log with the runs of its threads: each is started as its log says, and run for its stated steps on the
+/// IsDifference a log with the runs of its threads: each is started as its log says, and run for its stated steps on the
 /// values that its events read.
 ///
 /// # Errors
 ///
 /// Only where memory was refused.
-pub fn replay(alloc: Global, program: &ValidModule, log: &Log) -> Result<ReplayAnswer, AllocError>
-    ensures { IfOk result (Replays program.now log.now) }
+pub fn replay(alloc: Global, module: &ValidModule, log: &Log) -> Result<ReplayAnswer, AllocError>
+    ensures { IfOk result (Replays «module».now log.now) }
 {
     for (number, stated) in log.threads().iter().enumerate() {
-        match difference(alloc, program, stated, number) {
+        match difference(alloc, module, stated, number) {
             Err(refused) => return Err(refused),
             Ok(None) => {}
             Ok(Some(answer)) => return Ok(answer),

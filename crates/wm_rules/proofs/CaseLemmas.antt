@@ -5,7 +5,7 @@ use Rattle.std.proofs.lemmas.Bool.{cases_lt}
 use Rattle.wm_event.specs.declared.event.EventKey.{EventKey}
 use Rattle.wm_event.specs.declared.event.EventId.{EventId}
 use Rattle.wm_event.specs.declared.event.EventId.TheVariants.{At}
-use Rattle.wm_event.specs.declared.rule.Rule.TheVariants.{V1, V2, V3, V4, V5}
+use Rattle.wm_event.specs.declared.rule.Rule.TheVariants.{WrittenValues, Order, Coherence, NoTearing, SequentialConsistency}
 use Rattle.wm_event.specs.declared.rule.RuleFault.{RuleFault}
 use Rattle.wm_event.specs.Execution.{Execution, place}
 use Rattle.wm_event.specs.Faults.{Breaks, rank, rule_number}
@@ -97,7 +97,7 @@ module _ (x : Execution) where
   none_of begin none f u = none f (u.0, tt)
 
 -- the rules are judged in the order of their numbers
-pub rule_at : (i : ℕ) → i < 5 → rule_number (get_or (V1 ∷ V2 ∷ V3 ∷ V4 ∷ V5 ∷ []) i V1) ≡ i + 1
+pub rule_at : (i : ℕ) → i < 5 → rule_number (get_or (WrittenValues ∷ Order ∷ Coherence ∷ NoTearing ∷ SequentialConsistency ∷ []) i WrittenValues) ≡ i + 1
 rule_at zero l = refl
 rule_at (suc zero) l = refl
 rule_at (suc (suc zero)) l = refl

@@ -5,11 +5,11 @@ use Rattle.wm_event.specs.declared.event.Event.{Event}
 use Rattle.wm_event.specs.declared.event.EventKey.{EventKey}
 use Rattle.wm_event.specs.declared.event.EventId.{EventId}
 use Rattle.wm_event.specs.declared.event.EventId.TheVariants.{Init, At}
-use Rattle.wm_event.specs.declared.rule.Rule.TheVariants.{V3}
+use Rattle.wm_event.specs.declared.rule.Rule.TheVariants.{Coherence}
 use Rattle.wm_event.specs.declared.rule.RuleFault.{RuleFault}
 use Rattle.wm_event.specs.Event.{key_of}
 use Rattle.wm_event.specs.Execution.{Execution, ReadsFrom}
-use Rattle.wm_event.specs.Faults.{AtRead, Breaks, BreaksRule, BreaksV3, reads_future, written_between, rank}
+use Rattle.wm_event.specs.Faults.{AtRead, Breaks, BreaksRule, BreaksCoherence, reads_future, written_between, rank}
 use Rattle.wm_event.specs.First.{Under}
 use Rattle.wm_event.specs.HappensBefore.{Chain, HappensBefore}
 use Rattle.wm_event.specs.LoggedRun.{LoggedRun, execution}
@@ -31,13 +31,13 @@ nothing_before_init x a h = none a h.0 h.1
 
 -- what a fault of V3 under a byte says
 pub coherence_says : (x : Execution) (e : Event) (k : ℕ) (w : EventId) → IsEventOf x e → ReadsFrom x (key_of e) k w
-    → (f : RuleFault) → Under (rank x) (Breaks x) (3 ∷ e.thread ∷ e.number ∷ k ∷ []) f → BreaksV3 x (key_of e) e k w f.case f.other
+    → (f : RuleFault) → Under (rank x) (Breaks x) (3 ∷ e.thread ∷ e.number ∷ k ∷ []) f → BreaksCoherence x (key_of e) e k w f.case f.other
 coherence_says x e k w there reads f u =
-    let says : AtRead x f (λ e. BreaksV3 x f.event e f.byte f.writer f.case f.other) = subst (BreaksRule x f) (rule_three f.rule u.1.0) u.0 in
-    read_moves x (λ r e k w. BreaksV3 x r e k w f.case f.other) (key_of e) f.event e says.0 k f.byte w f.writer
+    let says : AtRead x f (λ e. BreaksCoherence x f.event e f.byte f.writer f.case f.other) = subst (BreaksRule x f) (rule_three f.rule u.1.0) u.0 in
+    read_moves x (λ r e k w. BreaksCoherence x r e k w f.case f.other) (key_of e) f.event e says.0 k f.byte w f.writer
     (same_key_parts f.event (key_of e) u.1.1.0 u.1.1.1.0) u.1.1.1.1.0 there says.1 reads says.2 says.3
 
-coherence_cases : (x : Execution) (r : EventKey) (e : Event) (k : ℕ) (w : EventId) (c : ℕ) (other : Option EventId) → BreaksV3 x r e k w c other → (1 ≤ c) × (c ≤ 2)
+coherence_cases : (x : Execution) (r : EventKey) (e : Event) (k : ℕ) (w : EventId) (c : ℕ) (other : Option EventId) → BreaksCoherence x r e k w c other → (1 ≤ c) × (c ≤ 2)
 coherence_cases x r e k w c other (reads_future is none before) = (omega arith, omega arith)
 coherence_cases x r e k w c other (written_between is v o writes after before) = (omega arith, omega arith)
 
@@ -49,7 +49,7 @@ under_case : (x : Execution) (t i k c : ℕ) (f : RuleFault) → Under (rank x) 
 under_case x t i k c f u = (u.0, (u.1.0, (u.1.1.0, (u.1.1.1.0, (u.1.1.1.1.0, tt)))))
 
 -- the first case: the read happens before the writer
-future_says : (x : Execution) (r : EventKey) (e : Event) (k : ℕ) (w : EventId) (c : ℕ) (other : Option EventId) → BreaksV3 x r e k w c other → c ≡ 1 → HappensBefore x (At r) w
+future_says : (x : Execution) (r : EventKey) (e : Event) (k : ℕ) (w : EventId) (c : ℕ) (other : Option EventId) → BreaksCoherence x r e k w c other → c ≡ 1 → HappensBefore x (At r) w
 future_says x r e k w c other (reads_future is none before) one = before
 future_says x r e k w c other (written_between is v o writes after before) one = absurd (omega arith)
 
@@ -58,14 +58,14 @@ future_none x e k w there reads not f u =
     not (future_says x (key_of e) e k w f.case f.other (coherence_says x e k w there reads f (under_case x e.thread e.number k 1 f u)) u.1.1.1.1.1.0)
 
 pub future_some : (x : Execution) (e : Event) (k : ℕ) (w : EventId) → IsEventOf x e → ReadsFrom x (key_of e) k w → HappensBefore x (At (key_of e)) w
-    → Finds x (3 ∷ e.thread ∷ e.number ∷ k ∷ 1 ∷ []) (Some (record { rule = V3; case = 1; event = key_of e; byte = k; writer = w; other = None }))
+    → Finds x (3 ∷ e.thread ∷ e.number ∷ k ∷ 1 ∷ []) (Some (record { rule = Coherence; case = 1; event = key_of e; byte = k; writer = w; other = None }))
 future_some x e k w there reads before =
-    let f : RuleFault = record { rule = V3; case = 1; event = key_of e; byte = k; writer = w; other = None } in
+    let f : RuleFault = record { rule = Coherence; case = 1; event = key_of e; byte = k; writer = w; other = None } in
     let u : Under (rank x) (Breaks x) (3 ∷ e.thread ∷ e.number ∷ k ∷ 1 ∷ []) f = ((e, there, reads, reads_future refl refl before), (refl, (refl, (refl, (refl, (refl, tt)))))) in
     record { holds = u; first = λ g v. other_no_later x 3 e.thread e.number k 1 f g u.1 v.1 (omega arith) }
 
 -- the second: a write of the byte happens between
-between_says : (run : LoggedRun) (r : EventKey) (e : Event) (k : ℕ) (w : EventId) (c : ℕ) (other : Option EventId) → BreaksV3 (execution run) r e k w c other → c ≡ 2
+between_says : (run : LoggedRun) (r : EventKey) (e : Event) (k : ℕ) (w : EventId) (c : ℕ) (other : Option EventId) → BreaksCoherence (execution run) r e k w c other → c ≡ 2
     → (v : EventKey) × (other ≡ Some (At v)) × IsSome ((execution run).event_of v) × IsWrittenBetween (execution run) r e k w (At v)
 between_says run r e k w c other (reads_future is none before) two = absurd (omega arith)
 between_says run r e k w c other (written_between is Init o writes after before) two = absurd (nothing_before_init (execution run) w after)
@@ -73,10 +73,10 @@ between_says run r e k w c other (written_between is (At v) o writes after befor
 
 pub between_finds : (run : LoggedRun) (e : Event) (k : ℕ) (w : EventId) → ListsEachOnce run.log run.witness.order → IsEventOf (execution run) e → ReadsFrom (execution run) (key_of e) k w
     → (r : Option EventKey) → FindsListed run.witness.order (λ v. IsWrittenBetween (execution run) (key_of e) e k w (At v)) r
-    → Finds (execution run) (3 ∷ e.thread ∷ e.number ∷ k ∷ 2 ∷ []) (option_map (λ v. record { rule = V3; case = 2; event = key_of e; byte = k; writer = w; other = Some (At v) }) r)
+    → Finds (execution run) (3 ∷ e.thread ∷ e.number ∷ k ∷ 2 ∷ []) (option_map (λ v. record { rule = Coherence; case = 2; event = key_of e; byte = k; writer = w; other = Some (At v) }) r)
 between_finds run e k w once there reads =
     finds_other run once 3 e.thread e.number k 2 (λ v. IsWrittenBetween (execution run) (key_of e) e k w (At v))
-    (λ v. record { rule = V3; case = 2; event = key_of e; byte = k; writer = w; other = Some (At v) })
+    (λ v. record { rule = Coherence; case = 2; event = key_of e; byte = k; writer = w; other = Some (At v) })
     (λ f u. between_says run (key_of e) e k w f.case f.other (coherence_says (execution run) e k w there reads f (under_case (execution run) e.thread e.number k 2 f u)) u.1.1.1.1.1.0)
     (λ v h. ((e, there, reads, written_between refl (At v) refl h.writes h.after h.before), (refl, (refl, (refl, (refl, (refl, tt)))))))
     (λ v. refl)

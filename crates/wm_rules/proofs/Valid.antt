@@ -6,23 +6,23 @@ use Rattle.std.proofs.lemmas.Grind.{common_steps}
 use Rattle.wm_event.specs.declared.event.EventKey.{EventKey}
 use Rattle.wm_event.specs.declared.event.EventId.{EventId}
 use Rattle.wm_event.specs.declared.event.EventId.TheVariants.{Init, At}
-use Rattle.wm_event.specs.declared.rule.Rule.TheVariants.{V1, V2}
+use Rattle.wm_event.specs.declared.rule.Rule.TheVariants.{WrittenValues, Order}
 use Rattle.wm_event.specs.declared.log.ThreadLog.{ThreadLog}
 use Rattle.wm_event.specs.Byte.{byte_of}
 use Rattle.wm_event.specs.Execution.{Execution, byte_by, place}
 use Rattle.wm_event.specs.Log.{event_in}
 use Rattle.wm_event.specs.LoggedRun.{LoggedRun, execution}
 use Rattle.wm_event.specs.HappensBefore.{Edge, Chain, SequencedBefore, SynchronizesWith}
-use Rattle.wm_event.specs.Rules.{ValuesRead, OrderAgrees}
-use Rattle.wm_event.specs.Faults.{BreaksV1, reads_itself, not_written, other_value, in_thread, synchronized}
+use Rattle.wm_event.specs.Rules.{KeepsWrittenValues, KeepsOrder}
+use Rattle.wm_event.specs.Faults.{BreaksWrittenValues, reads_itself, not_written, other_value, in_thread, synchronized}
 use Rattle.wm_rules.specs.Scan.{Finds}
 
 -- no fault of V1
-pub values_read : (x : Execution) → Finds x (1 ∷ []) None → ValuesRead x
-values_read x none r e k w there reads = (own, other (byte_by x w (e.address + k)) refl)
+pub keeps_written_values : (x : Execution) → Finds x (1 ∷ []) None → KeepsWrittenValues x
+keeps_written_values x none r e k w there reads = (own, other (byte_by x w (e.address + k)) refl)
   where
-    broken : (c : ℕ) → BreaksV1 x r e k w c → ⊥
-    broken c h = none (record { rule = V1; case = c; event = r; byte = k; writer = w; other = None }) ((refl, (e, there, reads, h)), (refl, tt))
+    broken : (c : ℕ) → BreaksWrittenValues x r e k w c → ⊥
+    broken c h = none (record { rule = WrittenValues; case = c; event = r; byte = k; writer = w; other = None }) ((refl, (e, there, reads, h)), (refl, tt))
 
     own : w ≢ At r
     own h = broken 1 (reads_itself refl h)
@@ -56,7 +56,7 @@ module _ (x : Execution) (earlier : HasEarlier x) (none : Finds x (2 ∷ []) Non
       let r : EventKey = record { thread = t; number = i + 1 } in
       let s : SequencedBefore x p r = record { first = earlier t i (i + 1) (omega arith) there; second = there; same_thread = refl; earlier = omega arith } in
       ⊎_elim (λ (h : place x (At p) < place x (At r)). h)
-      (λ (h : place x (At r) ≤ place x (At p)). absurd (none (record { rule = V2; case = 1; event = r; byte = 0; writer = At p; other = None })
+      (λ (h : place x (At r) ≤ place x (At p)). absurd (none (record { rule = Order; case = 1; event = r; byte = 0; writer = At p; other = None })
       ((refl, (p, refl, h, in_thread refl refl s refl)), (refl, tt))))
       (cases_lt (place x (At p)) (place x (At r)))
 
@@ -84,7 +84,7 @@ module _ (x : Execution) (earlier : HasEarlier x) (none : Finds x (2 ∷ []) Non
 
       between_two : (a b : EventKey) → SynchronizesWith x a b → place x (At a) < place x (At b)
       between_two a b s = ⊎_elim (λ (h : place x (At a) < place x (At b)). h)
-          (λ (h : place x (At b) ≤ place x (At a)). absurd (none (record { rule = V2; case = 2; event = b; byte = s.reads.0; writer = At a; other = None })
+          (λ (h : place x (At b) ≤ place x (At a)). absurd (none (record { rule = Order; case = 2; event = b; byte = s.reads.0; writer = At a; other = None })
           ((refl, (a, refl, h, synchronized refl s.reads.1 s)), (refl, tt))))
           (cases_lt (place x (At a)) (place x (At b)))
 
@@ -96,5 +96,5 @@ module _ (x : Execution) (earlier : HasEarlier x) (none : Finds x (2 ∷ []) Non
       omega arith
 
   -- no fault of V2
-  pub order_agrees : OrderAgrees x
-  order_agrees a b h = chain_agrees h.0 a b h.1
+  pub keeps_order : KeepsOrder x
+  keeps_order a b h = chain_agrees h.0 a b h.1

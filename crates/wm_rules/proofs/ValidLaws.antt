@@ -5,21 +5,21 @@ use Rattle.std.proofs.lemmas.Option.{same_Some}
 use Rattle.wm_event.specs.declared.event.EventKey.{EventKey}
 use Rattle.wm_event.specs.declared.event.EventId.{EventId}
 use Rattle.wm_event.specs.declared.event.EventId.TheVariants.{Init, At}
-use Rattle.wm_event.specs.declared.rule.Rule.TheVariants.{V3, V4, V5}
+use Rattle.wm_event.specs.declared.rule.Rule.TheVariants.{Coherence, NoTearing, SequentialConsistency}
 use Rattle.wm_event.specs.Execution.{Execution, ReadsFrom}
 use Rattle.wm_event.specs.Faults.{reads_future, written_between}
 use Rattle.wm_event.specs.LoggedRun.{LoggedRun, execution}
-use Rattle.wm_event.specs.Rules.{IsTearFreeWriter, IsValid, ReadsInOrder, ReadsRecent, ReadsWhole}
+use Rattle.wm_event.specs.Rules.{IsTearFreeWriter, IsValid, KeepsSequentialConsistency, KeepsCoherence, KeepsNoTearing}
 use Rattle.wm_rules.specs.Scan.{Finds}
 use Rattle.wm_rules.proofs.CaseLemmas.{none_of}
 use Rattle.wm_rules.proofs.FaultLemmas.{same_key_parts}
-use Rattle.wm_rules.proofs.Valid.{has_earlier, order_agrees, values_read}
+use Rattle.wm_rules.proofs.Valid.{has_earlier, keeps_order, keeps_written_values}
 
-pub reads_recent : (x : Execution) → Finds x (3 ∷ []) None → ReadsRecent x
-reads_recent x none r e k w there reads = (
-  λ before. none (record { rule = V3; case = 1; event = r; byte = k; writer = w; other = None })
+pub keeps_coherence : (x : Execution) → Finds x (3 ∷ []) None → KeepsCoherence x
+keeps_coherence x none r e k w there reads = (
+  λ before. none (record { rule = Coherence; case = 1; event = r; byte = k; writer = w; other = None })
       ((e, there, reads, reads_future refl refl before), (refl, tt)),
-  λ v writes after before. none (record { rule = V3; case = 2; event = r; byte = k; writer = w; other = Some v })
+  λ v writes after before. none (record { rule = Coherence; case = 2; event = r; byte = k; writer = w; other = Some v })
       ((e, there, reads, written_between refl v refl writes after before), (refl, tt)),
 )
 
@@ -38,11 +38,11 @@ same_or_not Init (At b) = inr (λ e. cc)
 same_or_not (At a) Init = inr (λ e. cc)
 same_or_not (At a) (At b) = ⊎_elim (λ (s : a ≡ b). inl (ap At s)) (λ (d : a ≢ b). inr (λ e. d (cc))) (same_key_or_not a b)
 
-pub reads_whole : (x : Execution) → Finds x (4 ∷ []) None → ReadsWhole x
-reads_whole x none r e there tear_free v w first second = ⊎_elim (λ (s : v ≡ w). s) (λ (d : v ≢ w). absurd (torn d)) (same_or_not v w)
+pub keeps_no_tearing : (x : Execution) → Finds x (4 ∷ []) None → KeepsNoTearing x
+keeps_no_tearing x none r e there tear_free v w first second = ⊎_elim (λ (s : v ≡ w). s) (λ (d : v ≢ w). absurd (torn d)) (same_or_not v w)
   where
     at : (j k : ℕ) (a b : EventId) → j < k → ReadsFrom x r j a → ReadsFrom x r k b → a ≢ b → IsTearFreeWriter x r e a → IsTearFreeWriter x r e b → ⊥
-    at j k a b l i h d p q = none (record { rule = V4; case = 1; event = r; byte = k; writer = b; other = Some a })
+    at j k a b l i h d p q = none (record { rule = NoTearing; case = 1; event = r; byte = k; writer = b; other = Some a })
         ((refl, (a, refl, (e, there, h, record { reader = tear_free; earlier = (j, l, i); two = d; first = p.1; second = q.1 }))), (refl, tt))
 
     torn : v ≢ w → ⊥
@@ -56,17 +56,17 @@ reads_whole x none r e there tear_free v w first second = ⊎_elim (λ (s : v �
         (λ (l : k < j). at k j w v l second.0.1 first.0.1 (λ s. d (sym s)) second first))
         (cases_order j k)
 
-pub reads_in_order : (x : Execution) → Finds x (5 ∷ []) None → ReadsInOrder x
-reads_in_order x none r e k w there reads v c write after before over =
-    none (record { rule = V5; case = c; event = r; byte = k; writer = w; other = Some v })
+pub keeps_sequential_consistency : (x : Execution) → Finds x (5 ∷ []) None → KeepsSequentialConsistency x
+keeps_sequential_consistency x none r e k w there reads v c write after before over =
+    none (record { rule = SequentialConsistency; case = c; event = r; byte = k; writer = w; other = Some v })
     ((v, refl, (e, there, reads, record { write = write; between = (after, before); overtakes = over })), (refl, tt))
 
 -- a run in which no fault is found is a valid execution
 pub is_valid : (run : LoggedRun) → Finds (execution run) [] None → IsValid (execution run)
 is_valid run none = record {
-  values_read = values_read (execution run) (none_of (execution run) (1 ∷ []) none);
-  order_agrees = order_agrees (execution run) (has_earlier run) (none_of (execution run) (2 ∷ []) none);
-  reads_recent = reads_recent (execution run) (none_of (execution run) (3 ∷ []) none);
-  reads_whole = reads_whole (execution run) (none_of (execution run) (4 ∷ []) none);
-  reads_in_order = reads_in_order (execution run) (none_of (execution run) (5 ∷ []) none);
+  keeps_written_values = keeps_written_values (execution run) (none_of (execution run) (1 ∷ []) none);
+  keeps_order = keeps_order (execution run) (has_earlier run) (none_of (execution run) (2 ∷ []) none);
+  keeps_coherence = keeps_coherence (execution run) (none_of (execution run) (3 ∷ []) none);
+  keeps_no_tearing = keeps_no_tearing (execution run) (none_of (execution run) (4 ∷ []) none);
+  keeps_sequential_consistency = keeps_sequential_consistency (execution run) (none_of (execution run) (5 ∷ []) none);
 }

@@ -61,7 +61,7 @@ fn future_fault_at(
         return None;
     }
     Some(RuleFault {
-        rule: Rule::V3,
+        rule: Rule::Coherence,
         case: 1,
         event: event.key(),
         byte,
@@ -85,7 +85,7 @@ fn between_fault_at(
         return None;
     };
     Some(RuleFault {
-        rule: Rule::V3,
+        rule: Rule::Coherence,
         case: 2,
         event: event.key(),
         byte,

@@ -38,7 +38,7 @@ fn thread_fault(candidate: &Candidate, event: &Event) -> Option<RuleFault>
         return None;
     }
     Some(RuleFault {
-        rule: Rule::V2,
+        rule: Rule::Order,
         case: 1,
         event: event.key(),
         byte: 0,
@@ -67,7 +67,7 @@ fn writer_fault_at(
         return None;
     }
     Some(RuleFault {
-        rule: Rule::V2,
+        rule: Rule::Order,
         case: 2,
         event: event.key(),
         byte,

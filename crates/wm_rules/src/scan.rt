@@ -5,16 +5,22 @@ ghost use Rattle.wm_event.specs.LoggedRun.{execution};
 ghost use Rattle.wm_rules.specs.Scan.{Finds, IsEventOf};
 
 use crate::coherence::coherence_fault;
-use crate::consistency::consistency_fault;
 use crate::happens_before::HappensBefore;
+use crate::no_tearing::tearing_fault;
 use crate::order::order_fault;
-use crate::tearing::tearing_fault;
-use crate::value::value_fault;
+use crate::sequential_consistency::consistency_fault;
+use crate::written_values::value_fault;
 use std::alloc::AllocError;
 use wm_event::{Candidate, Event, Judgement, Rule, RuleFault};
 
 /// The rules, in the order in which they are judged.
-const RULES: [Rule; 5] = [Rule::V1, Rule::V2, Rule::V3, Rule::V4, Rule::V5];
+const RULES: [Rule; 5] = [
+    Rule::WrittenValues,
+    Rule::Order,
+    Rule::Coherence,
+    Rule::NoTearing,
+    Rule::SequentialConsistency,
+];
 
 /// The first fault of an event by a rule.
 fn fault_at_event(before: &HappensBefore, rule: Rule, event: &Event) -> Option<RuleFault>
@@ -22,11 +28,11 @@ fn fault_at_event(before: &HappensBefore, rule: Rule, event: &Event) -> Option<R
     ensures { Finds (execution before.now) (rule_number rule ∷ event.now.thread ∷ event.now.number ∷ []) result }
 {
     match rule {
-        Rule::V1 => value_fault(before.candidate(), event),
-        Rule::V2 => order_fault(before.candidate(), event),
-        Rule::V3 => coherence_fault(before, event),
-        Rule::V4 => tearing_fault(before.candidate(), event),
-        Rule::V5 => consistency_fault(before, event),
+        Rule::WrittenValues => value_fault(before.candidate(), event),
+        Rule::Order => order_fault(before.candidate(), event),
+        Rule::Coherence => coherence_fault(before, event),
+        Rule::NoTearing => tearing_fault(before.candidate(), event),
+        Rule::SequentialConsistency => consistency_fault(before, event),
     }
 }
 

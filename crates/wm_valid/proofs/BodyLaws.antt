@@ -11,7 +11,7 @@ use Rattle.wm_valid.specs.Typing.{Makes, Typed, none, plain, block, loop, if_els
 use Rattle.wm_valid.specs.Stacks.{Stack, Matches, empty, take_one, give_all, made_by, plain_on, ended}
 use Rattle.wm_valid.specs.Answers.{Turned, Rejects, Turns, Checked, Decides}
 use Rattle.wm_valid.proofs.ParamLaws.{unless_then}
-use Rattle.wm_valid.specs.declared.fault.Refusal.{Refusal}
+use Rattle.wm_valid.specs.declared.fault.InstrFault.{InstrFault}
 use Rattle.wm_valid.proofs.StackLaws.{bind_some, some_is, then_some, take_one_forth, take_one_back, give_forth, give_back, made_forth, made_back, ended_forth, ended_back}
 
 -- a block's instruction at the front
@@ -190,15 +190,15 @@ ends_badly C b labels whole s result there so e t =
     let h = ended_forth result s (subst (λ (l : List ValType). Matches s l) same-list r.1) in
     absurd (cc (e, h))
 
-pub given_checked : {X : Type 0} (r : Result X Refusal) (C : Context) (n : ℕ) (labels : Labels) (i : Instr) (old after new : Stack) → (after ≡ new → Turned C n labels i old new) → Turns r (Some after) new → Checked r C n labels i old new
+pub given_checked : {X : Type 0} (r : Result X InstrFault) (C : Context) (n : ℕ) (labels : Labels) (i : Instr) (old after new : Stack) → (after ≡ new → Turned C n labels i old new) → Turns r (Some after) new → Checked r C n labels i old new
 given_checked (Ok x) C n labels i old after new f h = f (some_is after new h)
 given_checked (Err e) C n labels i old after new f h = unless_then e (λ g. absurd cc) h
 
-pub plain_checked : {X : Type 0} (r : Result X Refusal) (C : Context) (n : ℕ) (labels : Labels) (i : Instr) (old new : Stack) → IsPlain i → Turns r (plain_on C labels i old) new → Checked r C n labels i old new
+pub plain_checked : {X : Type 0} (r : Result X InstrFault) (C : Context) (n : ℕ) (labels : Labels) (i : Instr) (old new : Stack) → IsPlain i → Turns r (plain_on C labels i old) new → Checked r C n labels i old new
 plain_checked (Ok x) C n labels i old new is-plain h = plain_turned C n labels i old new h
 plain_checked (Err e) C n labels i old new is-plain h = unless_then e (plain_refused C n labels i old is-plain) h
 
-pub end_decides : {X : Type 0} (r : Result X Refusal) (C : Context) (b : ℕ) (labels : Labels) (whole rest : List Instr) (s : Stack) (result : Option ValType) → slice_get C.blocks b ≡ Some whole → SoFar C b labels whole rest s → rest ≡ [] → Turns r (ended result s) empty → Decides r (TypedBlock C b labels result)
+pub end_decides : {X : Type 0} (r : Result X InstrFault) (C : Context) (b : ℕ) (labels : Labels) (whole rest : List Instr) (s : Stack) (result : Option ValType) → slice_get C.blocks b ≡ Some whole → SoFar C b labels whole rest s → rest ≡ [] → Turns r (ended result s) empty → Decides r (TypedBlock C b labels result)
 end_decides (Ok x) C b labels whole rest s result there so done h = ends_well C b labels whole s empty result there (subst (λ (l : List Instr). SoFar C b labels whole l s) done so) h
 end_decides (Err e) C b labels whole rest s result there so done h = unless_then e (ends_badly C b labels whole s result there (subst (λ (l : List Instr). SoFar C b labels whole l s) done so)) h
 

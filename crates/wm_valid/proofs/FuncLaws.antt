@@ -6,14 +6,14 @@ use Rattle.wm_ast.specs.declared.types.FuncType.{FuncType}
 use Rattle.wm_valid.specs.Typing.{TypedBlock, TypedFunc, context}
 use Rattle.wm_valid.specs.Answers.{Decides, CountsBlock}
 use Rattle.wm_valid.specs.Blame.{JudgesBody, RefusesFunc, Breaks}
-use Rattle.wm_valid.specs.declared.fault.Refusal.{Refusal}
-use Rattle.wm_valid.specs.declared.fault.Refusal.TheVariants as refusal
-use Rattle.wm_valid.specs.declared.fault.Place.TheVariants as place
+use Rattle.wm_valid.specs.declared.fault.InstrFault.{InstrFault}
+use Rattle.wm_valid.specs.declared.fault.InstrFault.TheVariants as refusal
+use Rattle.wm_valid.specs.declared.fault.Location.TheVariants as place
 use Rattle.wm_valid.specs.declared.fault.ValidFault.{ValidFault}
 use Rattle.wm_valid.specs.declared.fault.ValidFault.TheVariants.{At, OutOfMemory}
 use Rattle.wm_valid.proofs.StackLaws.{some_is}
 
-pub judged_body : {X : Type 0} (r : Result X Refusal) (m : Module) (f : Func) (ty : FuncType) (n : ℕ) → slice_get m.types f.type_index ≡ Some ty → Decides r (TypedBlock (context m f ty) 0 (ty.result ∷ []) ty.result)
+pub judged_body : {X : Type 0} (r : Result X InstrFault) (m : Module) (f : Func) (ty : FuncType) (n : ℕ) → slice_get m.types f.type_index ≡ Some ty → Decides r (TypedBlock (context m f ty) 0 (ty.result ∷ []) ty.result)
     → CountsBlock r (context m f ty) (ty.result ∷ []) 0 0 n → JudgesBody r m f n
 judged_body (Ok x) m f ty n there h counted = record { type = ty; is_type = there; body = h }
 judged_body (Err refusal.OutOfMemory) m f ty n there h counted = tt

@@ -5,7 +5,7 @@ use Rattle.wm_ast.specs.declared.instr.Instr.{Instr}
 use Rattle.wm_valid.specs.InstrTypes.{Context, Labels}
 use Rattle.wm_valid.specs.Stacks.{Stack}
 use Rattle.wm_valid.specs.Answers.{Turned, Counted, CountedBlock, Located, LocatedBlock}
-use Rattle.wm_valid.specs.declared.fault.Refusal.{Refusal}
+use Rattle.wm_valid.specs.declared.fault.InstrFault.{InstrFault}
 use Rattle.wm_valid.proofs.BodyLaws.{SoFar, goes_on}
 use Rattle.wm_valid.proofs.PlaceLaws.{counted_more, located_block}
 use Rattle.wm_valid.proofs.Laid.{taken_more}
@@ -27,7 +27,7 @@ pub counted_item : (blocks : List (List Instr)) (items : List Instr) (i : ℕ) (
 counted_item blocks items i item first mid next within is a b =
     subst (λ (l : List Instr). Counted blocks l first next) (sym (taken_more items i item within is)) (counted_more blocks (take i items) item first mid next a b)
 
-pub located_item : (e : Refusal) (C : Context) (labels same_labels : Labels) (block : ℕ) (items : List Instr) (i : ℕ) (item : Instr) (first mid n : ℕ) → i < length items → item ≡ get_or items i item → same_labels ≡ labels
+pub located_item : (e : InstrFault) (C : Context) (labels same_labels : Labels) (block : ℕ) (items : List Instr) (i : ℕ) (item : Instr) (first mid n : ℕ) → i < length items → item ≡ get_or items i item → same_labels ≡ labels
     → slice_get C.blocks block ≡ Some items → Counted C.blocks (take i items) first mid → Located C same_labels (item ∷ []) mid n e → LocatedBlock C labels block first n e
 located_item e C labels same_labels block items i item first mid n within is same there a h =
     located_block e C labels block (take i items) (drop (i + 1) items) item first mid n (there ∙ ap Some (split_item items i item within is)) a (subst (λ (l : Labels). Located C l (item ∷ []) mid n e) same h)

@@ -5,11 +5,11 @@ use Rattle.std.proofs.lemmas.List.{reverse-append}
 use Rattle.wm_ast.specs.declared.types.ValType.{ValType}
 use Rattle.wm_valid.specs.InstrTypes.{◌>>=◌}
 use Rattle.wm_valid.specs.Answers.{Unless}
-use Rattle.wm_valid.specs.declared.fault.Refusal.{Refusal}
-use Rattle.wm_valid.specs.declared.fault.Refusal.TheVariants.{Breaks, OutOfMemory}
+use Rattle.wm_valid.specs.declared.fault.InstrFault.{InstrFault}
+use Rattle.wm_valid.specs.declared.fault.InstrFault.TheVariants.{Breaks, OutOfMemory}
 use Rattle.wm_valid.specs.Stacks.{Stack, take_one, take_all}
 
-pub unless_then : {P Q : Type 0} (e : Refusal) → (P → Q) → Unless e P → Unless e Q
+pub unless_then : {P Q : Type 0} (e : InstrFault) → (P → Q) → Unless e P → Unless e Q
 unless_then OutOfMemory f h = tt
 unless_then (Breaks kind) f h = f h
 

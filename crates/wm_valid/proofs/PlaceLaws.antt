@@ -10,8 +10,8 @@ use Rattle.wm_valid.specs.InstrTypes.{Context, Labels}
 use Rattle.wm_valid.specs.Places.{Part, parts, Opcodes, none, instr, part, At, here, behind, in_part, past_part, number_of, BrokenAt}
 use Rattle.wm_valid.specs.Answers.{IsUntyped, BrokenBy, Counted, Located, Counts, CountedBlock, LocatedBlock, CountsBlock, CountedElse, LocatedElse}
 use Rattle.wm_valid.specs.declared.fault.FaultKind.{FaultKind}
-use Rattle.wm_valid.specs.declared.fault.Refusal.{Refusal}
-use Rattle.wm_valid.specs.declared.fault.Refusal.TheVariants.{Breaks, OutOfMemory}
+use Rattle.wm_valid.specs.declared.fault.InstrFault.{InstrFault}
+use Rattle.wm_valid.specs.declared.fault.InstrFault.TheVariants.{Breaks, OutOfMemory}
 use Rattle.wm_valid.proofs.BodyLaws.{IsPlain}
 
 -- more instructions behind
@@ -74,26 +74,26 @@ broken_more C labels before after i kind first mid n a b = record {
 }
 
 -- a fault in a block's body is one of the block
-pub located_block : (e : Refusal) (C : Context) (labels : Labels) (block : ℕ) (before after : List Instr) (i : Instr) (first mid n : ℕ) → slice_get C.blocks block ≡ Some (before ++ i ∷ after) → Counted C.blocks before first mid
+pub located_block : (e : InstrFault) (C : Context) (labels : Labels) (block : ℕ) (before after : List Instr) (i : Instr) (first mid n : ℕ) → slice_get C.blocks block ≡ Some (before ++ i ∷ after) → Counted C.blocks before first mid
     → Located C labels (i ∷ []) mid n e → LocatedBlock C labels block first n e
 located_block OutOfMemory C labels block before after i first mid n there a h = tt
 located_block (Breaks kind) C labels block before after i first mid n there a h = λ other. (before ++ i ∷ after, there, broken_more C labels before after i kind first mid n a (h other))
 
 -- faults of types need no place
-pub untyped_located : (e : Refusal) (C : Context) (labels : Labels) (is : List Instr) (first n : ℕ) → IsUntyped e → Located C labels is first n e
+pub untyped_located : (e : InstrFault) (C : Context) (labels : Labels) (is : List Instr) (first n : ℕ) → IsUntyped e → Located C labels is first n e
 untyped_located OutOfMemory C labels is first n h = tt
 untyped_located (Breaks kind) C labels is first n h = λ other. absurd (other h)
 
-pub untyped_block : (e : Refusal) (C : Context) (labels : Labels) (block first n : ℕ) → IsUntyped e → LocatedBlock C labels block first n e
+pub untyped_block : (e : InstrFault) (C : Context) (labels : Labels) (block first n : ℕ) → IsUntyped e → LocatedBlock C labels block first n e
 untyped_block OutOfMemory C labels block first n h = tt
 untyped_block (Breaks kind) C labels block first n h = λ other. absurd (other h)
 
 -- what was counted stays so, or the refusal needs no place
-pub counts : {X : Type 0} (r : Result X Refusal) (C : Context) (labels : Labels) (is : List Instr) (first n : ℕ) → IfErr r IsUntyped → Counted C.blocks is first n → Counts r C labels is first n
+pub counts : {X : Type 0} (r : Result X InstrFault) (C : Context) (labels : Labels) (is : List Instr) (first n : ℕ) → IfErr r IsUntyped → Counted C.blocks is first n → Counts r C labels is first n
 counts (Ok x) C labels is first n kind h = h
 counts (Err e) C labels is first n kind h = untyped_located e C labels is first n kind
 
-pub counts_block : {X : Type 0} (r : Result X Refusal) (C : Context) (labels : Labels) (block first n : ℕ) → IfErr r IsUntyped → CountedBlock C block first n → CountsBlock r C labels block first n
+pub counts_block : {X : Type 0} (r : Result X InstrFault) (C : Context) (labels : Labels) (block first n : ℕ) → IfErr r IsUntyped → CountedBlock C block first n → CountsBlock r C labels block first n
 counts_block (Ok x) C labels block first n kind h = h
 counts_block (Err e) C labels block first n kind h = untyped_block e C labels block first n kind
 
@@ -110,7 +110,7 @@ plain_counted blocks i first next h e = record {
   is_next = e;
 }
 
-pub plain_located : (e : Refusal) (C : Context) (labels : Labels) (i : Instr) (first : ℕ) → first ≤ 2 ^ 64 - 1 → BrokenBy C labels i e → Located C labels (i ∷ []) first first e
+pub plain_located : (e : InstrFault) (C : Context) (labels : Labels) (i : Instr) (first : ℕ) → first ≤ 2 ^ 64 - 1 → BrokenBy C labels i e → Located C labels (i ∷ []) first first e
 plain_located OutOfMemory C labels i first fits h = tt
 plain_located (Breaks kind) C labels i first fits h = λ other. record { number = 0; instr = i; under = labels; at = here; breaks = h; is_number = fitting first (2 ^ 64 - 1) fits }
   where
@@ -133,7 +133,7 @@ number_first : (m first p k n : ℕ) → p ≡ min (first + 1) m → n ≡ min (
 number_first m first p k n e f = omega arith
 
 -- a fault in an instruction's first block
-pub first_located : (e : Refusal) (C : Context) (labels : Labels) (i : Instr) (t : Option ValType) (b : ℕ) (ps : List Part) (first p n : ℕ) → parts i ≡ record { label = t; block = b } ∷ ps → p ≡ number_of (first + 1)
+pub first_located : (e : InstrFault) (C : Context) (labels : Labels) (i : Instr) (t : Option ValType) (b : ℕ) (ps : List Part) (first p n : ℕ) → parts i ≡ record { label = t; block = b } ∷ ps → p ≡ number_of (first + 1)
     → LocatedBlock C (t ∷ labels) b p n e → Located C labels (i ∷ []) first n e
 first_located OutOfMemory C labels i t b ps first p n is at h = tt
 first_located (Breaks kind) C labels i t b ps first p n is at h = λ other.
@@ -147,7 +147,7 @@ first_located (Breaks kind) C labels i t b ps first p n is at h = λ other.
       is_number = number_first (2 ^ 64 - 1) first p r.2.number n at r.2.is_number;
     }
 
-pub if_first_located : (e : Refusal) (C : Context) (labels : Labels) (t : Option ValType) (one other : ℕ) (part : Else) (first p n : ℕ) → p ≡ number_of (first + 1) → LocatedBlock C (t ∷ labels) one p n e
+pub if_first_located : (e : InstrFault) (C : Context) (labels : Labels) (t : Option ValType) (one other : ℕ) (part : Else) (first p n : ℕ) → p ≡ number_of (first + 1) → LocatedBlock C (t ∷ labels) one p n e
     → Located C labels (If t one other part ∷ []) first n e
 if_first_located e C labels t one other Present first p n at h = first_located e C labels (If t one other Present) t one (record { label = t; block = other } ∷ []) first p n refl at h
 if_first_located e C labels t one other Absent first p n at h = first_located e C labels (If t one other Absent) t one [] first p n refl at h
@@ -169,7 +169,7 @@ number_second : (m first p j mid k n : ℕ) → p ≡ min (first + 1) m → mid 
 number_second m first p j mid k n e f g = omega arith
 
 -- a fault in the else part of an `if`
-pub if_else_located : (e : Refusal) (C : Context) (labels : Labels) (t : Option ValType) (one other : ℕ) (part : Else) (first p mid n : ℕ) → p ≡ number_of (first + 1) → CountedBlock C one p mid → LocatedElse C labels other t part mid n e
+pub if_else_located : (e : InstrFault) (C : Context) (labels : Labels) (t : Option ValType) (one other : ℕ) (part : Else) (first p mid n : ℕ) → p ≡ number_of (first + 1) → CountedBlock C one p mid → LocatedElse C labels other t part mid n e
     → Located C labels (If t one other part ∷ []) first n e
 if_else_located OutOfMemory C labels t one other kind first p mid n at h g = tt
 if_else_located (Breaks kind) C labels t one other Absent first p mid n at h g = λ not. absurd (not g)

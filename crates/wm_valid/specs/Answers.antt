@@ -9,25 +9,25 @@ use Rattle.wm_valid.specs.Typing.{Typed}
 use Rattle.wm_valid.specs.Stacks.{Stack, Matches}
 use Rattle.wm_valid.specs.Places.{Opcodes, BreaksRule, BrokenAt, NoSuchLabelIn, number_of}
 use Rattle.wm_valid.specs.declared.fault.FaultKind.TheVariants.{BadType, Index, Label}
-use Rattle.wm_valid.specs.declared.fault.Refusal.{Refusal}
-use Rattle.wm_valid.specs.declared.fault.Refusal.TheVariants.{Breaks, OutOfMemory}
+use Rattle.wm_valid.specs.declared.fault.InstrFault.{InstrFault}
+use Rattle.wm_valid.specs.declared.fault.InstrFault.TheVariants.{Breaks, OutOfMemory}
 
 -- the refusal is for want of memory, or this holds
-abbrev pub Unless : Refusal → Type 0 → Type 0
+abbrev pub Unless : InstrFault → Type 0 → Type 0
 Unless OutOfMemory P = Unit {0}
 Unless (Breaks kind) P = P
 
-abbrev pub Answers : {X Y : Type 0} → (X → Y) → Result X Refusal → Option Y → Type 0
+abbrev pub Answers : {X Y : Type 0} → (X → Y) → Result X InstrFault → Option Y → Type 0
 Answers view (Ok x) read = read ≡ Some (view x)
 Answers view (Err e) read = Unless e (read ≡ None)
 
 -- a yes or a no to P
-abbrev pub Decides : {X : Type 0} → Result X Refusal → Type 0 → Type 0
+abbrev pub Decides : {X : Type 0} → Result X InstrFault → Type 0 → Type 0
 Decides (Ok x) P = P
 Decides (Err e) P = Unless e (P → ⊥)
 
 -- what is on the stack afterwards
-abbrev pub Turns : {X : Type 0} → Result X Refusal → Option Stack → Stack → Type 0
+abbrev pub Turns : {X : Type 0} → Result X InstrFault → Option Stack → Stack → Type 0
 Turns (Ok x) after new = after ≡ Some new
 Turns (Err e) after new = Unless e (after ≡ None)
 
@@ -40,22 +40,22 @@ pub record Turned (C : Context) (n : ℕ) (labels : Labels) (i : Instr) (old new
 abbrev pub Rejects : Context → ℕ → Labels → Instr → Stack → Type 0
 Rejects C n labels i old = (ts vs : List ValType) (rest : List Instr) → Matches old ts → Typed C n labels (i ∷ rest) ts vs → ⊥
 
-abbrev pub Checked : {X : Type 0} → Result X Refusal → Context → ℕ → Labels → Instr → Stack → Stack → Type 0
+abbrev pub Checked : {X : Type 0} → Result X InstrFault → Context → ℕ → Labels → Instr → Stack → Stack → Type 0
 Checked (Ok x) C n labels i old new = Turned C n labels i old new
 Checked (Err e) C n labels i old new = Unless e (Rejects C n labels i old)
 
 -- the refusal is for want of memory, or the instruction breaks the rule
-abbrev pub BrokenBy : Context → Labels → Instr → Refusal → Type 0
+abbrev pub BrokenBy : Context → Labels → Instr → InstrFault → Type 0
 BrokenBy C labels i OutOfMemory = Unit {0}
 BrokenBy C labels i (Breaks kind) = BreaksRule C labels i kind
 
 -- no rule but those of types is broken
-abbrev pub IsUntyped : Refusal → Type 0
+abbrev pub IsUntyped : InstrFault → Type 0
 IsUntyped OutOfMemory = Unit {0}
 IsUntyped (Breaks kind) = kind ≡ BadType
 
 -- some label of a table isn't there, or they have no one type
-abbrev pub TableFault : Labels → List ℕ → ℕ → Refusal → Type 0
+abbrev pub TableFault : Labels → List ℕ → ℕ → InstrFault → Type 0
 TableFault labels ks l OutOfMemory = Unit {0}
 TableFault labels ks l (Breaks BadType) = Unit {0}
 TableFault labels ks l (Breaks Label) = NoSuchLabelIn labels ks l
@@ -68,12 +68,12 @@ pub record Counted (blocks : List (List Instr)) (instrs : List Instr) (first nex
   pub is_next : next ≡ number_of (first + opcodes)
 
 -- the refusal is for want of memory or for types, or this instruction breaks the rule
-abbrev pub Located : Context → Labels → List Instr → ℕ → ℕ → Refusal → Type 0
+abbrev pub Located : Context → Labels → List Instr → ℕ → ℕ → InstrFault → Type 0
 Located C labels instrs first n OutOfMemory = Unit {0}
 Located C labels instrs first n (Breaks kind) = kind ≢ BadType → BrokenAt C labels instrs kind first n
 
 -- the instructions have been counted up to their end, or up to one that breaks the rule
-abbrev pub Counts : {X : Type 0} → Result X Refusal → Context → Labels → List Instr → ℕ → ℕ → Type 0
+abbrev pub Counts : {X : Type 0} → Result X InstrFault → Context → Labels → List Instr → ℕ → ℕ → Type 0
 Counts (Ok x) C labels instrs first n = Counted C.blocks instrs first n
 Counts (Err e) C labels instrs first n = Located C labels instrs first n e
 
@@ -81,18 +81,18 @@ Counts (Err e) C labels instrs first n = Located C labels instrs first n e
 abbrev pub CountedBlock : Context → ℕ → ℕ → ℕ → Type 0
 CountedBlock C block first n = (body : List Instr) × (slice_get C.blocks block ≡ Some body) × Counted C.blocks body first n
 
-abbrev pub LocatedBlock : Context → Labels → ℕ → ℕ → ℕ → Refusal → Type 0
+abbrev pub LocatedBlock : Context → Labels → ℕ → ℕ → ℕ → InstrFault → Type 0
 LocatedBlock C labels block first n OutOfMemory = Unit {0}
 LocatedBlock C labels block first n (Breaks kind) = kind ≢ BadType → (body : List Instr) × (slice_get C.blocks block ≡ Some body) × BrokenAt C labels body kind first n
 
-abbrev pub CountsBlock : {X : Type 0} → Result X Refusal → Context → Labels → ℕ → ℕ → ℕ → Type 0
+abbrev pub CountsBlock : {X : Type 0} → Result X InstrFault → Context → Labels → ℕ → ℕ → ℕ → Type 0
 CountsBlock (Ok x) C labels block first n = CountedBlock C block first n
 CountsBlock (Err e) C labels block first n = LocatedBlock C labels block first n e
 
-abbrev pub IsLabelFault : Refusal → Type 0
+abbrev pub IsLabelFault : InstrFault → Type 0
 IsLabelFault e = e ≡ Breaks Label
 
-abbrev pub IsIndexFault : Refusal → Type 0
+abbrev pub IsIndexFault : InstrFault → Type 0
 IsIndexFault e = e ≡ Breaks Index
 
 -- the same of the else part of an `if`, whose opcodes begin at its `else`; an absent one has none
@@ -100,10 +100,10 @@ abbrev pub CountedElse : Context → ℕ → Else → ℕ → ℕ → Type 0
 CountedElse C block Present first n = CountedBlock C block (number_of (first + 1)) n
 CountedElse C block Absent first n = n ≡ first
 
-abbrev pub LocatedElse : Context → Labels → ℕ → Option ValType → Else → ℕ → ℕ → Refusal → Type 0
+abbrev pub LocatedElse : Context → Labels → ℕ → Option ValType → Else → ℕ → ℕ → InstrFault → Type 0
 LocatedElse C labels block t Present first n e = LocatedBlock C (t ∷ labels) block (number_of (first + 1)) n e
 LocatedElse C labels block t Absent first n e = IsUntyped e
 
-abbrev pub CountsElse : {X : Type 0} → Result X Refusal → Context → Labels → ℕ → Option ValType → Else → ℕ → ℕ → Type 0
+abbrev pub CountsElse : {X : Type 0} → Result X InstrFault → Context → Labels → ℕ → Option ValType → Else → ℕ → ℕ → Type 0
 CountsElse (Ok x) C labels block t part first n = CountedElse C block part first n
 CountsElse (Err e) C labels block t part first n = LocatedElse C labels block t part first n e

@@ -13,12 +13,12 @@ use Rattle.wm_valid.specs.Valid.{GoodLimits, GoodGlobal, GoodExport, GoodData, H
 use Rattle.wm_valid.specs.Places.{BrokenAt}
 use Rattle.wm_valid.specs.declared.fault.FaultKind.{FaultKind}
 use Rattle.wm_valid.specs.declared.fault.FaultKind.TheVariants.{BadType, Index, Label, Alignment, DataOutOfRange, MemoryAbsent, MemoryLimits}
-use Rattle.wm_valid.specs.declared.fault.Place.{Place}
-use Rattle.wm_valid.specs.declared.fault.Place.TheVariants as place
+use Rattle.wm_valid.specs.declared.fault.Location.{Location}
+use Rattle.wm_valid.specs.declared.fault.Location.TheVariants as place
 use Rattle.wm_valid.specs.declared.fault.ValidFault.{ValidFault}
 use Rattle.wm_valid.specs.declared.fault.ValidFault.TheVariants.{At, OutOfMemory}
-use Rattle.wm_valid.specs.declared.fault.Refusal.{Refusal}
-use Rattle.wm_valid.specs.declared.fault.Refusal.TheVariants as refusal
+use Rattle.wm_valid.specs.declared.fault.InstrFault.{InstrFault}
+use Rattle.wm_valid.specs.declared.fault.InstrFault.TheVariants as refusal
 
 -- one of these items is so
 abbrev pub SomeOf : {X : Type 0} → List X → (X → Type 0) → Type 0
@@ -80,7 +80,7 @@ pub record BreaksFunc (m : Module) (f : Func) (kind : FaultKind) (n : ℕ) : Typ
   pub place : kind ≢ BadType → BreaksIn m f kind n
 
 -- the module breaks the rule at the place
-abbrev pub BreaksAt : Module → FaultKind → Place → Type 0
+abbrev pub BreaksAt : Module → FaultKind → Location → Type 0
 BreaksAt m kind place.Module = BreaksModule m kind
 BreaksAt m kind (place.Instr func n) = (f : Func) × (slice_get m.funcs func ≡ Some f) × BreaksFunc m f kind n
 
@@ -90,7 +90,7 @@ Breaks m OutOfMemory = Unit {0}
 Breaks m (At kind place) = BreaksAt m kind place
 
 -- the fault of a function at its instruction n
-abbrev pub placed : Refusal → ℕ → ℕ → ValidFault
+abbrev pub placed : InstrFault → ℕ → ℕ → ValidFault
 placed refusal.OutOfMemory func n = OutOfMemory
 placed (refusal.Breaks kind) func n = At kind (place.Instr func n)
 
@@ -106,7 +106,7 @@ JudgesFunc (Ok x) m f number = TypedFunc m f
 JudgesFunc (Err e) m f number = RefusesFunc m f number e
 
 -- the same, seen before the place is known
-abbrev pub JudgesBody : {X : Type 0} → Result X Refusal → Module → Func → ℕ → Type 0
+abbrev pub JudgesBody : {X : Type 0} → Result X InstrFault → Module → Func → ℕ → Type 0
 JudgesBody (Ok x) m f n = TypedFunc m f
 JudgesBody (Err refusal.OutOfMemory) m f n = Unit {0}
 JudgesBody (Err (refusal.Breaks kind)) m f n = BreaksFunc m f kind n

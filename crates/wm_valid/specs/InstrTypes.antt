@@ -14,7 +14,7 @@ use Rattle.wm_ast.specs.declared.types.ValType.TheVariants.{I32, I64}
 use Rattle.wm_ast.specs.declared.types.Mutability.{Mutability}
 use Rattle.wm_ast.specs.declared.types.Mutability.TheVariants.{Constant, Variable}
 use Rattle.wm_ast.specs.declared.access.AccessKind.{AccessKind}
-use Rattle.wm_ast.specs.declared.access.AccessKind.TheVariants.{Read, ReadSigned, Write, AtomicRead, AtomicWrite, Update, CompareExchange}
+use Rattle.wm_ast.specs.declared.access.AccessKind.TheVariants.{Read, ReadSigned, Write, AtomicRead, AtomicWrite, Rmw, CmpXchg}
 use Rattle.wm_ast.specs.Access.{access_width, access_operand, access_order}
 use Rattle.wm_ast.specs.Module.{func_type}
 use Rattle.wm_ast.specs.declared.instr.Instr.{Instr}
@@ -26,7 +26,7 @@ o >>= f = option_and_then f o
 
 -- what the instructions of a function are typed in, the labels apart
 pub record Context : Type 0 where
-  pub program : Module
+  pub «module» : Module
   pub locals : List ValType
   pub result : Option ValType
   pub blocks : List (List Instr)
@@ -94,8 +94,8 @@ access_type (ReadSigned n) = turns (I32 ∷ []) (access_operand (ReadSigned n) �
 access_type (Write s) = turns (access_operand (Write s) ∷ I32 ∷ []) []
 access_type (AtomicRead s) = turns (I32 ∷ []) (access_operand (AtomicRead s) ∷ [])
 access_type (AtomicWrite s) = turns (access_operand (AtomicWrite s) ∷ I32 ∷ []) []
-access_type (Update op s) = turns (access_operand (Update op s) ∷ I32 ∷ []) (access_operand (Update op s) ∷ [])
-access_type (CompareExchange t) = turns (access_operand (CompareExchange t) ∷ access_operand (CompareExchange t) ∷ I32 ∷ []) (access_operand (CompareExchange t) ∷ [])
+access_type (Rmw op s) = turns (access_operand (Rmw op s) ∷ I32 ∷ []) (access_operand (Rmw op s) ∷ [])
+access_type (CmpXchg t) = turns (access_operand (CmpXchg t) ∷ access_operand (CmpXchg t) ∷ I32 ∷ []) (access_operand (CmpXchg t) ∷ [])
 
 -- None where the instruction has no type here, or has blocks
 abbrev pub instr_type : Context → Labels → Instr → Option InstrType
@@ -108,17 +108,17 @@ instr_type C labels (Br l) = slice_get labels l >>= λ t. Some (leaves (listed t
 instr_type C labels (BrIf l) = slice_get labels l >>= λ t. Some (turns (I32 ∷ listed t) (listed t))
 instr_type C labels (BrTable ks l) = table_type labels ks l >>= λ t. Some (leaves (I32 ∷ listed t))
 instr_type C labels Return = Some (leaves (listed C.result))
-instr_type C labels (Call f) = func_type C.program f >>= λ ty. Some (turns (reverse ty.params) (listed ty.result))
+instr_type C labels (Call f) = func_type C.module f >>= λ ty. Some (turns (reverse ty.params) (listed ty.result))
 instr_type C labels Drop = Some drops
 instr_type C labels Select = Some selects
 instr_type C labels (LocalGet x) = slice_get C.locals x >>= λ t. Some (turns [] (t ∷ []))
 instr_type C labels (LocalSet x) = slice_get C.locals x >>= λ t. Some (turns (t ∷ []) [])
 instr_type C labels (LocalTee x) = slice_get C.locals x >>= λ t. Some (turns (t ∷ []) (t ∷ []))
-instr_type C labels (GlobalGet x) = slice_get C.program.globals x >>= λ g. Some (turns [] (g.ty ∷ []))
-instr_type C labels (GlobalSet x) = slice_get C.program.globals x >>= λ g. if is_variable g.mutability then Some (turns (g.ty ∷ []) []) else None
+instr_type C labels (GlobalGet x) = slice_get C.module.globals x >>= λ g. Some (turns [] (g.ty ∷ []))
+instr_type C labels (GlobalSet x) = slice_get C.module.globals x >>= λ g. if is_variable g.mutability then Some (turns (g.ty ∷ []) []) else None
 instr_type C labels (Access kind operands) =
-    if is_some C.program.memory then (if is_aligned (access_order kind) (access_width kind) operands.alignment then Some (access_type kind) else None) else None
-instr_type C labels MemorySize = if is_some C.program.memory then Some (turns [] (I32 ∷ [])) else None
+    if is_some C.module.memory then (if is_aligned (access_order kind) (access_width kind) operands.alignment then Some (access_type kind) else None) else None
+instr_type C labels MemorySize = if is_some C.module.memory then Some (turns [] (I32 ∷ [])) else None
 instr_type C labels (I32Const n) = Some (turns [] (I32 ∷ []))
 instr_type C labels (I64Const n) = Some (turns [] (I64 ∷ []))
 instr_type C labels (Eqz w) = Some (turns (type_of w ∷ []) (I32 ∷ []))

@@ -47,9 +47,9 @@ abbrev pub NoSuchIndex : Context → Instr → Type 0
 NoSuchIndex C (LocalGet x) = slice_get C.locals x ≡ None
 NoSuchIndex C (LocalSet x) = slice_get C.locals x ≡ None
 NoSuchIndex C (LocalTee x) = slice_get C.locals x ≡ None
-NoSuchIndex C (GlobalGet x) = slice_get C.program.globals x ≡ None
-NoSuchIndex C (GlobalSet x) = slice_get C.program.globals x ≡ None
-NoSuchIndex C (Call f) = func_type C.program f ≡ None
+NoSuchIndex C (GlobalGet x) = slice_get C.module.globals x ≡ None
+NoSuchIndex C (GlobalSet x) = slice_get C.module.globals x ≡ None
+NoSuchIndex C (Call f) = func_type C.module f ≡ None
 NoSuchIndex C _ = ⊥
 
 -- one of the labels of a table isn't there
@@ -78,7 +78,7 @@ BreaksRule C labels i Index = NoSuchIndex C i
 BreaksRule C labels i Label = NoSuchLabel labels i
 BreaksRule C labels i Alignment = IsMisaligned i
 BreaksRule C labels i DataOutOfRange = ⊥
-BreaksRule C labels i MemoryAbsent = (C.program.memory ≡ None) × NeedsMemory i
+BreaksRule C labels i MemoryAbsent = (C.module.memory ≡ None) × NeedsMemory i
 BreaksRule C labels i MemoryLimits = ⊥
 
 -- instruction n of these, counted from `first`, breaks this rule

@@ -3,8 +3,8 @@ use Rattle.std.specs.Prelude.{ℕ, List, ◌++◌, codes}
 use Rattle.std.specs.Fmt.{decimal}
 use Rattle.wm_valid.specs.declared.fault.FaultKind.{FaultKind}
 use Rattle.wm_valid.specs.declared.fault.FaultKind.TheVariants as kind
-use Rattle.wm_valid.specs.declared.fault.Place.{Place}
-use Rattle.wm_valid.specs.declared.fault.Place.TheVariants.{Module, Instr}
+use Rattle.wm_valid.specs.declared.fault.Location.{Location}
+use Rattle.wm_valid.specs.declared.fault.Location.TheVariants.{Module, Instr}
 use Rattle.wm_valid.specs.declared.fault.ValidFault.{ValidFault}
 use Rattle.wm_valid.specs.declared.fault.ValidFault.TheVariants.{At, OutOfMemory}
 
@@ -17,7 +17,7 @@ kind_text kind.DataOutOfRange = codes "DataOutOfRange"
 kind_text kind.MemoryAbsent = codes "MemoryAbsent"
 kind_text kind.MemoryLimits = codes "MemoryLimits"
 
-abbrev pub place_text : Place → List ℕ
+abbrev pub place_text : Location → List ℕ
 place_text Module = codes "in module"
 place_text (Instr func instr) = codes "in function " ++ (decimal func ++ (codes " instruction " ++ decimal instr))
 

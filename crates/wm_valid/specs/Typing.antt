@@ -36,7 +36,7 @@ pub data Typed (C : Context) : ℕ → Labels → List Instr → List ValType �
       → Typed C one (None ∷ labels) first [] [] → slice_get C.blocks other ≡ Some [] → Typed C n labels rest ts vs → Typed C n labels (If None one other Absent ∷ rest) (I32 ∷ ts) vs
 
 abbrev pub context : Module → Func → FuncType → Context
-context m f ty = record { program = m; locals = ty.params ++ f.locals; result = ty.result; blocks = f.blocks }
+context m f ty = record { «module» = m; locals = ty.params ++ f.locals; result = ty.result; blocks = f.blocks }
 
 -- block b is there, and from nothing makes the result
 pub record TypedBlock (C : Context) (b : ℕ) (labels : Labels) (result : Option ValType) : Type 0 where

@@ -5,7 +5,7 @@ ghost use Rattle.wm_valid.specs.Typing.{TypedBlock, Nested, ElsePart, AbsentElse
 ghost use Rattle.wm_valid.specs.Places.{number_of};
 
 use crate::checker::Checker;
-use crate::fault::{FaultKind, Refusal};
+use crate::fault::{FaultKind, InstrFault};
 use crate::labels::Labels;
 use crate::stack::Stack;
 use std::alloc::Global;
@@ -20,16 +20,16 @@ fn next_number(position: usize) -> usize
 
 impl Checker<'_> {
     /// The absent else part of an `if`: an empty block, and there is no result.
-    fn absent_else(&self, block: usize, result_type: BlockType) -> Result<(), Refusal>
+    fn absent_else(&self, block: usize, result_type: BlockType) -> Result<(), InstrFault>
         ensures decides { Decides result (AbsentElse self.now block result_type) }
         ensures kind { IfErr result IsUntyped }
     {
         if result_type.is_some() {
-            return Err(Refusal::Breaks(FaultKind::BadType));
+            return Err(InstrFault::Breaks(FaultKind::BadType));
         }
         match self.blocks.get(block) {
             Some(body) if body.is_empty() => Ok(()),
-            _ => Err(Refusal::Breaks(FaultKind::BadType)),
+            _ => Err(InstrFault::Breaks(FaultKind::BadType)),
         }
     }
 
@@ -44,7 +44,7 @@ impl Checker<'_> {
         stack: &mut Stack,
         position: &mut usize,
         instr: &Instr,
-    ) -> Result<(), Refusal>
+    ) -> Result<(), InstrFault>
         ensures checked { Checked result self.now number labels.old instr.now stack.old stack.new }
         ensures same { OnOk result (labels.new ≡ labels.old) }
         ensures place { Counts result self.now labels.old (instr.now ∷ []) position.old position.new }
@@ -90,7 +90,7 @@ impl Checker<'_> {
         position: &mut usize,
         result_type: BlockType,
         part: Else,
-    ) -> Result<(), Refusal>
+    ) -> Result<(), InstrFault>
         ensures decides { Decides result (ElsePart self.now number block labels.old result_type part) }
         ensures same { OnOk result (labels.new ≡ labels.old) }
         ensures place { CountsElse result self.now labels.old block result_type part position.old position.new }
@@ -123,13 +123,13 @@ impl Checker<'_> {
         position: &mut usize,
         label: BlockType,
         result_type: BlockType,
-    ) -> Result<(), Refusal>
+    ) -> Result<(), InstrFault>
         ensures decides { Decides result (Nested self.now number block (label ∷ labels.old) result_type) }
         ensures same { OnOk result (labels.new ≡ labels.old) }
         ensures place { CountsBlock result self.now (label ∷ labels.old) block position.old position.new }
     {
         if block <= number || block >= self.blocks.len() {
-            return Err(Refusal::Breaks(FaultKind::BadType));
+            return Err(InstrFault::Breaks(FaultKind::BadType));
         }
         labels.push(label)?;
         self.block(alloc, block, labels, position, result_type)?;
@@ -146,13 +146,13 @@ impl Checker<'_> {
         labels: &mut Labels,
         position: &mut usize,
         result_type: BlockType,
-    ) -> Result<(), Refusal>
+    ) -> Result<(), InstrFault>
         ensures decides { Decides result (TypedBlock self.now number labels.old result_type) }
         ensures same { OnOk result (labels.new ≡ labels.old) }
         ensures place { CountsBlock result self.now labels.old number position.old position.new }
     {
         let Some(body) = self.blocks.get(number) else {
-            return Err(Refusal::Breaks(FaultKind::BadType));
+            return Err(InstrFault::Breaks(FaultKind::BadType));
         };
         let mut stack = Stack::new(alloc);
         // Reading it tells the proof its range.

@@ -8,14 +8,13 @@ ghost use Rattle.wm_ast.specs.Module.{func_type};
 ghost use Rattle.wm_valid.specs.InstrTypes.{turns, type_of, exponent_of, is_aligned, access_type};
 ghost use Rattle.wm_valid.specs.Stacks.{plain_on, made_by};
 
-use crate::fault::{FaultKind, Refusal};
+use crate::fault::{FaultKind, InstrFault};
 use crate::labels::Labels;
 use crate::stack::Stack;
 use std::marker::Model;
 use wm_access::{AccessWidth, MemoryOrder};
 use wm_ast::{
-    AccessKind, AccessOperands, Block, BlockType, FuncType, Global, Instr, Module, Mutability,
-    ValType,
+    AccessKind, Block, BlockType, FuncType, Global, Instr, MemArg, Module, Mutability, ValType,
 };
 use wm_list::List;
 use wm_num::{Conversion, Width};
@@ -23,7 +22,7 @@ use wm_num::{Conversion, Width};
 /// What the instructions of a function are checked in, the labels apart.
 #[derive(Drop)]
 pub(crate) struct Checker<'m> {
-    pub(crate) program: &'m Module,
+    pub(crate) module: &'m Module,
     /// The types of the parameters and of the other locals.
     pub(crate) locals: List<ValType>,
     /// The result of the function.
@@ -37,17 +36,17 @@ impl<'m> Model for Checker<'m> {
 
     ghost Value = { Context };
 
-    ghost view = { λ s. record { program = s.program.now; locals = s.locals; result = s.result_type; blocks = s.blocks.now } };
+    ghost view = { λ s. record { «module» = s.module.now; locals = s.locals; result = s.result_type; blocks = s.blocks.now } };
 }
 
 /// The type of a function.
-fn type_of_func(program: &Module, func: u32) -> Result<&FuncType, Refusal>
-    ensures found { Answers (λ t. t.now) result (func_type program.now func) }
+fn type_of_func(module: &Module, func: u32) -> Result<&FuncType, InstrFault>
+    ensures found { Answers (λ t. t.now) result (func_type «module».now func) }
     ensures kind { IfErr result IsIndexFault }
 {
-    program
+    module
         .func_type(func as usize)
-        .ok_or(Refusal::Breaks(FaultKind::Index))
+        .ok_or(InstrFault::Breaks(FaultKind::Index))
 }
 
 /// The type of the numbers of a width.
@@ -83,7 +82,7 @@ fn has_good_alignment(kind: AccessKind, alignment: u32) -> bool
 }
 
 /// The operands of an access.
-fn access_operands(stack: &mut Stack, kind: AccessKind) -> Result<(), Refusal>
+fn access_operands(stack: &mut Stack, kind: AccessKind) -> Result<(), InstrFault>
     ensures turns { Turns result (made_by (access_type kind) stack.old) stack.new }
     ensures kind { IfErr result IsUntyped }
 {
@@ -96,11 +95,11 @@ fn access_operands(stack: &mut Stack, kind: AccessKind) -> Result<(), Refusal>
             stack.take(operand)?;
             stack.take(ValType::I32)
         }
-        AccessKind::Update(_, _) => {
+        AccessKind::Rmw(_, _) => {
             stack.take(operand)?;
             stack.unary(ValType::I32, operand)
         }
-        AccessKind::CompareExchange(_) => {
+        AccessKind::CmpXchg(_) => {
             stack.take(operand)?;
             stack.take(operand)?;
             stack.unary(ValType::I32, operand)
@@ -109,7 +108,7 @@ fn access_operands(stack: &mut Stack, kind: AccessKind) -> Result<(), Refusal>
 }
 
 /// The operand of a conversion.
-fn convert(stack: &mut Stack, op: Conversion) -> Result<(), Refusal>
+fn convert(stack: &mut Stack, op: Conversion) -> Result<(), InstrFault>
     ensures turns { Turns result (made_by (turns (type_of (source_of op) ∷ []) (type_of (target_of op) ∷ [])) stack.old) stack.new }
     ensures kind { IfErr result IsUntyped }
 {
@@ -121,46 +120,46 @@ fn convert(stack: &mut Stack, op: Conversion) -> Result<(), Refusal>
 
 impl Checker<'_> {
     /// The type of a local.
-    fn local(&self, local: u32) -> Result<ValType, Refusal>
+    fn local(&self, local: u32) -> Result<ValType, InstrFault>
         ensures found { Answers (λ t. t) result (slice_get self.now.locals local) }
         ensures kind { IfErr result IsIndexFault }
     {
         match self.locals.get(local as usize) {
             Some(t) => Ok(*t),
-            None => Err(Refusal::Breaks(FaultKind::Index)),
+            None => Err(InstrFault::Breaks(FaultKind::Index)),
         }
     }
 
     /// A global.
-    fn global(&self, global: u32) -> Result<Global, Refusal>
-        ensures found { Answers (λ g. g) result (slice_get self.now.program.globals global) }
+    fn global(&self, global: u32) -> Result<Global, InstrFault>
+        ensures found { Answers (λ g. g) result (slice_get self.now.module.globals global) }
         ensures kind { IfErr result IsIndexFault }
     {
-        match self.program.globals.get(global as usize) {
+        match self.module.globals.get(global as usize) {
             Some(g) => Ok(*g),
-            None => Err(Refusal::Breaks(FaultKind::Index)),
+            None => Err(InstrFault::Breaks(FaultKind::Index)),
         }
     }
 
     /// A call.
-    fn call(&self, stack: &mut Stack, func: u32) -> Result<(), Refusal>
+    fn call(&self, stack: &mut Stack, func: u32) -> Result<(), InstrFault>
         ensures turns { Turns result (plain_on self.now [] (Call func) stack.old) stack.new }
         ensures breaks { IfErr result (BrokenBy self.now [] (Call func)) }
     {
-        let ty = type_of_func(self.program, func)?;
+        let ty = type_of_func(self.module, func)?;
         stack.take_params(ty.params.as_slice())?;
         stack.give(ty.result)
     }
 
     /// The setting of a global.
-    fn global_set(&self, stack: &mut Stack, global: u32) -> Result<(), Refusal>
+    fn global_set(&self, stack: &mut Stack, global: u32) -> Result<(), InstrFault>
         ensures turns { Turns result (plain_on self.now [] (GlobalSet global) stack.old) stack.new }
         ensures breaks { IfErr result (BrokenBy self.now [] (GlobalSet global)) }
     {
         let g = self.global(global)?;
         match g.mutability {
             Mutability::Variable => stack.take(g.ty),
-            Mutability::Constant => Err(Refusal::Breaks(FaultKind::BadType)),
+            Mutability::Constant => Err(InstrFault::Breaks(FaultKind::BadType)),
         }
     }
 
@@ -169,27 +168,27 @@ impl Checker<'_> {
         &self,
         stack: &mut Stack,
         kind: AccessKind,
-        operands: AccessOperands,
-    ) -> Result<(), Refusal>
+        operands: MemArg,
+    ) -> Result<(), InstrFault>
         ensures turns { Turns result (plain_on self.now [] (Access kind operands) stack.old) stack.new }
         ensures breaks { IfErr result (BrokenBy self.now [] (Access kind operands)) }
     {
-        if self.program.memory.is_none() {
-            return Err(Refusal::Breaks(FaultKind::MemoryAbsent));
+        if self.module.memory.is_none() {
+            return Err(InstrFault::Breaks(FaultKind::MemoryAbsent));
         }
         if !has_good_alignment(kind, operands.alignment) {
-            return Err(Refusal::Breaks(FaultKind::Alignment));
+            return Err(InstrFault::Breaks(FaultKind::Alignment));
         }
         access_operands(stack, kind)
     }
 
     /// The size of the memory.
-    fn memory_size(&self, stack: &mut Stack) -> Result<(), Refusal>
+    fn memory_size(&self, stack: &mut Stack) -> Result<(), InstrFault>
         ensures turns { Turns result (plain_on self.now [] MemorySize stack.old) stack.new }
         ensures breaks { IfErr result (BrokenBy self.now [] MemorySize) }
     {
-        if self.program.memory.is_none() {
-            return Err(Refusal::Breaks(FaultKind::MemoryAbsent));
+        if self.module.memory.is_none() {
+            return Err(InstrFault::Breaks(FaultKind::MemoryAbsent));
         }
         stack.give(Some(ValType::I32))
     }
@@ -200,7 +199,7 @@ impl Checker<'_> {
         labels: &Labels,
         stack: &mut Stack,
         instr: &Instr,
-    ) -> Result<(), Refusal>
+    ) -> Result<(), InstrFault>
         ensures turns { Turns result (plain_on self.now labels.now instr.now stack.old) stack.new }
         ensures breaks { IfErr result (BrokenBy self.now labels.now instr.now) }
     {
@@ -211,7 +210,7 @@ impl Checker<'_> {
             }
             Instr::Nop => Ok(()),
             Instr::Block(_, _) | Instr::Loop(_, _) | Instr::If(_, _, _, _) => {
-                Err(Refusal::Breaks(FaultKind::BadType))
+                Err(InstrFault::Breaks(FaultKind::BadType))
             }
             Instr::Br(label) => stack.branch(labels.get(*label)?),
             Instr::BrIf(label) => stack.branch_if(labels.get(*label)?),

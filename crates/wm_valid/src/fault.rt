@@ -1,7 +1,7 @@
 //! Why a module is refused.
 ghost use Rattle.std.specs.Prelude.{◌≡◌};
 ghost use Rattle.wm_valid.specs.declared.fault.ValidFault.TheVariants.{OutOfMemory as no_room};
-ghost use Rattle.wm_valid.specs.declared.fault.Refusal.TheVariants.{OutOfMemory as refused};
+ghost use Rattle.wm_valid.specs.declared.fault.InstrFault.TheVariants.{OutOfMemory as refused};
 
 use std::alloc::{AllocError, AllocFailed};
 use thiserror::Error;
@@ -28,7 +28,7 @@ pub enum FaultKind {
 
 /// Where a rule is broken.
 #[derive(Clone, Copy, Debug, PartialEq, Eq)]
-pub enum Place {
+pub enum Location {
     /// Outside the functions' instructions.
     Module,
     /// At an instruction of a function. Functions count from 0, and so do the instructions of each in the order of
@@ -41,7 +41,7 @@ pub enum Place {
 #[derive(Clone, Copy, Debug, PartialEq, Eq, Error)]
 pub enum ValidFault {
     /// The module breaks this rule at this place.
-    At(FaultKind, Place),
+    At(FaultKind, Location),
     /// Memory was refused.
     OutOfMemory,
 }
@@ -56,14 +56,14 @@ impl From<AllocError> for ValidFault {
 
 /// Why a function is refused, its place apart.
 #[derive(Clone, Copy, Debug, PartialEq, Eq)]
-pub(crate) enum Refusal {
+pub(crate) enum InstrFault {
     /// It breaks this rule.
     Breaks(FaultKind),
     /// Memory was refused.
     OutOfMemory,
 }
 
-impl Refusal {
+impl InstrFault {
     ghost use Rattle.wm_valid.specs.declared.fault.ValidFault.{ValidFault};
     ghost use Rattle.wm_valid.specs.Blame.{placed};
 
@@ -72,24 +72,24 @@ impl Refusal {
         ensures { result ≡ placed self func instr }
     {
         match self {
-            Refusal::Breaks(kind) => ValidFault::At(kind, Place::Instr { func, instr }),
-            Refusal::OutOfMemory => ValidFault::OutOfMemory,
+            InstrFault::Breaks(kind) => ValidFault::At(kind, Location::Instr { func, instr }),
+            InstrFault::OutOfMemory => ValidFault::OutOfMemory,
         }
     }
 }
 
-impl From<AllocError> for Refusal {
+impl From<AllocError> for InstrFault {
     ghost from_gives = { λ _ e. e ≡ refused };
 
-    fn from(_refused: AllocError) -> Refusal {
-        Refusal::OutOfMemory
+    fn from(_refused: AllocError) -> InstrFault {
+        InstrFault::OutOfMemory
     }
 }
 
-impl<T: Drop> From<AllocFailed<T>> for Refusal {
+impl<T: Drop> From<AllocFailed<T>> for InstrFault {
     ghost from_gives = { λ _ e. e ≡ refused };
 
-    fn from(_refused: AllocFailed<T>) -> Refusal {
-        Refusal::OutOfMemory
+    fn from(_refused: AllocFailed<T>) -> InstrFault {
+        InstrFault::OutOfMemory
     }
 }

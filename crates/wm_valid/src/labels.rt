@@ -4,7 +4,7 @@ ghost use Rattle.std.specs.Prelude.{◌≡◌, IfErr, ◌∷◌, [], OnOk, slice
 ghost use Rattle.wm_valid.specs.Answers.{Answers, TableFault, IsLabelFault};
 ghost use Rattle.wm_valid.specs.InstrTypes.{all_same, table_type, same};
 
-use crate::fault::{FaultKind, Refusal};
+use crate::fault::{FaultKind, InstrFault};
 use std::alloc::{AllocFailed, Global};
 use std::marker::Model;
 use wm_ast::{BlockType, ValType};
@@ -49,7 +49,7 @@ impl Labels {
     }
 
     /// The type of a label, from the innermost on.
-    pub(crate) fn get(&self, label: u32) -> Result<BlockType, Refusal>
+    pub(crate) fn get(&self, label: u32) -> Result<BlockType, InstrFault>
         ensures found { Answers (λ t. t) result (slice_get self.now label) }
         ensures kind { IfErr result IsLabelFault }
     {
@@ -57,12 +57,12 @@ impl Labels {
         if label < self.types.len() {
             Ok(self.types[self.types.len() - 1 - label])
         } else {
-            Err(Refusal::Breaks(FaultKind::Label))
+            Err(InstrFault::Breaks(FaultKind::Label))
         }
     }
 
     /// The type of all these labels.
-    pub(crate) fn table(&self, labels: &[u32], last: u32) -> Result<BlockType, Refusal>
+    pub(crate) fn table(&self, labels: &[u32], last: u32) -> Result<BlockType, InstrFault>
         ensures found { Answers (λ t. t) result (table_type self.now labels.now last) }
         ensures kind { IfErr result (λ e. TableFault self.now labels.now last e) }
     {
@@ -70,7 +70,7 @@ impl Labels {
         for label in labels {
             let other = self.get(*label)?;
             if !is_same(other, found) {
-                return Err(Refusal::Breaks(FaultKind::BadType));
+                return Err(InstrFault::Breaks(FaultKind::BadType));
             }
         }
         Ok(found)

@@ -12,7 +12,7 @@ mod stack;
 mod text;
 mod valid;
 
-pub use fault::{FaultKind, Place, ValidFault};
+pub use fault::{FaultKind, Location, ValidFault};
 pub use valid::{ValidModule, validate};
 
 #[cfg(test)]

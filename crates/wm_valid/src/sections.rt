@@ -36,11 +36,11 @@ fn is_constant(ty: ValType, constant: ConstExpr) -> bool
 }
 
 /// The globals.
-fn globals(program: &Module) -> Result<(), FaultKind>
-    ensures good { OnOk result (All GoodGlobal program.now.globals) }
-    ensures bad { IfErr result (BreaksModule program.now) }
+fn globals(module: &Module) -> Result<(), FaultKind>
+    ensures good { OnOk result (All GoodGlobal «module».now.globals) }
+    ensures bad { IfErr result (BreaksModule «module».now) }
 {
-    for global in program.globals.as_slice() {
+    for global in module.globals.as_slice() {
         if !is_constant(global.ty, global.init) {
             return Err(FaultKind::BadType);
         }
@@ -49,23 +49,23 @@ fn globals(program: &Module) -> Result<(), FaultKind>
 }
 
 /// Whether the function's type is there.
-fn has_type(program: &Module, func: &Func) -> bool
-    ensures good { result ≡ true → HasType program.now func.now }
-    ensures bad { result ≡ false → HasNoType program.now func.now }
+fn has_type(module: &Module, func: &Func) -> bool
+    ensures good { result ≡ true → HasType «module».now func.now }
+    ensures bad { result ≡ false → HasNoType «module».now func.now }
 {
-    match program.types.get(func.type_index as usize) {
+    match module.types.get(func.type_index as usize) {
         Some(_) => true,
         None => false,
     }
 }
 
 /// The types of the functions.
-fn types(program: &Module) -> Result<(), FaultKind>
-    ensures good { OnOk result (All (HasType program.now) program.now.funcs) }
-    ensures bad { IfErr result (BreaksModule program.now) }
+fn types(module: &Module) -> Result<(), FaultKind>
+    ensures good { OnOk result (All (HasType «module».now) «module».now.funcs) }
+    ensures bad { IfErr result (BreaksModule «module».now) }
 {
-    for func in program.funcs.as_slice() {
-        if !has_type(program, func) {
+    for func in module.funcs.as_slice() {
+        if !has_type(module, func) {
             return Err(FaultKind::Index);
         }
     }
@@ -73,27 +73,27 @@ fn types(program: &Module) -> Result<(), FaultKind>
 }
 
 /// Whether what is exported is there.
-fn is_there(program: &Module, export: Export) -> bool
-    ensures good { result ≡ true → IsExported program.now export.kind export.index }
-    ensures bad { result ≡ false → IsExported program.now export.kind export.index → ⊥ }
+fn is_there(module: &Module, export: Export) -> bool
+    ensures good { result ≡ true → IsExported «module».now export.kind export.index }
+    ensures bad { result ≡ false → IsExported «module».now export.kind export.index → ⊥ }
 {
     let index = export.index as usize;
     match export.kind {
-        ExportKind::Func => index < program.funcs.len(),
-        ExportKind::Memory => index == 0 && program.memory.is_some(),
-        ExportKind::Global => index < program.globals.len(),
+        ExportKind::Func => index < module.funcs.len(),
+        ExportKind::Memory => index == 0 && module.memory.is_some(),
+        ExportKind::Global => index < module.globals.len(),
     }
 }
 
 /// The export at `position`, if there is one.
-fn export(program: &Module, position: usize) -> Result<(), FaultKind>
-    ensures good { OnOk result (IsGoodAt (GoodExport program.now) program.now.exports position) }
-    ensures bad { IfErr result (BreaksModule program.now) }
+fn export(module: &Module, position: usize) -> Result<(), FaultKind>
+    ensures good { OnOk result (IsGoodAt (GoodExport «module».now) «module».now.exports position) }
+    ensures bad { IfErr result (BreaksModule «module».now) }
 {
-    let Some(export) = program.exports.at(position) else {
+    let Some(export) = module.exports.at(position) else {
         return Ok(());
     };
-    if is_there(program, export) {
+    if is_there(module, export) {
         Ok(())
     } else {
         Err(FaultKind::Index)
@@ -101,12 +101,12 @@ fn export(program: &Module, position: usize) -> Result<(), FaultKind>
 }
 
 /// The exports.
-fn exports(program: &Module) -> Result<(), FaultKind>
-    ensures good { OnOk result (All (GoodExport program.now) program.now.exports) }
-    ensures bad { IfErr result (BreaksModule program.now) }
+fn exports(module: &Module) -> Result<(), FaultKind>
+    ensures good { OnOk result (All (GoodExport «module».now) «module».now.exports) }
+    ensures bad { IfErr result (BreaksModule «module».now) }
 {
-    for position in 0..program.exports.len() {
-        if let Err(kind) = export(program, position) {
+    for position in 0..module.exports.len() {
+        if let Err(kind) = export(module, position) {
             return Err(kind);
         }
     }
@@ -114,17 +114,17 @@ fn exports(program: &Module) -> Result<(), FaultKind>
 }
 
 /// A data segment.
-fn segment(program: &Module, one: &DataSegment) -> Result<(), FaultKind>
-    ensures good { OnOk result (GoodData program.now one.now) }
-    ensures bad { IfErr result (BreaksData program.now one.now) }
+fn segment(module: &Module, one: &DataSegment) -> Result<(), FaultKind>
+    ensures good { OnOk result (GoodData «module».now one.now) }
+    ensures bad { IfErr result (BreaksData «module».now one.now) }
 {
-    if program.memory.is_none() {
+    if module.memory.is_none() {
         return Err(FaultKind::MemoryAbsent);
     }
     let ConstExpr::I32(start) = one.offset else {
         return Err(FaultKind::BadType);
     };
-    let size = program.pages() as usize * PAGE_BYTES;
+    let size = module.pages() as usize * PAGE_BYTES;
     let long = one.bytes.len();
     if long > size || start as usize > size - long {
         return Err(FaultKind::DataOutOfRange);
@@ -133,12 +133,12 @@ fn segment(program: &Module, one: &DataSegment) -> Result<(), FaultKind>
 }
 
 /// The data segments.
-fn segments(program: &Module) -> Result<(), FaultKind>
-    ensures good { OnOk result (All (GoodData program.now) program.now.data) }
-    ensures bad { IfErr result (BreaksModule program.now) }
+fn segments(module: &Module) -> Result<(), FaultKind>
+    ensures good { OnOk result (All (GoodData «module».now) «module».now.data) }
+    ensures bad { IfErr result (BreaksModule «module».now) }
 {
-    for one in program.data.as_slice() {
-        if let Err(kind) = segment(program, one) {
+    for one in module.data.as_slice() {
+        if let Err(kind) = segment(module, one) {
             return Err(kind);
         }
     }
@@ -146,13 +146,13 @@ fn segments(program: &Module) -> Result<(), FaultKind>
 }
 
 /// All that isn't in a function's instructions.
-pub(crate) fn sections(program: &Module) -> Result<(), FaultKind>
-    ensures good { OnOk result (GoodSections program.now) }
-    ensures bad { IfErr result (BreaksModule program.now) }
+pub(crate) fn sections(module: &Module) -> Result<(), FaultKind>
+    ensures good { OnOk result (GoodSections «module».now) }
+    ensures bad { IfErr result (BreaksModule «module».now) }
 {
-    limits(&program.memory)?;
-    types(program)?;
-    globals(program)?;
-    exports(program)?;
-    segments(program)
+    limits(&module.memory)?;
+    types(module)?;
+    globals(module)?;
+    exports(module)?;
+    segments(module)
 }

@@ -6,7 +6,7 @@ ghost use Rattle.wm_valid.specs.InstrTypes.{listed, turns, drops, leaves};
 ghost use Rattle.wm_valid.specs.Answers.{Turns, IsUntyped};
 ghost use Rattle.wm_ast.specs.declared.types.ValType.TheVariants.{I32};
 
-use crate::fault::{FaultKind, Refusal};
+use crate::fault::{FaultKind, InstrFault};
 use std::alloc::{AllocFailed, Global};
 use std::marker::Model;
 use wm_ast::{BlockType, ValType};
@@ -69,7 +69,7 @@ impl Stack {
     }
 
     /// Puts a result on top, if there is one.
-    pub(crate) fn give(&mut self, result_type: BlockType) -> Result<(), Refusal>
+    pub(crate) fn give(&mut self, result_type: BlockType) -> Result<(), InstrFault>
         ensures turns { Turns result (Some (give_all (listed result_type) self.old)) self.new }
         ensures kind { IfErr result IsUntyped }
     {
@@ -80,29 +80,29 @@ impl Stack {
     }
 
     /// Takes an operand of this type.
-    pub(crate) fn take(&mut self, t: ValType) -> Result<(), Refusal>
+    pub(crate) fn take(&mut self, t: ValType) -> Result<(), InstrFault>
         ensures turns { Turns result (take_one t self.old) self.new }
         ensures kind { IfErr result IsUntyped }
     {
         match self.pop() {
             Some(operand) if agrees(t, operand) => Ok(()),
-            _ => Err(Refusal::Breaks(FaultKind::BadType)),
+            _ => Err(InstrFault::Breaks(FaultKind::BadType)),
         }
     }
 
     /// Takes an operand of whatever type.
-    pub(crate) fn take_any(&mut self) -> Result<(), Refusal>
+    pub(crate) fn take_any(&mut self) -> Result<(), InstrFault>
         ensures turns { Turns result (made_by drops self.old) self.new }
         ensures kind { IfErr result IsUntyped }
     {
         match self.pop() {
             Some(_) => Ok(()),
-            None => Err(Refusal::Breaks(FaultKind::BadType)),
+            None => Err(InstrFault::Breaks(FaultKind::BadType)),
         }
     }
 
     /// Takes a result, if there is one.
-    pub(crate) fn take_result(&mut self, result_type: BlockType) -> Result<(), Refusal>
+    pub(crate) fn take_result(&mut self, result_type: BlockType) -> Result<(), InstrFault>
         ensures turns { Turns result (take_all (listed result_type) self.old) self.new }
         ensures kind { IfErr result IsUntyped }
     {
@@ -113,7 +113,7 @@ impl Stack {
     }
 
     /// Takes the arguments of a call.
-    pub(crate) fn take_params(&mut self, params: &[ValType]) -> Result<(), Refusal>
+    pub(crate) fn take_params(&mut self, params: &[ValType]) -> Result<(), InstrFault>
         ensures turns { Turns result (take_all (reverse params.now) self.old) self.new }
         ensures kind { IfErr result IsUntyped }
     {
@@ -126,7 +126,7 @@ impl Stack {
     }
 
     /// Takes an operand and gives a result.
-    pub(crate) fn unary(&mut self, operand: ValType, result_type: ValType) -> Result<(), Refusal>
+    pub(crate) fn unary(&mut self, operand: ValType, result_type: ValType) -> Result<(), InstrFault>
         ensures turns { Turns result (made_by (turns (operand ∷ []) (result_type ∷ [])) self.old) self.new }
         ensures kind { IfErr result IsUntyped }
     {
@@ -135,7 +135,11 @@ impl Stack {
     }
 
     /// Takes two operands of one type and gives a result.
-    pub(crate) fn binary(&mut self, operand: ValType, result_type: ValType) -> Result<(), Refusal>
+    pub(crate) fn binary(
+        &mut self,
+        operand: ValType,
+        result_type: ValType,
+    ) -> Result<(), InstrFault>
         ensures turns { Turns result (made_by (turns (operand ∷ operand ∷ []) (result_type ∷ [])) self.old) self.new }
         ensures kind { IfErr result IsUntyped }
     {
@@ -145,7 +149,7 @@ impl Stack {
     }
 
     /// Takes what a branch takes, and leaves the block.
-    pub(crate) fn branch(&mut self, label: BlockType) -> Result<(), Refusal>
+    pub(crate) fn branch(&mut self, label: BlockType) -> Result<(), InstrFault>
         ensures turns { Turns result (made_by (leaves (listed label)) self.old) self.new }
         ensures kind { IfErr result IsUntyped }
     {
@@ -155,7 +159,7 @@ impl Stack {
     }
 
     /// Takes an i32 and what a branch takes, and gives the latter back.
-    pub(crate) fn branch_if(&mut self, label: BlockType) -> Result<(), Refusal>
+    pub(crate) fn branch_if(&mut self, label: BlockType) -> Result<(), InstrFault>
         ensures turns { Turns result (made_by (turns (I32 ∷ listed label) (listed label)) self.old) self.new }
         ensures kind { IfErr result IsUntyped }
     {
@@ -165,7 +169,7 @@ impl Stack {
     }
 
     /// Takes an i32 and what a branch takes, and leaves the block.
-    pub(crate) fn branch_table(&mut self, label: BlockType) -> Result<(), Refusal>
+    pub(crate) fn branch_table(&mut self, label: BlockType) -> Result<(), InstrFault>
         ensures turns { Turns result (made_by (leaves (I32 ∷ listed label)) self.old) self.new }
         ensures kind { IfErr result IsUntyped }
     {
@@ -174,26 +178,26 @@ impl Stack {
     }
 
     /// Takes t t i32 for a t, and gives t.
-    pub(crate) fn select(&mut self) -> Result<(), Refusal>
+    pub(crate) fn select(&mut self) -> Result<(), InstrFault>
         ensures turns { Turns result (select_on self.old) self.new }
         ensures kind { IfErr result IsUntyped }
     {
         self.take(ValType::I32)?;
         let Some(first) = self.pop() else {
-            return Err(Refusal::Breaks(FaultKind::BadType));
+            return Err(InstrFault::Breaks(FaultKind::BadType));
         };
         let Some(second) = self.pop() else {
-            return Err(Refusal::Breaks(FaultKind::BadType));
+            return Err(InstrFault::Breaks(FaultKind::BadType));
         };
         let Some(operand) = join(first, second) else {
-            return Err(Refusal::Breaks(FaultKind::BadType));
+            return Err(InstrFault::Breaks(FaultKind::BadType));
         };
         self.push(operand)?;
         Ok(())
     }
 
     /// Takes a result, if there is one, where nothing else is left.
-    pub(crate) fn end(&mut self, result_type: BlockType) -> Result<(), Refusal>
+    pub(crate) fn end(&mut self, result_type: BlockType) -> Result<(), InstrFault>
         ensures turns { Turns result (ended result_type self.old) empty }
         ensures kind { IfErr result IsUntyped }
     {
@@ -201,7 +205,7 @@ impl Stack {
         if self.known.is_empty() {
             Ok(())
         } else {
-            Err(Refusal::Breaks(FaultKind::BadType))
+            Err(InstrFault::Breaks(FaultKind::BadType))
         }
     }
 }

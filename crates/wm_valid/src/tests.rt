@@ -53,10 +53,10 @@ fn fault_of(alloc: Global, body: Vec<Instr>) -> Result<Option<ValidFault>, Fail>
 }
 
 fn in_module(kind: FaultKind) -> Option<ValidFault> {
-    Some(ValidFault::At(kind, Place::Module))
+    Some(ValidFault::At(kind, Location::Module))
 }
 
 /// The fault at an instruction of function 0.
 fn at(kind: FaultKind, instr: usize) -> Option<ValidFault> {
-    Some(ValidFault::At(kind, Place::Instr { func: 0, instr }))
+    Some(ValidFault::At(kind, Location::Instr { func: 0, instr }))
 }

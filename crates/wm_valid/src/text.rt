@@ -2,7 +2,7 @@
 ghost use Rattle.std.specs.Prelude.{Some};
 ghost use Rattle.wm_valid.specs.Texts.{kind_text, place_text, fault_text};
 
-use crate::fault::{FaultKind, Place, ValidFault};
+use crate::fault::{FaultKind, Location, ValidFault};
 use std::fmt;
 
 impl fmt::Display for FaultKind {
@@ -21,13 +21,13 @@ impl fmt::Display for FaultKind {
     }
 }
 
-impl fmt::Display for Place {
+impl fmt::Display for Location {
     ghost output = { λ place. Some (place_text place) };
 
     fn fmt<W: fmt::Write>(&self, f: &mut fmt::Formatter<W>) -> fmt::Result {
         match self {
-            Place::Module => write!(f, "in module"),
-            Place::Instr { func, instr } => write!(f, "in function {func} instruction {instr}"),
+            Location::Module => write!(f, "in module"),
+            Location::Instr { func, instr } => write!(f, "in function {func} instruction {instr}"),
         }
     }
 }

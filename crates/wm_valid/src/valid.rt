@@ -7,7 +7,7 @@ ghost use Rattle.wm_valid.specs.Valid.{IsInit, Valid};
 ghost use Rattle.wm_valid.specs.Blame.{Breaks, HasType, JudgesFunc, JudgesBody};
 
 use crate::checker::Checker;
-use crate::fault::{Place, Refusal, ValidFault};
+use crate::fault::{InstrFault, Location, ValidFault};
 use crate::image::image;
 use crate::labels::Labels;
 use crate::sections::sections;
@@ -21,7 +21,7 @@ use wm_list::List;
 /// A module that is valid, with the bytes that its memory begins with.
 #[derive(Drop)]
 pub struct ValidModule {
-    program: Module,
+    module: Module,
     initial: Initial,
 }
 
@@ -31,9 +31,9 @@ impl Model for ValidModule {
 
     ghost Value = { Seen };
 
-    ghost view = { λ s. s.program };
+    ghost view = { λ s. s.module };
 
-    ghost invariant = { λ s. IsValid s.program × IsInit s.program s.initial };
+    ghost invariant = { λ s. IsValid s.module × IsInit s.module s.initial };
 }
 
 impl ValidModule {
@@ -42,14 +42,14 @@ impl ValidModule {
         ensures same { result.now ≡ self.now }
         ensures valid { Valid self.now }
     {
-        &self.program
+        &self.module
     }
 
     /// How many pages of 65,536 bytes its memory has at first, 0 without a memory.
     pub fn pages(&self) -> u32
         ensures { result ≡ pages_of self.now.memory }
     {
-        self.program.pages()
+        self.module.pages()
     }
 
     /// The bytes that its memory begins with.
@@ -89,18 +89,18 @@ fn all_locals(
 /// The instructions of a function of this type. `position` begins at 0; on a refusal it is the number of the opcode at fault.
 fn body(
     alloc: Global,
-    program: &Module,
+    module: &Module,
     func: &Func,
     ty: &FuncType,
     position: &mut usize,
-) -> Result<(), Refusal>
-    requires is_type { slice_get program.now.types func.now.type_index ≡ Some ty.now }
+) -> Result<(), InstrFault>
+    requires is_type { slice_get «module».now.types func.now.type_index ≡ Some ty.now }
     requires start { position.old ≡ 0 }
-    ensures { JudgesBody result program.now func.now position.new }
+    ensures { JudgesBody result «module».now func.now position.new }
 {
     let locals = all_locals(alloc, ty.params.as_slice(), func.locals.as_slice())?;
     let checker = Checker {
-        program,
+        module,
         locals,
         result_type: ty.result,
         blocks: &func.blocks,
@@ -111,28 +111,28 @@ fn body(
 }
 
 /// A function, of which there are `number` before.
-fn func(alloc: Global, program: &Module, number: usize, func: &Func) -> Result<(), ValidFault>
-    requires { HasType program.now func.now }
-    ensures { JudgesFunc result program.now func.now number }
+fn func(alloc: Global, module: &Module, number: usize, func: &Func) -> Result<(), ValidFault>
+    requires { HasType «module».now func.now }
+    ensures { JudgesFunc result «module».now func.now number }
 {
-    let Some(ty) = program.types.get(func.type_index as usize) else {
+    let Some(ty) = module.types.get(func.type_index as usize) else {
         return Ok(());
     };
     let mut position = 0;
-    match body(alloc, program, func, ty, &mut position) {
+    match body(alloc, module, func, ty, &mut position) {
         Ok(()) => Ok(()),
         Err(refusal) => Err(refusal.at(number, position)),
     }
 }
 
 /// The functions of the module.
-fn funcs(alloc: Global, program: &Module) -> Result<(), ValidFault>
-    requires { All (HasType program.now) program.now.funcs }
-    ensures good { OnOk result (All (TypedFunc program.now) program.now.funcs) }
-    ensures bad { IfErr result (Breaks program.now) }
+fn funcs(alloc: Global, module: &Module) -> Result<(), ValidFault>
+    requires { All (HasType «module».now) «module».now.funcs }
+    ensures good { OnOk result (All (TypedFunc «module».now) «module».now.funcs) }
+    ensures bad { IfErr result (Breaks «module».now) }
 {
-    for (number, one) in program.funcs.as_slice().iter().enumerate() {
-        if let Err(fault) = func(alloc, program, number, one) {
+    for (number, one) in module.funcs.as_slice().iter().enumerate() {
+        if let Err(fault) = func(alloc, module, number, one) {
             return Err(fault);
         }
     }
@@ -146,15 +146,15 @@ fn funcs(alloc: Global, program: &Module) -> Result<(), ValidFault>
 /// open. At an instruction, its function has no typing, and where the rule isn't that of types, the instruction breaks it.
 /// A function whose type isn't there and an export of what isn't there are `Index` in the module. The module is given up
 /// on a refusal.
-pub fn validate(alloc: Global, program: Module) -> Result<ValidModule, ValidFault>
-    ensures found { IfOk result (λ valid. (valid ≡ program) × Valid program) }
-    ensures breaks { IfErr result (Breaks program) }
+pub fn validate(alloc: Global, module: Module) -> Result<ValidModule, ValidFault>
+    ensures found { IfOk result (λ valid. (valid ≡ «module») × Valid «module») }
+    ensures breaks { IfErr result (Breaks «module») }
 {
-    if let Err(kind) = sections(&program) {
-        return Err(ValidFault::At(kind, Place::Module));
+    if let Err(kind) = sections(&module) {
+        return Err(ValidFault::At(kind, Location::Module));
     }
-    funcs(alloc, &program)?;
-    let size = program.pages() as usize * PAGE_BYTES;
-    let initial = image(alloc, size, program.data.as_slice())?;
-    Ok(ValidModule { program, initial })
+    funcs(alloc, &module)?;
+    let size = module.pages() as usize * PAGE_BYTES;
+    let initial = image(alloc, size, module.data.as_slice())?;
+    Ok(ValidModule { module, initial })
 }

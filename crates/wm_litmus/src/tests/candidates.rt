@@ -3,8 +3,8 @@ ghost use Rattle.wm_event.specs.Op.{KindFits};
 
 use std::process::Abort;
 use std::test::Fail;
-use wm_access::{AccessWidth, MemoryOrder, UpdateOperator};
-use wm_event::{Access, Candidate, EventId, EventKey, EventKind, Initial, Op, OpKind};
+use wm_access::{AccessWidth, MemoryOrder, RmwOperator};
+use wm_event::{Candidate, EventId, EventKey, EventKind, Initial, Op, OpFields, OpKind};
 use wm_logfile::read_document;
 
 /// A thread that writes 9 to bytes 1 and 2 and then updates byte 1, over three bytes.
@@ -85,7 +85,7 @@ fn a_candidate_gives_what_it_was_made_of(rt: HostRuntime) -> Result<(), Fail> {
 fn event_of(kind: OpKind, read: u64) -> (EventKind, u64)
     requires { KindFits kind MemoryOrder.SeqCst AccessWidth.Two }
 {
-    let op = Op::new(Access {
+    let op = Op::new(OpFields {
         kind,
         order: MemoryOrder::SeqCst,
         address: 8,
@@ -97,9 +97,9 @@ fn event_of(kind: OpKind, read: u64) -> (EventKind, u64)
 
 #[test]
 fn an_access_has_its_event(rt: HostRuntime) {
-    let add = OpKind::Update(UpdateOperator::Add, 0xfffe);
+    let add = OpKind::Rmw(RmwOperator::Add, 0xfffe);
     assert_eq!(rt; event_of(add, 5), (EventKind::Update, 3));
-    let exchange = OpKind::CompareExchange(5, 9);
+    let exchange = OpKind::CmpXchg(5, 9);
     assert_eq!(rt; event_of(exchange, 5), (EventKind::Update, 9));
     assert_eq!(rt; event_of(exchange, 6), (EventKind::Read, 0));
     assert_eq!(rt; event_of(OpKind::Write(7), 0), (EventKind::Write, 7));

@@ -4,24 +4,24 @@ use wm_ast::ConstExpr;
 
 /// A module with data segments of these lengths at these addresses, the bytes of each counting from 1.
 fn with_data(alloc: Global, segments: &[(ConstExpr, u8)]) -> Result<Module, Fail> {
-    let mut program = module_of(alloc, Vec::new(alloc))?;
+    let mut module = module_of(alloc, Vec::new(alloc))?;
     for (offset, length) in segments {
         let mut bytes = Vec::new(alloc);
         for k in 0..*length {
             bytes.push(k.wrapping_add(1))?;
         }
-        program.data.push(DataSegment {
+        module.data.push(DataSegment {
             offset: *offset,
             bytes: List::from_vec(bytes),
         })?;
     }
-    Ok(program)
+    Ok(module)
 }
 
 #[test]
 fn the_last_byte_is_laid(rt: HostRuntime) -> Result<(), Fail> {
-    let program = with_data(rt.alloc(), &[(ConstExpr::I32(65535), 1)])?;
-    let valid = validate(rt.alloc(), program).ok().ok_or("valid")?;
+    let module = with_data(rt.alloc(), &[(ConstExpr::I32(65535), 1)])?;
+    let valid = validate(rt.alloc(), module).ok().ok_or("valid")?;
     assert_eq!(rt; valid.pages(), 1);
     assert_eq!(rt; valid.init_byte(65534), Some(0));
     assert_eq!(rt; valid.init_byte(65535), Some(1));
@@ -33,11 +33,11 @@ fn the_last_byte_is_laid(rt: HostRuntime) -> Result<(), Fail> {
 
 #[test]
 fn later_segments_lie_over_earlier_ones(rt: HostRuntime) -> Result<(), Fail> {
-    let program = with_data(
+    let module = with_data(
         rt.alloc(),
         &[(ConstExpr::I32(4), 9), (ConstExpr::I32(6), 2)],
     )?;
-    let valid = validate(rt.alloc(), program).ok().ok_or("valid")?;
+    let valid = validate(rt.alloc(), module).ok().ok_or("valid")?;
     assert_eq!(rt; valid.init_byte(3), Some(0));
     assert_eq!(rt; valid.init_byte(5), Some(2));
     assert_eq!(rt; valid.init_byte(7), Some(2));
@@ -48,25 +48,25 @@ fn later_segments_lie_over_earlier_ones(rt: HostRuntime) -> Result<(), Fail> {
 
 #[test]
 fn segments_lie_in_the_memory(rt: HostRuntime) -> Result<(), Fail> {
-    let program = with_data(rt.alloc(), &[(ConstExpr::I32(65535), 2)])?;
+    let module = with_data(rt.alloc(), &[(ConstExpr::I32(65535), 2)])?;
     assert_eq!(rt;
-        validate(rt.alloc(), program).err(),
+        validate(rt.alloc(), module).err(),
         in_module(FaultKind::DataOutOfRange)
     );
-    let program = with_data(rt.alloc(), &[(ConstExpr::I32(65537), 0)])?;
+    let module = with_data(rt.alloc(), &[(ConstExpr::I32(65537), 0)])?;
     assert_eq!(rt;
-        validate(rt.alloc(), program).err(),
+        validate(rt.alloc(), module).err(),
         in_module(FaultKind::DataOutOfRange)
     );
-    let program = with_data(rt.alloc(), &[(ConstExpr::I64(0), 1)])?;
+    let module = with_data(rt.alloc(), &[(ConstExpr::I64(0), 1)])?;
     assert_eq!(rt;
-        validate(rt.alloc(), program).err(),
+        validate(rt.alloc(), module).err(),
         in_module(FaultKind::BadType)
     );
-    let mut program = with_data(rt.alloc(), &[(ConstExpr::I32(0), 1)])?;
-    program.memory = None;
+    let mut module = with_data(rt.alloc(), &[(ConstExpr::I32(0), 1)])?;
+    module.memory = None;
     assert_eq!(rt;
-        validate(rt.alloc(), program).err(),
+        validate(rt.alloc(), module).err(),
         in_module(FaultKind::MemoryAbsent)
     );
     Ok(())

@@ -21,22 +21,13 @@ fn behind_if(alloc: Global, second: Vec<Instr>, part: Else) -> Result<Module, Fa
 #[test]
 fn else_and_end_are_counted(rt: HostRuntime) -> Result<(), Fail> {
     let second = vec![in rt.alloc(); Instr::Nop, Instr::Nop]?;
-    let program = behind_if(rt.alloc(), second, Else::Present)?;
-    assert_eq!(rt;
-        validate(rt.alloc(), program).err(),
-        at(FaultKind::Index, 7)
-    );
-    let program = behind_if(rt.alloc(), Vec::new(rt.alloc()), Else::Absent)?;
-    assert_eq!(rt;
-        validate(rt.alloc(), program).err(),
-        at(FaultKind::Index, 4)
-    );
+    let module = behind_if(rt.alloc(), second, Else::Present)?;
+    assert_eq!(rt; validate(rt.alloc(), module).err(), at(FaultKind::Index, 7));
+    let module = behind_if(rt.alloc(), Vec::new(rt.alloc()), Else::Absent)?;
+    assert_eq!(rt; validate(rt.alloc(), module).err(), at(FaultKind::Index, 4));
     let second = vec![in rt.alloc(); Instr::Nop, Instr::Br(2)]?;
-    let program = behind_if(rt.alloc(), second, Else::Present)?;
-    assert_eq!(rt;
-        validate(rt.alloc(), program).err(),
-        at(FaultKind::Label, 5)
-    );
+    let module = behind_if(rt.alloc(), second, Else::Present)?;
+    assert_eq!(rt; validate(rt.alloc(), module).err(), at(FaultKind::Label, 5));
     Ok(())
 }
 
@@ -45,9 +36,9 @@ fn blocks_that_name_one_another_are_refused(rt: HostRuntime) -> Result<(), Fail>
     let body = vec![in rt.alloc(); Instr::Block(None, 1)]?;
     let inner = vec![in rt.alloc(); Instr::Loop(None, 1)]?;
     let blocks = vec![in rt.alloc(); List::from_vec(body), List::from_vec(inner)]?;
-    let program = module_of_blocks(rt.alloc(), blocks)?;
+    let module = module_of_blocks(rt.alloc(), blocks)?;
     assert_eq!(rt;
-        validate(rt.alloc(), program).err(),
+        validate(rt.alloc(), module).err(),
         at(FaultKind::BadType, 2)
     );
     let body = vec![in rt.alloc(); Instr::Block(None, 0)]?;
@@ -57,12 +48,12 @@ fn blocks_that_name_one_another_are_refused(rt: HostRuntime) -> Result<(), Fail>
 
 #[test]
 fn faults_print_with_their_places(rt: HostRuntime) -> Result<(), Fail> {
-    let fault = ValidFault::At(FaultKind::Alignment, Place::Instr { func: 0, instr: 2 });
+    let fault = ValidFault::At(FaultKind::Alignment, Location::Instr { func: 0, instr: 2 });
     assert_eq!(rt;
         format!(in rt.alloc(); "{fault}")?.as_str(),
         "Alignment in function 0 instruction 2"
     );
-    let fault = ValidFault::At(FaultKind::Index, Place::Module);
+    let fault = ValidFault::At(FaultKind::Index, Location::Module);
     assert_eq!(rt;
         format!(in rt.alloc(); "{fault}")?.as_str(),
         "Index in module"

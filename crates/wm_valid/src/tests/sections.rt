@@ -1,32 +1,30 @@
 //! Rules outside the functions' instructions, and modules without a memory.
 use super::*;
-use wm_ast::{
-    AccessKind, AccessOperands, ConstExpr, Export, ExportKind, Mutability, Storage, ValType,
-};
+use wm_ast::{AccessKind, ConstExpr, Export, ExportKind, MemArg, Mutability, Storage, ValType};
 
 #[test]
 fn memories_have_good_limits(rt: HostRuntime) -> Result<(), Fail> {
-    let mut program = module_of(rt.alloc(), Vec::new(rt.alloc()))?;
-    program.memory = memory_of(2, 1);
+    let mut module = module_of(rt.alloc(), Vec::new(rt.alloc()))?;
+    module.memory = memory_of(2, 1);
     assert_eq!(rt;
-        validate(rt.alloc(), program).err(),
+        validate(rt.alloc(), module).err(),
         in_module(FaultKind::MemoryLimits)
     );
-    let mut program = module_of(rt.alloc(), Vec::new(rt.alloc()))?;
-    program.memory = memory_of(0, 65537);
+    let mut module = module_of(rt.alloc(), Vec::new(rt.alloc()))?;
+    module.memory = memory_of(0, 65537);
     assert_eq!(rt;
-        validate(rt.alloc(), program).err(),
+        validate(rt.alloc(), module).err(),
         in_module(FaultKind::MemoryLimits)
     );
-    let mut program = module_of(rt.alloc(), Vec::new(rt.alloc()))?;
-    program.memory = memory_of(0, 65536);
-    assert_eq!(rt; validate(rt.alloc(), program).err(), None);
+    let mut module = module_of(rt.alloc(), Vec::new(rt.alloc()))?;
+    module.memory = memory_of(0, 65536);
+    assert_eq!(rt; validate(rt.alloc(), module).err(), None);
     Ok(())
 }
 
 #[test]
 fn some_instructions_need_a_memory(rt: HostRuntime) -> Result<(), Fail> {
-    let operands = AccessOperands {
+    let operands = MemArg {
         alignment: 2,
         offset: 0,
     };
@@ -35,17 +33,17 @@ fn some_instructions_need_a_memory(rt: HostRuntime) -> Result<(), Fail> {
         Instr::Access(AccessKind::Read(Storage::I32), operands),
         Instr::Drop,
     ]?;
-    let mut program = module_of(rt.alloc(), body)?;
-    program.memory = None;
+    let mut module = module_of(rt.alloc(), body)?;
+    module.memory = None;
     assert_eq!(rt;
-        validate(rt.alloc(), program).err(),
+        validate(rt.alloc(), module).err(),
         at(FaultKind::MemoryAbsent, 1)
     );
     let body = vec![in rt.alloc(); Instr::MemorySize, Instr::Drop]?;
-    let mut program = module_of(rt.alloc(), body)?;
-    program.memory = None;
+    let mut module = module_of(rt.alloc(), body)?;
+    module.memory = None;
     assert_eq!(rt;
-        validate(rt.alloc(), program).err(),
+        validate(rt.alloc(), module).err(),
         at(FaultKind::MemoryAbsent, 0)
     );
     Ok(())
@@ -53,11 +51,11 @@ fn some_instructions_need_a_memory(rt: HostRuntime) -> Result<(), Fail> {
 
 /// A module that exports this.
 fn exporting(alloc: Global, kind: ExportKind, index: u32) -> Result<Module, Fail> {
-    let mut program = module_of(alloc, Vec::new(alloc))?;
+    let mut module = module_of(alloc, Vec::new(alloc))?;
     let mut exports = Exports::new(alloc);
     exports.push(String::from_str(alloc, "a")?, Export { kind, index })?;
-    program.exports = exports;
-    Ok(program)
+    module.exports = exports;
+    Ok(module)
 }
 
 #[test]
@@ -87,21 +85,21 @@ fn exports_are_there(rt: HostRuntime) -> Result<(), Fail> {
 
 #[test]
 fn types_are_there_and_globals_are_of_them(rt: HostRuntime) -> Result<(), Fail> {
-    let mut program = module_of(rt.alloc(), Vec::new(rt.alloc()))?;
-    program.types = List::new(rt.alloc());
+    let mut module = module_of(rt.alloc(), Vec::new(rt.alloc()))?;
+    module.types = List::new(rt.alloc());
     assert_eq!(rt;
-        validate(rt.alloc(), program).err(),
+        validate(rt.alloc(), module).err(),
         in_module(FaultKind::Index)
     );
-    let mut program = module_of(rt.alloc(), Vec::new(rt.alloc()))?;
+    let mut module = module_of(rt.alloc(), Vec::new(rt.alloc()))?;
     let global = wm_ast::Global {
         ty: ValType::I64,
         mutability: Mutability::Constant,
         init: ConstExpr::I32(0),
     };
-    program.globals = List::from_vec(vec![in rt.alloc(); global]?);
+    module.globals = List::from_vec(vec![in rt.alloc(); global]?);
     assert_eq!(rt;
-        validate(rt.alloc(), program).err(),
+        validate(rt.alloc(), module).err(),
         in_module(FaultKind::BadType)
     );
     Ok(())

@@ -1,7 +1,7 @@
 //! The types of instructions.
 use super::*;
-use wm_access::UpdateOperator;
-use wm_ast::{AccessKind, AccessOperands, Else, Mutability, Storage, ValType};
+use wm_access::RmwOperator;
+use wm_ast::{AccessKind, Else, MemArg, Mutability, Storage, ValType};
 use wm_num::{BinaryOperator, Width};
 
 #[test]
@@ -55,12 +55,12 @@ fn globals_are_set_where_they_are_variable(rt: HostRuntime) -> Result<(), Fail> 
         Instr::GlobalGet(1),
         Instr::GlobalSet(1),
     ]?;
-    let mut program = module_of(rt.alloc(), body)?;
+    let mut module = module_of(rt.alloc(), body)?;
     let variable = global(Mutability::Variable);
     let constant = global(Mutability::Constant);
-    program.globals = List::from_vec(vec![in rt.alloc(); variable, constant]?);
+    module.globals = List::from_vec(vec![in rt.alloc(); variable, constant]?);
     assert_eq!(rt;
-        validate(rt.alloc(), program).err(),
+        validate(rt.alloc(), module).err(),
         at(FaultKind::BadType, 3)
     );
     Ok(())
@@ -115,7 +115,7 @@ fn atomic_accesses_are_aligned_to_their_width(rt: HostRuntime) -> Result<(), Fai
 }
 
 fn load(alloc: Global, kind: AccessKind, alignment: u32) -> Result<Vec<Instr>, Fail> {
-    let operands = AccessOperands {
+    let operands = MemArg {
         alignment,
         offset: 0,
     };
@@ -129,15 +129,12 @@ fn load(alloc: Global, kind: AccessKind, alignment: u32) -> Result<Vec<Instr>, F
 
 #[test]
 fn accesses_take_their_operands(rt: HostRuntime) -> Result<(), Fail> {
-    let operands = AccessOperands {
+    let operands = MemArg {
         alignment: 3,
         offset: 8,
     };
-    let add = Instr::Access(
-        AccessKind::Update(UpdateOperator::Add, Storage::I64),
-        operands,
-    );
-    let exchange = Instr::Access(AccessKind::CompareExchange(ValType::I64), operands);
+    let add = Instr::Access(AccessKind::Rmw(RmwOperator::Add, Storage::I64), operands);
+    let exchange = Instr::Access(AccessKind::CmpXchg(ValType::I64), operands);
     let store = Instr::Access(AccessKind::Write(Storage::I64), operands);
     let body = vec![in rt.alloc();
         Instr::MemorySize,
@@ -185,8 +182,8 @@ fn the_label_of_a_loop_takes_nothing(rt: HostRuntime) -> Result<(), Fail> {
     let body = vec![in rt.alloc(); Instr::Loop(Some(ValType::I32), 1), Instr::Drop]?;
     let inner = vec![in rt.alloc(); Instr::I32Const(0), Instr::BrIf(0), Instr::I32Const(1)]?;
     let blocks = vec![in rt.alloc(); List::from_vec(body), List::from_vec(inner)]?;
-    let program = module_of_blocks(rt.alloc(), blocks)?;
-    assert_eq!(rt; validate(rt.alloc(), program).err(), None);
+    let module = module_of_blocks(rt.alloc(), blocks)?;
+    assert_eq!(rt; validate(rt.alloc(), module).err(), None);
     Ok(())
 }
 
@@ -203,9 +200,9 @@ fn an_absent_else_part_has_no_result(rt: HostRuntime) -> Result<(), Fail> {
         List::from_vec(then),
         List::new(rt.alloc()),
     ]?;
-    let program = module_of_blocks(rt.alloc(), blocks)?;
+    let module = module_of_blocks(rt.alloc(), blocks)?;
     assert_eq!(rt;
-        validate(rt.alloc(), program).err(),
+        validate(rt.alloc(), module).err(),
         at(FaultKind::BadType, 3)
     );
     Ok(())
@@ -238,18 +235,18 @@ fn arguments_are_taken_from_the_last(rt: HostRuntime) -> Result<(), Fail> {
 
 /// A module whose function 1 takes an i32 and an i64, and gives an i32.
 fn calling(alloc: Global, body: Vec<Instr>) -> Result<Module, Fail> {
-    let mut program = module_of(alloc, body)?;
+    let mut module = module_of(alloc, body)?;
     let params = vec![in alloc; ValType::I32, ValType::I64]?;
-    program.types.push(FuncType {
+    module.types.push(FuncType {
         params: List::from_vec(params),
         result: Some(ValType::I32),
     })?;
     let body = vec![in alloc; Instr::LocalGet(1), Instr::Drop, Instr::LocalGet(0)]?;
     let blocks = vec![in alloc; List::from_vec(body)]?;
-    program.funcs.push(Func {
+    module.funcs.push(Func {
         type_index: 1,
         locals: List::new(alloc),
         blocks: List::from_vec(blocks),
     })?;
-    Ok(program)
+    Ok(module)
 }

@@ -7,7 +7,7 @@ pub returns-in-Err : goal.returns-in-Err
 returns-in-Err g c = λ module_bytes document_bytes is_module is_document.
     let no_want : c.in-Err.fault ≢ OutOfMemory = search rules in
     record {
-      program = c.args.program.now;
+      «module» = c.args.module.now;
       run = record { log = c.args.log; witness = c.args.witness; initial = c.initial.result.now };
       is_run = record {
         modules = is_module;

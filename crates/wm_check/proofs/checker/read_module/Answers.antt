@@ -8,9 +8,9 @@ pub returns-in-Err-validate-clause-refused : goal.returns-in-Err-validate-clause
 returns-in-Err-validate-clause-refused c =
     let no_want : c.in-Err-validate.fault ≢ OutOfMemory = search rules in
     record {
-      program = c.in-Ok.program;
+      «module» = c.in-Ok.module;
       spelled = c.in-Ok.ensures.found;
-      invalid = is_invalid c.in-Ok.program c.in-Err-validate.fault no_want c.in-Err-validate.ensures.breaks;
+      invalid = is_invalid c.in-Ok.module c.in-Err-validate.fault no_want c.in-Err-validate.ensures.breaks;
       breaks = c.in-Err-validate.ensures.breaks;
       no_want = no_want;
     }

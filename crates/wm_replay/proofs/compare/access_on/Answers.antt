@@ -21,7 +21,7 @@ returns-then-not-is_made-clause-steps c = record {
 
 pub returns-in-Ok-clause-steps : goal.returns-in-Ok-clause-steps
 returns-in-Ok-clause-steps c =
-    let m = c.args.thread.now.program in
+    let m = c.args.thread.now.module in
     let old = config_of c.args.thread.now in
     let new = config_of c.advance.new.self in
     inr (
@@ -33,7 +33,7 @@ returns-in-Ok-clause-steps c =
 
 pub returns-in-Err-Stuck-clause-steps : goal.returns-in-Err-Stuck-clause-steps
 returns-in-Err-Stuck-clause-steps c =
-    let m = c.args.thread.now.program in
+    let m = c.args.thread.now.module in
     let old = config_of c.args.thread.now in
     let stuck = c.in-Err-Stuck.ensures.stuck (ap Err c.in-Err-Stuck.field-0-is) in
     absurd (access_goes (step m _ old) c.args.op.now (access_of_need c.args.thread.now _ c.args.op.now (c.requires _)) stuck)

@@ -1,5 +1,5 @@
 use Rattle.std.proofs.Common.{refl, subst}
-use Rattle.wm_replay.specs.Answers.{Compares}
+use Rattle.wm_replay.specs.Answers.{IsDifference}
 use Rattle.wm_replay.specs.Replay.{DiffersAt}
 use Rattle.wm_replay.proofs.Differing.{no_run}
 use Rattle.wm_replay.proofs.compare.difference.Goals as goal
@@ -9,6 +9,6 @@ returns c =
     let k = c.args.number in
     let t = c.args.stated.now in
     let place = c.in-Ok-Some.place in
-    let there = subst (Compares c.in-Ok.thread.program k t) c.in-Ok-Some.field-0-is c.in-Ok-Some.ensures in
-    let differs : DiffersAt c.args.program.now k t place = subst (λ m. DiffersAt m k t place) c.in-Ok.ensures.ok.1 there in
-    ((refl, differs), no_run c.args.program.now k t place differs)
+    let there = subst (IsDifference c.in-Ok.thread.module k t) c.in-Ok-Some.field-0-is c.in-Ok-Some.ensures in
+    let differs : DiffersAt c.args.module.now k t place = subst (λ m. DiffersAt m k t place) c.in-Ok.ensures.ok.1 there in
+    ((refl, differs), no_run c.args.module.now k t place differs)

@@ -8,7 +8,7 @@ use Rattle.wm_replay.proofs.compare.differing_place.Given as goal
 abbrev pub invariant-loop : goal.invariant-loop
 invariant-loop l = record {
   within : l.made ≤ length l.stated.events;
-  program : l.thread.program ≡ l.initial.thread.program;
-  followed : steps l.thread.program l.number (config_of l.initial.thread) (reads_of l.stated.events) l.counter
+  «module» : l.thread.module ≡ l.initial.thread.module;
+  followed : steps l.thread.module l.number (config_of l.initial.thread) (reads_of l.stated.events) l.counter
       ≡ Some (so_far (config_of l.thread) l.stated.events l.made);
 }

@@ -6,5 +6,5 @@ use Rattle.wm_replay.proofs.compare.replay.Given as goal
 
 abbrev pub invariant-loop-number : goal.invariant-loop-number
 invariant-loop-number l = record {
-  runs : (k : ℕ) (t : ThreadLog) → k < l.number → slice_get l.log k ≡ Some t → IsRun l.program k t;
+  runs : (k : ℕ) (t : ThreadLog) → k < l.number → slice_get l.log k ≡ Some t → IsRun l.module k t;
 }

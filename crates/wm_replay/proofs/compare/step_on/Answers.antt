@@ -11,6 +11,6 @@ pub returns-in-Ok-clause-steps : goal.returns-in-Ok-clause-steps
 returns-in-Ok-clause-steps c =
     inl (
       refl,
-      made_local (step c.args.thread.now.program 0 (config_of c.args.thread.now)) (config_of c.advance.new.self)
+      made_local (step c.args.thread.now.module 0 (config_of c.args.thread.now)) (config_of c.advance.new.self)
           (local_of_need c.args.thread.now 0 (sym (c.in-Local.ensures 0))) c.in-Ok.ensures.ok,
     )

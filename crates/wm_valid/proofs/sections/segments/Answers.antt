@@ -5,4 +5,4 @@ use Rattle.wm_valid.proofs.sections.segments.Goals as goal
 
 pub returns-clause-good : goal.returns-clause-good
 returns-clause-good c =
-    subst (λ (ds : List DataSegment). All (GoodData c.args.program.now) ds) c.as_slice-one-items.ensures (λ k d h. c.loop-one.invariant k d (omega (arith, h, c.loop-one-test.false)))
+    subst (λ (ds : List DataSegment). All (GoodData c.args.module.now) ds) c.as_slice-one-items.ensures (λ k d h. c.loop-one.invariant k d (omega (arith, h, c.loop-one-test.false)))

@@ -4,9 +4,9 @@ use Rattle.wm_valid.proofs.FuncLaws.{func_breaks}
 use Rattle.wm_valid.proofs.valid.funcs.Goals as goal
 
 pub func-requires : goal.func-requires
-func-requires c = item_good (HasType c.args.program.now) c.args.program.now.funcs c.as_slice-one-items.result.now c.loop-number.number c.one-item.result c.as_slice-one-items.ensures c.loop-number-test.true c.one-item.is c.requires
+func-requires c = item_good (HasType c.args.module.now) c.args.module.now.funcs c.as_slice-one-items.result.now c.loop-number.number c.one-item.result c.as_slice-one-items.ensures c.loop-number-test.true c.one-item.is c.requires
 
 pub returns-in-Err-clause-bad : goal.returns-in-Err-clause-bad
 returns-in-Err-clause-bad c =
-    func_breaks c.in-Err.fault c.args.program.now c.one-item.result c.loop-number.number
-    (item_there c.args.program.now.funcs c.as_slice-one-items.result.now c.loop-number.number c.one-item.result c.as_slice-one-items.ensures c.loop-number-test.true c.one-item.is) c.in-Err.ensures
+    func_breaks c.in-Err.fault c.args.module.now c.one-item.result c.loop-number.number
+    (item_there c.args.module.now.funcs c.as_slice-one-items.result.now c.loop-number.number c.one-item.result c.as_slice-one-items.ensures c.loop-number-test.true c.one-item.is) c.in-Err.ensures

@@ -1,0 +1,88 @@
+-- The cases of V5, and its faults at a byte.
+use Rattle.std.proofs.Common.{◌≡◌, ℕ, ◌<◌, ◌≤◌, [], ◌∷◌, Bool, IsTrue, ◌↔◌, Option, None, Some, IsSome, arith, refl, subst}
+use Rattle.std.specs.Option.{option_map}
+use Rattle.wm_event.specs.declared.event.Event.{Event}
+use Rattle.wm_event.specs.declared.event.EventKey.{EventKey}
+use Rattle.wm_event.specs.declared.event.EventId.{EventId}
+use Rattle.wm_event.specs.declared.event.EventId.TheVariants.{Init, At}
+use Rattle.wm_event.specs.declared.rule.Rule.TheVariants.{SequentialConsistency}
+use Rattle.wm_event.specs.declared.rule.RuleFault.{RuleFault}
+use Rattle.wm_event.specs.Event.{is_atomic, key_of}
+use Rattle.wm_event.specs.Execution.{Execution, ReadsFrom, event_at, place}
+use Rattle.wm_event.specs.Faults.{AtRead, Breaks, BreaksRule, BreaksSequentialConsistency, rank}
+use Rattle.wm_event.specs.First.{Under}
+use Rattle.wm_event.specs.HappensBefore.{HappensBefore, SynchronizesWith}
+use Rattle.wm_event.specs.LoggedRun.{LoggedRun, execution}
+use Rattle.wm_event.specs.Rules.{HasRange, IsAtomicWrite, Overtakes, synchronized, written_over, read_past}
+use Rattle.wm_event.specs.Shape.{ListsEachOnce}
+use Rattle.wm_rules.specs.Others.{FindsListed}
+use Rattle.wm_rules.specs.Scan.{Finds, IsEventOf}
+use Rattle.wm_rules.proofs.CaseLemmas.{finds_other}
+use Rattle.wm_rules.proofs.FaultLemmas.{read_moves, rule_five, same_key_parts, some_of}
+
+-- of a writer that synchronizes with the read
+pub synchronized_if : (x : Execution) (w v : EventId) (u r : EventKey) (e : Event) (b : Bool) → w ≡ At u → SynchronizesWith x u r → IsTrue b ↔ HasRange x v e → IsTrue b ↔ Overtakes x w v r e 1
+synchronized_if x w v u r e b is sw range = (λ h. synchronized refl u is sw (range.0 h), λ o. back o)
+  where
+    back : Overtakes x w v r e 1 → IsTrue b
+    back (synchronized one t at s h) = range.1 h
+    back (written_over two f at atomic wr vr h) = absurd (omega arith)
+    back (read_past three atomic wr wv h) = absurd (omega arith)
+
+-- of an atomic writer that happens before the read, and whose range the other write has
+pub written_over_if : (x : Execution) (w v : EventId) (r : EventKey) (e f : Event) (b : Bool) → event_at x w ≡ Some f → IsTrue (is_atomic f) → HasRange x v f → HappensBefore x w (At r)
+    → IsTrue b ↔ HappensBefore x v (At r) → IsTrue b ↔ Overtakes x w v r e 2
+written_over_if x w v r e f b at atomic range wr vr = (λ h. written_over refl f at atomic wr (vr.0 h) range, λ o. back o)
+  where
+    back : Overtakes x w v r e 2 → IsTrue b
+    back (synchronized one t is s h) = absurd (omega arith)
+    back (written_over two g is a wr2 vr2 h) = vr.1 vr2
+    back (read_past three a wr2 wv h) = absurd (omega arith)
+
+-- of a write that stands between the writer and the read
+pub out_of_order_if : (x : Execution) (w v : EventId) (r : EventKey) (e : Event) (c : ℕ) (b : Bool) → IsAtomicWrite x v → place x w < place x v → place x v < place x (At r)
+    → IsTrue b ↔ Overtakes x w v r e c → IsTrue b ↔ BreaksSequentialConsistency x r e w v c
+out_of_order_if x w v r e c b write after before over =
+    (λ h. record { write = write; between = (after, before); overtakes = over.0 h }, λ (h : BreaksSequentialConsistency x r e w v c). over.1 h.overtakes)
+
+overtakes_case : (x : Execution) (w v : EventId) (r : EventKey) (e : Event) (c : ℕ) → Overtakes x w v r e c → (1 ≤ c) × (c ≤ 3)
+overtakes_case x w v r e c (synchronized is t at s h) = (omega arith, omega arith)
+overtakes_case x w v r e c (written_over is f at a wr vr h) = (omega arith, omega arith)
+overtakes_case x w v r e c (read_past is a wr wv h) = (omega arith, omega arith)
+
+-- what a fault of V5 under a byte says
+pub consistency_says : (x : Execution) (e : Event) (k : ℕ) (w : EventId) → IsEventOf x e → ReadsFrom x (key_of e) k w
+    → (f : RuleFault) → Under (rank x) (Breaks x) (5 ∷ e.thread ∷ e.number ∷ k ∷ []) f → (v : EventId) × (f.other ≡ Some v) × BreaksSequentialConsistency x (key_of e) e w v f.case
+consistency_says x e k w there reads f u =
+    let says : (v : EventId) × (f.other ≡ Some v) × AtRead x f (λ e. BreaksSequentialConsistency x f.event e f.writer v f.case) = subst (BreaksRule x f) (rule_five f.rule u.1.0) u.0 in (
+      says.0,
+      says.1,
+      read_moves x (λ r e k w. BreaksSequentialConsistency x r e w says.0 f.case) (key_of e) f.event e says.2.0 k f.byte w f.writer
+          (same_key_parts f.event (key_of e) u.1.1.0 u.1.1.1.0) u.1.1.1.1.0 there says.2.1 reads says.2.2 says.2.3,
+    )
+
+pub consistency_case : (x : Execution) (e : Event) (k : ℕ) (w : EventId) → IsEventOf x e → ReadsFrom x (key_of e) k w
+    → (f : RuleFault) → Under (rank x) (Breaks x) (5 ∷ e.thread ∷ e.number ∷ k ∷ []) f → (1 ≤ f.case) × (f.case ≤ 3)
+consistency_case x e k w there reads f u =
+    let s = consistency_says x e k w there reads f u in overtakes_case x w s.0 (key_of e) e f.case s.2.overtakes
+
+under_case : (x : Execution) (t i k c : ℕ) (f : RuleFault) → Under (rank x) (Breaks x) (5 ∷ t ∷ i ∷ k ∷ c ∷ []) f → Under (rank x) (Breaks x) (5 ∷ t ∷ i ∷ k ∷ []) f
+under_case x t i k c f u = (u.0, (u.1.0, (u.1.1.0, (u.1.1.1.0, (u.1.1.1.1.0, tt)))))
+
+-- an atomic write is an event
+event_of_write : (x : Execution) (r : EventKey) (e : Event) (w v : EventId) (o : Option EventId) (c : ℕ) → o ≡ Some v → BreaksSequentialConsistency x r e w v c
+    → (u : EventKey) × (o ≡ Some (At u)) × IsSome (x.event_of u) × BreaksSequentialConsistency x r e w (At u) c
+event_of_write x r e w Init o c is b = absurd (let none : None ≡ Some b.write.0 = b.write.1 in cc)
+event_of_write x r e w (At u) o c is b = (u, is, some_of (x.event_of u) b.write.0 b.write.1, b)
+
+pub out_of_order_finds : (run : LoggedRun) (e : Event) (k : ℕ) (w : EventId) (c : ℕ) → ListsEachOnce run.log run.witness.order → IsEventOf (execution run) e → ReadsFrom (execution run) (key_of e) k w
+    → (r : Option EventKey) → FindsListed run.witness.order (λ v. BreaksSequentialConsistency (execution run) (key_of e) e w (At v) c) r
+    → Finds (execution run) (5 ∷ e.thread ∷ e.number ∷ k ∷ c ∷ []) (option_map (λ v. record { rule = SequentialConsistency; case = c; event = key_of e; byte = k; writer = w; other = Some (At v) }) r)
+out_of_order_finds run e k w c once there reads =
+    finds_other run once 5 e.thread e.number k c (λ v. BreaksSequentialConsistency (execution run) (key_of e) e w (At v) c)
+    (λ v. record { rule = SequentialConsistency; case = c; event = key_of e; byte = k; writer = w; other = Some (At v) })
+    (λ f u.
+    let s = consistency_says (execution run) e k w there reads f (under_case (execution run) e.thread e.number k c f u) in
+    event_of_write (execution run) (key_of e) e w s.0 f.other c s.1 (subst (λ (d : ℕ). BreaksSequentialConsistency (execution run) (key_of e) e w s.0 d) u.1.1.1.1.1.0 s.2))
+    (λ v h. ((At v, refl, (e, there, reads, h)), (refl, (refl, (refl, (refl, (refl, tt)))))))
+    (λ v. refl)
