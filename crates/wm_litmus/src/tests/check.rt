@@ -1,6 +1,6 @@
 //! The command `check`.
 
-use super::fakes::{NEVER, blank_paper, shelf_of, source_of};
+use super::fakes::{NEVER, fake_files, fake_reader, fake_writer};
 use super::modules::STORE_BUFFERING;
 use super::numeric_instructions::NUMERIC;
 use super::other_instructions::{CONTROL, MEMORY};
@@ -12,10 +12,10 @@ use std::process::Abort;
 fn checks<R: Abort + AllocGlobal>(rt: &R, rows: &[Row], status: u8) {
     for row in rows {
         let document = row.document.as_bytes();
-        let mut files = shelf_of(rt.alloc(), Some(row.module), Some(document));
-        let mut input = source_of(b"", NEVER);
-        let mut out = blank_paper(rt.alloc(), NEVER);
-        let mut err = blank_paper(rt.alloc(), NEVER);
+        let mut files = fake_files(rt.alloc(), Some(row.module), Some(document));
+        let mut input = fake_reader(b"", NEVER);
+        let mut out = fake_writer(rt.alloc(), NEVER);
+        let mut err = fake_writer(rt.alloc(), NEVER);
         let words = ["check", "module.wasm", "log.json"];
         let got = serve(rt, &words, &mut files, &mut input, &mut out, &mut err);
         assert_eq!(rt; out.bytes.as_slice(), row.line.as_bytes(), "{}", row.shows);
@@ -65,10 +65,10 @@ fn checks_input<R: Abort + AllocGlobal>(
     error: &str,
     status: u8,
 ) -> u64 {
-    let mut files = shelf_of(rt.alloc(), Some(&STORE_BUFFERING), None);
-    let mut input = source_of(LOG.as_bytes(), fails_at);
-    let mut out = blank_paper(rt.alloc(), NEVER);
-    let mut err = blank_paper(rt.alloc(), NEVER);
+    let mut files = fake_files(rt.alloc(), Some(&STORE_BUFFERING), None);
+    let mut input = fake_reader(LOG.as_bytes(), fails_at);
+    let mut out = fake_writer(rt.alloc(), NEVER);
+    let mut err = fake_writer(rt.alloc(), NEVER);
     let got = serve(rt, words, &mut files, &mut input, &mut out, &mut err);
     assert_eq!(rt; out.bytes.as_slice(), line.as_bytes());
     assert_eq!(rt; err.bytes.as_slice(), error.as_bytes());
