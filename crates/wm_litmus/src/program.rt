@@ -16,6 +16,7 @@ use crate::rules::rules_answer;
 use std::alloc::{AllocError, Global};
 use std::io;
 use std::io::{Read, Write};
+use std::thread::Threads;
 use wm_decode::MODULE_BYTES;
 use wm_logfile::MAX_DOCUMENT_BYTES;
 
@@ -97,7 +98,7 @@ fn read_document_bytes<'a, R: AllocGlobal, F: Files, I: Read>(
 }
 
 /// The answer to the words.
-fn answer_of<'a, R: AllocGlobal, F: Files, I: Read>(
+fn answer_of<'a, R: AllocGlobal + Threads + Sync, F: Files, I: Read>(
     rt: &R,
     words: &'a [&'a str],
     files: &mut F,
@@ -150,7 +151,7 @@ fn write_line<W: Write>(out: &mut W, line: &str) -> io::Result<()>
 /// Status 3, with one line on `err` and no answer: `out of memory` where memory was refused, `cannot read NAME`
 /// where `files` or a read of `input` failed, `cannot write` where a write to `out` failed. That a write to
 /// `err` failed changes no status.
-pub fn serve<R: AllocGlobal, F: Files, I: Read, O: Write, E: Write>(
+pub fn serve<R: AllocGlobal + Threads + Sync, F: Files, I: Read, O: Write, E: Write>(
     rt: &R,
     words: &[&str],
     files: &mut F,
