@@ -14,6 +14,7 @@ use crate::output::write_text;
 use crate::rules::rules_answer;
 use std::alloc::{AllocError, Global};
 use std::io::{Read, Write};
+use std::thread::Threads;
 use wm_decode::MAX_MODULE_BYTES;
 use wm_logfile::MAX_DOCUMENT_BYTES;
 
@@ -95,7 +96,7 @@ fn read_document_bytes<'a, R: AllocGlobal, F: Files, I: Read>(
 }
 
 /// The answer to the words.
-fn answer_of<'a, R: AllocGlobal, F: Files, I: Read>(
+fn answer_of<'a, R: AllocGlobal + Threads + Sync, F: Files, I: Read>(
     rt: &R,
     words: &'a [&'a str],
     files: &mut F,
@@ -138,7 +139,7 @@ fn answer_of<'a, R: AllocGlobal, F: Files, I: Read>(
 /// Status 3, with one line on `err` and no answer: `out of memory` where memory was refused, `cannot read NAME`
 /// where `files` or a read of `input` failed, `cannot write` where a write to `out` failed, which has then gained a
 /// front of the answer at most. That a write to `err` failed changes no status.
-pub fn serve<R: AllocGlobal, F: Files, I: Read, O: Write, E: Write>(
+pub fn serve<R: AllocGlobal + Threads + Sync, F: Files, I: Read, O: Write, E: Write>(
     rt: &R,
     words: &[&str],
     files: &mut F,

@@ -15,8 +15,9 @@ use fakes::{EndlessReader, NEVER, fake_files, fake_reader, fake_writer, holding_
 use std::alloc::{AllocError, Global};
 use std::process::Abort;
 use std::test::Fail;
+use std::thread::Threads;
 
-fn answers<R: Abort + AllocGlobal>(rt: &R, rows: &[Row]) {
+fn answers<R: Abort + AllocGlobal + Threads + Sync>(rt: &R, rows: &[Row]) {
     for row in rows {
         let mut files = fake_files(rt.alloc(), None, Some(row.document.as_bytes()));
         let mut input = fake_reader(b"", NEVER);
@@ -62,10 +63,10 @@ fn reads(alloc: Global, count: u32) -> Result<String, AllocError> {
 
 #[test]
 fn events_are_limited(rt: HostRuntime) -> Result<(), Fail> {
-    let most = reads(rt.alloc(), 64)?;
+    let most = reads(rt.alloc(), 16_384)?;
     let mut input = fake_reader(most.as_bytes(), NEVER);
     says(&rt, &["rules", "-"], &mut input, "allowed\n", "", 0);
-    let more = reads(rt.alloc(), 65)?;
+    let more = reads(rt.alloc(), 16_385)?;
     let mut input = fake_reader(more.as_bytes(), NEVER);
     let line = "refused shape TooManyEvents\n";
     says(&rt, &["rules", "-"], &mut input, line, "", 2);
@@ -145,7 +146,7 @@ fn an_endless_input_is_too_large(rt: HostRuntime) {
 }
 
 /// Runs the program where a write to `out` and a write to `err` fail, and says how often `out` was written.
-fn writes<R: Abort + AllocGlobal>(
+fn writes<R: Abort + AllocGlobal + Threads + Sync>(
     rt: &R,
     out_fails: u64,
     err_fails: u64,

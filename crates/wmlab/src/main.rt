@@ -10,6 +10,7 @@ use std::env::Env;
 use std::fs::Files as FileSystem;
 use std::io::{ErrorKind, Read, Write};
 use std::process::ExitCode;
+use std::thread::Threads;
 use wm_litmus::serve;
 
 /// The arguments after the program's name; none where one of them is no text, which no command is.
@@ -28,7 +29,7 @@ fn words_of<'a>(alloc: Global, texts: &'a [String]) -> Result<Vec<&'a str>, Allo
 
 /// Answers the arguments over the system's files and these streams, and returns the exit status: 3, and
 /// `out of memory` on `err`, where memory was refused for them.
-fn run<R: FileSystem + AllocGlobal, I: Read, O: Write, E: Write>(
+fn run<R: FileSystem + AllocGlobal + Threads + Sync, I: Read, O: Write, E: Write>(
     rt: &R,
     arguments: Result<Vec<String>, AllocError>,
     input: &mut I,

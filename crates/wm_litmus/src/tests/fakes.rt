@@ -6,6 +6,7 @@ use std::alloc::Global;
 use std::io;
 use std::io::{ErrorKind, Read, Write};
 use std::process::Abort;
+use std::thread::Threads;
 
 /// No read or write fails.
 pub(super) const NEVER: u64 = u64::MAX;
@@ -177,7 +178,7 @@ pub(super) fn fake_writer(alloc: Global, fails_at: u64) -> FakeWriter {
 }
 
 /// Runs the program over one file, `log.json`, and this input, and looks at its lines and its status.
-pub(super) fn says<R: Abort + AllocGlobal, I: Read>(
+pub(super) fn says<R: Abort + AllocGlobal + Threads + Sync, I: Read>(
     rt: &R,
     words: &[&str],
     input: &mut I,
