@@ -1,7 +1,6 @@
 //! The check of a log against a module.
 ghost use Rattle.std.specs.Prelude.{◌≡◌, ◌≤◌, IfErr, IfOk};
 ghost use Rattle.wm_event.specs.Shape.{event_count};
-ghost use Rattle.wm_event.specs.declared.TheConstants.{MAX_EVENTS};
 ghost use Rattle.wm_event.specs.Shape.{IsWellShaped};
 ghost use Rattle.wm_logfile.specs.DocumentBytes.{IsDocumentOf};
 ghost use Rattle.wm_check.specs.Run.{IsModuleOf};
@@ -57,7 +56,7 @@ fn read_log(alloc: Global, bytes: &[u8]) -> Result<(Log, Witness), Unread>
 
 /// How many events the threads have.
 fn count_events(threads: &[ThreadLog]) -> usize
-    requires { event_count threads.now ≤ MAX_EVENTS }
+    requires { event_count threads.now ≤ 16384 }
     ensures { result ≡ event_count threads.now }
 {
     let mut events = 0usize;

@@ -2,7 +2,7 @@
 #![tactic(auto)]
 
 /// How many events a log may have.
-pub const MAX_EVENTS: usize = 64;
+pub const MAX_EVENTS: usize = 16_384;
 
 mod candidate;
 mod draft;
