@@ -231,8 +231,8 @@ fits_loaded threads initial s t op b m n e vs ws f at w p =
       ]);
     }
 
-pub fits_stored : (threads : ℕ) (initial : List ℕ) (s : List Step) (t : ℕ) (op : Op) (b : Buffered) (m n : State) (e : Event) (ws : List EventId) → Fits threads initial s m → is_atomic e ≡ false → writes e ≡ true → HasRoomFor e m.cells → DoesStoreBy t op b m e n → Fits threads initial (Made e ws ∷ s) n
-fits_stored threads initial s t op b m n e ws f at w room p =
+pub fits_stored : (threads : ℕ) (initial : List ℕ) (s : List Step) (t : ℕ) (op : Op) (b : Buffered) (m n : State) (e : Event) (vs ws : List EventId) → Fits threads initial s m → is_atomic e ≡ false → writes e ≡ true → HasRoomFor e m.cells → DoesStoreBy t op b m e vs n → Fits threads initial (Made e ws ∷ s) n
+fits_stored threads initial s t op b m n e vs ws f at w room p =
     let et : e.thread ≡ t = ap (λ (x : Event). x.thread) p.event in
     let new : Buffered = record { stores = b.stores ++ e ∷ []; accesses = b.accesses + 1 } in
     record {

@@ -90,7 +90,7 @@ read_fits : (initial : List ℕ) (s : List Step) (e : Event) (ws : List EventId)
 read_fits initial s e ws true eq bytes g = rw (g.value eq) (value_below (seen initial (visible s e.thread)) (λ a. seen_below initial (visible s e.thread) a bytes) e.address (bytes_of e.width))
 read_fits initial s e ws false eq bytes g = rw (g.unread eq) (pow_pos (8 * bytes_of e.width))
 
-length_writers : (initial : List ℕ) (s : List Step) (e : Event) (b : Bool) → reads e ≡ b → length (writers_after initial s e) ≡ read_width e
+pub length_writers : (initial : List ℕ) (s : List Step) (e : Event) (b : Bool) → reads e ≡ b → length (writers_after initial s e) ≡ read_width e
 length_writers initial s e true eq = rw eq (length-writers_at (seen initial (visible s e.thread)) e.address (bytes_of e.width))
 length_writers initial s e false eq = rw eq refl
 

@@ -1,12 +1,13 @@
 -- What a memory shows, and when it fits the steps made so far.
-use Rattle.std.specs.Prelude.{◌≡◌, ℕ, ◌+◌, ◌<◌, ◌≤◌, Bool, true, false, List, [], ◌∷◌, ◌++◌, length, reverse, take, drop, slice_get, slice_set, Some, MatchBool, ◌&&◌, ◌==◌, if◌then◌else◌, Result, Ok, Err}
+use Rattle.std.specs.Prelude.{◌≡◌, ℕ, ◌+◌, ◌^◌, ◌<◌, ◌≤◌, Bool, true, false, List, [], ◌∷◌, ◌++◌, length, reverse, take, drop, slice_get, slice_set, Some, MatchBool, ◌&&◌, ◌==◌, if◌then◌else◌, Result, Ok, Err}
 use Rattle.wm_access.specs.declared.MemoryOrder.{MemoryOrder}
 use Rattle.wm_access.specs.declared.MemoryOrder.TheVariants.{Unordered, SeqCst}
 use Rattle.wm_event.specs.declared.op.OpKind.{OpKind}
 use Rattle.wm_event.specs.declared.op.OpKind.TheVariants.{Read, Write, Rmw, CmpXchg}
-use Rattle.wm_event.specs.Shape.{read_width}
-use Rattle.wm_memory.specs.declared.memory.MemoryFault.{MemoryFault}
-use Rattle.wm_memory.specs.declared.memory.MemoryFault.TheVariants.{NoThread, OutOfBounds, OutOfMemory}
+use Rattle.wm_event.specs.declared.op.Reply.{Reply}
+use Rattle.wm_event.specs.Event.{reads}
+use Rattle.wm_memory.specs.declared.memory.MemFault.{MemFault}
+use Rattle.wm_memory.specs.declared.memory.MemFault.TheVariants.{NoThread, OutOfBounds, OutOfMemory}
 use Rattle.wm_access.specs.AccessWidth.{bytes_of}
 use Rattle.wm_event.specs.declared.event.Event.{Event}
 use Rattle.wm_event.specs.declared.event.EventId.{EventId}
@@ -14,7 +15,9 @@ use Rattle.wm_event.specs.declared.op.OpFields.{OpFields as Op}
 use Rattle.wm_event.specs.Op.{event_made}
 use Rattle.wm_memory.specs.Cells.{covers}
 use Rattle.wm_memory.specs.Table.{CellTable, cell_at, HasCell, Puts, PutsAll, shown}
-use Rattle.wm_memory.specs.Visibility.{Step, Made, Drained, Passes, In, published, waiting, accesses, seen, value_at, writers_at, made_after, writers_after}
+use Rattle.wm_memory.specs.Visibility.{Step, Made, Drained, Passes, In, published, waiting, accesses, seen, value_at, writers_at, made_after, writers_after, step_of}
+use Rattle.wm_memory.specs.declared.item.Item.TheVariants.{Access}
+use Rattle.wm_memory.specs.Reply.{padded, reply_after}
 
 -- both write some byte
 abbrev pub Overlaps : Event → Event → Type 0
@@ -81,7 +84,7 @@ pub record DoesAtomicBy (t : ℕ) (op : Op) (b : Buffered) (mid : CellTable) (m 
   pub was : slice_get m.buffers t ≡ Some b
   pub flushed : PutsAll (reverse b.stores) m.cells mid
   pub event : e ≡ event_made (record { thread = t; number = b.accesses }) op (value_at (shown mid []) op.address (bytes_of op.width))
-  pub writers : take (bytes_of op.width) ws ≡ writers_at (shown mid []) op.address (bytes_of op.width)
+  pub writers : ws ≡ (if reads e then padded (writers_at (shown mid []) op.address (bytes_of op.width)) else padded [])
   pub cells : Puts e mid n.cells
   pub buffers : n.buffers ≡ slice_set m.buffers t (record { stores = []; accesses = b.accesses + 1 })
 
@@ -92,7 +95,7 @@ DoesAtomic t op m e ws n = (b : Buffered) × ((mid : CellTable) × DoesAtomicBy 
 pub record DoesLoadBy (t : ℕ) (op : Op) (b : Buffered) (m : State) (e : Event) (ws : List EventId) (n : State) : Type 0 where
   pub was : slice_get m.buffers t ≡ Some b
   pub event : e ≡ event_made (record { thread = t; number = b.accesses }) op (value_at (shown m.cells (reverse b.stores)) op.address (bytes_of op.width))
-  pub writers : take (bytes_of op.width) ws ≡ writers_at (shown m.cells (reverse b.stores)) op.address (bytes_of op.width)
+  pub writers : ws ≡ (if reads e then padded (writers_at (shown m.cells (reverse b.stores)) op.address (bytes_of op.width)) else padded [])
   pub cells : n.cells ≡ m.cells
   pub buffers : n.buffers ≡ slice_set m.buffers t (record { stores = b.stores; accesses = b.accesses + 1 })
 
@@ -100,14 +103,15 @@ abbrev pub DoesLoad : ℕ → Op → State → Event → List EventId → State 
 DoesLoad t op m e ws n = (b : Buffered) × DoesLoadBy t op b m e ws n
 
 -- a plain store of t, which waits
-pub record DoesStoreBy (t : ℕ) (op : Op) (b : Buffered) (m : State) (e : Event) (n : State) : Type 0 where
+pub record DoesStoreBy (t : ℕ) (op : Op) (b : Buffered) (m : State) (e : Event) (ws : List EventId) (n : State) : Type 0 where
   pub was : slice_get m.buffers t ≡ Some b
   pub event : e ≡ event_made (record { thread = t; number = b.accesses }) op 0
+  pub writers : ws ≡ padded []
   pub cells : n.cells ≡ m.cells
   pub buffers : n.buffers ≡ slice_set m.buffers t (record { stores = b.stores ++ e ∷ []; accesses = b.accesses + 1 })
 
-abbrev pub DoesStore : ℕ → Op → State → Event → State → Type 0
-DoesStore t op m e n = (b : Buffered) × DoesStoreBy t op b m e n
+abbrev pub DoesStore : ℕ → Op → State → Event → List EventId → State → Type 0
+DoesStore t op m e ws n = (b : Buffered) × DoesStoreBy t op b m e ws n
 
 -- a plain store waits in its buffer
 abbrev pub plain_store : MemoryOrder → OpKind → Bool
@@ -117,22 +121,43 @@ plain_store Unordered (Write v) = true
 plain_store Unordered (Rmw operator v) = false
 plain_store Unordered (CmpXchg expected new) = false
 
--- the steps that an access of t follows: where it is a plain store and as many wait as may, the oldest one leaves first
+-- the oldest store leaves just before the access: it is a plain store, and as many wait as may
+abbrev pub drains_first : List Step → ℕ → Op → Bool
+drains_first s t op = plain_store op.order op.kind && (length (waiting s t) == 64)
+
+-- the steps that an access of t follows
 abbrev pub ready : List Step → ℕ → Op → List Step
-ready s t op = if plain_store op.order op.kind && (length (waiting s t) == 64) then Drained t 0 ∷ s else s
+ready s t op = if drains_first s t op then Drained t 0 ∷ s else s
 
 -- the event is that of the access after s, the writers are those of the bytes that it read, and the memory fits the steps with it
 pub record AccessFits (threads : ℕ) (initial : List ℕ) (s : List Step) (t : ℕ) (op : Op) (e : Event) (ws : List EventId) (n : State) : Type 0 where
   pub event : e ≡ made_after initial s t op
-  pub writers : take (read_width e) ws ≡ writers_after initial s e
+  pub writers : ws ≡ padded (writers_after initial s e)
   pub fits : Fits threads initial (Made e (writers_after initial s e) ∷ s) n
+
+-- the reply is the answer to the access after s, and the memory fits the steps with it
+pub record Answered (threads : ℕ) (initial : List ℕ) (s : List Step) (t : ℕ) (op : Op) (given : Reply) (n : State) : Type 0 where
+  pub reply : given ≡ reply_after initial s t op
+  pub fits : Fits threads initial (step_of initial s (Access t op) ∷ s) n
+
+-- whatever steps the memory fitted, the access follows them
+abbrev pub Answers : ℕ → Op → State → Reply → State → Type 0
+Answers t op m reply n = (threads : ℕ) (initial : List ℕ) (s : List Step) → Fits threads initial s m → Answered threads initial (ready s t op) t op reply n
+
+-- whatever steps the memory fitted, a drain comes first exactly where these make it so
+abbrev pub DrainsFirst : ℕ → Op → State → Bool → Type 0
+DrainsFirst t op m first = (threads : ℕ) (initial : List ℕ) (s : List Step) → Fits threads initial s m → first ≡ drains_first s t op
+
+-- there is a number for one more access of t
+abbrev pub HasNumber : ℕ → State → Type 0
+HasNumber t m = (b : Buffered) → slice_get m.buffers t ≡ Some b → b.accesses + 1 < 2 ^ 32
 
 -- whatever steps the memory fitted
 abbrev pub Fitting : ℕ → Op → State → Event → List EventId → State → Type 0
 Fitting t op m e ws n = (threads : ℕ) (initial : List ℕ) (s : List Step) → Fits threads initial s m → AccessFits threads initial (ready s t op) t op e ws n
 
 -- NoThread exactly where there is no such thread, then OutOfBounds exactly where there is no such range
-abbrev pub FaultIs : {D : Type 0} → Result D MemoryFault → Type 0 → Type 0 → Type 0
+abbrev pub FaultIs : {D : Type 0} → Result D MemFault → Type 0 → Type 0 → Type 0
 FaultIs (Ok d) none out = (none → ⊥) × (out → ⊥)
 FaultIs (Err NoThread) none out = none
 FaultIs (Err OutOfBounds) none out = (none → ⊥) × out
