@@ -1,5 +1,5 @@
 -- An access keeps the fit.
-use Rattle.std.proofs.Common.{◌≡◌, ◌≢◌, ℕ, Bool, true, false, List, [], ◌∷◌, ◌+◌, ◌<◌, ◌≤◌, inl, inr, ◌==◌, ◌&&◌, length, reverse, take, slice_get, Some, refl, ap, sym, ◌∙◌, subst, arith, if◌then◌else◌}
+use Rattle.std.proofs.Common.{◌≡◌, ◌≢◌, ℕ, Bool, true, false, List, [], ◌∷◌, ◌+◌, ◌<◌, inl, inr, ◌==◌, ◌&&◌, length, reverse, slice_get, Some, refl, ap, sym, ◌∙◌, subst, arith, if◌then◌else◌}
 use Rattle.std.proofs.lemmas.Bool.{eq-eqb, ne_eqb, false≢true}
 use Rattle.std.proofs.lemmas.List.{length-reverse}
 use Rattle.wm_access.specs.declared.AccessWidth.{AccessWidth}

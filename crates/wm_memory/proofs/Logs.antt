@@ -1,5 +1,5 @@
 -- The events of a legal history are those of a log.
-use Rattle.std.proofs.Common.{◌≡◌, ℕ, zero, suc, Bool, true, false, List, [], ◌∷◌, ◌++◌, ◌+◌, ◌<◌, ◌==◌, inl, inr, length, map, slice_get, Some, None, refl, ap, sym, ◌∙◌, subst, arith, if◌then◌else◌}
+use Rattle.std.proofs.Common.{◌≡◌, ℕ, suc, Bool, true, false, List, [], ◌∷◌, ◌++◌, ◌+◌, ◌<◌, ◌==◌, length, map, slice_get, Some, refl, sym, ◌∙◌, subst, arith, if◌then◌else◌}
 use Rattle.std.proofs.lemmas.Bool.{eqb-true}
 use Rattle.std.proofs.lemmas.Option.{slice_get_within}
 use Rattle.wm_access.specs.declared.AccessWidth.{AccessWidth}
@@ -9,11 +9,10 @@ use Rattle.wm_event.specs.declared.event.Event.{Event}
 use Rattle.wm_event.specs.declared.event.EventId.{EventId}
 use Rattle.wm_event.specs.declared.event.EventKind.TheVariants as kind
 use Rattle.wm_event.specs.declared.log.ThreadLog.{ThreadLog}
-use Rattle.wm_event.specs.declared.op.OpFields.{OpFields as Op}
 use Rattle.wm_event.specs.declared.op.OpKind.{OpKind}
 use Rattle.wm_event.specs.declared.op.OpKind.TheVariants.{Read, Write, Rmw, CmpXchg}
-use Rattle.wm_event.specs.Log.{UsesFields, IsEvent, AreEvents, AreThreads, IsLog}
-use Rattle.wm_event.specs.Op.{KindFits, IsOp, made_kind, made_read, made_written}
+use Rattle.wm_event.specs.Log.{UsesFields, IsEvent, AreEvents, AreThreads}
+use Rattle.wm_event.specs.Op.{KindFits, made_kind, made_read, made_written}
 use Rattle.wm_memory.specs.declared.item.Item.{Item}
 use Rattle.wm_memory.specs.declared.item.Item.TheVariants.{Access, Drain, DrainAt}
 use Rattle.wm_memory.specs.Visibility.{Step, Made, accesses, seen, visible, value_at, made_after, writers_after, steps}

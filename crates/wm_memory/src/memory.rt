@@ -1,7 +1,8 @@
 //! Memory with a store buffer for each thread.
-ghost use Rattle.std.specs.Prelude.{◌≡◌, ◌^◌, ℕ, List, ◌+◌, ◌<◌, ◌≤◌, length, slice_get, Some, None, MatchBool, MatchResult, IfOk, [], if◌then◌else◌};
+ghost use Rattle.std.specs.Prelude.{◌≡◌, ◌^◌, ℕ, List, ◌+◌, ◌<◌, ◌≤◌, length, slice_get, take, Some, None, MatchBool, MatchResult, IfOk, [], if◌then◌else◌};
 ghost use Rattle.wm_access.specs.AccessWidth.{bytes_of};
 ghost use Rattle.wm_event.specs.Event.{reads};
+ghost use Rattle.wm_event.specs.Shape.{read_width};
 ghost use Rattle.wm_memory.specs.Memory.{Answers, Buffered, CannotLeave, DoesAtomic, DoesLoad, DoesStore, Drains, DrainsFirst, FaultIs, Fits, Fitting, HasNumber, IsPending, MayLeave, PublishesAt, Waits, plain_store};
 ghost use Rattle.wm_memory.specs.Reply.{padded, reply_of};
 ghost use Rattle.wm_memory.specs.Texts.{mem_fault_text};
@@ -77,6 +78,24 @@ impl Made {
             event,
             writers: [EventId::Init; 8],
         }
+    }
+
+    /// The writers of the bytes that it read, the lowest first.
+    pub fn writers_read(&self) -> &[EventId]
+        ensures { result.now ≡ take (read_width self.now.event) self.now.writers }
+    {
+        &self.writers[..self.bytes_read()]
+    }
+
+    /// How many bytes it read.
+    fn bytes_read(&self) -> usize
+        ensures width { result ≡ read_width self.now.event }
+        ensures few { result ≤ 8 }
+    {
+        if !self.event.reads() {
+            return 0;
+        }
+        self.event.width.bytes() as usize
     }
 
     /// What the thread is answered.
