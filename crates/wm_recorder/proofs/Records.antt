@@ -1,8 +1,8 @@
 -- A thread's record among those of the others.
-use Rattle.std.proofs.Common.{◌≡◌, ℕ, ◌<◌, List, length, map, get_or, slice_get, set, Option, Some, option_map, refl, ap, sym, ◌∙◌, subst}
+use Rattle.std.proofs.Common.{◌≡◌, ℕ, ◌<◌, ◌≤◌, List, [], length, map, get_or, slice_get, set, Option, None, Some, option_map, unwrap_or, refl, ap, sym, ◌∙◌, subst}
 use Rattle.std.proofs.lemmas.List.{map-set}
 use Rattle.std.proofs.Math.Seq.{map-set_same}
-use Rattle.std.proofs.lemmas.Option.{slice_get_read, slice_get-map}
+use Rattle.std.proofs.lemmas.Option.{slice_get_read, slice_get_past, slice_get-map}
 use Rattle.wm_event.specs.declared.event.Event.{Event}
 use Rattle.wm_event.specs.declared.event.EventId.{EventId}
 use Rattle.wm_memory.proofs.Chunks.{slice_get-set_same}
@@ -29,3 +29,8 @@ room_there xs t new lt room r h = subst HasThreadRoom (let q : Some new ≡ Some
 
 pub get_mapped : {X : Type 0} (f : ThreadRecord → X) (xs : List ThreadRecord) (t : ℕ) (r : ThreadRecord) → slice_get xs t ≡ Some r → slice_get (map f xs) t ≡ Some (f r)
 get_mapped f xs t r h = slice_get-map f xs t ∙ ap (λ (o : Option ThreadRecord). option_map f o) h
+
+pub past_mapped : {X : Type 0} (f : ThreadRecord → List X) (xs ys : List ThreadRecord) (t : ℕ) → ys ≡ xs → length ys ≤ t → [] ≡ unwrap_or (slice_get (map f xs) t) []
+past_mapped {X = X} f xs ys t same past =
+    let none : slice_get xs t ≡ None = slice_get_past xs t (subst (λ (l : List ThreadRecord). length l ≤ t) same past) in
+    sym (ap (λ (o : Option (List X)). unwrap_or o []) (slice_get-map f xs t ∙ ap (λ (o : Option ThreadRecord). option_map f o) none))

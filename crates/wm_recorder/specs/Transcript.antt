@@ -6,6 +6,7 @@ use Rattle.wm_event.specs.declared.op.OpFields.{OpFields as Op}
 use Rattle.wm_event.specs.Event.{key_of}
 use Rattle.wm_memory.specs.declared.item.Item.{Item}
 use Rattle.wm_memory.specs.declared.item.Item.TheVariants.{Access, Drain}
+use Rattle.wm_recorder.specs.declared.transcript.Parts.{Parts}
 use Rattle.wm_recorder.specs.declared.transcript.ThreadRecord.{ThreadRecord}
 use Rattle.wm_recorder.specs.declared.transcript.Transcript.{Transcript}
 
@@ -39,6 +40,13 @@ pub record SameItems (old new : Transcript) : Type 0 where
 pub record HasThreadRoom (r : ThreadRecord) : Type 0 where
   pub events : length r.events.items < r.events.capacity
   pub writers : length r.writers.items < r.writers.capacity
+
+-- the lists are those of the transcript
+pub record IsPartsOf (x : Transcript) (parts : Parts) : Type 0 where
+  pub history : parts.history ≡ x.history.items
+  pub events : parts.events ≡ thread_events x.threads.items
+  pub writers : parts.writers ≡ thread_writers x.threads.items
+  pub order : parts.order ≡ x.order.items
 
 -- an access of t fits, with a drain before it
 pub record HasRoom (t : ℕ) (x : Transcript) : Type 0 where

@@ -1,6 +1,6 @@
 //! What a history records, in lists whose room is taken before a step is made.
 ghost use Rattle.std.specs.Prelude.{◌≡◌, ◌+◌, ◌<◌, ◌≤◌, ◌++◌, ◌∷◌, [], length, slice_get, slice_set, IfOk, OnOk};
-ghost use Rattle.wm_recorder.specs.Transcript.{AddsAccess, HasRoom, HasThreadRoom, IsBlank, SameItems, SameThread, access_items};
+ghost use Rattle.wm_recorder.specs.Transcript.{AddsAccess, HasRoom, HasThreadRoom, IsBlank, IsPartsOf, SameItems, SameThread, access_items};
 
 use std::alloc::{AllocError, Global};
 use wm_event::{Event, EventId, EventKey, Op};
@@ -35,6 +35,19 @@ impl ThreadRecord {
     }
 }
 
+/// What a recorder recorded.
+#[derive(Drop)]
+pub struct Parts {
+    /// The steps, the oldest first.
+    pub history: List<Item>,
+    /// The events of each thread.
+    pub events: List<List<Event>>,
+    /// For each thread and each of its events the writers of the bytes that it read, the lowest first.
+    pub writers: List<List<List<EventId>>>,
+    /// The events in the order in which they were made.
+    pub order: List<EventKey>,
+}
+
 /// The steps so far, the oldest first, what each thread recorded, and the order of the accesses.
 #[derive(Drop)]
 pub struct Transcript {
@@ -61,6 +74,33 @@ impl Transcript {
             history: Growing::new(alloc),
             threads: records,
             order: Growing::new(alloc),
+        })
+    }
+
+    /// The lists, each thread's beside one another.
+    pub fn into_parts(self, alloc: Global) -> Result<Parts, AllocError>
+        ensures { IfOk result (λ parts. IsPartsOf self parts) }
+    {
+        let Transcript {
+            history,
+            threads,
+            order,
+        } = self;
+        let mut events = Vec::with_capacity(alloc, threads.len())?;
+        let mut writers = Vec::with_capacity(alloc, threads.len())?;
+        for record in threads {
+            let ThreadRecord {
+                events: own_events,
+                writers: own_writers,
+            } = record;
+            events.push(own_events.into_list())?;
+            writers.push(own_writers.into_list())?;
+        }
+        Ok(Parts {
+            history: history.into_list(),
+            events: List::from_vec(events),
+            writers: List::from_vec(writers),
+            order: order.into_list(),
         })
     }
 

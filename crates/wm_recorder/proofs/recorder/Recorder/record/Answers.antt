@@ -4,7 +4,7 @@ use Rattle.wm_event.specs.declared.event.EventId.{EventId}
 use Rattle.wm_event.specs.Shape.{read_width}
 use Rattle.wm_list.specs.Growing.{Grown}
 use Rattle.wm_recorder.specs.Recorder.{Recording, IsRecording, StepsAccess, recording, initial_of, steps_of, threads_of}
-use Rattle.wm_recorder.proofs.Recording.{same_recording, finds, recording_access, steps_access, has_number, lists_there, room_for_writers}
+use Rattle.wm_recorder.proofs.Recording.{records_valid, roomy_valid, same_recording, finds, recording_access, steps_access, has_number, lists_there, room_for_writers}
 use Rattle.wm_recorder.proofs.recorder.Recorder.record.Goals as goal
 
 pub reserve-requires : goal.reserve-requires
@@ -34,8 +34,20 @@ invariant_of-self-2 c =
     (sym (c.drains_first-drained.ensures (length c.self.inside.memory.buffers) c.self.inside.memory.cells.initial (steps_of (recording c.self.inside.memory c.reserve.new.self)) i.fits))
     c.in-Ok.ensures.ok taken c.add_access.ensures
 
-pub returns : goal.returns
-returns c =
+pub returns-clause-valid : goal.returns-clause-valid
+returns-clause-valid c = records_valid (recording c.make.new.self c.add_access.new.self) (invariant_of-self-2 c)
+
+pub returns-in_err-reserve-clause-valid : goal.returns-in_err-reserve-clause-valid
+returns-in_err-reserve-clause-valid c = roomy_valid c.self.inside.memory c.self.inside.transcript c.reserve.new.self c.reserve.ensures.same c.self.invariant
+
+pub returns-in_err-writers-clause-valid : goal.returns-in_err-writers-clause-valid
+returns-in_err-writers-clause-valid c = roomy_valid c.self.inside.memory c.self.inside.transcript c.reserve.new.self c.reserve.ensures.same c.self.invariant
+
+pub returns-in-Err-clause-valid : goal.returns-in-Err-clause-valid
+returns-in-Err-clause-valid c = rw (c.in-Err.ensures.ok) (roomy_valid c.self.inside.memory c.self.inside.transcript c.reserve.new.self c.reserve.ensures.same c.self.invariant)
+
+pub returns-clause-ok : goal.returns-clause-ok
+returns-clause-ok c =
     let same = same_recording c.self.inside.memory c.self.inside.transcript c.reserve.new.self c.in_ok-reserve.ensures.same in
     let i : IsRecording (recording c.self.inside.memory c.reserve.new.self) = subst (λ (r : Recording). IsRecording r) (sym same) c.self.invariant in
     let steps = steps_access c.self.inside.memory c.make.new.self c.reserve.new.self c.add_access.new.self c.args.thread c.args.op c.in-Ok.made.event c.in-Ok.made.writers c.into_list.result c.drains_first-drained.result c.reply.result i
