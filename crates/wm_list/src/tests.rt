@@ -27,3 +27,19 @@ fn a_text_is_its_string(rt: HostRuntime) -> Result<(), Fail> {
     assert_eq!(rt; text.into_string().as_str(), "name");
     Ok(())
 }
+
+#[test]
+fn a_growing_list_takes_its_room_first(rt: HostRuntime) -> Result<(), Fail> {
+    let mut list = Growing::with_capacity(rt.alloc(), 2)?;
+    list.extend_within(&[7u64, 8]);
+    assert_eq!(rt; list.len(), 2);
+    list.reserve(1)?;
+    list.push_within(9);
+    assert_eq!(rt; list.as_slice(), [7, 8, 9].as_slice());
+    assert_eq!(rt; list.into_list().as_slice(), [7, 8, 9].as_slice());
+    let mut empty = Growing::new(rt.alloc());
+    empty.reserve(1)?;
+    empty.push_within(5u64);
+    assert_eq!(rt; empty.as_slice(), [5].as_slice());
+    Ok(())
+}

@@ -1,0 +1,32 @@
+//! Why an access isn't made.
+ghost use Rattle.std.specs.Prelude.{Some};
+ghost use Rattle.wm_recorder.specs.Texts.{access_fault_text};
+
+use std::fmt;
+use thiserror::Error;
+
+/// Why a recorder doesn't make an access.
+#[derive(Clone, Copy, Debug, PartialEq, Eq, Error)]
+pub enum AccessFault {
+    /// There is no such thread.
+    NoThread,
+    /// The range ends past the memory.
+    OutOfBounds,
+    /// Memory was refused.
+    OutOfMemory,
+    /// [`wm_event::MAX_EVENTS`] events are held.
+    Full,
+}
+
+impl fmt::Display for AccessFault {
+    ghost output = { λ fault. Some (access_fault_text fault) };
+
+    fn fmt<W: fmt::Write>(&self, f: &mut fmt::Formatter<W>) -> fmt::Result {
+        match self {
+            AccessFault::NoThread => write!(f, "NoThread"),
+            AccessFault::OutOfBounds => write!(f, "OutOfBounds"),
+            AccessFault::OutOfMemory => write!(f, "OutOfMemory"),
+            AccessFault::Full => write!(f, "Full"),
+        }
+    }
+}
