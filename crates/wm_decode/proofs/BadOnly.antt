@@ -2,7 +2,7 @@
 use Rattle.std.proofs.Common.{◌≡◌, ℕ, ◌-◌, ◌+◌, ◌*◌, ◌/◌, ◌^◌, Bool, true, false, cond, ltb, List, [], ◌∷◌, length, take, drop, Result, Ok, Err, refl, sym, ◌∙◌}
 use Rattle.std.specs.Str.{is_utf8}
 use Rattle.wm_decode.specs.declared.fault.ItemFault.{ItemFault}
-use Rattle.wm_decode.specs.declared.fault.ItemFault.TheVariants.{OutOfMemory, At}
+use Rattle.wm_decode.specs.declared.fault.ItemFault.TheVariants.{OutOfMemory, WithLeft}
 use Rattle.wm_decode.specs.Stop.{Stop, bad}
 use Rattle.wm_decode.specs.Answers.{Fails, IsNoLimit, stop_of}
 use Rattle.wm_decode.specs.Reading.{◌>>=◌, unsigned_at}
@@ -44,4 +44,4 @@ failed s (Err t) h e = let k : t ≡ s = cc in sym k ∙ h
 
 pub name_fails : (e : ItemFault) (bytes : List ℕ) → Fails e (name_at bytes) → IsNoLimit e
 name_fails OutOfMemory bytes h = tt
-name_fails (At kind left) bytes h = failed (stop_of kind) (name_at bytes) (name_bad_only bytes) h
+name_fails (WithLeft kind left) bytes h = failed (stop_of kind) (name_at bytes) (name_bad_only bytes) h

@@ -2,7 +2,7 @@
 use Rattle.std.proofs.Common.{◌≡◌, ℕ, zero, suc, ◌≤◌, ◌<◌, cond, eqb, List, [], ◌∷◌, ◌++◌, length, get_or, Result, Ok, Err, refl, sym, ap, subst, ◌∙◌, arith, length-append}
 use Rattle.std.proofs.lemmas.Bool.{ne_eqb}
 use Rattle.wm_decode.specs.declared.fault.ItemFault.{ItemFault}
-use Rattle.wm_decode.specs.declared.fault.ItemFault.TheVariants.{OutOfMemory, At}
+use Rattle.wm_decode.specs.declared.fault.ItemFault.TheVariants.{OutOfMemory, WithLeft}
 use Rattle.wm_decode.specs.Stop.{Stop, bad}
 use Rattle.wm_decode.specs.Answers.{Fails, stop_of}
 use Rattle.wm_decode.specs.Numbers.{IsBytes}
@@ -78,4 +78,4 @@ module _ (rest bytes : List ℕ) (s : Skipped rest bytes) (long : 0 < length res
 
   pub fails : (e : ItemFault) → Fails e (sized_at custom_at (tail_of rest)) → Fails e (customs_in bytes)
   fails OutOfMemory h = tt
-  fails (At kind left) h = let one : customs_in rest ≡ Err (stop_of kind) = unfolds ∙ rw h refl in sym s.same ∙ one
+  fails (WithLeft kind left) h = let one : customs_in rest ≡ Err (stop_of kind) = unfolds ∙ rw h refl in sym s.same ∙ one

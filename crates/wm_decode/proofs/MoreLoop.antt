@@ -5,7 +5,7 @@ use Rattle.wm_ast.specs.declared.types.ValType.{ValType}
 use Rattle.wm_ast.specs.declared.types.FuncType.{FuncType}
 use Rattle.wm_ast.specs.declared.module.Func.{Func}
 use Rattle.wm_decode.specs.declared.fault.ItemFault.{ItemFault}
-use Rattle.wm_decode.specs.declared.fault.ItemFault.TheVariants.{OutOfMemory, At}
+use Rattle.wm_decode.specs.declared.fault.ItemFault.TheVariants.{OutOfMemory, WithLeft}
 use Rattle.wm_decode.specs.Bounds.{Bounds}
 use Rattle.wm_decode.specs.Stop.{Stop}
 use Rattle.wm_decode.specs.Answers.{Fails, stop_of}
@@ -27,7 +27,7 @@ module _ {S : Type 0} (step : S → List ℕ → Result (S × List ℕ) Stop) wh
       → more_at step (count - i) state bytes ≡ total → Fails e total
   unfolding more_at
   fails OutOfMemory count i state bytes total lt h so_far = tt
-  fails (At kind left) count i state bytes total lt h so_far =
+  fails (WithLeft kind left) count i state bytes total lt h so_far =
       let k : count - i ≡ suc (count - (i + 1)) = omega arith in
       let one : more_at step (count - i) state bytes ≡ Err (stop_of kind) = rw (k, h) refl in
       sym so_far ∙ one
@@ -47,7 +47,7 @@ stepped read make x after h = rw h refl
 pub step_fails : {X S : Type 0} (e : ItemFault) (read : Result (X × List ℕ) Stop) (make : X → S) → Fails e read
     → Fails e (read >>= λ e. let k : Result (S × List ℕ) Stop = Ok (make e.0, e.1) in k)
 step_fails OutOfMemory read make h = tt
-step_fails (At kind left) read make h = rw h refl
+step_fails (WithLeft kind left) read make h = rw h refl
 
 -- one more local
 pub one_more_local : (n : ℕ) (ty : ValType) → locals_of n ty ++ ty ∷ [] ≡ locals_of (n + 1) ty
@@ -71,7 +71,7 @@ module _ (bounds : Bounds) (types : List FuncType) where
       → Fails e (sized_at (body_at bounds types (get_or indices i 0)) bytes) → more_functions_at bounds types (drop i indices) earlier bytes ≡ total → Fails e total
   unfolding more_functions_at
   functions_fail OutOfMemory indices i earlier bytes total lt h so_far = tt
-  functions_fail (At kind left) indices i earlier bytes total lt h so_far =
+  functions_fail (WithLeft kind left) indices i earlier bytes total lt h so_far =
       let one : more_functions_at bounds types (drop i indices) earlier bytes ≡ Err (stop_of kind) =
       ap (λ (l : List ℕ). more_functions_at bounds types l earlier bytes) (front_is indices i lt) ∙ rw h refl in
       sym so_far ∙ one

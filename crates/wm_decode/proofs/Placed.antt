@@ -7,7 +7,7 @@ use Rattle.std.proofs.lemmas.Bool.{ne_eqb}
 use Rattle.wm_ast.specs.declared.instr.Instr.{Instr}
 use Rattle.wm_ast.specs.declared.types.ValType.{ValType}
 use Rattle.wm_decode.specs.declared.fault.ItemFault.{ItemFault}
-use Rattle.wm_decode.specs.declared.fault.ItemFault.TheVariants.{OutOfMemory, At}
+use Rattle.wm_decode.specs.declared.fault.ItemFault.TheVariants.{OutOfMemory, WithLeft}
 use Rattle.wm_decode.specs.Answers.{Fails, stop_of}
 use Rattle.wm_decode.specs.ReadingInstructions.{Body, instrs_in, closed_in, opened_at, if_with}
 
@@ -33,7 +33,7 @@ pub else_fails : (e : ItemFault) (room : ℕ) (old new : List (List Instr)) (byt
     → instrs_in (room - 1) (length old + 1) mid ≡ Ok b → b.closer ≡ closer → b.rest ≡ rest → (closer ≡ 0x0B → ⊥) → Fails e (closed_in (room - 1) (length new + 1) rest) → Fails e (if_with instrs_in room (length old) bytes)
 unfolding if_with
 else_fails OutOfMemory room old new bytes mid rest ty b closer opened new-is read closer-is rest-is other h = tt
-else_fails (At kind left) room old new bytes mid rest ty b closer opened new-is read closer-is rest-is other h =
+else_fails (WithLeft kind left) room old new bytes mid rest ty b closer opened new-is read closer-is rest-is other h =
     let len : length new + 1 ≡ length old + 1 + length b.nested + 1 = omega (arith, ap length new-is, length-append old (b.instrs ∷ b.nested)) in
     let h2 : closed_in (room - 1) (length old + 1 + length b.nested + 1) b.rest ≡ Err (stop_of kind) =
     ap (λ (n : ℕ). closed_in (room - 1) n b.rest) (sym len) ∙ ap (closed_in (room - 1) (length new + 1)) rest-is ∙ h in

@@ -5,7 +5,7 @@ use Rattle.std.proofs.lemmas.List.{append-nil}
 use Rattle.std.proofs.Math.Seq.{take-length}
 use Rattle.wm_ast.specs.declared.instr.Instr.{Instr}
 use Rattle.wm_decode.specs.declared.fault.ItemFault.{ItemFault}
-use Rattle.wm_decode.specs.declared.fault.ItemFault.TheVariants.{OutOfMemory, At}
+use Rattle.wm_decode.specs.declared.fault.ItemFault.TheVariants.{OutOfMemory, WithLeft}
 use Rattle.wm_decode.specs.Numbers.{IsBytes}
 use Rattle.wm_decode.specs.Stop.{Stop, bad}
 use Rattle.wm_decode.specs.Answers.{Fails}
@@ -74,7 +74,7 @@ goes_on room old new newer bytes rest found s long n1 n2 i nested left grew read
 pub fails : (e : ItemFault) (room : ℕ) (old new : List (List Instr)) (bytes rest : List ℕ) (found : List Instr) (s : SoFar room old new bytes rest found) → 0 < length rest → (get_or rest 0 0 ≡ 0x0B → ⊥) → (get_or rest 0 0 ≡ 0x05 → ⊥)
     → Fails e (instr_in room (length new) (get_or rest 0 0) (tail_of rest)) → Fails e (instrs_in room (length old) bytes)
 fails OutOfMemory room old new bytes rest found s long n1 n2 h = tt
-fails (At kind left) room old new bytes rest found s long n1 n2 h =
+fails (WithLeft kind left) room old new bytes rest found s long n1 n2 h =
     sym (next_one room old new bytes rest found s long n1 n2) ∙ ap (λ (o : Result One Stop). with_front found s.begun (o >>= λ one. after one (instrs_in room (length new + length one.nested) one.rest))) h
 
 shut : (op : ℕ) (b : Body) → (op ≡ 0x0B) ⊎ (op ≡ 0x05) → (o : Result Body Stop) → cond (eqb op 0x0B) (Ok b) (cond (eqb op 0x05) (Ok b) o) ≡ Ok b

@@ -2,7 +2,7 @@
 use Rattle.std.proofs.Common.{◌≡◌, ℕ, suc, ◌-◌, ◌+◌, ◌≤◌, ◌<◌, List, [], ◌∷◌, ◌++◌, Result, Ok, Err, refl, sym, ap, ◌∙◌, append_assoc, arith}
 use Rattle.std.proofs.lemmas.List.{append-nil}
 use Rattle.wm_decode.specs.declared.fault.ItemFault.{ItemFault}
-use Rattle.wm_decode.specs.declared.fault.ItemFault.TheVariants.{OutOfMemory, At}
+use Rattle.wm_decode.specs.declared.fault.ItemFault.TheVariants.{OutOfMemory, WithLeft}
 use Rattle.wm_decode.specs.Stop.{Stop}
 use Rattle.wm_decode.specs.Answers.{Fails, stop_of}
 use Rattle.wm_decode.specs.Reading.{◌>>=◌}
@@ -29,7 +29,7 @@ module _ {X : Type 0} where
       → found_before front (items_at item_at (count - i) bytes) ≡ total → Fails e total
   unfolding items_at
   fails item_at OutOfMemory front count i bytes total lt h so_far = tt
-  fails item_at (At kind left) front count i bytes total lt h so_far =
+  fails item_at (WithLeft kind left) front count i bytes total lt h so_far =
       let k : count - i ≡ suc (count - (i + 1)) = omega arith in
       let one : found_before front (items_at item_at (count - i) bytes) ≡ Err (stop_of kind) = rw (k, h) refl in
       sym so_far ∙ one

@@ -4,7 +4,7 @@ use Rattle.wm_decode.specs.declared.fault.Limit.{Limit}
 use Rattle.wm_decode.specs.declared.fault.FaultKind.{FaultKind}
 use Rattle.wm_decode.specs.declared.fault.FaultKind.TheVariants as kind
 use Rattle.wm_decode.specs.declared.fault.ItemFault.{ItemFault}
-use Rattle.wm_decode.specs.declared.fault.ItemFault.TheVariants.{OutOfMemory, At}
+use Rattle.wm_decode.specs.declared.fault.ItemFault.TheVariants.{OutOfMemory, WithLeft}
 use Rattle.wm_decode.specs.declared.fault.DecodeFault.{DecodeFault}
 use Rattle.wm_decode.specs.declared.fault.DecodeFault.TheVariants as decode
 use Rattle.wm_decode.specs.Stop.{Stop, bad, past}
@@ -26,7 +26,7 @@ stop_of kind.DuplicateExport = bad
 
 abbrev pub Fails : {Y : Type 0} → ItemFault → Result Y Stop → Type 0
 Fails OutOfMemory read = Unit {0}
-Fails (At kind left) read = read ≡ Err (stop_of kind)
+Fails (WithLeft kind left) read = read ≡ Err (stop_of kind)
 
 abbrev pub Answers : {X Y : Type 0} → (X → Y) → Result X ItemFault → Result Y Stop → Type 0
 Answers view (Ok x) read = read ≡ Ok (view x)
@@ -35,19 +35,19 @@ Answers view (Err e) read = Fails e read
 -- both are want of memory, or both stop reading alike
 abbrev pub SameStop : ItemFault → ItemFault → Type 0
 SameStop OutOfMemory OutOfMemory = Unit {0}
-SameStop OutOfMemory (At kind left) = ⊥
-SameStop (At kind left) OutOfMemory = ⊥
-SameStop (At kind left) (At kind2 left2) = stop_of kind2 ≡ stop_of kind
+SameStop OutOfMemory (WithLeft kind left) = ⊥
+SameStop (WithLeft kind left) OutOfMemory = ⊥
+SameStop (WithLeft kind left) (WithLeft kind2 left2) = stop_of kind2 ≡ stop_of kind
 
 -- memory isn't what was wanting, nor was a limit passed
 abbrev pub IsBad : ItemFault → Type 0
 IsBad OutOfMemory = ⊥
-IsBad (At kind left) = stop_of kind ≡ bad
+IsBad (WithLeft kind left) = stop_of kind ≡ bad
 
 -- memory was wanting, or no limit was passed
 abbrev pub IsNoLimit : ItemFault → Type 0
 IsNoLimit OutOfMemory = Unit {0}
-IsNoLimit (At kind left) = stop_of kind ≡ bad
+IsNoLimit (WithLeft kind left) = stop_of kind ≡ bad
 
 -- what decoding answered is what reading gives, unless memory was refused
 abbrev pub Decodes : {X : Type 0} → Result X DecodeFault → Result X Stop → Type 0
@@ -59,8 +59,8 @@ Decodes (Err (decode.At kind offset)) read = read ≡ Err (stop_of kind)
 abbrev pub SameFault : ItemFault → DecodeFault → Type 0
 SameFault OutOfMemory decode.OutOfMemory = Unit {0}
 SameFault OutOfMemory (decode.At kind offset) = ⊥
-SameFault (At kind left) decode.OutOfMemory = ⊥
-SameFault (At kind left) (decode.At kind2 offset) = kind2 ≡ kind
+SameFault (WithLeft kind left) decode.OutOfMemory = ⊥
+SameFault (WithLeft kind left) (decode.At kind2 offset) = kind2 ≡ kind
 
 -- this value is answered, unless memory was refused
 abbrev pub IsUnlessMemory : {X : Type 0} → Result X DecodeFault → X → Type 0

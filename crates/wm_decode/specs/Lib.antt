@@ -14,3 +14,4 @@ pub mod ReadingParts
 pub mod Module
 pub mod ReadingModule
 pub mod Texts
+pub mod SectionIds

@@ -40,11 +40,11 @@ fn block_type(bytes: &[u8]) -> Result<(BlockType, &[u8]), ItemFault>
     ensures { Answers (λ x. (x.0, x.1.now)) result (block_type_at bytes.now) }
 {
     match bytes {
-        [] => Err(ItemFault::At(FaultKind::Truncated, 0)),
+        [] => Err(ItemFault::WithLeft(FaultKind::Truncated, 0)),
         [0x40, rest @ ..] => Ok((None, rest)),
         [0x7F, rest @ ..] => Ok((Some(ValType::I32), rest)),
         [0x7E, rest @ ..] => Ok((Some(ValType::I64), rest)),
-        [byte, ..] => Err(ItemFault::At(block_type_fault(*byte), bytes.len())),
+        [byte, ..] => Err(ItemFault::WithLeft(block_type_fault(*byte), bytes.len())),
     }
 }
 
@@ -101,7 +101,7 @@ fn atomic(bytes: &[u8]) -> Result<(Instr, &[u8]), ItemFault>
     };
     match atomic_access(code) {
         Some(kind) => access(kind, rest),
-        None => Err(ItemFault::At(atomic_fault(code), prefix)),
+        None => Err(ItemFault::WithLeft(atomic_fault(code), prefix)),
     }
 }
 
@@ -123,9 +123,9 @@ fn operands(alloc: Global, opcode: Opcode, bytes: &[u8]) -> Result<(Instr, &[u8]
         }
         Opcode::Access(kind) => access(kind, bytes),
         Opcode::MemorySize => match bytes {
-            [] => Err(ItemFault::At(FaultKind::Truncated, 0)),
+            [] => Err(ItemFault::WithLeft(FaultKind::Truncated, 0)),
             [0x00, rest @ ..] => Ok((Instr::MemorySize, rest)),
-            [_, ..] => Err(ItemFault::At(FaultKind::BadNumber, bytes.len())),
+            [_, ..] => Err(ItemFault::WithLeft(FaultKind::BadNumber, bytes.len())),
         },
         Opcode::I32Const => {
             let (value, rest) = signed_32(bytes)?;
@@ -165,7 +165,7 @@ fn plain(alloc: Global, code: u8, bytes: &[u8]) -> Result<(Instr, &[u8]), ItemFa
 {
     match opcode_of(code) {
         Some(opcode) => operands(alloc, opcode, bytes),
-        None => Err(ItemFault::At(opcode_fault(code), bytes.len().saturating_add(1))),
+        None => Err(ItemFault::WithLeft(opcode_fault(code), bytes.len().saturating_add(1))),
     }
 }
 
@@ -190,7 +190,7 @@ fn instrs<'a>(
         found.push(one)?;
         rest = after;
     }
-    Err(ItemFault::At(FaultKind::Truncated, 0))
+    Err(ItemFault::WithLeft(FaultKind::Truncated, 0))
 }
 
 // Reads a block up to the byte that closes it, and adds it and the blocks that begin in it.
@@ -225,7 +225,7 @@ fn closed<'a>(
     if closer == END {
         return Ok((number, rest));
     }
-    Err(ItemFault::At(
+    Err(ItemFault::WithLeft(
         FaultKind::UnknownOpcode(closer),
         rest.len().saturating_add(1),
     ))
@@ -238,7 +238,7 @@ fn opening(room: u32, bytes: &[u8]) -> Result<(BlockType, &[u8]), ItemFault>
     ensures has_room { OnOk result (0 < room) }
 {
     if room == 0 {
-        return Err(ItemFault::At(
+        return Err(ItemFault::WithLeft(
             FaultKind::Limit(Limit::Nesting),
             bytes.len().saturating_add(1),
         ));

@@ -34,7 +34,7 @@ fn local_entry(alloc: Global, room: usize, bytes: &[u8]) -> Result<(u32, ValType
 {
     let (count, rest) = unsigned_32(bytes)?;
     if room < count as usize {
-        return Err(ItemFault::At(FaultKind::Limit(Limit::Locals), bytes.len()));
+        return Err(ItemFault::WithLeft(FaultKind::Limit(Limit::Locals), bytes.len()));
     }
     let (ty, rest) = ValType::read(alloc, rest)?;
     Ok((count, ty, rest))
@@ -98,7 +98,7 @@ fn own_bytes(bytes: &[u8]) -> Result<(&[u8], &[u8]), ItemFault>
     let (size, rest) = unsigned_32(bytes)?;
     let size = size as usize;
     if rest.len() < size {
-        return Err(ItemFault::At(FaultKind::SectionSize, bytes.len()));
+        return Err(ItemFault::WithLeft(FaultKind::SectionSize, bytes.len()));
     }
     Ok(rest.split_at(size))
 }
@@ -116,14 +116,14 @@ fn sized_function<'a>(
     let (inner, after) = own_bytes(bytes)?;
     let parameters = parameters(types, type_index);
     if MAX_LOCALS < parameters {
-        return Err(ItemFault::At(FaultKind::Limit(Limit::Locals), bytes.len()));
+        return Err(ItemFault::WithLeft(FaultKind::Limit(Limit::Locals), bytes.len()));
     }
     let (function, left) = match function(alloc, MAX_LOCALS - parameters, type_index, inner) {
         Ok(found) => found,
         Err(fault) => return Err(fault.inside(after.len())),
     };
     if !left.is_empty() {
-        return Err(ItemFault::At(
+        return Err(ItemFault::WithLeft(
             FaultKind::SectionSize,
             left.len().saturating_add(after.len()),
         ));
@@ -170,7 +170,7 @@ impl Content for Code<'_> {
     ) -> Result<(List<Func>, &'a [u8]), ItemFault> {
         let (count, rest) = unsigned_32(bytes)?;
         if count as usize != self.indices.len() {
-            return Err(ItemFault::At(FaultKind::CountMismatch, bytes.len()));
+            return Err(ItemFault::WithLeft(FaultKind::CountMismatch, bytes.len()));
         }
         functions(alloc, self.types, self.indices, rest)
     }

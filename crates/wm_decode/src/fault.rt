@@ -1,8 +1,11 @@
 //! Why bytes aren't a module within the limits.
-ghost use Rattle.std.specs.Prelude.{◌≡◌};
+ghost use Rattle.std.specs.Prelude.{◌≡◌, Some};
+ghost use Rattle.wm_decode.specs.Texts.{fault_text, feature_text, kind_text, limit_text};
 ghost use Rattle.wm_decode.specs.declared.fault.ItemFault.TheVariants.{OutOfMemory};
 
 use std::alloc::{AllocError, AllocFailed};
+use std::fmt;
+use thiserror::Error;
 
 /// A part of WebAssembly that this project leaves out.
 #[derive(Clone, Copy, Debug, PartialEq, Eq)]
@@ -74,7 +77,7 @@ pub enum FaultKind {
 }
 
 /// Why bytes were not decoded.
-#[derive(Clone, Copy, Debug, PartialEq, Eq)]
+#[derive(Clone, Copy, Debug, PartialEq, Eq, Error)]
 pub enum DecodeFault {
     /// What is wrong, and the offset of the faulty item's first byte.
     At(FaultKind, usize),
@@ -86,7 +89,7 @@ pub enum DecodeFault {
 #[derive(Clone, Copy, Debug, PartialEq, Eq)]
 pub(crate) enum ItemFault {
     /// What is wrong, and how many bytes are left from the faulty item's first byte on.
-    At(FaultKind, usize),
+    WithLeft(FaultKind, usize),
     /// Memory was refused.
     OutOfMemory,
 }
@@ -116,7 +119,7 @@ impl ItemFault {
     {
         match self {
             ItemFault::OutOfMemory => ItemFault::OutOfMemory,
-            ItemFault::At(kind, _) => ItemFault::At(kind, left),
+            ItemFault::WithLeft(kind, _) => ItemFault::WithLeft(kind, left),
         }
     }
 
@@ -126,7 +129,10 @@ impl ItemFault {
     {
         match self {
             ItemFault::OutOfMemory => ItemFault::OutOfMemory,
-            ItemFault::At(kind, left) => ItemFault::At(kind, left.saturating_add(behind)),
+            ItemFault::WithLeft(kind, left) => ItemFault::WithLeft(
+                kind,
+                left.saturating_add(behind),
+            ),
         }
     }
 
@@ -136,8 +142,8 @@ impl ItemFault {
         ensures { SameStop self result }
     {
         match self {
-            ItemFault::At(FaultKind::Truncated, left) => {
-                ItemFault::At(FaultKind::SectionSize, left.saturating_add(behind))
+            ItemFault::WithLeft(FaultKind::Truncated, left) => {
+                ItemFault::WithLeft(FaultKind::SectionSize, left.saturating_add(behind))
             }
             other => other.before(behind),
         }
@@ -149,8 +155,88 @@ impl ItemFault {
     {
         match self {
             ItemFault::OutOfMemory => DecodeFault::OutOfMemory,
-            ItemFault::At(FaultKind::Truncated, _) => DecodeFault::At(FaultKind::Truncated, bytes),
-            ItemFault::At(kind, left) => DecodeFault::At(kind, bytes.saturating_sub(left)),
+            ItemFault::WithLeft(FaultKind::Truncated, _) => DecodeFault::At(
+                FaultKind::Truncated,
+                bytes,
+            ),
+            ItemFault::WithLeft(kind, left) => DecodeFault::At(kind, bytes.saturating_sub(left)),
+        }
+    }
+}
+
+impl fmt::Display for Feature {
+    ghost output = { λ feature. Some (feature_text feature) };
+
+    fn fmt<W: fmt::Write>(&self, f: &mut fmt::Formatter<W>) -> fmt::Result {
+        match self {
+            Feature::Wait => f.write_str("Wait"),
+            Feature::Notify => f.write_str("Notify"),
+            Feature::Fence => f.write_str("Fence"),
+            Feature::Growth => f.write_str("Growth"),
+            Feature::NarrowCmpxchg => f.write_str("NarrowCmpxchg"),
+            Feature::Floats => f.write_str("Floats"),
+            Feature::Table => f.write_str("Table"),
+            Feature::Start => f.write_str("Start"),
+            Feature::Import => f.write_str("Import"),
+            Feature::UnsharedMemory => f.write_str("UnsharedMemory"),
+            Feature::SeveralMemories => f.write_str("SeveralMemories"),
+            Feature::MultiValue => f.write_str("MultiValue"),
+            Feature::SignExtension => f.write_str("SignExtension"),
+            Feature::PrefixFC => f.write_str("PrefixFC"),
+            Feature::PassiveData => f.write_str("PassiveData"),
+            Feature::DataMemoryIndex => f.write_str("DataMemoryIndex"),
+            Feature::Simd => f.write_str("Simd"),
+            Feature::References => f.write_str("References"),
+            Feature::Reserved => f.write_str("Reserved"),
+            Feature::ConstExpression => f.write_str("ConstExpression"),
+        }
+    }
+}
+
+impl fmt::Display for Limit {
+    ghost output = { λ limit. Some (limit_text limit) };
+
+    fn fmt<W: fmt::Write>(&self, f: &mut fmt::Formatter<W>) -> fmt::Result {
+        match self {
+            Limit::ModuleBytes => f.write_str("ModuleBytes"),
+            Limit::Pages => f.write_str("Pages"),
+            Limit::Functions => f.write_str("Functions"),
+            Limit::Locals => f.write_str("Locals"),
+            Limit::Nesting => f.write_str("Nesting"),
+        }
+    }
+}
+
+impl fmt::Display for FaultKind {
+    ghost output = { λ kind. Some (kind_text kind) };
+
+    fn fmt<W: fmt::Write>(&self, f: &mut fmt::Formatter<W>) -> fmt::Result {
+        match self {
+            FaultKind::Magic => f.write_str("Magic"),
+            FaultKind::Version => f.write_str("Version"),
+            FaultKind::Truncated => f.write_str("Truncated"),
+            FaultKind::BadNumber => f.write_str("BadNumber"),
+            FaultKind::BadName => f.write_str("BadName"),
+            FaultKind::SectionOrder => f.write_str("SectionOrder"),
+            FaultKind::SectionSize => f.write_str("SectionSize"),
+            FaultKind::CountMismatch => f.write_str("CountMismatch"),
+            FaultKind::UnknownOpcode(byte) => {
+                write!(f, "UnknownOpcode {:x}{:x}", byte / 16, byte % 16)
+            }
+            FaultKind::Unsupported(feature) => write!(f, "Unsupported {feature}"),
+            FaultKind::Limit(limit) => write!(f, "Limit {limit}"),
+            FaultKind::DuplicateExport => f.write_str("DuplicateExport"),
+        }
+    }
+}
+
+impl fmt::Display for DecodeFault {
+    ghost output = { λ fault. Some (fault_text fault) };
+
+    fn fmt<W: fmt::Write>(&self, f: &mut fmt::Formatter<W>) -> fmt::Result {
+        match self {
+            DecodeFault::At(kind, offset) => write!(f, "{kind} at {offset}"),
+            DecodeFault::OutOfMemory => f.write_str("OutOfMemory"),
         }
     }
 }

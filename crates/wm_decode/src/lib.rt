@@ -4,13 +4,21 @@
 mod body;
 mod bounds;
 mod code;
-mod contents;
+mod data_count;
+mod exports;
 mod fault;
+mod function_types;
+mod globals;
+mod imports;
+mod initial_values;
+mod memories;
 mod module;
+mod no_items;
 mod number;
 mod opcode;
 mod section;
-mod text;
+mod segments;
+mod type_indices;
 mod types;
 mod vectors;
 

@@ -10,12 +10,17 @@ ghost use Rattle.wm_decode.specs.ReadingModule.{header_at, front_at, declared_at
 
 use crate::bounds::MAX_MODULE_BYTES;
 use crate::code::Code;
-use crate::contents::{
-    DataCount, ExportNames, Globals, Imports, Memories, NoItems, Segments, TypeIndices, Types,
-    is_agreed,
-};
+use crate::data_count::{DataCount, is_agreed};
+use crate::exports::ExportNames;
 use crate::fault::{DecodeFault, FaultKind, Feature, ItemFault, Limit};
-use crate::section::{customs, section};
+use crate::function_types::Types;
+use crate::globals::Globals;
+use crate::imports::Imports;
+use crate::memories::Memories;
+use crate::no_items::NoItems;
+use crate::section::{SectionId, customs, section};
+use crate::segments::Segments;
+use crate::type_indices::TypeIndices;
 use std::alloc::Global;
 use wm_ast::{Exports, FuncType, Global as GlobalEntry, Limits, Memory, Module};
 use wm_list::List;
@@ -28,15 +33,15 @@ fn header_fault(bytes: &[u8]) -> ItemFault
     let version = [0x01, 0x00, 0x00, 0x00];
     for (byte, wanted) in bytes.iter().zip(magic.iter()) {
         if *byte != *wanted {
-            return ItemFault::At(FaultKind::Magic, bytes.len());
+            return ItemFault::WithLeft(FaultKind::Magic, bytes.len());
         }
     }
     for (byte, wanted) in bytes.iter().skip(4).zip(version.iter()) {
         if *byte != *wanted {
-            return ItemFault::At(FaultKind::Version, bytes.len().saturating_sub(4));
+            return ItemFault::WithLeft(FaultKind::Version, bytes.len().saturating_sub(4));
         }
     }
-    ItemFault::At(FaultKind::Truncated, 0)
+    ItemFault::WithLeft(FaultKind::Truncated, 0)
 }
 
 /// Reads the header.
@@ -111,9 +116,9 @@ fn read_front(alloc: Global, bytes: &[u8]) -> Result<(Front, &[u8]), ItemFault>
 {
     let rest = header(bytes)?;
     let rest = customs(alloc, rest)?;
-    let (types, rest) = section(alloc, 1, &Types, rest)?;
-    let (imported, rest) = section(alloc, 2, &Imports, rest)?;
-    let (indices, rest) = section(alloc, 3, &TypeIndices, rest)?;
+    let (types, rest) = section(alloc, SectionId::Types, &Types, rest)?;
+    let (imported, rest) = section(alloc, SectionId::Imports, &Imports, rest)?;
+    let (indices, rest) = section(alloc, SectionId::Functions, &TypeIndices, rest)?;
     let front = Front {
         types: items_or_none(alloc, types),
         imported: imported.flatten(),
@@ -131,11 +136,11 @@ fn read_declared(alloc: Global, bytes: &[u8]) -> Result<(Declared, &[u8]), ItemF
     let memories = Memories {
         imported: front.imported.is_some(),
     };
-    let (_, rest) = section(alloc, 4, &NoItems, rest)?;
-    let (defined, rest) = section(alloc, 5, &memories, rest)?;
-    let (globals, rest) = section(alloc, 6, &Globals, rest)?;
-    let (exports, rest) = section(alloc, 7, &ExportNames, rest)?;
-    let (_, rest) = section(alloc, 9, &NoItems, rest)?;
+    let (_, rest) = section(alloc, SectionId::Tables, &NoItems, rest)?;
+    let (defined, rest) = section(alloc, SectionId::Memories, &memories, rest)?;
+    let (globals, rest) = section(alloc, SectionId::Globals, &Globals, rest)?;
+    let (exports, rest) = section(alloc, SectionId::Exports, &ExportNames, rest)?;
+    let (_, rest) = section(alloc, SectionId::Elements, &NoItems, rest)?;
     let Front {
         types,
         imported,
@@ -169,20 +174,20 @@ pub(crate) fn read_module(alloc: Global, bytes: &[u8]) -> Result<Module, ItemFau
     ensures { Answers (λ x. x) result (module_at profile bytes.now) }
 {
     let (declared, rest) = read_declared(alloc, bytes)?;
-    let (count, rest) = section(alloc, 12, &DataCount, rest)?;
+    let (count, rest) = section(alloc, SectionId::DataCount, &DataCount, rest)?;
     let code = Code {
         types: declared.types.as_slice(),
         indices: declared.indices.as_slice(),
     };
-    let (funcs, rest) = section(alloc, 10, &code, rest)?;
-    let (data, rest) = section(alloc, 11, &Segments { declared: count }, rest)?;
+    let (funcs, rest) = section(alloc, SectionId::Code, &code, rest)?;
+    let (data, rest) = section(alloc, SectionId::Data, &Segments { declared: count }, rest)?;
     if let [id, ..] = rest {
-        return Err(ItemFault::At(section_fault(*id), rest.len()));
+        return Err(ItemFault::WithLeft(section_fault(*id), rest.len()));
     }
     let funcs = items_or_none(alloc, funcs);
     let data = items_or_none(alloc, data);
     if funcs.len() != declared.indices.len() || !is_agreed(count, data.len()) {
-        return Err(ItemFault::At(FaultKind::CountMismatch, 0));
+        return Err(ItemFault::WithLeft(FaultKind::CountMismatch, 0));
     }
     let Declared {
         types,

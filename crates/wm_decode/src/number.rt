@@ -82,8 +82,8 @@ impl NumberFault {
         ensures { IsBad result }
     {
         match self {
-            NumberFault::Short => ItemFault::At(FaultKind::Truncated, left),
-            NumberFault::Bad => ItemFault::At(FaultKind::BadNumber, left),
+            NumberFault::Short => ItemFault::WithLeft(FaultKind::Truncated, left),
+            NumberFault::Bad => ItemFault::WithLeft(FaultKind::BadNumber, left),
         }
     }
 }

@@ -3,11 +3,54 @@ ghost use Rattle.std.specs.Prelude.{◌≡◌, [], Option};
 ghost use Rattle.wm_decode.specs.Answers.{Answers};
 ghost use Rattle.wm_decode.specs.ReadingVectors.{sized_at};
 ghost use Rattle.wm_decode.specs.ReadingModule.{custom_at, customs_in, section_at};
+ghost use Rattle.wm_decode.specs.SectionIds.{id_byte};
 
 use crate::fault::{FaultKind, ItemFault};
 use crate::vectors::{byte_vector, owned_name};
 use std::alloc::Global;
 use wm_list::Text;
+
+/// Which section it is (Core 1.0, section 5.5.2). The custom sections apart, each stands at most once, in this order but
+/// that the count of data segments stands before the code.
+#[derive(Clone, Copy, Debug, PartialEq, Eq)]
+pub(crate) enum SectionId {
+    Custom,
+    Types,
+    Imports,
+    Functions,
+    Tables,
+    Memories,
+    Globals,
+    Exports,
+    Elements,
+    Code,
+    Data,
+    DataCount,
+}
+
+impl SectionId {
+    ghost use Rattle.wm_decode.specs.SectionIds.{id_byte};
+
+    /// The byte that it is written as.
+    fn byte(self) -> u8
+        ensures { result ≡ id_byte self }
+    {
+        match self {
+            SectionId::Custom => 0,
+            SectionId::Types => 1,
+            SectionId::Imports => 2,
+            SectionId::Functions => 3,
+            SectionId::Tables => 4,
+            SectionId::Memories => 5,
+            SectionId::Globals => 6,
+            SectionId::Exports => 7,
+            SectionId::Elements => 9,
+            SectionId::Code => 10,
+            SectionId::Data => 11,
+            SectionId::DataCount => 12,
+        }
+    }
+}
 
 /// What stands in a section, with what has to be known to read it.
 pub(crate) trait Content {
@@ -39,7 +82,7 @@ fn sized<'a, C: Content>(
         Err(fault) => return Err(fault.inside(after.len())),
     };
     if !left.is_empty() {
-        return Err(ItemFault::At(
+        return Err(ItemFault::WithLeft(
             FaultKind::SectionSize,
             left.len().saturating_add(after.len()),
         ));
@@ -68,7 +111,7 @@ pub(crate) fn customs(alloc: Global, bytes: &[u8]) -> Result<&[u8], ItemFault>
 {
     let mut rest = bytes;
     while let [id, after @ ..] = rest {
-        if *id != 0x00 {
+        if *id != SectionId::Custom.byte() {
             return Ok(rest);
         }
         let (_, after) = sized(alloc, &Custom, after)?;
@@ -81,16 +124,16 @@ pub(crate) fn customs(alloc: Global, bytes: &[u8]) -> Result<&[u8], ItemFault>
 #[tactic(auto, unfolding(crate::specs::ReadingModule::section_at))]
 pub(crate) fn section<'a, C: Content>(
     alloc: Global,
-    id: u8,
+    id: SectionId,
     content: &C,
     bytes: &'a [u8],
 ) -> Result<(Option<C::Value>, &'a [u8]), ItemFault>
-    ensures { Answers (λ x. (x.0, x.1.now)) result (section_at (C.content_at content.now) id bytes.now) }
+    ensures { Answers (λ x. (x.0, x.1.now)) result (section_at (C.content_at content.now) (id_byte id) bytes.now) }
 {
     match bytes {
         [] => Ok((None, bytes)),
         [first, rest @ ..] => {
-            if *first != id {
+            if *first != id.byte() {
                 return Ok((None, bytes));
             }
             let (value, after) = sized(alloc, content, rest)?;

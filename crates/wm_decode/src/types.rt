@@ -31,10 +31,10 @@ impl Item for ValType {
     #[tactic(auto, unfolding(crate::specs::ReadingInstructions::value_type_at))]
     fn read(_alloc: Global, bytes: &[u8]) -> Result<(ValType, &[u8]), ItemFault> {
         match bytes {
-            [] => Err(ItemFault::At(FaultKind::Truncated, 0)),
+            [] => Err(ItemFault::WithLeft(FaultKind::Truncated, 0)),
             [0x7F, rest @ ..] => Ok((ValType::I32, rest)),
             [0x7E, rest @ ..] => Ok((ValType::I64, rest)),
-            [byte, ..] => Err(ItemFault::At(value_type_fault(*byte), bytes.len())),
+            [byte, ..] => Err(ItemFault::WithLeft(value_type_fault(*byte), bytes.len())),
         }
     }
 }
@@ -51,7 +51,7 @@ fn result_type(alloc: Global, bytes: &[u8]) -> Result<(Option<ValType>, &[u8]), 
             let (ty, rest) = ValType::read(alloc, rest)?;
             Ok((Some(ty), rest))
         }
-        _ => Err(ItemFault::At(FaultKind::Unsupported(Feature::MultiValue), bytes.len())),
+        _ => Err(ItemFault::WithLeft(FaultKind::Unsupported(Feature::MultiValue), bytes.len())),
     }
 }
 
@@ -61,13 +61,13 @@ impl Item for FuncType {
     #[tactic(auto, unfolding(crate::specs::ReadingParts::func_type_at))]
     fn read(alloc: Global, bytes: &[u8]) -> Result<(FuncType, &[u8]), ItemFault> {
         match bytes {
-            [] => Err(ItemFault::At(FaultKind::Truncated, 0)),
+            [] => Err(ItemFault::WithLeft(FaultKind::Truncated, 0)),
             [0x60, rest @ ..] => {
                 let (params, rest) = vector::<ValType>(alloc, rest)?;
                 let (result, rest) = result_type(alloc, rest)?;
                 Ok((FuncType { params, result }, rest))
             }
-            [_, ..] => Err(ItemFault::At(FaultKind::BadNumber, bytes.len())),
+            [_, ..] => Err(ItemFault::WithLeft(FaultKind::BadNumber, bytes.len())),
         }
     }
 }
@@ -78,16 +78,19 @@ pub(crate) fn limits(bytes: &[u8]) -> Result<(Limits, &[u8]), ItemFault>
     ensures { Answers (λ x. (x.0, x.1.now)) result (limits_at profile bytes.now) }
 {
     let rest = match bytes {
-        [] => return Err(ItemFault::At(FaultKind::Truncated, 0)),
+        [] => return Err(ItemFault::WithLeft(FaultKind::Truncated, 0)),
         [0x03, rest @ ..] => rest,
         [0x00 | 0x01, ..] => {
-            return Err(ItemFault::At(FaultKind::Unsupported(Feature::UnsharedMemory), bytes.len()));
+            return Err(ItemFault::WithLeft(
+                FaultKind::Unsupported(Feature::UnsharedMemory),
+                bytes.len(),
+            ));
         }
-        [_, ..] => return Err(ItemFault::At(FaultKind::BadNumber, bytes.len())),
+        [_, ..] => return Err(ItemFault::WithLeft(FaultKind::BadNumber, bytes.len())),
     };
     let (minimum, after) = unsigned_32(rest)?;
     if minimum > MAX_INITIAL_PAGES {
-        return Err(ItemFault::At(FaultKind::Limit(Limit::Pages), rest.len()));
+        return Err(ItemFault::WithLeft(FaultKind::Limit(Limit::Pages), rest.len()));
     }
     let (maximum, after) = unsigned_32(after)?;
     Ok((Limits { minimum, maximum }, after))

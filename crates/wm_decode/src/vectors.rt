@@ -67,7 +67,7 @@ pub(crate) fn byte_vector(bytes: &[u8]) -> Result<(&[u8], &[u8]), ItemFault>
     let (count, rest) = unsigned_32(bytes)?;
     let count = count as usize;
     if rest.len() < count {
-        return Err(ItemFault::At(FaultKind::Truncated, 0));
+        return Err(ItemFault::WithLeft(FaultKind::Truncated, 0));
     }
     Ok(rest.split_at(count))
 }
@@ -83,7 +83,7 @@ pub(crate) fn name(bytes: &[u8]) -> Result<(&str, &[u8]), ItemFault>
     };
     match from_utf8(text) {
         Ok(text) => Ok((text, rest)),
-        Err(_) => Err(ItemFault::At(FaultKind::BadName, bytes.len())),
+        Err(_) => Err(ItemFault::WithLeft(FaultKind::BadName, bytes.len())),
     }
 }
 

@@ -17,7 +17,7 @@ impl fmt::Display for JudgementLine<'_> {
 
     fn fmt<W: fmt::Write>(&self, f: &mut fmt::Formatter<W>) -> fmt::Result {
         match self.0 {
-            Judgement::Valid => write!(f, "allowed"),
+            Judgement::Valid => f.write_str("allowed"),
             Judgement::Broken(fault) => write!(f, "broken {fault}"),
         }
     }
@@ -62,7 +62,7 @@ impl fmt::Display for ReplayLine {
 
     fn fmt<W: fmt::Write>(&self, f: &mut fmt::Formatter<W>) -> fmt::Result {
         match self.0 {
-            ReplayAnswer::Same => write!(f, "same"),
+            ReplayAnswer::Same => f.write_str("same"),
             ReplayAnswer::StartRefused(thread, fault) => write!(f, "thread {thread} start {fault}"),
             ReplayAnswer::Differs(thread, Place::Event(event)) => {
                 write!(f, "thread {thread} event {event}")

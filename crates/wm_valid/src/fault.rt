@@ -1,9 +1,11 @@
 //! Why a module is refused.
-ghost use Rattle.std.specs.Prelude.{◌≡◌};
+ghost use Rattle.std.specs.Prelude.{◌≡◌, Some};
+ghost use Rattle.wm_valid.specs.Texts.{fault_text, kind_text, place_text};
 ghost use Rattle.wm_valid.specs.declared.fault.ValidFault.TheVariants.{OutOfMemory as no_room};
 ghost use Rattle.wm_valid.specs.declared.fault.InstrFault.TheVariants.{OutOfMemory as refused};
 
 use std::alloc::{AllocError, AllocFailed};
+use std::fmt;
 use thiserror::Error;
 
 /// Which rule a module breaks.
@@ -91,5 +93,43 @@ impl<T: Drop> From<AllocFailed<T>> for InstrFault {
 
     fn from(_refused: AllocFailed<T>) -> InstrFault {
         InstrFault::OutOfMemory
+    }
+}
+
+impl fmt::Display for FaultKind {
+    ghost output = { λ kind. Some (kind_text kind) };
+
+    fn fmt<W: fmt::Write>(&self, f: &mut fmt::Formatter<W>) -> fmt::Result {
+        match self {
+            FaultKind::BadType => f.write_str("BadType"),
+            FaultKind::Index => f.write_str("Index"),
+            FaultKind::Label => f.write_str("Label"),
+            FaultKind::Alignment => f.write_str("Alignment"),
+            FaultKind::DataOutOfRange => f.write_str("DataOutOfRange"),
+            FaultKind::MemoryAbsent => f.write_str("MemoryAbsent"),
+            FaultKind::MemoryLimits => f.write_str("MemoryLimits"),
+        }
+    }
+}
+
+impl fmt::Display for Location {
+    ghost output = { λ place. Some (place_text place) };
+
+    fn fmt<W: fmt::Write>(&self, f: &mut fmt::Formatter<W>) -> fmt::Result {
+        match self {
+            Location::Module => f.write_str("in module"),
+            Location::Instr { func, instr } => write!(f, "in function {func} instruction {instr}"),
+        }
+    }
+}
+
+impl fmt::Display for ValidFault {
+    ghost output = { λ fault. Some (fault_text fault) };
+
+    fn fmt<W: fmt::Write>(&self, f: &mut fmt::Formatter<W>) -> fmt::Result {
+        match self {
+            ValidFault::At(kind, place) => write!(f, "{kind} {place}"),
+            ValidFault::OutOfMemory => f.write_str("OutOfMemory"),
+        }
     }
 }

@@ -9,7 +9,6 @@ mod image;
 mod labels;
 mod sections;
 mod stack;
-mod text;
 mod valid;
 
 pub use fault::{FaultKind, Location, ValidFault};

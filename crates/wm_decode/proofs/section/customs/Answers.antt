@@ -26,5 +26,5 @@ loop-rest-preserved c =
 pub returns : goal.returns
 returns c = sym c.loop-rest.invariant.same ∙ customs_none c.loop-rest.rest.now (λ long h. absurd (omega arith))
 
-pub returns-then-id-ne0 : goal.returns-then-id-ne0
-returns-then-id-ne0 c = sym c.loop-rest.invariant.same ∙ customs_none c.loop-rest.rest.now (λ long h. absurd (omega arith))
+pub returns-then-id-byte : goal.returns-then-id-byte
+returns-then-id-byte c = sym c.loop-rest.invariant.same ∙ customs_none c.loop-rest.rest.now (λ long h. absurd (omega arith))

@@ -1,5 +1,5 @@
 use Rattle.wm_decode.proofs.BadOnly.{name_fails}
-use Rattle.wm_decode.proofs.contents.second_import_fault.Goals as goal
+use Rattle.wm_decode.proofs.imports.second_import_fault.Goals as goal
 
 pub returns-in-Err : goal.returns-in-Err
 returns-in-Err c = name_fails c.in-Err.fault c.args.bytes.now c.in-Err.ensures

@@ -4,7 +4,7 @@ use Rattle.wm_ast.specs.declared.exports.Export.{Export}
 use Rattle.wm_decode.specs.ReadingVectors.{more_at}
 use Rattle.wm_decode.specs.ReadingParts.{export_entry_at, export_step}
 use Rattle.wm_decode.proofs.MoreLoop.{goes_on, fails, is_done, stepped, step_fails}
-use Rattle.wm_decode.proofs.contents.more_exports.Goals as goal
+use Rattle.wm_decode.proofs.exports.more_exports.Goals as goal
 
 pub returns-in_err-name : goal.returns-in_err-name
 returns-in_err-name c =

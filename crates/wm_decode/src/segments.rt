@@ -1,0 +1,68 @@
+//! The section of data segments (Core 1.0, section 5.5.14).
+ghost use Rattle.std.specs.Prelude.{◌≡◌};
+ghost use Rattle.wm_decode.specs.Stop.{bad};
+ghost use Rattle.wm_decode.specs.Answers.{stop_of};
+ghost use Rattle.wm_decode.specs.ReadingParts.{segment_at, segments_at};
+
+use crate::data_count::is_agreed;
+use crate::fault::{FaultKind, Feature, ItemFault};
+use crate::initial_values::initial;
+use crate::number::unsigned_32;
+use crate::section::Content;
+use crate::vectors::{Item, byte_vector, items};
+use std::alloc::Global;
+use wm_ast::DataSegment;
+use wm_list::List;
+
+impl Item for DataSegment {
+    ghost item_at = { segment_at };
+
+    #[tactic(auto, unfolding(crate::specs::ReadingParts::segment_at))]
+    fn read(alloc: Global, bytes: &[u8]) -> Result<(DataSegment, &[u8]), ItemFault> {
+        let rest = match bytes {
+            [] => return Err(ItemFault::WithLeft(FaultKind::Truncated, 0)),
+            [0x00, rest @ ..] => rest,
+            [flag, ..] => return Err(ItemFault::WithLeft(segment_flag_fault(*flag), bytes.len())),
+        };
+        let (offset, rest) = initial(rest)?;
+        let (content, rest) = byte_vector(rest)?;
+        let bytes = List::from_vec(content.to_vec(alloc)?);
+        Ok((DataSegment { offset, bytes }, rest))
+    }
+}
+
+/// Why a byte is no flag of a data segment that is read.
+fn segment_flag_fault(byte: u8) -> FaultKind
+    ensures { stop_of result ≡ bad }
+{
+    match byte {
+        0x01 => FaultKind::Unsupported(Feature::PassiveData),
+        0x02 => FaultKind::Unsupported(Feature::DataMemoryIndex),
+        _ => FaultKind::BadNumber,
+    }
+}
+
+/// Data segments, of which there are as many as were declared, if they were.
+#[derive(Drop)]
+pub(crate) struct Segments {
+    pub(crate) declared: Option<u32>,
+}
+
+impl Content for Segments {
+    type Value = List<DataSegment>;
+
+    ghost content_at = { λ context. segments_at context.declared };
+
+    #[tactic(auto, unfolding(crate::specs::ReadingParts::segments_at))]
+    fn read<'a>(
+        &self,
+        alloc: Global,
+        bytes: &'a [u8],
+    ) -> Result<(List<DataSegment>, &'a [u8]), ItemFault> {
+        let (count, rest) = unsigned_32(bytes)?;
+        if !is_agreed(self.declared, count as usize) {
+            return Err(ItemFault::WithLeft(FaultKind::CountMismatch, bytes.len()));
+        }
+        items(alloc, count, rest)
+    }
+}
