@@ -16,11 +16,14 @@ reached_more graph a p e r edge = ⊎_elim
 pub last_edge : (graph : List (List ℕ)) (a : ℕ) (ms : List ℕ) (e : ℕ) → Chain graph a ms e → (p : ℕ) × HasEdge graph p e × IsReached graph a p
 last_edge graph a [] e h = (a, h, inl refl)
 last_edge graph a (m ∷ ms) e h =
-    let r = last_edge graph m ms e h.1 in
-    (r.0, r.1, ⊎_elim
-      (λ (q : m ≡ r.0). inr ([], subst (λ p. HasEdge graph a p) q h.0))
-      (λ (c : Reaches graph m r.0). inr (m ∷ c.0, (h.0, c.1)))
-      r.2)
+    let r = last_edge graph m ms e h.1 in (
+      r.0,
+      r.1,
+      ⊎_elim
+          (λ (q : m ≡ r.0). inr ([], subst (λ p. HasEdge graph a p) q h.0))
+          (λ (c : Reaches graph m r.0). inr (m ∷ c.0, (h.0, c.1)))
+          r.2,
+    )
 
 chain_below : (graph : List (List ℕ)) → IsOrdered graph → (a : ℕ) (ms : List ℕ) (b : ℕ) → Chain graph a ms b → a < b
 chain_below graph ordered a [] b h = ordered a b h

@@ -1,5 +1,5 @@
 -- What is in each `Ok`, place by place.
-use Rattle.std.proofs.Common.{◌≡◌, ℕ, ◌+◌, ◌*◌, ◌<◌, ◌≤◌, ◌/◌, List, [], ◌∷◌, zero, suc, length, get_or, map, Result, Ok, IfOk, arith, subst, sym, ◌∙◌}
+use Rattle.std.proofs.Common.{◌≡◌, ℕ, ◌+◌, ◌*◌, ◌<◌, ◌/◌, List, [], ◌∷◌, zero, suc, length, get_or, map, Result, Ok, IfOk, arith, subst, sym, ◌∙◌}
 use Rattle.std.specs.List.{AllZip, range_with_len}
 use Rattle.std.specs.Prelude.{slice_index_or}
 use Rattle.std.proofs.lemmas.List.FromFn.{get_or-range_with_len, length-range_with_len}
@@ -27,8 +27,10 @@ AllZip-at R (x ∷ xs) (y ∷ ys) (suc i) d e h l = AllZip-at R xs ys i d e h.1 
 pub are_columns : (graph columns : List (List ℕ)) → AllZip (λ c column. IsColumn graph (c * 64) column) (range_with_len 0 ((length graph + 63) / 64)) columns → AreColumns graph columns
 are_columns graph columns h =
     let n = (length graph + 63) / 64 in
-    let long : length columns ≡ n = sym (AllZip-length (λ c column. IsColumn graph (c * 64) column) (range_with_len 0 n) columns h) ∙ length-range_with_len 0 n in
-    (omega arith, λ c l.
-      let inside : c < n = omega arith in
-      let at : IsColumn graph (get_or (range_with_len 0 n) c 0 * 64) (slice_index_or columns c []) = AllZip-at (λ c column. IsColumn graph (c * 64) column) (range_with_len 0 n) columns c 0 [] h (let e = length-range_with_len 0 n in omega arith) in
-      subst (λ k. IsColumn graph (k * 64) (slice_index_or columns c [])) (let e = get_or-range_with_len 0 n c 0 inside in omega arith) at)
+    let long : length columns ≡ n = sym (AllZip-length (λ c column. IsColumn graph (c * 64) column) (range_with_len 0 n) columns h) ∙ length-range_with_len 0 n in (
+      omega arith,
+      λ c l.
+          let inside : c < n = omega arith in
+          let at : IsColumn graph (get_or (range_with_len 0 n) c 0 * 64) (slice_index_or columns c []) = AllZip-at (λ c column. IsColumn graph (c * 64) column) (range_with_len 0 n) columns c 0 [] h (let e = length-range_with_len 0 n in omega arith) in
+          subst (λ k. IsColumn graph (k * 64) (slice_index_or columns c [])) (let e = get_or-range_with_len 0 n c 0 inside in omega arith) at,
+    )

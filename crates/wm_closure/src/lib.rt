@@ -106,7 +106,11 @@ impl Model for Closure {
 }
 
 impl Closure {
-    pub fn of(rt: &(impl Threads + Sync), alloc: Global, graph: Vec<List<usize>>) -> Result<Closure, AllocError>
+    pub fn of(
+        rt: &(impl Threads + Sync),
+        alloc: Global,
+        graph: Vec<List<usize>>,
+    ) -> Result<Closure, AllocError>
         requires { IsOrdered graph.items }
         ensures { IfOk result (λ c. c ≡ graph.items) }
     {

@@ -4,6 +4,7 @@
 /// How many events a log may have: 16,384.
 pub const MAX_EVENTS: usize = 16_384;
 
+mod atomic_writes;
 mod candidate;
 mod draft;
 mod event;

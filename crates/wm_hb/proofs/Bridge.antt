@@ -1,9 +1,8 @@
 -- A chain of the graph is a chain of happens-before, and the other way round.
-use Rattle.std.proofs.Common.{◌≡◌, ◌≢◌, ℕ, ◌+◌, ◌-◌, ◌<◌, ◌≤◌, zero, suc, List, [], ◌∷◌, ◌++◌, length, get_or, slice_get, Option, None, Some, IsSome, refl, sym, ap, ◌∙◌, subst, arith, ◌⊎◌, inl, inr, ⊎_elim, ◌↔◌}
+use Rattle.std.proofs.Common.{◌≡◌, ℕ, ◌+◌, ◌-◌, ◌<◌, ◌≤◌, zero, suc, List, [], ◌∷◌, length, get_or, IsSome, refl, sym, ◌∙◌, subst, arith, inl, inr, ⊎_elim, ◌↔◌}
 use Rattle.std.proofs.lemmas.Bool.{cases_lt}
 use Rattle.std.proofs.lemmas.Grind.{common_steps}
 use Rattle.std.proofs.lemmas.Option.{slice_get-get_or, gets, same_Some}
-use Rattle.wm_event.specs.declared.event.Event.{Event}
 use Rattle.wm_event.specs.declared.event.EventKey.{EventKey}
 use Rattle.wm_event.specs.declared.event.EventId.{EventId}
 use Rattle.wm_event.specs.declared.event.EventId.TheVariants.{Init, At}
@@ -12,9 +11,9 @@ use Rattle.wm_event.specs.Log.{event_in}
 use Rattle.wm_event.specs.LoggedRun.{LoggedRun, execution}
 use Rattle.wm_event.specs.Shape.{ListsEachOnce}
 use Rattle.wm_event.specs.HappensBefore.{SequencedBefore, SynchronizesWith, Edge, Chain as HbChain, HappensBefore}
-use Rattle.wm_closure.specs.Graph.{HasEdge, Chain, Reaches, sources_of, IsAmong}
+use Rattle.wm_closure.specs.Graph.{HasEdge, Chain, Reaches}
 use Rattle.wm_closure.proofs.Chains.{chain_inside, reaches_join}
-use Rattle.wm_hb.specs.Steps.{IsStep, StandsAt, AreSources, IsGraphOf}
+use Rattle.wm_hb.specs.Steps.{IsStep, StandsAt, IsGraphOf}
 
 nowhere : EventKey
 nowhere = record { thread = 0; number = 0 }
@@ -53,7 +52,7 @@ module _ (x : LoggedRun) (graph : List (List ℕ)) (is : IsGraphOf x graph) (ord
       let there = order.events n (record { thread = t; number = j }) at_b in
       let l : i < j = omega arith in
       step_reaches m n (record { thread = t; number = i }) (record { thread = t; number = j }) at_a at_b
-        (inl (record { first = earlier_there x.log t i j l there; second = there; same_thread = refl; earlier = l }, omega arith))
+      (inl (record { first = earlier_there x.log t i j l there; second = there; same_thread = refl; earlier = l }, omega arith))
   thread_reaches (suc d) m n t i j e at_a at_b =
       let c : EventKey = record { thread = t; number = i + d + 1 } in
       let there = order.events n (record { thread = t; number = j }) at_b in
@@ -62,13 +61,13 @@ module _ (x : LoggedRun) (graph : List (List ℕ)) (is : IsGraphOf x graph) (ord
       let k = order.listed c there_c in
       let first : Reaches graph m k.0 = thread_reaches d m k.0 t i (i + d + 1) refl at_a k.1 in
       let next : Reaches graph k.0 n = step_reaches k.0 n c (record { thread = t; number = j }) k.1 at_b
-        (inl (record { first = there_c; second = there; same_thread = refl; earlier = l }, omega arith)) in
+      (inl (record { first = there_c; second = there; same_thread = refl; earlier = l }, omega arith)) in
       reaches_join graph m k.0 n first next
 
   edge_reaches : (m n : ℕ) (a b : EventKey) → StandsAt x m a → StandsAt x n b → Edge (execution x) (At a) (At b) → Reaches graph m n
   edge_reaches m n a b at_a at_b e = ⊎_elim
       (λ (s : SequencedBefore (execution x) a b). thread_reaches (b.number - a.number - 1) m n b.thread a.number b.number (let l = s.earlier in omega arith)
-        (subst (λ t. StandsAt x m (record { thread = t; number = a.number })) s.same_thread at_a) at_b)
+      (subst (λ t. StandsAt x m (record { thread = t; number = a.number })) s.same_thread at_a) at_b)
       (λ (s : SynchronizesWith (execution x) a b). step_reaches m n a b at_a at_b (inr s))
       e
 

@@ -1,16 +1,16 @@
 -- Where an edge is broken the order doesn't agree with happens-before.
-use Rattle.std.proofs.Common.{◌≡◌, ℕ, ◌+◌, ◌<◌, ◌≤◌, List, [], ◌∷◌, None, Option, Some, IsTrue, refl, sym, ap, subst, arith, inl, inr}
+use Rattle.std.proofs.Common.{◌≡◌, ℕ, ◌<◌, ◌≤◌, [], ◌∷◌, None, refl, subst, arith, inl, inr}
 use Rattle.wm_event.specs.declared.event.EventKey.{EventKey}
-use Rattle.wm_event.specs.declared.event.EventId.TheVariants.{Init, At}
+use Rattle.wm_event.specs.declared.event.EventId.TheVariants.{At}
 use Rattle.wm_event.specs.declared.rule.Rule.{Rule}
 use Rattle.wm_event.specs.declared.rule.Rule.TheVariants.{WrittenValues, Order, Coherence, NoTearing, SequentialConsistency}
 use Rattle.wm_event.specs.declared.rule.RuleFault.{RuleFault}
 use Rattle.wm_event.specs.Execution.{Execution, place}
-use Rattle.wm_event.specs.HappensBefore.{Edge as HbEdge, SequencedBefore, SynchronizesWith}
+use Rattle.wm_event.specs.HappensBefore.{Edge as HbEdge}
 use Rattle.wm_event.specs.Rules.{KeepsOrder}
 use Rattle.wm_event.specs.Faults.{Breaks, BreaksRule, BreaksOrder, rank, rule_number}
 use Rattle.wm_event.specs.Faults.{in_thread, synchronized}
-use Rattle.wm_event.specs.First.{IsFirst, Under}
+use Rattle.wm_event.specs.First.{Under}
 
 edge_in : (x : Execution) (r p : EventKey) (k c : ℕ) → BreaksOrder x r p k c → HbEdge x (At p) (At r)
 edge_in x r p k c (in_thread a b s n) = inl s

@@ -1,6 +1,5 @@
 -- The graph is in order, and what chains begin and end at is there.
-use Rattle.std.proofs.Common.{◌≡◌, ◌≢◌, ℕ, ◌+◌, ◌<◌, ◌≤◌, List, [], ◌∷◌, Bool, true, false, length, get_or, slice_get, Option, None, Some, IsSome, IsTrue, refl, sym, ap, ◌∙◌, subst, arith, ◌⊎◌, inl, inr, ⊎_elim, ◌↔◌}
-use Rattle.std.proofs.lemmas.Bool.{cases_lt, both_ways}
+use Rattle.std.proofs.Common.{◌≡◌, ℕ, ◌+◌, ◌<◌, List, [], ◌∷◌, Bool, true, false, length, get_or, slice_get, Option, None, Some, IsSome, IsTrue, refl, sym, ap, ◌∙◌, subst, arith, ⊎_elim, ◌↔◌}
 use Rattle.std.proofs.lemmas.Grind.{common_steps}
 use Rattle.std.proofs.lemmas.Option.{slice_get-get_or, gets, same_Some}
 use Rattle.std.proofs.lemmas.List.Sums.{position_or_len_is}
@@ -14,7 +13,7 @@ use Rattle.wm_event.specs.LoggedRun.{LoggedRun, execution}
 use Rattle.wm_event.specs.Rules.{KeepsOrder}
 use Rattle.wm_event.specs.Shape.{ListsEachOnce}
 use Rattle.wm_event.specs.HappensBefore.{SequencedBefore, SynchronizesWith, Edge, Chain as HbChain, HappensBefore}
-use Rattle.wm_closure.specs.Graph.{HasEdge, IsOrdered}
+use Rattle.wm_closure.specs.Graph.{IsOrdered}
 use Rattle.wm_hb.specs.Steps.{StandsAt, IsGraphOf}
 use Rattle.wm_hb.proofs.Bridge.{edge_inside, step_edge}
 
@@ -41,13 +40,13 @@ pub place_is : (x : LoggedRun) → ListsEachOnce x.log x.witness.order → (n : 
 place_is x order n key at =
     let l = inside x.witness.order n key at in
     ap (λ k. 1 + k) (position_or_len_is (same_key key) x.witness.order n key (omega (arith, l))
-      (λ k h. is_false (same_key key (get_or x.witness.order k key)) (λ t.
-        let e : key ≡ get_or x.witness.order k key = same_key_is key (get_or x.witness.order k key) t in
-        let below : k < length x.witness.order = omega (arith, h, l) in
-        let here : StandsAt x k key = slice_get-get_or x.witness.order k key below ∙ ap Some (sym e) in
-        let same : k ≡ n = order.once k n key here at in
-        absurd (omega (arith, h, same))))
-      (λ _. ap (same_key key) (at_default x.witness.order n key at) ∙ same_key_self key))
+    (λ k h. is_false (same_key key (get_or x.witness.order k key)) (λ t.
+    let e : key ≡ get_or x.witness.order k key = same_key_is key (get_or x.witness.order k key) t in
+    let below : k < length x.witness.order = omega (arith, h, l) in
+    let here : StandsAt x k key = slice_get-get_or x.witness.order k key below ∙ ap Some (sym e) in
+    let same : k ≡ n = order.once k n key here at in
+    absurd (omega (arith, h, same))))
+    (λ _. ap (same_key key) (at_default x.witness.order n key at) ∙ same_key_self key))
 
 pub graph_ordered : (x : LoggedRun) (graph : List (List ℕ)) → IsGraphOf x graph → ListsEachOnce x.log x.witness.order → KeepsOrder (execution x) → IsOrdered graph
 graph_ordered x graph is order agrees m n h =

@@ -1,5 +1,5 @@
 -- The sources of an event, one writer after the other.
-use Rattle.std.proofs.Common.{◌≡◌, ◌≢◌, ℕ, ◌+◌, ◌<◌, ◌≤◌, List, [], ◌∷◌, ◌++◌, length, get_or, slice_get, Option, None, Some, IsSome, refl, sym, ap, ◌∙◌, subst, arith, ◌⊎◌, inl, inr, ⊎_elim, ◌↔◌, length-append}
+use Rattle.std.proofs.Common.{◌≡◌, ℕ, ◌+◌, ◌<◌, ◌≤◌, List, [], ◌∷◌, ◌++◌, length, slice_get, Some, sym, ap, ◌∙◌, subst, arith, ◌⊎◌, inl, inr, ⊎_elim, ◌↔◌, length-append}
 use Rattle.std.specs.Prelude.{slice_index}
 use Rattle.std.proofs.lemmas.Bool.{cases_lt}
 use Rattle.std.proofs.Math.Seq.{get_or-append_seam}
@@ -13,9 +13,9 @@ use Rattle.wm_event.specs.Execution.{ReadsFrom}
 use Rattle.wm_event.specs.LoggedRun.{LoggedRun, execution}
 use Rattle.wm_event.specs.Witness.{writers_in}
 use Rattle.wm_event.specs.Shape.{ListsEachOnce}
-use Rattle.wm_event.specs.HappensBefore.{SequencedBefore, SynchronizesWith}
+use Rattle.wm_event.specs.HappensBefore.{SynchronizesWith}
 use Rattle.wm_closure.specs.Graph.{IsAmong, sources_of}
-use Rattle.wm_hb.specs.Steps.{IsStep, IsNext, IsStepWithin, StandsAt, AreSources, AreSourcesWithin, IsGraphOf}
+use Rattle.wm_hb.specs.Steps.{IsNext, IsStepWithin, StandsAt, AreSources, AreSourcesWithin, IsGraphOf}
 
 pub among_push : (xs : List ℕ) (y m : ℕ) → IsAmong (xs ++ y ∷ []) (length (xs ++ y ∷ [])) m ↔ (IsAmong xs (length xs) m ⊎ (y ≡ m))
 among_push xs y m = (to, from)
@@ -27,9 +27,9 @@ among_push xs y m = (to, from)
     to h = ⊎_elim
         (λ (l : h.0 < length xs). inl (h.0, l, sym (get_or_append_left xs (y ∷ []) 0 h.0 l) ∙ h.2))
         (λ (l : length xs ≤ h.0). inr (
-          let u = h.1 in
-          let e : length xs ≡ h.0 = omega (arith, u, l, long) in
-          sym (get_or-append_seam xs y [] 0) ∙ ap (slice_index (xs ++ y ∷ [])) e ∙ h.2))
+        let u = h.1 in
+        let e : length xs ≡ h.0 = omega (arith, u, l, long) in
+        sym (get_or-append_seam xs y [] 0) ∙ ap (slice_index (xs ++ y ∷ [])) e ∙ h.2))
         (cases_lt h.0 (length xs))
 
     from : IsAmong xs (length xs) m ⊎ (y ≡ m) → IsAmong (xs ++ y ∷ []) (length (xs ++ y ∷ [])) m
@@ -48,10 +48,13 @@ same_At p q e = ap key_in e
 
 module _ (x : LoggedRun) (r : EventKey) where
   pub first_none : ((p : EventKey) → IsNext x p r → ⊥) → AreSourcesWithin x r 0 []
-  first_none none m = ((λ h. let l = h.1 in absurd (omega (arith, l))), (λ s. absurd (⊎_elim
-      (λ (n : IsNext x s.0 r). none s.0 n)
-      (λ (w : SynchronizesWith (execution x) s.0 r × ((k : ℕ) × (k < 0) × ReadsFrom (execution x) r k (At s.0))). let l = w.1.1 in absurd (omega (arith, l)))
-      s.2)))
+  first_none none m = (
+    (λ h. let l = h.1 in absurd (omega (arith, l))),
+    (λ s. absurd (⊎_elim
+        (λ (n : IsNext x s.0 r). none s.0 n)
+        (λ (w : SynchronizesWith (execution x) s.0 r × ((k : ℕ) × (k < 0) × ReadsFrom (execution x) r k (At s.0))). let l = w.1.1 in absurd (omega (arith, l)))
+        s.2)),
+  )
 
   pub first_one : ListsEachOnce x.log x.witness.order → (n : ℕ) (q : EventKey) → StandsAt x n q → IsNext x q r → AreSourcesWithin x r 0 (n ∷ [])
   first_one order n q at next m = (to, from)
@@ -63,12 +66,12 @@ module _ (x : LoggedRun) (r : EventKey) where
       from : (p : EventKey) × StandsAt x m p × IsStepWithin x 0 p r → IsAmong (n ∷ []) 1 m
       from s = ⊎_elim
           (λ (h : IsNext x s.0 r).
-            let one = h.0.same_thread in let two = next.0.same_thread in
-            let three = h.1 in let four = next.1 in
-            let t : s.0.thread ≡ q.thread = one ∙ sym two in
-            let u : s.0.number ≡ q.number = omega (arith, three, four) in
-            let e : s.0 ≡ q = λ i. record { thread = t i; number = u i } in
-            (0, omega arith, order.once n m q at (subst (λ p. StandsAt x m p) e s.1)))
+          let one = h.0.same_thread in let two = next.0.same_thread in
+          let three = h.1 in let four = next.1 in
+          let t : s.0.thread ≡ q.thread = one ∙ sym two in
+          let u : s.0.number ≡ q.number = omega (arith, three, four) in
+          let e : s.0 ≡ q = λ i. record { thread = t i; number = u i } in
+          (0, omega arith, order.once n m q at (subst (λ p. StandsAt x m p) e s.1)))
           (λ (w : SynchronizesWith (execution x) s.0 r × ((k : ℕ) × (k < 0) × ReadsFrom (execution x) r k (At s.0))). let l = w.1.1 in absurd (omega (arith, l)))
           s.2
 
@@ -80,40 +83,52 @@ module _ (x : LoggedRun) (r : EventKey) where
     narrower : (p : EventKey) → IsStepWithin x (n + 1) p r → IsStepWithin x n p r ⊎ ((w ≡ At p) × SynchronizesWith (execution x) p r)
     narrower p s = ⊎_elim (λ (h : IsNext x p r). inl (inl h))
         (λ (h : SynchronizesWith (execution x) p r × ((k : ℕ) × (k < n + 1) × ReadsFrom (execution x) r k (At p))). ⊎_elim
-          (λ (l : h.1.0 < n). inl (inr (h.0, (h.1.0, l, h.1.2))))
-          (λ (l : n ≤ h.1.0). inr (let u = h.1.1 in let e : h.1.0 ≡ n = omega (arith, l, u) in
-            let there : ReadsFrom (execution x) r n (At p) = subst (λ k. ReadsFrom (execution x) r k (At p)) e h.1.2 in
-            (same_Some w (At p) (sym reads ∙ there), h.0)))
-          (cases_lt h.1.0 n)) s
+        (λ (l : h.1.0 < n). inl (inr (h.0, (h.1.0, l, h.1.2))))
+        (λ (l : n ≤ h.1.0). inr (let u = h.1.1 in let e : h.1.0 ≡ n = omega (arith, l, u) in
+        let there : ReadsFrom (execution x) r n (At p) = subst (λ k. ReadsFrom (execution x) r k (At p)) e h.1.2 in
+        (same_Some w (At p) (sym reads ∙ there), h.0)))
+        (cases_lt h.1.0 n)) s
 
     pub more_none : ((p : EventKey) → w ≡ At p → SynchronizesWith (execution x) p r → ⊥) → AreSourcesWithin x r (n + 1) sources
-    more_none none m =
-        ((λ h. let s = (within m).0 h in (s.0, s.1, wider s.0 s.2)),
-          (λ s. ⊎_elim (λ (o : IsStepWithin x n s.0 r). (within m).1 (s.0, s.1, o))
-            (λ (h : (w ≡ At s.0) × SynchronizesWith (execution x) s.0 r). absurd (none s.0 h.0 h.1))
-            (narrower s.0 s.2)))
+    more_none none m = (
+      (λ h. let s = (within m).0 h in (s.0, s.1, wider s.0 s.2)),
+      (λ s. ⊎_elim (λ (o : IsStepWithin x n s.0 r). (within m).1 (s.0, s.1, o))
+          (λ (h : (w ≡ At s.0) × SynchronizesWith (execution x) s.0 r). absurd (none s.0 h.0 h.1))
+          (narrower s.0 s.2)),
+    )
 
     pub more_one : ListsEachOnce x.log x.witness.order → (place : ℕ) (q : EventKey) → w ≡ At q → StandsAt x place q → SynchronizesWith (execution x) q r → AreSourcesWithin x r (n + 1) (sources ++ place ∷ [])
     more_one order place q is at sw m =
-        let push = among_push sources place m in
-        ((λ h. ⊎_elim (λ (o : IsAmong sources (length sources) m). let s = (within m).0 o in (s.0, s.1, wider s.0 s.2))
-            (λ (e : place ≡ m). (q, subst (λ m. StandsAt x m q) e at, inr (sw, (n, omega arith, reads ∙ ap Some is))))
-            (push.0 h)),
+        let push = among_push sources place m in (
+          (λ h. ⊎_elim (λ (o : IsAmong sources (length sources) m). let s = (within m).0 o in (s.0, s.1, wider s.0 s.2))
+              (λ (e : place ≡ m). (q, subst (λ m. StandsAt x m q) e at, inr (sw, (n, omega arith, reads ∙ ap Some is))))
+              (push.0 h)),
           (λ s. ⊎_elim (λ (o : IsStepWithin x n s.0 r). push.1 (inl ((within m).1 (s.0, s.1, o))))
-            (λ (h : (w ≡ At s.0) × SynchronizesWith (execution x) s.0 r).
+              (λ (h : (w ≡ At s.0) × SynchronizesWith (execution x) s.0 r).
               let e : s.0 ≡ q = same_At s.0 q (sym h.0 ∙ is) in
               push.1 (inr (order.once place m q at (subst (λ p. StandsAt x m p) e s.1))))
-            (narrower s.0 s.2)))
+              (narrower s.0 s.2)),
+        )
 
   pub sources_whole : (n : ℕ) (sources : List ℕ) → length (writers_in x.witness r) ≤ n → AreSourcesWithin x r n sources → AreSources x r sources
-  sources_whole n sources size within m =
-      ((λ h. let s = (within m).0 h in (s.0, s.1, ⊎_elim (λ (h : IsNext x s.0 r). inl h)
-          (λ (h : SynchronizesWith (execution x) s.0 r × ((k : ℕ) × (k < n) × ReadsFrom (execution x) r k (At s.0))). inr h.0) s.2)),
-        (λ s. (within m).1 (s.0, s.1, ⊎_elim (λ (h : IsNext x s.0 r). inl h)
-          (λ (h : SynchronizesWith (execution x) s.0 r). inr (h, (h.reads.0, below h.reads.0 s.0 h.reads.1, h.reads.1))) s.2)))
+  sources_whole n sources size within m = (
+    (λ h. let s = (within m).0 h in (
+      s.0,
+      s.1,
+      ⊎_elim (λ (h : IsNext x s.0 r). inl h)
+          (λ (h : SynchronizesWith (execution x) s.0 r × ((k : ℕ) × (k < n) × ReadsFrom (execution x) r k (At s.0))). inr h.0) s.2,
+    )),
+    (λ s. (within m).1 (
+      s.0,
+      s.1,
+      ⊎_elim (λ (h : IsNext x s.0 r). inl h)
+          (λ (h : SynchronizesWith (execution x) s.0 r). inr (h, (h.reads.0, below h.reads.0 s.0 h.reads.1, h.reads.1))) s.2,
+    )),
+  )
     where
       inside : (ws : List EventId) (k : ℕ) (w : EventId) → slice_get ws k ≡ Some w → k < length ws
       inside ws k w h = grind (arith, common_steps, gets)
+
       below : (k : ℕ) (p : EventKey) → ReadsFrom (execution x) r k (At p) → k < n
       below k p h = let l = inside (writers_in x.witness r) k (At p) h in omega (arith, l, size)
 
@@ -122,12 +137,12 @@ pub graph_more : (x : LoggedRun) (graph : List (List ℕ)) (n : ℕ) (sources : 
     → ((m : ℕ) (r : EventKey) → m < n → StandsAt x m r → AreSources x r (sources_of graph m)) → (m : ℕ) (r : EventKey) → m < n + 1 → StandsAt x m r → AreSources x r (sources_of (graph ++ sources ∷ []) m)
 graph_more x graph n sources key size at is before m r l at_m = ⊎_elim
     (λ (h : m < n). let inside : m < length graph = omega arith in
-      subst (AreSources x r) (sym (get_or_append_left graph (sources ∷ []) [] m inside)) (before m r h at_m))
+    subst (AreSources x r) (sym (get_or_append_left graph (sources ∷ []) [] m inside)) (before m r h at_m))
     (λ (h : n ≤ m). let e : length graph ≡ m = omega arith in
-      let f : n ≡ m = omega arith in
-      let same : key ≡ r = same_Some key r (sym (subst (λ m. StandsAt x m key) f at) ∙ at_m) in
-      let read : sources_of (graph ++ sources ∷ []) m ≡ sources = ap (λ k. sources_of (graph ++ sources ∷ []) k) (sym e) ∙ get_or-append_seam graph sources [] [] in
-      subst (AreSources x r) (sym read) (subst (λ r. AreSources x r sources) same is))
+    let f : n ≡ m = omega arith in
+    let same : key ≡ r = same_Some key r (sym (subst (λ m. StandsAt x m key) f at) ∙ at_m) in
+    let read : sources_of (graph ++ sources ∷ []) m ≡ sources = ap (λ k. sources_of (graph ++ sources ∷ []) k) (sym e) ∙ get_or-append_seam graph sources [] [] in
+    subst (AreSources x r) (sym read) (subst (λ r. AreSources x r sources) same is))
     (cases_lt m n)
 
 pub graph_whole : (x : LoggedRun) (graph : List (List ℕ)) (n : ℕ) → length graph ≡ n → length x.witness.order ≡ n

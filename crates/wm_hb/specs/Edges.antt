@@ -1,5 +1,5 @@
 -- The first edge that the order doesn't agree with.
-use Rattle.std.specs.Prelude.{List, [], ◌∷◌, None}
+use Rattle.std.specs.Prelude.{[], ◌∷◌, None}
 use Rattle.wm_event.specs.declared.rule.Rule.TheVariants.{Order}
 use Rattle.wm_event.specs.declared.rule.RuleFault.{RuleFault}
 use Rattle.wm_event.specs.Execution.{Execution}

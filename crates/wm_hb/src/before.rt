@@ -6,12 +6,12 @@ ghost use Rattle.wm_event.specs.HappensBefore.{HappensBefore as IsBefore};
 ghost use Rattle.wm_event.specs.LoggedRun.{execution};
 ghost use Rattle.wm_event.specs.Rules.{KeepsOrder};
 
+use crate::ordered::Ordered;
 use crate::steps::{graph, place_of};
-use wm_closure::Closure;
 use std::alloc::{AllocError, Global};
 use std::marker::Model;
 use std::thread::Threads;
-use crate::ordered::Ordered;
+use wm_closure::Closure;
 use wm_event::{Candidate, EventId, EventKey};
 
 /// What happens before what.
@@ -34,7 +34,11 @@ impl<'c, 'i> Model for HappensBefore<'c, 'i> {
 
 impl<'c, 'i> HappensBefore<'c, 'i> {
     /// The closure of the steps, worked in parallel.
-    pub fn of(rt: &(impl Threads + Sync), alloc: Global, ordered: &Ordered<'c, 'i>) -> Result<Self, AllocError>
+    pub fn of(
+        rt: &(impl Threads + Sync),
+        alloc: Global,
+        ordered: &Ordered<'c, 'i>,
+    ) -> Result<Self, AllocError>
         ensures { IfOk result (λ h. h ≡ ordered.now) }
     {
         let candidate = ordered.candidate();

@@ -1,6 +1,7 @@
 //! The program over a fake reader, fake writers and fake files.
 mod candidates;
 mod check;
+mod closure;
 mod documents;
 mod fakes;
 mod modules;

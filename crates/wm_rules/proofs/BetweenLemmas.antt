@@ -1,24 +1,20 @@
 -- The first write of a byte between two places of which something holds.
-use Rattle.std.proofs.Common.{◌≡◌, ◌≢◌, ℕ, zero, suc, ◌+◌, ◌-◌, ◌<◌, ◌≤◌, ◌&&◌, List, [], ◌∷◌, Bool, true, false, not, ltb, length, get_or, slice_get, drop, Option, None, Some, refl, sym, ap, ◌∙◌, subst, arith, ⊎_elim, if◌then◌else◌, IsSome, is_some}
+use Rattle.std.proofs.Common.{◌≡◌, ℕ, zero, suc, ◌+◌, ◌-◌, ◌<◌, ◌≤◌, ◌&&◌, List, [], ◌∷◌, Bool, true, false, not, ltb, length, get_or, slice_get, drop, Option, None, Some, sym, ap, ◌∙◌, subst, arith, ⊎_elim, if◌then◌else◌, is_some}
 use Rattle.std.specs.Prelude.{unwrap_or, MatchOption}
 use Rattle.std.specs.List.{filter}
 use Rattle.std.specs.List.Sorted.{IsNonDecreasingBy}
-use Rattle.std.proofs.lemmas.Bool.{cases_lt, cases_order}
-use Rattle.std.proofs.lemmas.Bool.Decides.{nat_tests}
+use Rattle.std.proofs.lemmas.Bool.{cases_lt}
 use Rattle.std.proofs.lemmas.Grind.{common_steps}
 use Rattle.std.proofs.lemmas.Option.{slice_get-get_or, slice_get_within, same_Some}
 use borrow.Author.Tests.{tests}
-use Rattle.wm_event.specs.declared.event.Event.{Event}
 use Rattle.wm_event.specs.declared.event.EventKey.{EventKey}
 use Rattle.wm_event.specs.declared.event.EventId.{EventId}
 use Rattle.wm_event.specs.declared.event.EventId.TheVariants.{Init, At}
-use Rattle.wm_event.specs.declared.log.ThreadLog.{ThreadLog}
 use Rattle.wm_event.specs.declared.writes.ByteWrite.{ByteWrite}
-use Rattle.wm_event.specs.Execution.{Execution, place}
+use Rattle.wm_event.specs.Execution.{place}
 use Rattle.wm_event.specs.LoggedRun.{LoggedRun, execution}
-use Rattle.wm_event.specs.Rules.{KeepsOrder}
 use Rattle.wm_event.specs.Shape.{ListsEachOnce}
-use Rattle.wm_event.specs.Writes.{writes_byte, writes_from}
+use Rattle.wm_event.specs.Writes.{listed_from}
 use Rattle.wm_event.proofs.PlaceLemmas.{position_listed}
 use Rattle.wm_event.proofs.WritesLemmas.{in_filter, rises_from, write_listed}
 use Rattle.wm_rules.specs.Between.{IsPlaceOf, Rises, stands_between}
@@ -61,9 +57,9 @@ rises_kept p (y ∷ ys) rises i j a b l at_a at_b = one (p y) i j l at_a at_b (r
     one true (suc i) (suc j) l at_a at_b h = h i j a b (omega arith) at_a at_b
     one false i j l at_a at_b h = h i j a b l at_a at_b
 
--- the writes of a byte rise
-pub writes_rise : (log : List ThreadLog) (a : ℕ) (order : List EventKey) → Rises (writes_from log a 0 order)
-writes_rise log a order i j x y l at_x at_y = rises_from log a 0 order i j x y l at_x at_y
+-- the listed writes rise
+pub writes_rise : (p : EventKey → Bool) (a : ℕ) (order : List EventKey) → Rises (listed_from p a 0 order)
+writes_rise p a order i j x y l at_x at_y = rises_from p a 0 order i j x y l at_x at_y
 
 module _ (run : LoggedRun) (once : ListsEachOnce run.log run.witness.order) where
   pub stands_at : (n : ℕ) (key : EventKey) → slice_get run.witness.order n ≡ Some key → place (execution run) (At key) ≡ 1 + n
@@ -118,24 +114,24 @@ module _ (order : List EventKey) (part : List ByteWrite) (P : EventKey → Type 
     listed = at_key;
     holds = p;
     first = λ n other l at q.
-      let c = all.covers n other at q in
-      ⊎_elim
-      (λ (h : c.0 < i). none c.0 c.1.0 other h c.1.1 (ap (slice_get order) c.1.2 ∙ at) q)
-      (λ (h : i ≤ c.0). ⊎_elim
+        let c = all.covers n other at q in
+        ⊎_elim
+        (λ (h : c.0 < i). none c.0 c.1.0 other h c.1.1 (ap (slice_get order) c.1.2 ∙ at) q)
+        (λ (h : i ≤ c.0). ⊎_elim
         (λ (k : i < c.0). let r = all.rises i c.0 b c.1.0 k at_b c.1.1 in let e = c.1.2 in absurd (omega (arith, r, e, l)))
         (λ (k : c.0 ≤ i). let e : i ≡ c.0 = omega arith in
-          let s : b ≡ c.1.0 = same_Some b c.1.0 (sym at_b ∙ ap (slice_get part) e ∙ c.1.1) in
-          let t = ap (λ (w : ByteWrite). w.place) s in let u = c.1.2 in absurd (omega (arith, t, u, l)))
+        let s : b ≡ c.1.0 = same_Some b c.1.0 (sym at_b ∙ ap (slice_get part) e ∙ c.1.1) in
+        let t = ap (λ (w : ByteWrite). w.place) s in let u = c.1.2 in absurd (omega (arith, t, u, l)))
         (cases_lt i c.0))
-      (cases_lt c.0 i);
+        (cases_lt c.0 i);
   }
 
   pub none_written-more : (i : ℕ) (b : ByteWrite) → slice_get part i ≡ Some b → ((v : EventKey) → slice_get order b.place ≡ Some v → P v → ⊥) → NoneWritten order part P i → NoneWritten order part P (i + 1)
   none_written-more i b at not none j c v l at_c at_v p = ⊎_elim
       (λ (h : j < i). none j c v h at_c at_v p)
       (λ (h : i ≤ j). let e : i ≡ j = omega arith in
-        let s : b ≡ c = same_Some b c (sym at ∙ ap (slice_get part) e ∙ at_c) in
-        not v (ap (λ (w : ByteWrite). slice_get order w.place) s ∙ at_v) p)
+      let s : b ≡ c = same_Some b c (sym at ∙ ap (slice_get part) e ∙ at_c) in
+      not v (ap (λ (w : ByteWrite). slice_get order w.place) s ∙ at_v) p)
       (cases_lt j i)
 
 module _ (order : List EventKey) (part : List ByteWrite) (P : EventKey → Type 0) (all : Covers order part P) (i : ℕ) (d : ByteWrite) (inside : i < length part) where
@@ -153,17 +149,17 @@ module _ (order : List EventKey) (part : List ByteWrite) (P : EventKey → Type 
   found_none None some m none = none_written-more order part P all i (get_or part i d) (slice_get-get_or part i d inside) m none
   found_none (Some key) some m none = absurd (cc)
 
--- the writes of a byte between a writer and a read have each event that writes it and stands there
+-- the writes between a writer and a read that pass a test have each event that passes it and stands there
 pub covers_between : (run : LoggedRun) → ListsEachOnce run.log run.witness.order → (w : EventId) (start : Option ℕ) (first end : ℕ) (r : EventKey) → IsPlaceOf run.witness.order start w → first ≡ unwrap_or start 0
-    → slice_get run.witness.order end ≡ Some r → (a : ℕ) (P : EventKey → Type 0)
-    → ((v : EventKey) → P v → (writes_byte run.log a v ≡ true) × (place (execution run) w < place (execution run) (At v)) × (place (execution run) (At v) < place (execution run) (At r)))
-    → Covers run.witness.order (filter (stands_between first end) (writes_from run.log a 0 run.witness.order)) P
-covers_between run once w start first end r is f at_r a P says = record {
-  rises = rises_kept (stands_between first end) (writes_from run.log a 0 run.witness.order) (writes_rise run.log a run.witness.order);
-  covers = λ n v at p.
-    let s = says v p in
-    let listed = write_listed run.log a 0 run.witness.order n v at s.0 in
-    let kept = in_filter (stands_between first end) (writes_from run.log a 0 run.witness.order) listed.0 (record { address = a; place = 0 + n }) listed.1
+    → slice_get run.witness.order end ≡ Some r → (p : EventKey → Bool) (a : ℕ) (P : EventKey → Type 0)
+    → ((v : EventKey) → P v → (p v ≡ true) × (place (execution run) w < place (execution run) (At v)) × (place (execution run) (At v) < place (execution run) (At r)))
+    → Covers run.witness.order (filter (stands_between first end) (listed_from p a 0 run.witness.order)) P
+covers_between run once w start first end r is f at_r p a P says = record {
+  rises = rises_kept (stands_between first end) (listed_from p a 0 run.witness.order) (writes_rise p a run.witness.order);
+  covers = λ n v at h.
+      let s = says v h in
+      let listed = write_listed p a 0 run.witness.order n v at s.0 in
+      let kept = in_filter (stands_between first end) (listed_from p a 0 run.witness.order) listed.0 (record { address = a; place = 0 + n }) listed.1
       (passes_between run once w start first end (0 + n) r v is f at_r (subst (λ (m : ℕ). slice_get run.witness.order m ≡ Some v) (let e : n ≡ 0 + n = omega arith in e) at) s.1 s.2 a) in
-    (kept.0, (record { address = a; place = 0 + n }, kept.1, (let e : 0 + n ≡ n = omega arith in e)));
+      (kept.0, (record { address = a; place = 0 + n }, kept.1, (let e : 0 + n ≡ n = omega arith in e)));
 }

@@ -18,7 +18,7 @@ use Rattle.std.specs.List.{filter}
 use Rattle.std.specs.Prelude.{unwrap_or}
 use Rattle.wm_event.specs.declared.writes.ByteWrite.{ByteWrite}
 use Rattle.wm_event.specs.Rules.{KeepsOrder}
-use Rattle.wm_event.specs.Writes.{writes_from}
+use Rattle.wm_event.specs.Writes.{writes_byte, writes_from}
 use Rattle.wm_rules.specs.Between.{IsPlaceOf, stands_between}
 use Rattle.wm_rules.proofs.BetweenLemmas.{Covers, covers_between}
 use Rattle.wm_rules.specs.Others.{FindsListed, IsWrittenBetween}
@@ -95,5 +95,5 @@ pub covers_written : (run : LoggedRun) → ListsEachOnce run.log run.witness.ord
     → Covers run.witness.order part (λ key. IsWrittenBetween (execution run) (key_of e) e k w (At key))
 covers_written run once agrees e k w start end part is at same =
     subst (λ (xs : List ByteWrite). Covers run.witness.order xs (λ key. IsWrittenBetween (execution run) (key_of e) e k w (At key))) (sym same)
-    (covers_between run once w start (unwrap_or start 0) end (key_of e) is refl at (e.address + k) (λ key. IsWrittenBetween (execution run) (key_of e) e k w (At key))
+    (covers_between run once w start (unwrap_or start 0) end (key_of e) is refl at (writes_byte run.log (e.address + k)) (e.address + k) (λ key. IsWrittenBetween (execution run) (key_of e) e k w (At key))
     (λ v p. (p.writes, agrees w (At v) p.after, agrees (At v) (At (key_of e)) p.before)))

@@ -1,27 +1,25 @@
 -- The cases of V5, and its faults at a byte.
-use Rattle.std.proofs.Common.{◌≡◌, ℕ, ◌<◌, ◌≤◌, [], ◌∷◌, Bool, IsTrue, ◌↔◌, Option, None, Some, IsSome, is_some, true, false, ◌≢◌, ◌+◌, ◌-◌, ◌&&◌, nat_le, nat_lt, List, slice_get, arith, refl, sym, ap, ◌∙◌, subst}
+use Rattle.std.proofs.Common.{◌≡◌, ◌==◌, ℕ, ◌<◌, ◌≤◌, [], ◌∷◌, Bool, IsTrue, ◌↔◌, Option, None, Some, IsSome, true, false, ◌≢◌, ◌+◌, ◌&&◌, List, length, slice_get, arith, refl, sym, ap, ◌∙◌, subst}
 use Rattle.std.specs.List.{filter}
-use Rattle.std.specs.Prelude.{unwrap_or, option_and_then}
-use Rattle.std.proofs.lemmas.Option.{same_Some}
+use Rattle.std.specs.Prelude.{unwrap_or}
+use Rattle.std.proofs.lemmas.Option.{same_Some, slice_get_within}
 use Rattle.std.proofs.lemmas.Bool.Decides.{nat_tests}
 use Rattle.wm_access.specs.AccessWidth.{bytes_of}
-use Rattle.wm_access.specs.declared.AccessWidth.{AccessWidth}
-use Rattle.wm_access.specs.declared.AccessWidth.TheVariants.{One, Two, Four, Eight}
-use Rattle.wm_event.specs.Byte.{byte_of}
 use Rattle.wm_event.specs.declared.event.Range.{Range}
 use Rattle.wm_event.specs.declared.writes.ByteWrite.{ByteWrite}
-use Rattle.wm_event.specs.Writes.{writes_byte, writes_from}
-use Rattle.wm_event.proofs.WritesLemmas.{is_some_if}
+use Rattle.wm_event.specs.AtomicWrites.{starts_atomic}
+use Rattle.wm_event.specs.Writes.{listed_from}
+use Rattle.wm_event.proofs.Scan.{NoneBelow, none_below-more}
 use Rattle.wm_rules.specs.Between.{IsPlaceOf, stands_between}
 use Rattle.wm_rules.proofs.BetweenLemmas.{Covers, covers_between}
-use Rattle.std.specs.Option.{option_map}
+use Rattle.std.specs.Option.{option_map, option_map_or}
 use Rattle.wm_event.specs.declared.event.Event.{Event}
 use Rattle.wm_event.specs.declared.event.EventKey.{EventKey}
 use Rattle.wm_event.specs.declared.event.EventId.{EventId}
 use Rattle.wm_event.specs.declared.event.EventId.TheVariants.{Init, At}
 use Rattle.wm_event.specs.declared.rule.Rule.TheVariants.{SequentialConsistency}
 use Rattle.wm_event.specs.declared.rule.RuleFault.{RuleFault}
-use Rattle.wm_event.specs.Event.{byte_written, is_atomic, key_of, writes}
+use Rattle.wm_event.specs.Event.{is_atomic, key_of, range_of, writes}
 use Rattle.wm_event.specs.Execution.{Execution, ReadsFrom, event_at, place}
 use Rattle.wm_event.specs.Faults.{AtRead, Breaks, BreaksRule, BreaksSequentialConsistency, rank}
 use Rattle.wm_event.specs.First.{Under}
@@ -101,48 +99,57 @@ out_of_order_finds run e k w c once there reads =
     (λ v h. ((At v, refl, (e, there, reads, h)), (refl, (refl, (refl, (refl, (refl, tt)))))))
     (λ v. refl)
 
--- an event writes the first byte of its range
-start_written : (f : Event) → IsTrue (writes f) → is_some (byte_written f f.address) ≡ true
-start_written f h = is_some_if (writes f && (nat_le f.address f.address && nat_lt f.address (f.address + bytes_of f.width))) (byte_of f.written (f.address - f.address)) ∙ all (writes f) h (bytes_of f.width) (wide f.width)
-  where
-    wide : (width : AccessWidth) → 1 ≤ bytes_of width
-    wide One = omega arith
-    wide Two = omega arith
-    wide Four = omega arith
-    wide Eight = omega arith
-
-    all : (b : Bool) → IsTrue b → (n : ℕ) → 1 ≤ n → (b && (nat_le f.address f.address && nat_lt f.address (f.address + n))) ≡ true
-    all true h n l = grind (arith, nat_tests)
-    all false h n l = absurd (cc)
-
-range_written : (run : LoggedRun) (v : EventKey) (e : Event) → IsAtomicWrite (execution run) (At v) → HasRange (execution run) (At v) e → writes_byte run.log e.address v ≡ true
-range_written run v e write range =
+-- an atomic write is one of its range
+range_listed : (run : LoggedRun) (v : EventKey) (e : Event) → IsAtomicWrite (execution run) (At v) → HasRange (execution run) (At v) e → starts_atomic run.log e.width e.address v ≡ true
+range_listed run v e write range =
     let same : write.0 ≡ range.0 = same_Some write.0 range.0 (sym write.1 ∙ range.1) in
-    let at : range.0.address ≡ e.address = ap (λ (r : Range). r.address) range.2 in
-    let here : write.0.address ≡ e.address = ap (λ (f : Event). f.address) same ∙ at in
-    ap (λ (o : Option Event). is_some (option_and_then (λ (f : Event). byte_written f e.address) o)) write.1
-    ∙ ap (λ (a : ℕ). is_some (byte_written write.0 a)) (sym here) ∙ start_written write.0 write.3
+    let ranges : range_of write.0 ≡ range_of e = ap range_of same ∙ range.2 in
+    ap (λ (o : Option Event). option_map_or (λ (f : Event). (is_atomic f && (writes f && (bytes_of f.width == bytes_of e.width))) && (f.address == e.address)) o false) write.1
+    ∙ all (is_atomic write.0) (writes write.0) (bytes_of write.0.width) (bytes_of e.width) write.0.address e.address write.2 write.3
+    (ap (λ (r : Range). bytes_of r.width) ranges) (ap (λ (r : Range). r.address) ranges)
+  where
+    all : (a b : Bool) (m n k l : ℕ) → IsTrue a → IsTrue b → m ≡ n → k ≡ l → ((a && (b && (m == n))) && (k == l)) ≡ true
+    all true true m n k l ta tb e f = grind (arith, nat_tests)
+    all true false m n k l ta tb e f = absurd (cc)
+    all false b m n k l ta tb e f = absurd (cc)
 
--- the write of a fault of V5 writes the byte at which the range of its case begins
-overtaken_written : (run : LoggedRun) (w : EventId) (v r : EventKey) (e : Event) (c a : ℕ) → (c ≡ 2 → (f : Event) → event_at (execution run) w ≡ Some f → a ≡ f.address) → (c ≢ 2 → a ≡ e.address)
-    → IsAtomicWrite (execution run) (At v) → Overtakes (execution run) w (At v) r e c → writes_byte run.log a v ≡ true
-overtaken_written run w v r e c a second others write (synchronized one t at s range) =
-    ap (λ (b : ℕ). writes_byte run.log b v) (others (λ t. absurd (omega arith))) ∙ range_written run v e write range
-overtaken_written run w v r e c a second others write (written_over two f at atomic wr vr range) =
-    ap (λ (b : ℕ). writes_byte run.log b v) (second two f at) ∙ range_written run v f write range
-overtaken_written run w v r e c a second others write (read_past three atomic wr wv range) =
-    ap (λ (b : ℕ). writes_byte run.log b v) (others (λ t. absurd (omega arith))) ∙ range_written run v e write range
+-- the write of a fault of V5 is an atomic write of the range of its case
+overtaken_listed : (run : LoggedRun) (w : EventId) (v r : EventKey) (e : Event) (c : ℕ) (range : Range) → (c ≡ 2 → (f : Event) → event_at (execution run) w ≡ Some f → range ≡ range_of f) → (c ≢ 2 → range ≡ range_of e)
+    → IsAtomicWrite (execution run) (At v) → Overtakes (execution run) w (At v) r e c → starts_atomic run.log range.width range.address v ≡ true
+overtaken_listed run w v r e c range second others write (synchronized one t at s has) =
+    ap (λ (q : Range). starts_atomic run.log q.width q.address v) (others (λ t. absurd (omega arith))) ∙ range_listed run v e write has
+overtaken_listed run w v r e c range second others write (written_over two f at atomic wr vr has) =
+    ap (λ (q : Range). starts_atomic run.log q.width q.address v) (second two f at) ∙ range_listed run v f write has
+overtaken_listed run w v r e c range second others write (read_past three atomic wr wv has) =
+    ap (λ (q : Range). starts_atomic run.log q.width q.address v) (others (λ t. absurd (omega arith))) ∙ range_listed run v e write has
 
--- the writes of that byte between a writer and the read have each write of such a fault
-pub covers_overtaking : (run : LoggedRun) → ListsEachOnce run.log run.witness.order → (e : Event) (w : EventId) (c a : ℕ) (start : Option ℕ) (end : ℕ) (part : List ByteWrite)
-    → (c ≡ 2 → (f : Event) → event_at (execution run) w ≡ Some f → a ≡ f.address) → (c ≢ 2 → a ≡ e.address)
+-- the atomic writes of that range between a writer and the read have each write of such a fault
+pub covers_overtaking : (run : LoggedRun) → ListsEachOnce run.log run.witness.order → (e : Event) (w : EventId) (c : ℕ) (range : Range) (start : Option ℕ) (end : ℕ) (part : List ByteWrite)
+    → (c ≡ 2 → (f : Event) → event_at (execution run) w ≡ Some f → range ≡ range_of f) → (c ≢ 2 → range ≡ range_of e)
     → IsPlaceOf run.witness.order start w → slice_get run.witness.order end ≡ Some (key_of e)
-    → part ≡ filter (stands_between (unwrap_or start 0) end) (writes_from run.log a 0 run.witness.order)
+    → part ≡ filter (stands_between (unwrap_or start 0) end) (listed_from (starts_atomic run.log range.width range.address) range.address 0 run.witness.order)
     → Covers run.witness.order part (λ key. BreaksSequentialConsistency (execution run) (key_of e) e w (At key) c)
-covers_overtaking run once e w c a start end part second others is at same =
+covers_overtaking run once e w c range start end part second others is at same =
     subst (λ (xs : List ByteWrite). Covers run.witness.order xs (λ key. BreaksSequentialConsistency (execution run) (key_of e) e w (At key) c)) (sym same)
-    (covers_between run once w start (unwrap_or start 0) end (key_of e) is refl at a (λ key. BreaksSequentialConsistency (execution run) (key_of e) e w (At key) c)
-    (λ v p. (overtaken_written run w v (key_of e) e c a second others p.write p.overtakes, p.between.0, p.between.1)))
+    (covers_between run once w start (unwrap_or start 0) end (key_of e) is refl at (starts_atomic run.log range.width range.address) range.address (λ key. BreaksSequentialConsistency (execution run) (key_of e) e w (At key) c)
+    (λ v p. (overtaken_listed run w v (key_of e) e c range second others p.write p.overtakes, p.between.0, p.between.1)))
+
+-- a fault of V5 is at one of the bytes that have a writer
+pub consistency_byte : (x : Execution) (t i : ℕ) (writers : List EventId) → writers ≡ x.writers_of (record { thread = t; number = i }) → (f : RuleFault)
+    → Under (rank x) (Breaks x) (5 ∷ t ∷ i ∷ []) f → f.byte < length writers
+consistency_byte x t i writers same f u =
+    let says : (v : EventId) × (f.other ≡ Some v) × AtRead x f (λ e. BreaksSequentialConsistency x f.event e f.writer v f.case) = subst (BreaksRule x f) (rule_five f.rule u.1.0) u.0 in
+    let key : f.event ≡ record { thread = t; number = i } = same_key_parts f.event (record { thread = t; number = i }) u.1.1.0 u.1.1.1.0 in
+    slice_get_within writers f.byte f.writer (ap (λ (ws : List EventId). slice_get ws f.byte) (same ∙ ap x.writers_of (sym key)) ∙ says.2.2)
+
+-- a read that has a writer again has no fault there that it hadn't at the earlier byte
+pub repeated_none : (x : Execution) (e : Event) (j k : ℕ) (w : EventId) → IsEventOf x e → ReadsFrom x (key_of e) j w → ReadsFrom x (key_of e) k w → j < k
+    → NoneBelow (rank x) (Breaks x) (5 ∷ e.thread ∷ e.number ∷ []) k → NoneBelow (rank x) (Breaks x) (5 ∷ e.thread ∷ e.number ∷ []) (k + 1)
+repeated_none x e j k w there first reads less none =
+    none_below-more (rank x) (Breaks x) (5 ∷ e.thread ∷ e.number ∷ []) k none
+    (λ f u.
+    let s = consistency_says x e k w there reads f u in
+    none j less (record { rule = SequentialConsistency; case = f.case; event = key_of e; byte = j; writer = w; other = f.other }) (s.0, s.1, (e, there, first, s.2)) (refl, (refl, (refl, (refl, tt)))))
 
 -- what case 2 and case 3 say of the two places
 pub second_before : (x : Execution) (w v : EventId) (r : EventKey) (e : Event) (c : ℕ) → c ≡ 2 → Overtakes x w v r e c → HappensBefore x v (At r)

@@ -1,5 +1,5 @@
 -- The rules that are judged last, by their numbers.
-use Rattle.std.specs.Prelude.{◌≡◌, ℕ, [], ◌∷◌, Bool, true, false, None}
+use Rattle.std.specs.Prelude.{◌≡◌, ℕ, [], ◌∷◌, Bool, false, None}
 use Rattle.wm_event.specs.declared.event.Event.{Event}
 use Rattle.wm_event.specs.Execution.{Execution}
 use Rattle.wm_hb.specs.Scan.{Finds}

@@ -19,9 +19,11 @@ fn count_before(writes: &[ByteWrite], place: usize) -> usize
     ensures bound { result ≤ length writes.now }
     ensures parted { IsPartitionPoint (λ (b : ByteWrite). ltb b.place place ≡ true) (λ (b : ByteWrite). ltb b.place place ≡ false) writes.now result }
 {
-    writes.partition_point(|write: &ByteWrite| -> bool
-        ensures { result ≡ ltb write.now.place place }
-        { write.place < place })
+    writes.partition_point(
+        |write: &ByteWrite| -> bool
+            ensures { result ≡ ltb write.now.place place }
+        { write.place < place },
+    )
 }
 
 /// The writes from one place on and before another.
@@ -36,7 +38,12 @@ pub fn part_between(writes: &[ByteWrite], start: usize, end: usize) -> &[ByteWri
 }
 
 /// Whether a writer happens before the event at a place of the order.
-pub fn is_after(relation: &HappensBefore, writer: EventId, start: Option<usize>, place: usize) -> bool
+pub fn is_after(
+    relation: &HappensBefore,
+    writer: EventId,
+    start: Option<usize>,
+    place: usize,
+) -> bool
     requires { IsPlaceOf relation.now.witness.order start writer }
     ensures { (v : EventKey) → slice_get relation.now.witness.order place ≡ Some v → (IsTrue result ↔ IsBefore (execution relation.now) writer (At v)) }
 {

@@ -12,11 +12,15 @@ ghost use Rattle.wm_rules.specs.Others.{FindsListed, IsWrittenBetween};
 ghost use Rattle.wm_hb.specs.Scan.{Finds, IsEventOf};
 
 use crate::between::{is_after, part_between};
-use wm_hb::HappensBefore;
+use crate::by_thread::earliest_between;
 use wm_event::{Event, EventId, EventKey, Rule, RuleFault};
+use wm_hb::HappensBefore;
+
+/// How many writes are looked at one after the other; among more of them each thread's are searched.
+const FEW: usize = 64;
 
 /// Whether an event writes a byte of a read and happens between it and the byte's writer.
-fn is_written_between(
+pub fn is_written_between(
     relation: &HappensBefore,
     event: &Event,
     byte: u8,
@@ -85,7 +89,11 @@ fn first_between(
     };
     let start = candidate.place(writer);
     let writes = candidate.byte_writes(u64::from(event.address) + u64::from(byte));
-    for write in part_between(writes, start.unwrap_or(0), end) {
+    let part = part_between(writes, start.unwrap_or(0), end);
+    if part.len() > FEW {
+        return earliest_between(relation, event, byte, writer);
+    }
+    for write in part {
         let found = written_between_at(relation, event, byte, writer, start, end, write.place);
         if found.is_some() {
             return found;

@@ -38,7 +38,7 @@ fn is_tear_free_like(candidate: &Candidate, event: &Event, id: EventId) -> bool
 }
 
 /// Whether a byte before this one of a read has that writer.
-fn has_earlier(candidate: &Candidate, event: &Event, byte: u8, id: EventId) -> bool
+pub fn has_earlier(candidate: &Candidate, event: &Event, byte: u8, id: EventId) -> bool
     ensures { IsTrue result ↔ ((j : ℕ) × (j < byte) × ReadsFrom (execution candidate.now) (key_of event.now) j id) }
 {
     for (earlier, writer) in candidate.writers(event.key()).iter().enumerate() {

@@ -10,8 +10,8 @@ ghost use Rattle.wm_rules.specs.Late.{IsFaulty, late_number};
 ghost use Rattle.wm_hb.specs.Scan.{Finds, IsEventOf};
 
 use crate::coherence::coherence_fault;
-use crate::sequential_consistency::consistency_fault;
 use crate::no_tearing::tearing_fault;
+use crate::sequential_consistency::consistency_fault;
 use crate::written_values::value_fault;
 use rayon::prelude::*;
 use std::alloc::AllocError;

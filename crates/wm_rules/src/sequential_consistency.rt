@@ -6,7 +6,7 @@ ghost use Rattle.wm_event.specs.declared.event.EventId.{EventId};
 ghost use Rattle.wm_event.specs.Execution.{event_at};
 ghost use Rattle.wm_rules.specs.Between.{IsPlaceOf};
 ghost use Rattle.wm_event.specs.declared.event.EventId.TheVariants.{At};
-ghost use Rattle.wm_event.specs.Event.{key_of};
+ghost use Rattle.wm_event.specs.Event.{key_of, range_of};
 ghost use Rattle.wm_event.specs.Execution.{ReadsFrom};
 ghost use Rattle.wm_event.specs.Faults.{BreaksSequentialConsistency};
 ghost use Rattle.wm_event.specs.LoggedRun.{execution};
@@ -16,8 +16,9 @@ ghost use Rattle.wm_rules.specs.Others.{FindsListed};
 ghost use Rattle.wm_hb.specs.Scan.{Finds, IsEventOf};
 
 use crate::between::{is_after, key_at, part_between};
+use crate::no_tearing::has_earlier;
+use wm_event::{Candidate, Event, EventId, EventKey, Range, Rule, RuleFault};
 use wm_hb::{HappensBefore, stands_before, synchronizes};
-use wm_event::{Candidate, Event, EventId, EventKey, Rule, RuleFault};
 
 /// How many cases the rule has.
 const CASES: u8 = 3;
@@ -156,17 +157,17 @@ fn may_overtake(
     }
 }
 
-/// Where the range begins that the other write has, by a case of the rule.
-fn range_start(candidate: &Candidate, event: &Event, writer: EventId, case: u8) -> u32
-    ensures second { case ≡ 2 → (f : Event) → event_at (execution candidate.now) writer ≡ Some f → result ≡ f.address }
-    ensures others { case ≢ 2 → result ≡ event.now.address }
+/// The range that the other write has, by a case of the rule.
+fn range_by_case(candidate: &Candidate, event: &Event, writer: EventId, case: u8) -> Range
+    ensures second { case ≡ 2 → (f : Event) → event_at (execution candidate.now) writer ≡ Some f → result ≡ range_of f }
+    ensures others { case ≢ 2 → result ≡ range_of event.now }
 {
     if case != 2 {
-        return event.address;
+        return event.range();
     }
     match candidate.event(writer) {
-        Some(written) => written.address,
-        None => event.address,
+        Some(written) => written.range(),
+        None => event.range(),
     }
 }
 
@@ -223,7 +224,7 @@ fn first_out_of_order(
         return None;
     };
     let start = candidate.place(writer);
-    let writes = candidate.byte_writes(u64::from(range_start(candidate, event, writer, case)));
+    let writes = candidate.atomic_writes(range_by_case(candidate, event, writer, case));
     for write in part_between(writes, start.unwrap_or(0), end) {
         let found = out_of_order_at(relation, event, writer, start, end, write.place, case);
         if found.is_some() {
@@ -280,16 +281,18 @@ fn consistency_fault_at(
     None
 }
 
-/// The first fault of an event.
+/// The first fault of an event. A writer of several bytes is looked at once.
 pub fn consistency_fault(relation: &HappensBefore, event: &Event) -> Option<RuleFault>
     requires { IsEventOf (execution relation.now) event.now }
     ensures { Finds (execution relation.now) (5 ∷ event.now.thread ∷ event.now.number ∷ []) result }
 {
     let writers = relation.candidate().writers(event.key());
     for (byte, writer) in writers.iter().enumerate() {
-        let fault = consistency_fault_at(relation, event, byte as u8, *writer);
-        if fault.is_some() {
-            return fault;
+        if !has_earlier(relation.candidate(), event, byte as u8, *writer) {
+            let fault = consistency_fault_at(relation, event, byte as u8, *writer);
+            if fault.is_some() {
+                return fault;
+            }
         }
     }
     None

@@ -1,4 +1,4 @@
-use Rattle.std.proofs.Common.{◌≡◌, ◌<◌, ◌+◌, ◌-◌, ◌^◌, ◌*◌, ◌/◌, ◌≤◌, ℕ, List, length, map, Result, arith, ◌∙◌, ap, subst, sym}
+use Rattle.std.proofs.Common.{◌≡◌, ◌<◌, ◌+◌, ◌-◌, ◌^◌, ◌*◌, ◌/◌, ℕ, List, length, Result, arith, ◌∙◌, ap, subst, sym}
 use Rattle.wm_closure.specs.Graph.{IsOrdered, IsColumn, AreColumns}
 use Rattle.std.specs.List.{AllZip, range_with_len}
 use Rattle.std.specs.Prelude.{IfOk}
@@ -28,7 +28,7 @@ returns g c =
     let R = λ (i : ℕ) (column : List ℕ). IsColumn graph (i * 64) column in
     MatchResult-weaker c.in_ok-collect.field-0 h.2
     (λ v p.
-      let zip = let P = λ (rs : List (Result (List ℕ) AllocError)). AllZip (λ i r. IfOk r (R i)) chain.0 rs in subst P p.1 chain.2 in
-      let found : AllZip R (range_with_len 0 n) p.0 = subst (λ xs. AllZip R xs p.0) places (AllZip-oks AllocError R chain.0 p.0 zip) in
-      subst (AreColumns graph) (sym p.2) (are_columns graph p.0 found))
+    let zip = let P = λ (rs : List (Result (List ℕ) AllocError)). AllZip (λ i r. IfOk r (R i)) chain.0 rs in subst P p.1 chain.2 in
+    let found : AllZip R (range_with_len 0 n) p.0 = subst (λ xs. AllZip R xs p.0) places (AllZip-oks AllocError R chain.0 p.0 zip) in
+    subst (AreColumns graph) (sym p.2) (are_columns graph p.0 found))
     (λ e q. tt)

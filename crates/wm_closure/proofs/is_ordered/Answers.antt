@@ -1,4 +1,4 @@
-use Rattle.std.proofs.Common.{◌≡◌, ◌<◌, ◌≤◌, ℕ, List, [], length, get_or, arith, ◌∙◌, refl}
+use Rattle.std.proofs.Common.{◌≡◌, [], arith, ◌∙◌, refl}
 use Rattle.std.proofs.lemmas.List.{get_or_default}
 use Rattle.wm_closure.specs.Graph.{sources_of}
 use Rattle.wm_closure.proofs.Tested.{ordered_more, ordered_whole}

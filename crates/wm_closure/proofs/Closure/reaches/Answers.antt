@@ -1,5 +1,5 @@
-use Rattle.std.proofs.Common.{◌≡◌, ◌<◌, ◌≤◌, ◌⊎◌, ℕ, length, arith, IsTrue, false}
-use Rattle.wm_closure.specs.Graph.{Reaches, IsOrdered}
+use Rattle.std.proofs.Common.{◌<◌, ◌≤◌, ◌⊎◌, length}
+use Rattle.wm_closure.specs.Graph.{IsOrdered}
 use Rattle.wm_closure.proofs.Chains.{none_reaches}
 use Rattle.wm_closure.proofs.Closure.reaches.Goals as goal
 

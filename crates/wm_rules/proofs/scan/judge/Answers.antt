@@ -5,7 +5,7 @@ use Rattle.wm_event.specs.declared.rule.RuleFault.{RuleFault}
 use Rattle.wm_event.specs.Faults.{Breaks, rule_number}
 use Rattle.wm_hb.specs.Scan.{Finds}
 use Rattle.wm_rules.proofs.CaseLemmas.{of_all}
-use Rattle.wm_rules.proofs.ValidLaws.{from_value, from_order, is_valid, later_rule}
+use Rattle.wm_rules.proofs.ValidLaws.{is_valid, later_rule}
 use Rattle.wm_rules.proofs.scan.judge.Goals as goal
 
 pub first_fault-requires-after_bounds : goal.first_fault-requires-after_bounds

@@ -1,4 +1,4 @@
-use Rattle.std.proofs.Common.{◌≡◌, None, Some, Option, slice_get, rules, sym, ap, ◌∙◌, subst}
+use Rattle.std.proofs.Common.{◌≡◌, None, Some, Option, slice_get, rules, sym, ◌∙◌, subst}
 use Rattle.std.proofs.lemmas.Bool.{both_ways}
 use Rattle.std.proofs.lemmas.Option.{same_Some}
 use Rattle.wm_event.specs.declared.event.EventKey.{EventKey}
@@ -6,7 +6,6 @@ use Rattle.wm_event.specs.declared.event.EventId.TheVariants.{At}
 use Rattle.wm_event.specs.Event.{key_of}
 use Rattle.wm_event.specs.Faults.{BreaksSequentialConsistency}
 use Rattle.wm_event.specs.LoggedRun.{execution}
-use Rattle.wm_event.specs.Shape.{ListsEachOnce}
 use Rattle.wm_rules.proofs.sequential_consistency.out_of_order_at.Goals as goal
 
 none_some : (o : Option EventKey) (v : EventKey) → o ≡ None → o ≡ Some v → ⊥

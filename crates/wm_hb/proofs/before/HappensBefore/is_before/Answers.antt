@@ -24,6 +24,6 @@ pub returns : goal.returns
 returns c =
     let x = c.self.inside.candidate.now in
     let same : Reaches c.self.inside.closure c.in-Some.start c.in-Some-place_of.end ↔ IsBefore (execution x) (At c.args.from) (At c.args.to) =
-      reaches_happens x c.self.inside.closure c.self.invariant.edges c.log-log.ensures.shape.order c.in-Some.start c.in-Some-place_of.end c.args.from c.args.to c.in-Some.ensures c.in-Some-place_of.ensures in
+    reaches_happens x c.self.inside.closure c.self.invariant.edges c.log-log.ensures.shape.order c.in-Some.start c.in-Some-place_of.end c.args.from c.args.to c.in-Some.ensures c.in-Some-place_of.ensures in
     let both : IsTrue c.reaches.result ↔ IsBefore (execution x) (At c.args.from) (At c.args.to) = ((λ t. same.0 (c.reaches.ensures.0 t)), (λ h. c.reaches.ensures.1 (same.1 h))) in
     rw c.self.view_is at both

@@ -1,0 +1,139 @@
+"""Writes logs that are hard for the scans of the memory rules into a folder: adversarial.py FOLDER [EVENTS..]
+
+Each is valid, so that every rule is judged to its end. In `old` a thread reads again and again the first of another's many writes.
+In `bytes` eight threads wrote one byte each of what is read, and a ninth writes it many times. In `own` the reader itself wrote many
+times before. In `widths` writes of 1, 2, 4 and 8 bytes overlap. In `plain_past` a reader is past many plain writes of its own before it
+synchronizes with the writer. `late` has atomic reads of a first write past many plain ones. `one_thread` and `sixteen` have that many
+threads on one address, and in `atomic` all of two threads' accesses are atomic on one.
+"""
+import json, os, random, sys
+
+
+class Run:
+    """A log that is put together in the order of its events."""
+
+    def __init__(self, threads):
+        self.events = [[] for _ in range(threads)]
+        self.writers = [[] for _ in range(threads)]
+        self.order = []
+        self.written = {}
+
+    def add(self, thread, event, writers):
+        key = [thread, len(self.events[thread])]
+        self.events[thread].append(event)
+        self.writers[thread].append(writers)
+        self.order.append(key)
+        return key
+
+    def write(self, thread, order, address, width, value):
+        key = self.add(thread, ["w", order, address, width, value], [])
+        self.written[tuple(key)] = (address, value)
+        return key
+
+    def read(self, thread, order, address, width, writers):
+        value = 0
+        for byte, writer in enumerate(writers):
+            if writer:
+                start, written = self.written[tuple(writer)]
+                value |= (written >> 8 * (address + byte - start) & 255) << 8 * byte
+        self.add(thread, ["r", order, address, width, value], writers)
+
+    def save(self, folder, name):
+        threads = [["t", [], ["cut"], 0, events] for events in self.events]
+        document = ["wasm-litmus-log", 1, threads, [self.writers, self.order]]
+        with open(os.path.join(folder, name + ".json"), "w") as file:
+            json.dump(document, file, separators=(",", ":"))
+
+
+def old(n):
+    run = Run(2)
+    first = run.write(0, "un", 0, 8, 1)
+    for value in range(n // 2 - 1):
+        run.write(0, "un", 0, 8, value)
+    for _ in range(n // 2):
+        run.read(1, "un", 0, 8, [first] * 8)
+    return run
+
+
+def bytes_of_eight(n):
+    run = Run(10)
+    firsts = [run.write(byte, "sc", byte, 1, byte) for byte in range(8)]
+    for value in range(n // 2 - 8):
+        run.write(8, "un", 0, 8, value)
+    for _ in range(n - n // 2):
+        run.read(9, "un", 0, 8, firsts)
+    return run
+
+
+def own(n):
+    run = Run(9)
+    for value in range(n // 2):
+        run.write(8, "un", 0, 8, value)
+    others = [run.write(byte, "un", byte, 1, byte) for byte in range(8)]
+    for _ in range(n - n // 2 - 8):
+        run.read(8, "un", 0, 8, others)
+    return run
+
+
+def widths(n):
+    run, r = Run(16), random.Random(2)
+    firsts = [run.write(byte, "un", byte, 1, byte) for byte in range(8)]
+    for index in range(n // 2 - 8):
+        width = r.choice([1, 2, 4, 8])
+        run.write(8 + index % 7, "un", r.randrange(8 // width) * width, width, index % 256)
+    for _ in range(n - n // 2):
+        run.read(15, "un", 0, 8, firsts)
+    return run
+
+
+def plain_past(n):
+    run = Run(9)
+    firsts = [run.write(byte, "sc", byte, 1, byte) for byte in range(8)]
+    for value in range(n // 2 - 16):
+        run.write(8, "un", 0, 8, value)
+    for byte in range(8):
+        run.read(8, "sc", byte, 1, [firsts[byte]])
+    for _ in range(n - n // 2):
+        run.read(8, "un", 0, 8, firsts)
+    return run
+
+
+def late(n):
+    run = Run(3)
+    first = run.write(0, "sc", 0, 8, 7)
+    for value in range(n // 2 - 1):
+        run.write(1, "un", 0, 8, value)
+    for _ in range(n - n // 2):
+        run.read(2, "sc", 0, 8, [first] * 8)
+    return run
+
+
+def mixed(n, threads, order):
+    run, r, memory = Run(threads), random.Random(3), [[]] * 8
+    for index in range(n):
+        thread = r.randrange(threads)
+        if r.random() < 0.5:
+            memory = [run.write(thread, order, 0, 8, index)] * 8
+        else:
+            run.read(thread, order, 0, 8, memory)
+    return run
+
+
+LOGS = {
+    "old": old,
+    "bytes": bytes_of_eight,
+    "own": own,
+    "widths": widths,
+    "plain_past": plain_past,
+    "late": late,
+    "one_thread": lambda n: mixed(n, 1, "un"),
+    "sixteen": lambda n: mixed(n, 16, "un"),
+    "atomic": lambda n: mixed(n, 2, "sc"),
+}
+
+if __name__ == "__main__":
+    folder = sys.argv[1]
+    os.makedirs(folder, exist_ok=True)
+    for events in [int(word) for word in sys.argv[2:]] or [1024, 4096, 16384]:
+        for name, log in LOGS.items():
+            log(events).save(folder, f"{name}_{events}")

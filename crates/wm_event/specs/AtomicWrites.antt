@@ -1,0 +1,38 @@
+-- The index of the atomic writes of each range.
+use Rattle.std.specs.Prelude.{◌≡◌, ℕ, ◌==◌, ◌&&◌, List, Bool, false}
+use Rattle.std.specs.List.{filter}
+use Rattle.std.specs.List.Sorted.{IsNonDecreasingBy}
+use Rattle.std.specs.Option.{option_map_or}
+use Rattle.wm_access.specs.AccessWidth.{bytes_of}
+use Rattle.wm_access.specs.declared.AccessWidth.{AccessWidth}
+use Rattle.wm_access.specs.declared.AccessWidth.TheVariants.{One, Two, Four, Eight}
+use Rattle.wm_event.specs.declared.event.EventKey.{EventKey}
+use Rattle.wm_event.specs.declared.log.ThreadLog.{ThreadLog}
+use Rattle.wm_event.specs.declared.writes.ByteWrite.{ByteWrite}
+use Rattle.wm_event.specs.declared.atomic_writes.Starts.{Starts}
+use Rattle.wm_event.specs.declared.atomic_writes.AtomicWrites.{AtomicWrites}
+use Rattle.wm_event.specs.Event.{is_atomic, writes}
+use Rattle.wm_event.specs.Log.{event_in}
+use Rattle.wm_event.specs.Writes.{is_at, listed_from}
+
+-- whether an event of a log is an atomic write of that width that begins at a
+abbrev pub starts_atomic : List ThreadLog → AccessWidth → ℕ → EventKey → Bool
+starts_atomic log width a key = option_map_or (λ e. (is_atomic e && (writes e && (bytes_of e.width == bytes_of width))) && (e.address == a)) (event_in log key) false
+
+-- the atomic writes of one width in the order, by the address where they begin
+pub record AreStarts (log : List ThreadLog) (width : AccessWidth) (order : List EventKey) (s : Starts) : Type 0 where
+  pub rises : IsNonDecreasingBy (λ (b : ByteWrite). b.address) s.entries.items
+  pub each : (a : ℕ) → filter (is_at a) s.entries.items ≡ listed_from (starts_atomic log width a) a 0 order
+
+-- those of each width
+pub record AreAtomicWrites (log : List ThreadLog) (order : List EventKey) (w : AtomicWrites) : Type 0 where
+  pub one : AreStarts log One order w.one
+  pub two : AreStarts log Two order w.two
+  pub four : AreStarts log Four order w.four
+  pub eight : AreStarts log Eight order w.eight
+
+abbrev pub starts_in : AtomicWrites → AccessWidth → Starts
+starts_in w One = w.one
+starts_in w Two = w.two
+starts_in w Four = w.four
+starts_in w Eight = w.eight

@@ -1,0 +1,215 @@
+//! Happens-before in bit columns beside the plain closure of its edges, and the limit of events.
+use super::documents::{ALLOWED, BROKEN};
+use std::alloc::{AllocError, Global};
+use std::process::Abort;
+use std::test::Fail;
+use std::thread::Threads;
+use wm_event::{Candidate, EventId, EventKey, Initial};
+use wm_hb::{HappensBefore, Ordered, synchronizes};
+use wm_logfile::read_document;
+
+/// How many events a thread of a generated log has.
+const EACH: u64 = 6;
+
+/// How many logs are generated.
+const LOGS: u64 = 400;
+
+/// Whether there is an edge of happens-before between two ids.
+fn has_edge(candidate: &Candidate, from: EventId, to: EventId) -> bool {
+    match (from, to) {
+        (_, EventId::Init) => false,
+        (EventId::Init, EventId::At(_)) => candidate.event(to).is_some(),
+        (EventId::At(a), EventId::At(b)) => {
+            let there = candidate.event(from).is_some() && candidate.event(to).is_some();
+            there && a.thread == b.thread && a.number < b.number || synchronizes(candidate, a, b)
+        }
+    }
+}
+
+/// Whether a row marks a place.
+fn marks(row: &[bool], place: usize) -> bool {
+    row.get(place).copied().unwrap_or(false)
+}
+
+/// The row of the ids to which there is an edge from one.
+fn edges_from(
+    alloc: Global,
+    candidate: &Candidate,
+    ids: &[EventId],
+    from: EventId,
+) -> Result<Vec<bool>, AllocError> {
+    let mut row = Vec::new(alloc);
+    for to in ids {
+        row.push(has_edge(candidate, from, *to))?;
+    }
+    Ok(row)
+}
+
+/// A row with what one step more leads to.
+fn joined(alloc: Global, row: &[bool], edges: &[Vec<bool>]) -> Result<Vec<bool>, AllocError> {
+    let mut next = Vec::new(alloc);
+    for to in 0..row.len() {
+        let mut is_reached = marks(row, to);
+        for (via, step) in edges.iter().enumerate() {
+            is_reached = is_reached || marks(row, via) && marks(step.as_slice(), to);
+        }
+        next.push(is_reached)?;
+    }
+    Ok(next)
+}
+
+/// The row of the ids to which chains lead from one: steps are joined again and again until nothing is new.
+fn reached_from(
+    alloc: Global,
+    from: &[bool],
+    edges: &[Vec<bool>],
+) -> Result<Vec<bool>, AllocError> {
+    let mut row = from.to_vec(alloc)?;
+    for _ in 0..from.len() {
+        let next = joined(alloc, row.as_slice(), edges)?;
+        if next.as_slice() == row.as_slice() {
+            return Ok(row);
+        }
+        row = next;
+    }
+    Ok(row)
+}
+
+/// Init, the events in the order, and one id that isn't there.
+fn ids_of(alloc: Global, candidate: &Candidate) -> Result<Vec<EventId>, AllocError> {
+    let mut ids = Vec::new(alloc);
+    ids.push(EventId::Init)?;
+    for key in candidate.witness().order.as_slice() {
+        ids.push(EventId::At(*key))?;
+    }
+    ids.push(EventId::At(EventKey {
+        thread: 99,
+        number: 0,
+    }))?;
+    Ok(ids)
+}
+
+/// Compares what happens before what with the plain closure, for all pairs. Whether the order agrees.
+fn compares<R: Abort + AllocGlobal + Threads + Sync>(
+    rt: &R,
+    document: &str,
+    initial: &Initial,
+) -> Result<bool, AllocError> {
+    let alloc = rt.alloc();
+    let Ok((log, witness)) = read_document(alloc, document.as_bytes()) else {
+        panic!(rt; "{document}")
+    };
+    let Ok(candidate) = Candidate::new(alloc, log, witness, initial) else {
+        panic!(rt; "{document}")
+    };
+    let Ok(ordered) = Ordered::of(&candidate) else {
+        return Ok(false);
+    };
+    let relation = HappensBefore::of(rt, alloc, &ordered)?;
+    let ids = ids_of(alloc, &candidate)?;
+    let mut edges = Vec::new(alloc);
+    for from in ids.as_slice() {
+        edges.push(edges_from(alloc, &candidate, ids.as_slice(), *from)?)?;
+    }
+    for (from, step) in edges.iter().enumerate() {
+        let row = reached_from(alloc, step.as_slice(), edges.as_slice())?;
+        for (to, id) in ids.iter().enumerate() {
+            let start = ids.as_slice().get(from).copied().unwrap_or(EventId::Init);
+            let is_before = relation.before(start, *id);
+            assert_eq!(rt; is_before, marks(row.as_slice(), to), "{start} {id} {document}");
+        }
+    }
+    Ok(true)
+}
+
+#[test]
+fn columns_are_the_plain_closure_on_the_examples(rt: HostRuntime) -> Result<(), Fail> {
+    let initial = Initial::zeros(rt.alloc(), 16)?;
+    let mut ordered = 0u64;
+    for row in ALLOWED {
+        assert!(&rt; compares(&rt, row.document, &initial)?, "{}", row.shows);
+    }
+    for row in BROKEN {
+        if compares(&rt, row.document, &initial)? {
+            ordered = ordered.wrapping_add(1);
+        }
+    }
+    assert!(&rt; ordered > 0);
+    Ok(())
+}
+
+/// The next number of a sequence without a visible pattern.
+fn next(state: u64) -> u64 {
+    state
+        .wrapping_mul(6_364_136_223_846_793_005)
+        .wrapping_add(1_442_695_040_888_963_407)
+}
+
+/// A number below a limit, from the high bits of a state.
+fn below(state: u64, limit: u64) -> u64 {
+    if limit == 0 { 0 } else { (state >> 33) % limit }
+}
+
+/// The writer of a byte, as a document has it: Init, or one of the events before a place, where `threads` threads take turns.
+fn writer(alloc: Global, state: u64, place: u64, threads: u64) -> Result<String, AllocError> {
+    let chosen = below(state, place.wrapping_add(1));
+    if chosen == 0 || threads == 0 {
+        return String::from_str(alloc, "[]");
+    }
+    let earlier = chosen.wrapping_sub(1);
+    format!(in alloc; "[{},{}]", earlier % threads, earlier / threads)
+}
+
+/// A log whose threads take turns, of reads and writes of one or two bytes, most of them atomic.
+fn generated(alloc: Global, seed: u64) -> Result<String, AllocError> {
+    let threads = seed % 5 + 1;
+    let mut state = next(seed);
+    let mut logs = String::new(alloc);
+    let mut sources = String::new(alloc);
+    let mut order = String::new(alloc);
+    for thread in 0..threads {
+        let mut events = String::new(alloc);
+        let mut writers = String::new(alloc);
+        for number in 0..EACH {
+            let comma = if number == 0 { "" } else { "," };
+            state = next(state);
+            let ordering = if below(state, 4) == 0 { "un" } else { "sc" };
+            let width = below(state >> 2, 2).wrapping_add(1);
+            if below(state >> 3, 2) == 0 {
+                events.push_str(format!(in alloc; r#"{comma}["w","{ordering}",0,{width},7]"#)?.as_str())?;
+                writers.push_str(format!(in alloc; "{comma}[]")?.as_str())?;
+            } else {
+                let place = number.wrapping_mul(threads).wrapping_add(thread);
+                let first = writer(alloc, next(state), place, threads)?;
+                let second = writer(alloc, next(next(state)), place, threads)?;
+                events.push_str(format!(in alloc; r#"{comma}["r","{ordering}",0,{width},0]"#)?.as_str())?;
+                let bytes = if width == 1 {
+                    format!(in alloc; "{comma}[{first}]")?
+                } else {
+                    format!(in alloc; "{comma}[{first},{second}]")?
+                };
+                writers.push_str(bytes.as_str())?;
+            }
+        }
+        let comma = if thread == 0 { "" } else { "," };
+        logs.push_str(format!(in alloc; r#"{comma}["t",[],["cut"],0,[{events}]]"#)?.as_str())?;
+        sources.push_str(format!(in alloc; "{comma}[{writers}]")?.as_str())?;
+    }
+    for number in 0..EACH {
+        for thread in 0..threads {
+            let comma = if number == 0 && thread == 0 { "" } else { "," };
+            order.push_str(format!(in alloc; "{comma}[{thread},{number}]")?.as_str())?;
+        }
+    }
+    format!(in alloc; r#"["wasm-litmus-log",1,[{logs}],[[{sources}],[{order}]]]"#)
+}
+
+#[test]
+fn columns_are_the_plain_closure_on_generated_logs(rt: HostRuntime) -> Result<(), Fail> {
+    let initial = Initial::zeros(rt.alloc(), 1)?;
+    for seed in 0..LOGS {
+        let document = generated(rt.alloc(), seed)?;
+        assert!(&rt; compares(&rt, document.as_str(), &initial)?);
+    }
+    Ok(())
+}

@@ -1,0 +1,102 @@
+//! The first write of a byte that happens between a read and its writer, found in one thread after the other.
+ghost use Rattle.std.specs.Prelude.{◌≡◌, ◌<◌, ◌≤◌, ℕ, IfSome, Some, length, slice_get};
+ghost use Rattle.wm_event.specs.declared.event.EventId.{EventId};
+ghost use Rattle.wm_event.specs.declared.event.EventId.TheVariants.{At};
+ghost use Rattle.wm_event.specs.Event.{key_of};
+ghost use Rattle.wm_event.specs.HappensBefore.{HappensBefore as IsBefore};
+ghost use Rattle.wm_event.specs.LoggedRun.{execution};
+ghost use Rattle.wm_event.specs.Shape.{IsThere};
+ghost use Rattle.wm_rules.specs.Earliest.{AreInSequence, FindsEarliest, IsWrittenBelow, IsWrittenInThread, earlier_of};
+
+use crate::coherence::is_written_between;
+use wm_event::{Candidate, Event, EventId, EventKey};
+use wm_hb::{HappensBefore, stands_before};
+
+/// How many of a thread's writes a writer doesn't happen before. It happens before all those behind them.
+fn count_not_after(relation: &HappensBefore, writer: EventId, writes: &[EventId]) -> usize
+    requires { AreInSequence (execution relation.now) writes.now }
+    ensures bound { result ≤ length writes.now }
+    ensures not_after { (i : ℕ) (v : EventId) → i < result → slice_get writes.now i ≡ Some v → IsBefore (execution relation.now) writer v → ⊥ }
+    ensures after { (i : ℕ) (v : EventId) → result ≤ i → slice_get writes.now i ≡ Some v → IsBefore (execution relation.now) writer v }
+{
+    let mut low = 0usize;
+    let mut high = writes.len();
+    while low < high {
+        let middle = low + (high - low) / 2;
+        if relation.before(writer, writes[middle]) {
+            high = middle;
+        } else {
+            low = middle + 1;
+        }
+    }
+    low
+}
+
+/// The first of a thread's writes of a byte that happens between a read and the byte's writer.
+fn first_in_thread(
+    relation: &HappensBefore,
+    event: &Event,
+    byte: u8,
+    writer: EventId,
+    thread: usize,
+) -> Option<EventKey>
+    requires { thread < length relation.now.log }
+    ensures { FindsEarliest (execution relation.now) (IsWrittenInThread (execution relation.now) event.now (key_of event.now) byte writer thread) result }
+{
+    let candidate = relation.candidate();
+    let _log = candidate.log();
+    let address = u64::from(event.address) + u64::from(byte);
+    let writes = candidate.thread_writes_to(thread, address);
+    match writes.get(count_not_after(relation, writer, writes)) {
+        None => None,
+        Some(EventId::Init) => None,
+        Some(EventId::At(key)) => {
+            if is_written_between(relation, event, byte, writer, EventId::At(*key)) {
+                Some(*key)
+            } else {
+                None
+            }
+        }
+    }
+}
+
+/// The one of two events that stands first in the order.
+fn earlier(
+    candidate: &Candidate,
+    first: Option<EventKey>,
+    second: Option<EventKey>,
+) -> Option<EventKey>
+    requires first { IfSome first (λ a. IsThere candidate.now.log (At a)) }
+    requires second { IfSome second (λ b. IsThere candidate.now.log (At b)) }
+    ensures { result ≡ earlier_of (execution candidate.now) first second }
+{
+    match (first, second) {
+        (None, _) => second,
+        (Some(_), None) => first,
+        (Some(a), Some(b)) => {
+            if stands_before(candidate, EventId::At(b), EventId::At(a)) {
+                second
+            } else {
+                first
+            }
+        }
+    }
+}
+
+/// The first listed write of a byte that happens between a read and the byte's writer.
+pub fn earliest_between(
+    relation: &HappensBefore,
+    event: &Event,
+    byte: u8,
+    writer: EventId,
+) -> Option<EventKey>
+    ensures { FindsEarliest (execution relation.now) (IsWrittenBelow (execution relation.now) event.now (key_of event.now) byte writer (length relation.now.log)) result }
+{
+    let candidate = relation.candidate();
+    let mut earliest = None;
+    for thread in 0..candidate.log().threads().len() {
+        let found = first_in_thread(relation, event, byte, writer, thread);
+        earliest = earlier(candidate, earliest, found);
+    }
+    earliest
+}
