@@ -6,13 +6,12 @@ use Rattle.serde_json.specs.Read.{read}
 use Rattle.wm_event.specs.declared.log.ThreadLog.{ThreadLog}
 use Rattle.wm_event.specs.declared.witness.Witness.{Witness}
 use Rattle.wm_logfile.specs.declared.fault.DocFault.{DocFault}
-use Rattle.wm_logfile.specs.declared.fault.DocFault.TheVariants.{OutOfMemory}
+use Rattle.wm_logfile.specs.declared.fault.DocFault.TheVariants.{OutOfMemory, Misplaced}
 use Rattle.wm_logfile.specs.Faults.{DocGives}
-use Rattle.wm_logfile.specs.declared.TheConstants.{MAX_DOCUMENT_BYTES}
 use Rattle.wm_event.specs.Log.{IsLog}
 use Rattle.wm_logfile.specs.Document.{IsWithinLimits, Spells}
 use Rattle.wm_logfile.specs.Reading.{document_at}
-use Rattle.wm_logfile.proofs.Whole.{is_document, only_one, none_spelled, refusal}
+use Rattle.wm_logfile.proofs.Whole.{is_document, only_one, none_spelled, refusal, placed}
 
 abbrev pub shown : List ThreadLog × Witness → List ThreadLog × Witness
 shown p = (p.0, p.1)
@@ -24,10 +23,10 @@ pub record Answers (bytes : List ℕ) (d : Data) (r : Result (List ThreadLog × 
   pub given : DocGives shown r (document_at d)
 
 pub spelled : (bytes : List ℕ) (d : Data) (r : Result (List ThreadLog × Witness) DocFault) → Answers bytes d r → IfOk r (λ p. Spells bytes p.0 p.1)
-spelled bytes d (Ok p) h = record { utf8 = h.utf8; value = (let e = is_document d p.0 p.1 h.given in rw (← e.0) h.text) }
+spelled bytes d (Ok p) h = record { utf8 = h.utf8; value = d; text = h.text; spelled = (is_document d p.0 p.1 h.given).0 }
 spelled bytes d (Err e) h = tt
 
-pub within : (bytes : List ℕ) (d : Data) (r : Result (List ThreadLog × Witness) DocFault) → length bytes ≤ MAX_DOCUMENT_BYTES → Answers bytes d r → IfOk r (λ p. (length bytes ≤ MAX_DOCUMENT_BYTES) × IsLog p.0 × IsWithinLimits p.0 p.1)
+pub within : (bytes : List ℕ) (d : Data) (r : Result (List ThreadLog × Witness) DocFault) → length bytes ≤ 8388608 → Answers bytes d r → IfOk r (λ p. (length bytes ≤ 8388608) × IsLog p.0 × IsWithinLimits p.0 p.1)
 within bytes d (Ok p) le h = (let e = is_document d p.0 p.1 h.given in (le, e.1, e.2))
 within bytes d (Err e) le h = tt
 
@@ -36,6 +35,10 @@ only bytes d (Ok p) h = λ l w is fits spelling. (let one = only_one bytes d p.0
 only bytes d (Err e) h = tt
 
 pub refused : (bytes : List ℕ) (d : Data) (r : Result (List ThreadLog × Witness) DocFault) → Answers bytes d r
-    → IfErr r (λ e. (e ≡ OutOfMemory → ⊥) → length bytes ≤ MAX_DOCUMENT_BYTES → (l : List ThreadLog) → (w : Witness) → IsLog l → IsWithinLimits l w → Spells bytes l w → ⊥)
+    → IfErr r (λ e. (e ≡ OutOfMemory → ⊥) → length bytes ≤ 8388608 → (l : List ThreadLog) → (w : Witness) → IsLog l → IsWithinLimits l w → Spells bytes l w → ⊥)
 refused bytes d (Ok p) h = tt
 refused bytes d (Err e) h = λ ne le l w is fits spelling. none_spelled bytes d h.text (refusal e d ne h.given) l w is fits spelling
+
+pub not_misplaced : (bytes : List ℕ) (d : Data) (r : Result (List ThreadLog × Witness) DocFault) → Answers bytes d r → IfErr r (λ e. e ≡ Misplaced → ⊥)
+not_misplaced bytes d (Ok p) h = tt
+not_misplaced bytes d (Err e) h = placed e d h.given

@@ -13,7 +13,7 @@ use Rattle.wm_event.specs.declared.event.Event.{Event}
 use Rattle.wm_event.specs.Log.{UsesFields, IsEvent}
 use Rattle.wm_logfile.specs.Words.{kind_word, order_word}
 use Rattle.wm_logfile.specs.Document.{count, values, event_cells, event, EventFits}
-use Rattle.wm_logfile.specs.Reading.{◌>>=◌, number_at, width_at, kind_at, order_at, order_for, u32_max, u64_max, values_len, values_at, is_count, fields_at, event_at, number_event_at}
+use Rattle.wm_logfile.specs.Reading.{◌>>=◌, number_at, width_at, kind_at, order_at, order_for, u32_max, u64_max, values_len, values_at, is_count, event_from, fields_at, event_at, number_event_at}
 use Rattle.wm_logfile.proofs.Format.{bind_some, when_some, IsFormatAt, listed}
 use Rattle.wm_logfile.proofs.Leaves.{numbers, kinds, orders, widths}
 
@@ -116,22 +116,19 @@ values_fit Update o r w h = tt
 
 -- ---- the event
 
-record FieldsFit (t n : ℕ) (e : Event) : Type 0 where
-  place : IsEvent t n e
-  address : e.address ≤ u32_max
-  read : e.read ≤ u64_max
-  written : e.written ≤ u64_max
+pub record FieldsFit (t n : ℕ) (e : Event) : Type 0 where
+  pub place : IsEvent t n e
+  pub address : e.address ≤ u32_max
+  pub read : e.read ≤ u64_max
+  pub written : e.written ≤ u64_max
 
-abbrev made : ℕ → ℕ → EventKind → MemoryOrder → ℕ → AccessWidth → ℕ → ℕ → Event
+abbrev pub made : ℕ → ℕ → EventKind → MemoryOrder → ℕ → AccessWidth → ℕ → ℕ → Event
 made t n k o a w r v = record { thread = t; number = n; kind = k; order = o; address = a; width = w; read = r; written = v }
 
--- what follows the kind
-abbrev after_kind : ℕ → ℕ → EventKind → Data → Data → Data → List Data → Option Event
-after_kind t n k order address width vs = order_for k order >>= λ o. number_at u32_max address >>= λ a. width_at width >>= λ w. values_at k vs >>= λ v. Some (made t n k o a w v.0 v.1)
-
-after_kind_takes : (t n : ℕ) (k : EventKind) (order address width : Data) (vs : List Data) (e : Event) → after_kind t n k order address width vs ≡ Some e
-    → (string (kind_word k) ∷ order ∷ address ∷ width ∷ vs ≡ event_cells e) × FieldsFit t n e
-after_kind_takes t n k order address width vs e h =
+-- behind the word of the kind
+pub event_from_takes : (t n : ℕ) (k : EventKind) (order address width : Data) (vs : List Data) (e : Event) → event_from t n k order address width vs ≡ Some e
+    → (string (kind_word k) ∷ order ∷ address ∷ width ∷ vs ≡ event_cells e) × FieldsFit t n e × (e.kind ≡ k)
+event_from_takes t n k order address width vs e h =
     let o = bind_some (order_for k order) (λ o. number_at u32_max address >>= λ a. width_at width >>= λ w. values_at k vs >>= λ v. Some (made t n k o a w v.0 v.1)) e h in
     let a = bind_some (number_at u32_max address) (λ a. width_at width >>= λ w. values_at k vs >>= λ v. Some (made t n k o.0 a w v.0 v.1)) e o.2 in
     let w = bind_some (width_at width) (λ w. values_at k vs >>= λ v. Some (made t n k o.0 a.0 w v.0 v.1)) e a.2 in
@@ -141,13 +138,14 @@ after_kind_takes t n k order address width vs e h =
     let width-is = widths.takes width w.0 w.1 in
     let values-are = values_take k vs v.0 v.1 in
     let same : made t n k o.0 a.0 w.0 v.0.0 v.0.1 ≡ e = cc in
-    let P : Event → Type 0 = λ x. (string (kind_word k) ∷ order ∷ address ∷ width ∷ vs ≡ event_cells x) × FieldsFit t n x in
+    let P : Event → Type 0 = λ x. (string (kind_word k) ∷ order ∷ address ∷ width ∷ vs ≡ event_cells x) × FieldsFit t n x × (x.kind ≡ k) in
     subst P same (
       ap (λ (x : Data). string (kind_word k) ∷ x ∷ address ∷ width ∷ vs) order-is.0
           ∙ ap (λ (x : Data). string (kind_word k) ∷ string (order_word o.0) ∷ x ∷ width ∷ vs) address-is.0
           ∙ ap (λ (x : Data). string (kind_word k) ∷ string (order_word o.0) ∷ count a.0 ∷ x ∷ vs) width-is.0
           ∙ ap (λ (x : List Data). string (kind_word k) ∷ string (order_word o.0) ∷ count a.0 ∷ count (bytes_of w.0) ∷ x) values-are.cells,
       record { place = (refl, refl, uses_fields k o.0 v.0.0 v.0.1 order-is.1 values-are.fit); address = address-is.1; read = values-are.read; written = values-are.written },
+      refl,
     )
 
 fields_take : (t n : ℕ) (ds : List Data) (e : Event) → fields_at t n ds ≡ Some e → (ds ≡ event_cells e) × FieldsFit t n e
@@ -157,15 +155,15 @@ fields_take t n (a ∷ []) e h = absurd cc
 fields_take t n (a ∷ b ∷ []) e h = absurd cc
 fields_take t n (a ∷ b ∷ c ∷ []) e h = absurd cc
 fields_take t n (tag ∷ order ∷ address ∷ width ∷ vs) e h =
-    let some_kind = when_some (is_count (length vs)) (kind_at tag >>= λ k. cond (eqb (length vs) (values_len k)) (after_kind t n k order address width vs) None) e h in
-    let k = bind_some (kind_at tag) (λ k. cond (eqb (length vs) (values_len k)) (after_kind t n k order address width vs) None) e some_kind.1 in
-    let g = when_some (eqb (length vs) (values_len k.0)) (after_kind t n k.0 order address width vs) e k.2 in
-    let rest = after_kind_takes t n k.0 order address width vs e g.1 in
+    let some_kind = when_some (is_count (length vs)) (kind_at tag >>= λ k. cond (eqb (length vs) (values_len k)) (event_from t n k order address width vs) None) e h in
+    let k = bind_some (kind_at tag) (λ k. cond (eqb (length vs) (values_len k)) (event_from t n k order address width vs) None) e some_kind.1 in
+    let g = when_some (eqb (length vs) (values_len k.0)) (event_from t n k.0 order address width vs) e k.2 in
+    let rest = event_from_takes t n k.0 order address width vs e g.1 in
     (ap (λ (x : Data). x ∷ order ∷ address ∷ width ∷ vs) (kinds.takes tag k.0 k.1).0 ∙ rest.0, rest.1)
 
-after_kind_again : (t n : ℕ) (k : EventKind) (o : MemoryOrder) (a : ℕ) (w : AccessWidth) (r v : ℕ) → UsesFields k o r v → a ≤ u32_max → r ≤ u64_max → v ≤ u64_max
-    → after_kind t n k (string (order_word o)) (count a) (count (bytes_of w)) (values k r v) ≡ Some (made t n k o a w r v)
-after_kind_again t n k o a w r v uses ha hr hv =
+pub event_from_again : (t n : ℕ) (k : EventKind) (o : MemoryOrder) (a : ℕ) (w : AccessWidth) (r v : ℕ) → UsesFields k o r v → a ≤ u32_max → r ≤ u64_max → v ≤ u64_max
+    → event_from t n k (string (order_word o)) (count a) (count (bytes_of w)) (values k r v) ≡ Some (made t n k o a w r v)
+event_from_again t n k o a w r v uses ha hr hv =
     let e3 = order_again k o (order_fits k o r v uses) in
     let e4 = (numbers u32_max).again a ha in
     let e5 = widths.again w tt in
@@ -177,10 +175,10 @@ made_again : (t n : ℕ) (k : EventKind) (o : MemoryOrder) (a : ℕ) (w : Access
 unfolding fields_at
 made_again t n k o a w r v uses ha hr hv =
     let vs : List Data = values k r v in
-    ap (λ (b : Bool). cond b (kind_at (string (kind_word k)) >>= λ j. cond (eqb (length vs) (values_len j)) (after_kind t n j (string (order_word o)) (count a) (count (bytes_of w)) vs) None) None) (is_count-values k r v)
-    ∙ ap (λ (x : Option EventKind). x >>= λ j. cond (eqb (length vs) (values_len j)) (after_kind t n j (string (order_word o)) (count a) (count (bytes_of w)) vs) None) (kinds.again k tt)
-    ∙ ap (λ (b : Bool). cond b (after_kind t n k (string (order_word o)) (count a) (count (bytes_of w)) vs) None) (length-values k r v)
-    ∙ after_kind_again t n k o a w r v uses ha hr hv
+    ap (λ (b : Bool). cond b (kind_at (string (kind_word k)) >>= λ j. cond (eqb (length vs) (values_len j)) (event_from t n j (string (order_word o)) (count a) (count (bytes_of w)) vs) None) None) (is_count-values k r v)
+    ∙ ap (λ (x : Option EventKind). x >>= λ j. cond (eqb (length vs) (values_len j)) (event_from t n j (string (order_word o)) (count a) (count (bytes_of w)) vs) None) (kinds.again k tt)
+    ∙ ap (λ (b : Bool). cond b (event_from t n k (string (order_word o)) (count a) (count (bytes_of w)) vs) None) (length-values k r v)
+    ∙ event_from_again t n k o a w r v uses ha hr hv
 
 fields_again : (t n : ℕ) (e : Event) → FieldsFit t n e → fields_at t n (event_cells e) ≡ Some e
 fields_again t n e fits =
@@ -190,10 +188,10 @@ fields_again t n e fits =
 abbrev pub EventIsFit : ℕ → ℕ → Event → Type 0
 EventIsFit t n e = IsEvent t n e × EventFits e
 
-to_fit : (t n : ℕ) (e : Event) → n ≤ u32_max → FieldsFit t n e → EventIsFit t n e
+pub to_fit : (t n : ℕ) (e : Event) → n ≤ u32_max → FieldsFit t n e → EventIsFit t n e
 to_fit t n e le h = (h.place, record { number = omega (arith, h.place.1); address = omega (arith, h.address); read = omega (arith, h.read); written = omega (arith, h.written) })
 
-from_fit : (t n : ℕ) (e : Event) → EventIsFit t n e → FieldsFit t n e
+pub from_fit : (t n : ℕ) (e : Event) → EventIsFit t n e → FieldsFit t n e
 from_fit t n e h = record { place = h.0; address = omega (arith, h.1.address); read = omega (arith, h.1.read); written = omega (arith, h.1.written) }
 
 at_takes : (t n : ℕ) (d : Data) (e : Event) → number_event_at t n d ≡ Some e → (d ≡ event e) × EventIsFit t n e

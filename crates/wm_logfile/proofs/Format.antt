@@ -1,5 +1,7 @@
 -- A reader and a spelling that undo each other, and how these are put together.
 use Rattle.std.proofs.Common.{◌≡◌, ℕ, suc, Bool, true, false, cond, List, [], ◌∷◌, map, Option, Some, None, refl, ap, subst, ◌∙◌}
+use Rattle.std.specs.List.{All}
+use Rattle.std.proofs.lemmas.List.Elements.{All-nil, All-cons, All-head, All-tail}
 use Rattle.serde_json.specs.Data.{Data}
 use Rattle.wm_logfile.specs.Reading.{◌>>=◌, list_at, traverse, items_at}
 use Rattle.wm_logfile.specs.Document.{list}
@@ -64,3 +66,20 @@ items f spell Fits h = listed (traverse f 0) (map spell) (AllFrom Fits 0) (recor
 pub when_some : {A : Type 0} (b : Bool) (r : Option A) (y : A) → cond b r None ≡ Some y → (b ≡ true) × (r ≡ Some y)
 when_some true r y e = (refl, e)
 when_some false r y e = absurd cc
+
+pub AllFrom-all : {A : Type 0} (P : A → Type 0) (n : ℕ) (xs : List A) → AllFrom (λ _ x. P x) n xs → All P xs
+AllFrom-all P n [] h = All-nil P
+AllFrom-all P n (x ∷ xs) h = All-cons P x xs h.0 (AllFrom-all P (suc n) xs h.1)
+
+pub all-AllFrom : {A : Type 0} (P : A → Type 0) (n : ℕ) (xs : List A) → All P xs → AllFrom (λ _ x. P x) n xs
+all-AllFrom P n [] h = tt
+all-AllFrom P n (x ∷ xs) h = (All-head P x xs h, all-AllFrom P (suc n) xs (All-tail P x xs h))
+
+-- a format of lists whose items are given no index
+pub all_items : {A : Type 0} (f : Data → Option A) (spell : A → Data) (Fits : A → Type 0) → IsFormat f spell Fits → IsFormat (items_at (λ _ d. f d)) (λ xs. list (map spell xs)) (All Fits)
+all_items f spell Fits h =
+    let each = items (λ _ d. f d) spell (λ _ a. Fits a) (at_any_index f spell Fits h) in
+    record {
+      takes = λ d xs e. (let one = each.takes d xs e in (one.0, AllFrom-all Fits 0 xs one.1));
+      again = λ xs fits. each.again xs (all-AllFrom Fits 0 xs fits);
+    }

@@ -15,7 +15,8 @@ use Rattle.wm_access.specs.declared.MemoryOrder.{MemoryOrder}
 use Rattle.wm_access.specs.declared.MemoryOrder.TheVariants.{Unordered, SeqCst}
 use Rattle.wm_event.specs.declared.log.TrapKind.{TrapKind}
 use Rattle.wm_event.specs.declared.log.TrapKind.TheVariants.{Unreachable, DivideByZero, Overflow, OutOfBounds, Unaligned, Exhausted}
-use Rattle.wm_logfile.specs.Words.{kind_word, order_word, trap_word}
+use Rattle.wm_event.specs.TrapText.{trap_text}
+use Rattle.wm_logfile.specs.Words.{kind_word, order_word}
 use Rattle.wm_logfile.specs.Document.{count}
 use Rattle.wm_logfile.specs.Reading.{◌>>=◌, word_from, number_at, width_from, width_at, kind_from, kind_at, order_from, order_at, trap_from, trap_at}
 use Rattle.wm_logfile.proofs.Format.{bind_some, when_some, IsFormat}
@@ -103,7 +104,7 @@ order_again SeqCst = refl
 pub orders : IsFormat order_at (λ o. string (order_word o)) (λ _. Unit {0})
 orders = word_format order_word (Unordered ∷ SeqCst ∷ []) order_again
 
-pub trap_again : (k : TrapKind) → trap_from (trap_word k) ≡ Some k
+pub trap_again : (k : TrapKind) → trap_from (trap_text k) ≡ Some k
 trap_again Unreachable = refl
 trap_again DivideByZero = refl
 trap_again Overflow = refl
@@ -111,8 +112,8 @@ trap_again OutOfBounds = refl
 trap_again Unaligned = refl
 trap_again Exhausted = refl
 
-pub traps : IsFormat trap_at (λ k. string (trap_word k)) (λ _. Unit {0})
-traps = word_format trap_word (Unreachable ∷ DivideByZero ∷ Overflow ∷ OutOfBounds ∷ Unaligned ∷ Exhausted ∷ []) trap_again
+pub traps : IsFormat trap_at (λ k. string (trap_text k)) (λ _. Unit {0})
+traps = word_format trap_text (Unreachable ∷ DivideByZero ∷ Overflow ∷ OutOfBounds ∷ Unaligned ∷ Exhausted ∷ []) trap_again
 
 -- ---- widths
 

@@ -4,7 +4,14 @@ pub mod Loop
 pub mod Format
 pub mod Leaves
 pub mod Events
+pub mod Keys
+pub mod EventsBy
 pub mod Threads
+pub mod ThreadsBy
+pub mod Pairing
 pub mod Whole
 pub mod Answer
+pub mod Writings
+pub mod Plain
+pub mod Again
 pub mod Once

@@ -4,7 +4,7 @@ use Rattle.std.specs.Prelude.{codes, IfSome}
 use Rattle.std.specs.Str.{bytes_eq}
 use Rattle.std.specs.List.{All}
 use Rattle.std.proofs.lemmas.List.Elements.{All-nil, All-cons, All-head, All-tail, All-weaker}
-use Rattle.wm_logfile.specs.declared.TheConstants.{MAX_STEPS}
+use Rattle.std.proofs.lemmas.Option.{same_Some}
 use Rattle.std.proofs.lemmas.Slice.Eq.{bytes_eq-Decides}
 use Rattle.std.proofs.lemmas.Bool.{leb-true, le-leb}
 use Rattle.serde_json.specs.Data.{Data, string}
@@ -15,30 +15,12 @@ use Rattle.wm_event.specs.declared.event.Event.{Event}
 use Rattle.wm_event.specs.declared.log.Start.{Start}
 use Rattle.wm_event.specs.declared.log.ThreadLog.{ThreadLog}
 use Rattle.wm_event.specs.Log.{AreEvents}
-use Rattle.wm_logfile.specs.Document.{count, list, result_cells, end_cells, end, event, thread_cells, thread, EventFits, EndFits, ThreadFits}
-use Rattle.wm_logfile.specs.Reading.{◌>>=◌, list_at, number_at, trap_at, u32_max, u64_max, items_at, number_event_at, result_from, end_from, end_at, start_at, thread_from, thread_at, limited_thread_at}
-use Rattle.wm_logfile.proofs.Format.{bind_some, when_some, IsFormat, IsFormatAt, at_any_index, AllFrom, listed, items}
+use Rattle.wm_logfile.specs.declared.thread.ThreadHead.{ThreadHead}
+use Rattle.wm_logfile.specs.Document.{count, list, result_cells, end_cells, end, event, thread, EventFits, EndFits, ThreadFits}
+use Rattle.wm_logfile.specs.Reading.{◌>>=◌, list_at, number_at, trap_at, u32_max, u64_max, items_at, number_event_at, result_from, end_from, end_at, start_at, head_from, head_at, with_events, thread_at, limited_thread_at}
+use Rattle.wm_logfile.proofs.Format.{bind_some, when_some, IsFormat, IsFormatAt, AllFrom, all_items, listed, items}
 use Rattle.wm_logfile.proofs.Leaves.{chosen, texts, numbers, traps}
 use Rattle.wm_logfile.proofs.Events.{EventIsFit, events}
-
--- ---- AllFrom
-
-pub AllFrom-all : {A : Type 0} (P : A → Type 0) (n : ℕ) (xs : List A) → AllFrom (λ _ x. P x) n xs → All P xs
-AllFrom-all P n [] h = All-nil P
-AllFrom-all P n (x ∷ xs) h = All-cons P x xs h.0 (AllFrom-all P (suc n) xs h.1)
-
-pub all-AllFrom : {A : Type 0} (P : A → Type 0) (n : ℕ) (xs : List A) → All P xs → AllFrom (λ _ x. P x) n xs
-all-AllFrom P n [] h = tt
-all-AllFrom P n (x ∷ xs) h = (All-head P x xs h, all-AllFrom P (suc n) xs (All-tail P x xs h))
-
--- a format of lists whose items are given no index
-pub all_items : {A : Type 0} (f : Data → Option A) (spell : A → Data) (Fits : A → Type 0) → IsFormat f spell Fits → IsFormat (items_at (λ _ d. f d)) (λ xs. list (map spell xs)) (All Fits)
-all_items f spell Fits h =
-    let each = items (λ _ d. f d) spell (λ _ a. Fits a) (at_any_index f spell Fits h) in
-    record {
-      takes = λ d xs e. (let one = each.takes d xs e in (one.0, AllFrom-all Fits 0 xs one.1));
-      again = λ xs fits. each.again xs (all-AllFrom Fits 0 xs fits);
-    }
 
 -- ---- the end
 
@@ -62,7 +44,7 @@ result_again (Some v) h = rw ((numbers u64_max).again v h) refl
 results : IsFormat result_from result_cells (λ o. IfSome o (λ v. v ≤ u64_max))
 results = record { takes = λ ds o e. result_takes ds o e; again = λ o h. result_again o h }
 
-abbrev EndBound : End → Type 0
+abbrev pub EndBound : End → Type 0
 EndBound (Done o) = IfSome o (λ v. v ≤ u64_max)
 EndBound (Trap k) = Unit {0}
 EndBound Cut = Unit {0}
@@ -131,20 +113,11 @@ end_bound Cut h = tt
 abbrev pub ThreadIsFit : ℕ → ThreadLog → Type 0
 ThreadIsFit t l = AreEvents t 0 l.events × ThreadFits l
 
-record CellsFit (t : ℕ) (l : ThreadLog) : Type 0 where
-  args : All (λ a. a ≤ u64_max) l.start.args
-  end : EndBound l.end
-  steps : l.steps ≤ MAX_STEPS
-  events : AllFrom (EventIsFit t) 0 l.events
-
 abbrev numbers_at : Data → Option (List ℕ)
 numbers_at d = items_at (λ _ x. number_at u64_max x) d
 
 arguments : IsFormat numbers_at (λ xs. list (map count xs)) (All (λ a. a ≤ u64_max))
 arguments = all_items (number_at u64_max) count (λ a. a ≤ u64_max) (numbers u64_max)
-
-thread_events : (t : ℕ) → IsFormat (items_at (number_event_at t)) (λ xs. list (map event xs)) (AllFrom (EventIsFit t) 0)
-thread_events t = items (number_event_at t) event (EventIsFit t) (events t)
 
 abbrev started : List ℕ → List ℕ → Start
 started s xs = record { name = s; args = xs }
@@ -166,42 +139,109 @@ start_takes a b s h =
 start_again : (s : Start) → All (λ n. n ≤ u64_max) s.args → start_at (string s.name) (list (map count s.args)) ≡ Some s
 start_again s fit = rw (arguments.again s.args fit) refl
 
-abbrev made : Start → End → ℕ → List Event → ThreadLog
-made s e n es = record { start = s; end = e; steps = n; events = es }
+-- ---- what stands before the events
 
-thread_takes : (t : ℕ) (ds : List Data) (l : ThreadLog) → thread_from t ds ≡ Some l → (ds ≡ thread_cells l) × CellsFit t l
-unfolding thread_from
-thread_takes t [] l h = absurd cc
-thread_takes t (a ∷ []) l h = absurd cc
-thread_takes t (a ∷ b ∷ []) l h = absurd cc
-thread_takes t (a ∷ b ∷ c ∷ []) l h = absurd cc
-thread_takes t (a ∷ b ∷ c ∷ d ∷ []) l h = absurd cc
-thread_takes t (a ∷ b ∷ c ∷ d ∷ e ∷ []) l h =
-    let s = bind_some (start_at a b) (λ s. end_at c >>= λ x. number_at MAX_STEPS d >>= λ n. items_at (number_event_at t) e >>= λ es. Some (made s x n es)) l h in
-    let x = bind_some (end_at c) (λ x. number_at MAX_STEPS d >>= λ n. items_at (number_event_at t) e >>= λ es. Some (made s.0 x n es)) l s.2 in
-    let n = bind_some (number_at MAX_STEPS d) (λ n. items_at (number_event_at t) e >>= λ es. Some (made s.0 x.0 n es)) l x.2 in
-    let es = bind_some (items_at (number_event_at t) e) (λ es. Some (made s.0 x.0 n.0 es)) l n.2 in
+pub record HeadFits (h : ThreadHead) : Type 0 where
+  pub args : All (λ a. a ≤ u64_max) h.start.args
+  pub end : EndBound h.end
+  pub steps : h.steps ≤ 1000000
+
+abbrev pub head_cells : ThreadHead → Data → List Data
+head_cells h events = string h.start.name ∷ list (map count h.start.args) ∷ end h.end ∷ count h.steps ∷ events ∷ []
+
+abbrev headed : Start → End → ℕ → ThreadHead
+headed s e n = record { start = s; end = e; steps = n }
+
+head_takes : (ds : List Data) (p : ThreadHead × Data) → head_from ds ≡ Some p → (ds ≡ head_cells p.0 p.1) × HeadFits p.0
+unfolding head_from
+head_takes [] p h = absurd cc
+head_takes (a ∷ []) p h = absurd cc
+head_takes (a ∷ b ∷ []) p h = absurd cc
+head_takes (a ∷ b ∷ c ∷ []) p h = absurd cc
+head_takes (a ∷ b ∷ c ∷ d ∷ []) p h = absurd cc
+head_takes (a ∷ b ∷ c ∷ d ∷ e ∷ []) p h =
+    let s = bind_some (start_at a b) (λ s. end_at c >>= λ x. number_at 1000000 d >>= λ n. Some (headed s x n, e)) p h in
+    let x = bind_some (end_at c) (λ x. number_at 1000000 d >>= λ n. Some (headed s.0 x n, e)) p s.2 in
+    let n = bind_some (number_at 1000000 d) (λ n. Some (headed s.0 x.0 n, e)) p x.2 in
     let start-is = start_takes a b s.0 s.1 in
     let end-is = ends.takes c x.0 x.1 in
-    let steps-are = (numbers MAX_STEPS).takes d n.0 n.1 in
-    let events-are = (thread_events t).takes e es.0 es.1 in
-    let same : made s.0 x.0 n.0 es.0 ≡ l = cc in
-    let P : ThreadLog → Type 0 = λ y. (a ∷ b ∷ c ∷ d ∷ e ∷ [] ≡ thread_cells y) × CellsFit t y in
+    let steps-are = (numbers 1000000).takes d n.0 n.1 in
+    let made : ThreadHead × Data = (headed s.0 x.0 n.0, e) in
+    let same : made ≡ p = cc in
+    let P : ThreadHead × Data → Type 0 = λ y. (a ∷ b ∷ c ∷ d ∷ e ∷ [] ≡ head_cells y.0 y.1) × HeadFits y.0 in
     subst P same (
       ap (λ (y : Data). y ∷ b ∷ c ∷ d ∷ e ∷ []) start-is.name
           ∙ ap (λ (y : Data). string s.0.name ∷ y ∷ c ∷ d ∷ e ∷ []) start-is.args
           ∙ ap (λ (y : Data). string s.0.name ∷ list (map count s.0.args) ∷ y ∷ d ∷ e ∷ []) end-is.0
-          ∙ ap (λ (y : Data). string s.0.name ∷ list (map count s.0.args) ∷ end x.0 ∷ y ∷ e ∷ []) steps-are.0
-          ∙ ap (λ (y : Data). string s.0.name ∷ list (map count s.0.args) ∷ end x.0 ∷ count n.0 ∷ y ∷ []) events-are.0,
-      record { args = start-is.fit; end = end-is.1; steps = steps-are.1; events = events-are.1 },
+          ∙ ap (λ (y : Data). string s.0.name ∷ list (map count s.0.args) ∷ end x.0 ∷ y ∷ e ∷ []) steps-are.0,
+      record { args = start-is.fit; end = end-is.1; steps = steps-are.1 },
     )
-thread_takes t (a ∷ b ∷ c ∷ d ∷ e ∷ f ∷ ds) l h = absurd cc
+head_takes (a ∷ b ∷ c ∷ d ∷ e ∷ f ∷ ds) p h = absurd cc
 
-thread_again : (t : ℕ) (l : ThreadLog) → CellsFit t l → thread_from t (thread_cells l) ≡ Some l
-unfolding thread_from
-thread_again t l fits =
-    ap (λ (o : Option Start). o >>= λ s. end_at (end l.end) >>= λ e. number_at MAX_STEPS (count l.steps) >>= λ n. items_at (number_event_at t) (list (map event l.events)) >>= λ es. Some (made s e n es)) (start_again l.start fits.args)
-    ∙ rw (ends.again l.end fits.end, (numbers MAX_STEPS).again l.steps fits.steps, (thread_events t).again l.events fits.events) refl
+head_again : (h : ThreadHead) (events : Data) → HeadFits h → head_from (head_cells h events) ≡ Some (h, events)
+unfolding head_from
+head_again h events fits =
+    ap (λ (o : Option Start). o >>= λ s. end_at (end h.end) >>= λ e. number_at 1000000 (count h.steps) >>= λ n. Some (headed s e n, events)) (start_again h.start fits.args)
+    ∙ rw (ends.again h.end fits.end, (numbers 1000000).again h.steps fits.steps) refl
+
+abbrev HeadsFit : ThreadHead × Data → Type 0
+HeadsFit p = HeadFits p.0
+
+heads : IsFormat head_at (λ p. list (head_cells p.0 p.1)) HeadsFit
+heads = listed head_from (λ p. head_cells p.0 p.1) HeadsFit (record { takes = λ ds p h. head_takes ds p h; again = λ p fits. head_again p.0 p.1 fits })
+
+-- ---- a head with its events, however these are written
+
+module _ {A B : Type 0} (f : Data → Option A) (spell : A → Data) (Fits : A → Type 0) (make : ThreadHead → A → B) (format : IsFormat f spell Fits) where
+  pub record IsMade (d : Data) (b : B) : Type 0 where
+    pub head : ThreadHead
+    pub events : A
+    pub made : make head events ≡ b
+    pub spelled : d ≡ list (head_cells head (spell events))
+    pub fits : HeadFits head
+    pub each : Fits events
+
+  pub made_takes : (d : Data) (b : B) → (head_at d >>= λ h. f h.1 >>= λ a. Some (make h.0 a)) ≡ Some b → IsMade d b
+  made_takes d b e =
+      let h = bind_some (head_at d) (λ h. f h.1 >>= λ a. Some (make h.0 a)) b e in
+      let a = bind_some (f h.0.1) (λ a. Some (make h.0.0 a)) b h.2 in
+      let head-is = heads.takes d h.0 h.1 in
+      let events-are = format.takes h.0.1 a.0 a.1 in
+      record {
+        head = h.0.0;
+        events = a.0;
+        made = same_Some (make h.0.0 a.0) b a.2;
+        spelled = head-is.0 ∙ ap (λ (x : Data). list (head_cells h.0.0 x)) events-are.0;
+        fits = head-is.1;
+        each = events-are.1;
+      }
+
+  pub made_again : (h : ThreadHead) (a : A) → HeadFits h → Fits a → (head_at (list (head_cells h (spell a))) >>= λ h. f h.1 >>= λ a. Some (make h.0 a)) ≡ Some (make h a)
+  made_again h a fits each =
+      ap (λ (o : Option (ThreadHead × Data)). o >>= λ h. f h.1 >>= λ a. Some (make h.0 a)) (heads.again (h, spell a) fits)
+      ∙ ap (λ (o : Option A). o >>= λ a. Some (make h a)) (format.again a each)
+
+-- ---- the limits
+
+arguments_fit : (xs : List ℕ) → All (λ a. a ≤ u64_max) xs → All (λ a. a < 2 ^ 64) xs
+arguments_fit xs h = All-weaker (λ a. a ≤ u64_max) (λ a. a < 2 ^ 64) (λ a le. omega arith) xs h
+
+arguments_bound : (xs : List ℕ) → All (λ a. a < 2 ^ 64) xs → All (λ a. a ≤ u64_max) xs
+arguments_bound xs h = All-weaker (λ a. a < 2 ^ 64) (λ a. a ≤ u64_max) (λ a lt. omega arith) xs h
+
+pub thread_fits : (h : ThreadHead) (es : List Event) → HeadFits h → All EventFits es → ThreadFits (with_events h es)
+thread_fits h es fits each = record { args = arguments_fit h.start.args fits.args; end = end_fits h.end fits.end; steps = fits.steps; events = each }
+
+abbrev pub head_of : ThreadLog → ThreadHead
+head_of l = headed l.start l.end l.steps
+
+pub head_fits : (l : ThreadLog) → ThreadFits l → HeadFits (head_of l)
+head_fits l h = record { args = arguments_bound l.start.args h.args; end = end_bound l.end h.end; steps = h.steps }
+
+-- ---- a thread of version 1
+
+thread_events : (t : ℕ) → IsFormat (items_at (number_event_at t)) (λ xs. list (map event xs)) (AllFrom (EventIsFit t) 0)
+thread_events t = items (number_event_at t) event (EventIsFit t) (events t)
 
 events_apart : (t n : ℕ) (es : List Event) → AllFrom (EventIsFit t) n es → AreEvents t n es × All EventFits es
 events_apart t n [] h = (tt, All-nil EventFits)
@@ -211,33 +251,32 @@ events_together : (t n : ℕ) (es : List Event) → AreEvents t n es → All Eve
 events_together t n [] h i = tt
 events_together t n (e ∷ es) h i = ((h.0, All-head EventFits e es i), events_together t (suc n) es h.1 (All-tail EventFits e es i))
 
-arguments_fit : (xs : List ℕ) → All (λ a. a ≤ u64_max) xs → All (λ a. a < 2 ^ 64) xs
-arguments_fit xs h = All-weaker (λ a. a ≤ u64_max) (λ a. a < 2 ^ 64) (λ a le. omega arith) xs h
+thread_takes : (t : ℕ) (d : Data) (l : ThreadLog) → thread_at t d ≡ Some l → (d ≡ thread l) × ThreadIsFit t l
+thread_takes t d l e =
+    let m = made_takes (items_at (number_event_at t)) (λ xs. list (map event xs)) (AllFrom (EventIsFit t) 0) with_events (thread_events t) d l e in
+    let apart = events_apart t 0 m.events m.each in
+    let P : ThreadLog → Type 0 = λ x. (d ≡ thread x) × ThreadIsFit t x in
+    subst P m.made (m.spelled, (apart.0, thread_fits m.head m.events m.fits apart.1))
 
-arguments_bound : (xs : List ℕ) → All (λ a. a < 2 ^ 64) xs → All (λ a. a ≤ u64_max) xs
-arguments_bound xs h = All-weaker (λ a. a < 2 ^ 64) (λ a. a ≤ u64_max) (λ a lt. omega arith) xs h
+thread_again : (t : ℕ) (l : ThreadLog) → ThreadIsFit t l → thread_at t (thread l) ≡ Some l
+thread_again t l fits =
+    made_again (items_at (number_event_at t)) (λ xs. list (map event xs)) (AllFrom (EventIsFit t) 0) with_events (thread_events t) (head_of l) l.events (head_fits l fits.1)
+    (events_together t 0 l.events fits.0 fits.1.events)
 
-to_fit : (t : ℕ) (l : ThreadLog) → CellsFit t l → ThreadIsFit t l
-to_fit t l h =
-    let es = events_apart t 0 l.events h.events in
-    (es.0, record { args = arguments_fit l.start.args h.args; end = end_fits l.end h.end; steps = h.steps; events = es.1 })
+-- ---- a thread at its place, within the limits
 
-from_fit : (t : ℕ) (l : ThreadLog) → ThreadIsFit t l → CellsFit t l
-from_fit t l h = record { args = arguments_bound l.start.args h.1.args; end = end_bound l.end h.1.end; steps = h.1.steps; events = events_together t 0 l.events h.0 h.1.events }
+abbrev pub IsLimited : {A : Type 0} → (ℕ → A → Type 0) → ℕ → A → Type 0
+IsLimited Fits t a = Fits t a × (t ≤ u32_max)
 
-cells_format : (t : ℕ) → IsFormat (thread_at t) thread (CellsFit t)
-cells_format t = listed (thread_from t) thread_cells (CellsFit t) (record { takes = λ ds x i. thread_takes t ds x i; again = λ x f. thread_again t x f })
-
--- a thread's log at its place, within the limits
-abbrev pub IsLimited : ℕ → ThreadLog → Type 0
-IsLimited t l = ThreadIsFit t l × (t ≤ u32_max)
-
-pub threads : IsFormatAt limited_thread_at thread IsLimited
-threads = record {
+pub limited : {A : Type 0} (f : ℕ → Data → Option A) (spell : A → Data) (Fits : ℕ → A → Type 0) → IsFormatAt f spell Fits → IsFormatAt (λ t d. cond (leb t u32_max) (f t d) None) spell (IsLimited Fits)
+limited f spell Fits format = record {
   takes = λ t d l e.
-      let g = when_some (leb t u32_max) (thread_at t d) l e in
-      let one = (cells_format t).takes d l g.1 in
-      (one.0, (to_fit t l one.1, leb-true t u32_max g.0));
+      let g = when_some (leb t u32_max) (f t d) l e in
+      let one = format.takes t d l g.1 in
+      (one.0, (one.1, leb-true t u32_max g.0));
   again = λ t l fits.
-      ap (λ (b : Bool). cond b (thread_at t (thread l)) None) (le-leb t u32_max fits.1) ∙ (cells_format t).again l (from_fit t l fits.0);
+      ap (λ (b : Bool). cond b (f t (spell l)) None) (le-leb t u32_max fits.1) ∙ format.again t l fits.0;
 }
+
+pub threads : IsFormatAt limited_thread_at thread (IsLimited ThreadIsFit)
+threads = limited thread_at thread ThreadIsFit (record { takes = λ t d l e. thread_takes t d l e; again = λ t l fits. thread_again t l fits })

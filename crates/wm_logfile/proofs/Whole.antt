@@ -1,81 +1,37 @@
 -- The laws of a witness and of the whole document.
-use Rattle.std.proofs.Common.{◌≡◌, ℕ, suc, ◌+◌, ◌<◌, ◌≤◌, Bool, cond, eqb, leb, List, [], ◌∷◌, length, map, Option, Some, None, refl, sym, ap, subst, ◌∙◌, arith}
-use Rattle.std.specs.Prelude.{codes}
+use Rattle.std.proofs.Common.{◌≡◌, ℕ, suc, ◌+◌, ◌<◌, ◌≤◌, Bool, cond, eqb, leb, inl, inr, List, [], ◌∷◌, length, map, Option, Some, None, refl, sym, ap, subst, ◌∙◌, arith}
+use Rattle.std.specs.Prelude.{codes, zip}
 use Rattle.std.specs.Str.{bytes_eq}
 use Rattle.std.specs.List.{All}
 use Rattle.std.proofs.lemmas.List.{length-map}
 use Rattle.std.proofs.lemmas.List.Elements.{All-nil, All-cons, All-head, All-tail}
-use Rattle.wm_logfile.specs.declared.TheConstants.{MAX_THREADS}
 use Rattle.std.proofs.lemmas.Bool.{leb-true, le-leb, eqb-true}
+use Rattle.std.proofs.lemmas.Option.{same_Some, none-some, some_pair_parts}
 use Rattle.std.proofs.lemmas.Slice.Eq.{bytes_eq-Decides}
 use Rattle.serde_json.specs.Data.{Data, string}
 use Rattle.serde_json.specs.Find.{as_str, as_number, as_u64}
+use Rattle.serde_json.specs.Read.{read}
 use Rattle.wm_event.specs.declared.event.EventId.{EventId}
-use Rattle.wm_event.specs.declared.event.EventId.TheVariants.{Init, At}
 use Rattle.wm_event.specs.declared.event.EventKey.{EventKey}
 use Rattle.wm_event.specs.declared.log.ThreadLog.{ThreadLog}
 use Rattle.wm_event.specs.declared.witness.Witness.{Witness}
+use Rattle.wm_event.specs.Fitting.{FitsLog}
 use Rattle.wm_event.specs.Log.{AreThreads, IsLog}
-use Rattle.wm_logfile.specs.Document.{count, list, thread, writer_cells, writer, event_writers, thread_writers, writers, key_cells, event_key, witness_cells, witness, document, ThreadFits, WriterFits, KeyFits, IsWithinLimits, Spells, HasTooManyThreads}
-use Rattle.wm_logfile.specs.Reading.{◌>>=◌, list_at, items_in, number_at, u32_max, items_at, traverse, writer_from, writer_at, event_writers_at, thread_writers_at, writers_at, key_from, key_at, witness_from, witness_at, limited_thread_at, threads_from, threads_at, name_at, version_at, parts_from, parts_at, document_at}
-use Rattle.serde_json.specs.Read.{read}
-use Rattle.std.proofs.lemmas.Option.{same_Some, none-some, some_pair_parts}
+use Rattle.wm_logfile.specs.declared.document.Version.{Version}
+use Rattle.wm_logfile.specs.declared.document.Version.TheVariants.{First, Second}
 use Rattle.wm_logfile.specs.declared.fault.DocFault.{DocFault}
-use Rattle.wm_logfile.specs.declared.fault.DocFault.TheVariants.{NotJson, BadShape, BadVersion, NumberRange, TooLarge, OutOfMemory}
+use Rattle.wm_logfile.specs.declared.fault.DocFault.TheVariants.{NotJson, BadShape, BadVersion, NumberRange, TooLarge, OutOfMemory, Misplaced}
+use Rattle.wm_logfile.specs.Document.{count, list, thread, thread_by, writers, event_key, keys, witness_cells, witness, document_1, document_2, IsDocument, ThreadFits, WriterFits, KeyFits, IsWithinLimits, Spells, HasTooManyThreads}
+use Rattle.wm_logfile.specs.Document.IsDocument.{first, second}
 use Rattle.wm_logfile.specs.Faults.{DocRefuses}
+use Rattle.wm_logfile.specs.Reading.{◌>>=◌, list_at, items_in, traverse, writers_at, keys_at, witness_from, witness_at, firsts, seconds, limited_thread_at, limited_thread_by_at, few_from, few_at, name_at, version_from, version_at, parts_from, parts_at, pair_1_at, pair_2_at, pair_at, document_at}
 use Rattle.wm_logfile.proofs.Lists.{list_takes, list_of_items_in}
-use Rattle.wm_logfile.proofs.Format.{bind_some, when_some, IsFormat, AllFrom, listed, traverse_takes, traverse_again}
-use Rattle.wm_logfile.proofs.Leaves.{texts, numbers, u64_takes}
-use Rattle.wm_logfile.proofs.Threads.{all_items, IsLimited, threads}
-
-key_takes : (ds : List Data) (p : EventKey) → key_from ds ≡ Some p → (ds ≡ key_cells p) × KeyFits p
-unfolding key_from
-key_takes [] w h = absurd cc
-key_takes (a ∷ []) w h = absurd cc
-key_takes (a ∷ b ∷ []) w h =
-    let t = bind_some (number_at u32_max a) (λ x. number_at u32_max b >>= λ y. Some (record { thread = x; number = y })) w h in
-    let i = bind_some (number_at u32_max b) (λ y. Some (record { thread = t.0; number = y })) w t.2 in
-    let t-is = (numbers u32_max).takes a t.0 t.1 in
-    let i-is = (numbers u32_max).takes b i.0 i.1 in
-    let P : EventKey → Type 0 = λ x. (a ∷ b ∷ [] ≡ key_cells x) × KeyFits x in
-    let made : EventKey = record { thread = t.0; number = i.0 } in
-    let same : made ≡ w = cc in
-    subst P same (ap (λ (x : Data). x ∷ b ∷ []) t-is.0 ∙ ap (λ (x : Data). count t.0 ∷ x ∷ []) i-is.0, record { thread = omega (arith, t-is.1); number = omega (arith, i-is.1) })
-key_takes (a ∷ b ∷ c ∷ ds) w h = absurd cc
-
-key_again : (p : EventKey) → KeyFits p → key_from (key_cells p) ≡ Some p
-unfolding key_from
-key_again p h =
-    let ht : p.thread ≤ u32_max = omega (arith, h.thread) in
-    let hi : p.number ≤ u32_max = omega (arith, h.number) in
-    rw ((numbers u32_max).again p.thread ht, (numbers u32_max).again p.number hi) refl
-
-writer_takes : (ds : List Data) (w : EventId) → writer_from ds ≡ Some w → (ds ≡ writer_cells w) × WriterFits w
-writer_takes [] w h =
-    let P : EventId → Type 0 = λ x. ([] ≡ writer_cells x) × WriterFits x in
-    let same : Init ≡ w = cc in
-    subst P same (refl, tt)
-writer_takes (d ∷ ds) w h =
-    let one = bind_some (key_from (d ∷ ds)) (λ k. Some (At k)) w h in
-    let P : EventId → Type 0 = λ x. (d ∷ ds ≡ writer_cells x) × WriterFits x in
-    let same : At one.0 ≡ w = cc in
-    subst P same (key_takes (d ∷ ds) one.0 one.1)
-
-writer_again : (w : EventId) → WriterFits w → writer_from (writer_cells w) ≡ Some w
-writer_again Init h = refl
-writer_again (At k) h = ap (λ (r : Option EventKey). r >>= λ j. Some (At j)) (key_again k h)
-
-ids : IsFormat writer_at writer WriterFits
-ids = listed writer_from writer_cells WriterFits (record { takes = λ ds w h. writer_takes ds w h; again = λ w h. writer_again w h })
-
-all_writers : IsFormat writers_at writers (All (All (All WriterFits)))
-all_writers = all_items thread_writers_at thread_writers (All (All WriterFits)) (all_items event_writers_at event_writers (All WriterFits) (all_items writer_at writer WriterFits ids))
-
-abbrev order_at : Data → Option (List EventKey)
-order_at d = items_at (λ _ x. key_at x) d
-
-all_keys : IsFormat order_at (λ ks. list (map event_key ks)) (All KeyFits)
-all_keys = all_items key_at event_key KeyFits (listed key_from key_cells KeyFits (record { takes = λ ds w h. key_takes ds w h; again = λ w h. key_again w h }))
+use Rattle.wm_logfile.proofs.Format.{bind_some, when_some, IsFormat, IsFormatAt, AllFrom, listed, traverse_takes, traverse_again}
+use Rattle.wm_logfile.proofs.Keys.{all_keys, all_writers}
+use Rattle.wm_logfile.proofs.Leaves.{chosen, texts, u64_takes}
+use Rattle.wm_logfile.proofs.Pairing.{paired, unpaired}
+use Rattle.wm_logfile.proofs.Threads.{ThreadIsFit, IsLimited, threads}
+use Rattle.wm_logfile.proofs.ThreadsBy.{ThreadWith, ThreadByFits, zipped, Reads, IsLong, spell_thread, threads_by}
 
 record WitnessFits (w : Witness) : Type 0 where
   writers : All (All (All WriterFits)) w.writers
@@ -89,8 +45,8 @@ unfolding witness_from
 witness_takes [] w h = absurd cc
 witness_takes (a ∷ []) w h = absurd cc
 witness_takes (a ∷ b ∷ []) w h =
-    let ws = bind_some (writers_at a) (λ ws. order_at b >>= λ o. Some (made ws o)) w h in
-    let o = bind_some (order_at b) (λ o. Some (made ws.0 o)) w ws.2 in
+    let ws = bind_some (writers_at a) (λ ws. keys_at b >>= λ o. Some (made ws o)) w h in
+    let o = bind_some (keys_at b) (λ o. Some (made ws.0 o)) w ws.2 in
     let ws-are = all_writers.takes a ws.0 ws.1 in
     let o-is = all_keys.takes b o.0 o.1 in
     let P : Witness → Type 0 = λ x. (a ∷ b ∷ [] ≡ witness_cells x) × WitnessFits x in
@@ -105,152 +61,275 @@ witness_again w h = rw (all_writers.again w.writers h.writers, all_keys.again w.
 witnesses : IsFormat witness_at witness WitnessFits
 witnesses = listed witness_from witness_cells WitnessFits (record { takes = λ ds w h. witness_takes ds w h; again = λ w h. witness_again w h })
 
--- ---- the threads
+-- ---- at most sixteen threads
 
-threads_apart : (t : ℕ) (ls : List ThreadLog) → AllFrom IsLimited t ls → AreThreads t ls × All ThreadFits ls
+module _ {A : Type 0} (f : ℕ → Data → Option A) (spell : A → Data) (Fits : ℕ → A → Type 0) (format : IsFormatAt f spell Fits) where
+  few_take : (ds : List Data) (xs : List A) → few_from f ds ≡ Some xs → (ds ≡ map spell xs) × (AllFrom Fits 0 xs × (length xs ≤ 16))
+  few_take ds xs h =
+      let g = when_some (leb (length ds) 16) (traverse f 0 ds) xs h in
+      let one = traverse_takes f spell Fits format 0 ds xs g.1 in
+      let few : length ds ≤ 16 = leb-true (length ds) 16 g.0 in
+      let len : length ds ≡ length xs = ap length one.0 ∙ length-map xs spell in
+      (one.0, (one.1, omega arith))
+
+  few_again : (xs : List A) → AllFrom Fits 0 xs × (length xs ≤ 16) → few_from f (map spell xs) ≡ Some xs
+  few_again xs h =
+      let few : length (map spell xs) ≤ 16 = omega (arith, length-map xs spell, h.1) in
+      ap (λ (b : Bool). cond b (traverse f 0 (map spell xs)) None) (le-leb (length (map spell xs)) 16 few) ∙ traverse_again f spell Fits format 0 xs h.0
+
+  pub few : IsFormat (few_at f) (λ xs. list (map spell xs)) (λ xs. AllFrom Fits 0 xs × (length xs ≤ 16))
+  few = listed (few_from f) (map spell) (λ xs. AllFrom Fits 0 xs × (length xs ≤ 16)) (record { takes = λ ds xs h. few_take ds xs h; again = λ xs h. few_again xs h })
+
+abbrev pub Pair : Type 0
+Pair = List ThreadLog × Witness
+
+pub record WholeFits (x : Pair) : Type 0 where
+  pub placed : AreThreads 0 x.0
+  pub few : length x.0 ≤ 16
+  pub each : All ThreadFits x.0
+  pub writers : All (All (All WriterFits)) x.1.writers
+  pub order : All KeyFits x.1.order
+
+-- ---- version 1
+
+threads_apart : (t : ℕ) (ls : List ThreadLog) → AllFrom (IsLimited ThreadIsFit) t ls → AreThreads t ls × All ThreadFits ls
 threads_apart t [] h = (tt, All-nil ThreadFits)
 threads_apart t (l ∷ ls) h = (let rest = threads_apart (suc t) ls h.1 in ((h.0.0.0, rest.0), All-cons ThreadFits l ls h.0.0.1 rest.1))
 
-threads_together : (t : ℕ) (ls : List ThreadLog) → t + length ls ≤ MAX_THREADS → AreThreads t ls → All ThreadFits ls → AllFrom IsLimited t ls
+threads_together : (t : ℕ) (ls : List ThreadLog) → t + length ls ≤ 16 → AreThreads t ls → All ThreadFits ls → AllFrom (IsLimited ThreadIsFit) t ls
 threads_together t [] few h i = tt
 threads_together t (l ∷ ls) few h i = (((h.0, All-head ThreadFits l ls i), omega arith), threads_together (suc t) ls (omega arith) h.1 (All-tail ThreadFits l ls i))
 
-pub record ThreadsFit (ls : List ThreadLog) : Type 0 where
-  pub placed : AreThreads 0 ls
-  pub few : length ls ≤ MAX_THREADS
-  pub each : All ThreadFits ls
+abbrev all_threads : IsFormat (few_at limited_thread_at) (λ ls. list (map thread ls)) (λ ls. AllFrom (IsLimited ThreadIsFit) 0 ls × (length ls ≤ 16))
+all_threads = few limited_thread_at thread (IsLimited ThreadIsFit) threads
 
-threads_take : (ds : List Data) (ls : List ThreadLog) → threads_from ds ≡ Some ls → (ds ≡ map thread ls) × ThreadsFit ls
-threads_take ds ls h =
-    let g = when_some (leb (length ds) MAX_THREADS) (traverse limited_thread_at 0 ds) ls h in
-    let one = traverse_takes limited_thread_at thread IsLimited threads 0 ds ls g.1 in
-    let apart = threads_apart 0 ls one.1 in
-    let few : length ds ≤ MAX_THREADS = leb-true (length ds) MAX_THREADS g.0 in
-    let len : length ds ≡ length ls = ap length one.0 ∙ length-map ls thread in
-    (one.0, record { placed = apart.0; few = omega arith; each = apart.1 })
+record IsPair1 (ts last : Data) (x : Pair) : Type 0 where
+  threads : ts ≡ list (map thread x.0)
+  behind : last ≡ witness x.1
+  fits : WholeFits x
 
-threads_again : (ls : List ThreadLog) → ThreadsFit ls → threads_from (map thread ls) ≡ Some ls
-threads_again ls h =
-    let few : length (map thread ls) ≤ MAX_THREADS = omega (arith, length-map ls thread, h.few) in
-    ap (λ (b : Bool). cond b (traverse limited_thread_at 0 (map thread ls)) None) (le-leb (length (map thread ls)) MAX_THREADS few)
-    ∙ traverse_again limited_thread_at thread IsLimited threads 0 ls (threads_together 0 ls (omega (arith, h.few)) h.placed h.each)
+pair_1_takes : (ts last : Data) (x : Pair) → pair_1_at ts last ≡ Some x → IsPair1 ts last x
+pair_1_takes ts last x h =
+    let ls = bind_some (few_at limited_thread_at ts) (λ ls. witness_at last >>= λ w. Some (ls, w)) x h in
+    let w = bind_some (witness_at last) (λ w. Some (ls.0, w)) x ls.2 in
+    let threads-are = all_threads.takes ts ls.0 ls.1 in
+    let apart = threads_apart 0 ls.0 threads-are.1.0 in
+    let witness-is = witnesses.takes last w.0 w.1 in
+    let made : Pair = (ls.0, w.0) in
+    let same : made ≡ x = cc in
+    subst (IsPair1 ts last) same (record {
+      threads = threads-are.0;
+      behind = witness-is.0;
+      fits = record { placed = apart.0; few = threads-are.1.1; each = apart.1; writers = witness-is.1.writers; order = witness-is.1.order };
+    })
 
-pub all_threads : IsFormat threads_at (λ ls. list (map thread ls)) ThreadsFit
-all_threads = listed threads_from (map thread) ThreadsFit (record { takes = λ ds ls h. threads_take ds ls h; again = λ ls h. threads_again ls h })
+pair_1_again : (x : Pair) → WholeFits x → pair_1_at (list (map thread x.0)) (witness x.1) ≡ Some x
+pair_1_again x fits =
+    ap (λ (o : Option (List ThreadLog)). o >>= λ ls. witness_at (witness x.1) >>= λ w. Some (ls, w))
+    (all_threads.again x.0 (threads_together 0 x.0 (omega (arith, fits.few)) fits.placed fits.each, fits.few))
+    ∙ ap (λ (o : Option Witness). o >>= λ w. Some (x.0, w)) (witnesses.again x.1 (record { writers = fits.writers; order = fits.order }))
+
+-- ---- version 2
+
+record AreApart (t : ℕ) (ps : List ThreadWith) : Type 0 where
+  placed : AreThreads t (firsts ps)
+  each : All ThreadFits (firsts ps)
+  long : All IsLong ps
+  writers : All (All (All WriterFits)) (seconds ps)
+  none : All (λ p. All Reads (zipped p)) ps
+
+withs_apart : (t : ℕ) (ps : List ThreadWith) → AllFrom (IsLimited ThreadByFits) t ps → AreApart t ps
+withs_apart t [] h = record { placed = tt; each = All-nil ThreadFits; long = All-nil IsLong; writers = All-nil (All (All WriterFits)); none = All-nil (λ p. All Reads (zipped p)) }
+withs_apart t (p ∷ ps) h =
+    let rest = withs_apart (suc t) ps h.1 in
+    let one = h.0.0 in
+    record {
+      placed = (one.fits.0, rest.placed);
+      each = All-cons ThreadFits p.0 (firsts ps) one.fits.1 rest.each;
+      long = All-cons IsLong p ps one.long rest.long;
+      writers = All-cons (All (All WriterFits)) p.1 (seconds ps) one.writers rest.writers;
+      none = All-cons (λ q. All Reads (zipped q)) p ps one.none rest.none;
+    }
+
+withs_together : (t : ℕ) (ps : List ThreadWith) → t + length ps ≤ 16 → AreApart t ps → AllFrom (IsLimited ThreadByFits) t ps
+withs_together t [] few h = tt
+withs_together t (p ∷ ps) few h =
+    let one : ThreadByFits t p = record {
+      fits = (h.placed.0, All-head ThreadFits p.0 (firsts ps) h.each);
+      long = All-head IsLong p ps h.long;
+      writers = All-head (All (All WriterFits)) p.1 (seconds ps) h.writers;
+      none = All-head (λ q. All Reads (zipped q)) p ps h.none;
+    } in
+    let rest : AreApart (suc t) ps = record {
+      placed = h.placed.1;
+      each = All-tail ThreadFits p.0 (firsts ps) h.each;
+      long = All-tail IsLong p ps h.long;
+      writers = All-tail (All (All WriterFits)) p.1 (seconds ps) h.writers;
+      none = All-tail (λ q. All Reads (zipped q)) p ps h.none;
+    } in
+    ((one, omega arith), withs_together (suc t) ps (omega arith) rest)
+
+abbrev all_withs : IsFormat (few_at limited_thread_by_at) (λ ps. list (map spell_thread ps)) (λ ps. AllFrom (IsLimited ThreadByFits) 0 ps × (length ps ≤ 16))
+all_withs = few limited_thread_by_at spell_thread (IsLimited ThreadByFits) threads_by
+
+abbrev of_pairs : List ThreadWith → List EventKey → Pair
+of_pairs ps o = (firsts ps, made (seconds ps) o)
+
+record IsPair2 (ts last : Data) (x : Pair) : Type 0 where
+  threads : ts ≡ list (map (thread_by x.1) x.0)
+  behind : last ≡ keys x.1.order
+  fits_log : FitsLog x.0 x.1
+  fits : WholeFits x
+
+pair_2_takes : (ts last : Data) (x : Pair) → pair_2_at ts last ≡ Some x → IsPair2 ts last x
+pair_2_takes ts last x h =
+    let ps = bind_some (few_at limited_thread_by_at ts) (λ ps. keys_at last >>= λ o. Some (of_pairs ps o)) x h in
+    let o = bind_some (keys_at last) (λ o. Some (of_pairs ps.0 o)) x ps.2 in
+    let threads-are = all_withs.takes ts ps.0 ps.1 in
+    let apart = withs_apart 0 ps.0 threads-are.1.0 in
+    let order-is = all_keys.takes last o.0 o.1 in
+    let fit = unpaired (made (seconds ps.0) o.0) ps.0 refl apart.placed apart.long apart.none in
+    let same : of_pairs ps.0 o.0 ≡ x = cc in
+    subst (IsPair2 ts last) same (record {
+      threads = threads-are.0 ∙ ap list (sym fit.spelled);
+      behind = order-is.0;
+      fits_log = fit.fits;
+      fits = record { placed = apart.placed; few = omega (arith, threads-are.1.1, length-map ps.0 (λ p. p.0)); each = apart.each; writers = apart.writers; order = order-is.1 };
+    })
+
+pair_2_again : (x : Pair) → FitsLog x.0 x.1 → WholeFits x → pair_2_at (list (map (thread_by x.1) x.0)) (keys x.1.order) ≡ Some x
+pair_2_again x fits_log fits =
+    let ps = zip x.0 x.1.writers in
+    let p = paired x.0 x.1 fits.placed fits_log in
+    let apart : AreApart 0 ps = record {
+      placed = subst (AreThreads 0) (sym p.threads) fits.placed;
+      each = subst (All ThreadFits) (sym p.threads) fits.each;
+      long = p.long;
+      writers = subst (All (All (All WriterFits))) (sym p.writers) fits.writers;
+      none = p.none;
+    } in
+    let len : length ps ≤ 16 = omega (arith, length-map ps (λ q. q.0), ap length p.threads, fits.few) in
+    ap (λ (ds : List Data). pair_2_at (list ds) (keys x.1.order)) p.spelled
+    ∙ ap (λ (o : Option (List ThreadWith)). o >>= λ ps. keys_at (keys x.1.order) >>= λ o. Some (of_pairs ps o)) (all_withs.again ps (withs_together 0 ps (omega (arith, len)) apart, len))
+    ∙ ap (λ (o : Option (List EventKey)). o >>= λ o. Some (of_pairs ps o)) (all_keys.again x.1.order fits.order)
+    ∙ ap (λ (ls : List ThreadLog). Some (ls, made (seconds ps) x.1.order)) p.threads
+    ∙ ap (λ (wss : List (List (List EventId))). Some (x.0, made wss x.1.order)) p.writers
 
 -- ---- the whole
 
-abbrev parts_cells : Data × Data → List Data
-parts_cells p = string (codes "wasm-litmus-log") ∷ count 1 ∷ p.0 ∷ p.1 ∷ []
+abbrev version_number : Version → ℕ
+version_number First = 1
+version_number Second = 2
 
-version_takes : (d : Data) → version_at d ≡ Some tt → d ≡ count 1
-version_takes d h =
-    let one = bind_some (as_number d >>= as_u64) (λ n. cond (eqb n 1) (Some tt) None) tt h in
-    let g = when_some (eqb one.0 1) (Some tt) tt one.2 in
-    u64_takes d one.0 one.1 ∙ ap count (eqb-true one.0 1 g.0)
+abbrev Parts : Type 0
+Parts = Version × Data × Data
 
-parts_take : (ds : List Data) (p : Data × Data) → parts_from ds ≡ Some p → (ds ≡ parts_cells p) × Unit {0}
+abbrev parts_cells : Parts → List Data
+parts_cells p = string (codes "wasm-litmus-log") ∷ count (version_number p.0) ∷ p.1 ∷ p.2 ∷ []
+
+version_from_takes : (n : ℕ) (v : Version) → version_from n ≡ Some v → n ≡ version_number v
+version_from_takes n v h =
+    elim (chosen (eqb n 1) (Some First) (cond (eqb n 2) (Some Second) None) (Some v) h) [
+      | inl c ↦ (let same : First ≡ v = cc in eqb-true n 1 c.0 ∙ ap version_number same)
+      | inr c ↦ (let g = when_some (eqb n 2) (Some Second) v c.1 in let same : Second ≡ v = cc in eqb-true n 2 g.0 ∙ ap version_number same)
+    ]
+
+version_takes : (d : Data) (v : Version) → version_at d ≡ Some v → d ≡ count (version_number v)
+version_takes d v h =
+    let one = bind_some (as_number d >>= as_u64) version_from v h in
+    u64_takes d one.0 one.1 ∙ ap count (version_from_takes one.0 v one.2)
+
+version_again : (v : Version) → version_at (count (version_number v)) ≡ Some v
+version_again First = refl
+version_again Second = refl
+
+parts_take : (ds : List Data) (p : Parts) → parts_from ds ≡ Some p → (ds ≡ parts_cells p) × Unit {0}
 unfolding parts_from
 parts_take [] p h = absurd cc
 parts_take (a ∷ []) p h = absurd cc
 parts_take (a ∷ b ∷ []) p h = absurd cc
 parts_take (a ∷ b ∷ c ∷ []) p h = absurd cc
 parts_take (a ∷ b ∷ c ∷ d ∷ []) p h =
-    let one = bind_some (name_at a) (λ _. version_at b >>= λ _. Some (c, d)) p h in
+    let one = bind_some (name_at a) (λ _. version_at b >>= λ v. Some (v, c, d)) p h in
     let s = bind_some (as_str a) (λ s. cond (bytes_eq s (codes "wasm-litmus-log")) (Some tt) None) tt one.1 in
     let g = when_some (bytes_eq s.0 (codes "wasm-litmus-log")) (Some tt) tt s.2 in
-    let v = bind_some (version_at b) (λ _. Some (c, d)) p one.2 in
-    let P : Data × Data → Type 0 = λ x. (a ∷ b ∷ c ∷ d ∷ [] ≡ parts_cells x) × Unit {0} in
-    let made : Data × Data = (c, d) in
+    let v = bind_some (version_at b) (λ v. Some (v, c, d)) p one.2 in
+    let P : Parts → Type 0 = λ x. (a ∷ b ∷ c ∷ d ∷ [] ≡ parts_cells x) × Unit {0} in
+    let made : Parts = (v.0, c, d) in
     let same : made ≡ p = cc in
     subst P same (
       ap (λ (x : Data). x ∷ b ∷ c ∷ d ∷ []) ((texts.takes a s.0 s.1).0 ∙ ap string ((bytes_eq-Decides s.0 (codes "wasm-litmus-log")).0 g.0))
-          ∙ ap (λ (x : Data). string (codes "wasm-litmus-log") ∷ x ∷ c ∷ d ∷ []) (version_takes b v.1),
+          ∙ ap (λ (x : Data). string (codes "wasm-litmus-log") ∷ x ∷ c ∷ d ∷ []) (version_takes b v.0 v.1),
       tt,
     )
 parts_take (a ∷ b ∷ c ∷ d ∷ e ∷ ds) p h = absurd cc
 
-parts_again : (p : Data × Data) → parts_from (parts_cells p) ≡ Some p
+parts_again : (p : Parts) → parts_from (parts_cells p) ≡ Some p
 unfolding parts_from
-parts_again p = refl
+parts_again p = ap (λ (o : Option Version). o >>= λ v. Some (v, p.1, p.2)) (version_again p.0)
 
 parts : IsFormat parts_at (λ p. list (parts_cells p)) (λ _. Unit {0})
 parts = listed parts_from parts_cells (λ _. Unit {0}) (record { takes = λ ds p h. parts_take ds p h; again = λ p h. parts_again p })
 
--- the value, with the threads of the log
-abbrev pub whole : List ThreadLog × Witness → Data
-whole x = list (parts_cells (list (map thread x.0), witness x.1))
+pair_takes : (d : Data) (v : Version) (ts last : Data) (x : Pair) → d ≡ list (parts_cells (v, ts, last)) → pair_at v ts last ≡ Some x → IsDocument d x.0 x.1 × WholeFits x
+pair_takes d First ts last x is h =
+    let p = pair_1_takes ts last x h in
+    (first (is ∙ ap (λ (y : Data). list (parts_cells (First, y, last))) p.threads ∙ ap (λ (y : Data). list (parts_cells (First, list (map thread x.0), y))) p.behind), p.fits)
+pair_takes d Second ts last x is h =
+    let p = pair_2_takes ts last x h in
+    (second p.fits_log (is ∙ ap (λ (y : Data). list (parts_cells (Second, y, last))) p.threads ∙ ap (λ (y : Data). list (parts_cells (Second, list (map (thread_by x.1) x.0), y))) p.behind), p.fits)
 
-pub record WholeFits (x : List ThreadLog × Witness) : Type 0 where
-  pub placed : AreThreads 0 x.0
-  pub few : length x.0 ≤ MAX_THREADS
-  pub each : All ThreadFits x.0
-  pub writers : All (All (All WriterFits)) x.1.writers
-  pub order : All KeyFits x.1.order
-
-whole_takes : (d : Data) (x : List ThreadLog × Witness) → document_at d ≡ Some x → (d ≡ whole x) × WholeFits x
+whole_takes : (d : Data) (x : Pair) → document_at d ≡ Some x → IsDocument d x.0 x.1 × WholeFits x
 whole_takes d x h =
-    let p = bind_some (parts_at d) (λ p. threads_at p.0 >>= λ ls. witness_at p.1 >>= λ w. Some (ls, w)) x h in
-    let ls = bind_some (threads_at p.0.0) (λ ls. witness_at p.0.1 >>= λ w. Some (ls, w)) x p.2 in
-    let w = bind_some (witness_at p.0.1) (λ w. Some (ls.0, w)) x ls.2 in
-    let parts-are = parts.takes d p.0 p.1 in
-    let threads-are = all_threads.takes p.0.0 ls.0 ls.1 in
-    let witness-is = witnesses.takes p.0.1 w.0 w.1 in
-    let made : List ThreadLog × Witness = (ls.0, w.0) in
-    let same : made ≡ x = cc in
-    let P : List ThreadLog × Witness → Type 0 = λ y. (d ≡ whole y) × WholeFits y in
-    subst P same (
-      parts-are.0 ∙ ap (λ (y : Data). list (parts_cells (y, p.0.1))) threads-are.0 ∙ ap (λ (y : Data). list (parts_cells (list (map thread ls.0), y))) witness-is.0,
-      record { placed = threads-are.1.placed; few = threads-are.1.few; each = threads-are.1.each; writers = witness-is.1.writers; order = witness-is.1.order },
-    )
+    let p = bind_some (parts_at d) (λ p. pair_at p.0 p.1 p.2) x h in
+    pair_takes d p.0.0 p.0.1 p.0.2 x (parts.takes d p.0 p.1).0 p.2
 
-whole_again : (x : List ThreadLog × Witness) → WholeFits x → document_at (whole x) ≡ Some x
-whole_again x fits =
-    let threads-again = all_threads.again x.0 (record { placed = fits.placed; few = fits.few; each = fits.each }) in
-    let witness-again = witnesses.again x.1 (record { writers = fits.writers; order = fits.order }) in
-    ap (λ (o : Option (Data × Data)). o >>= λ p. threads_at p.0 >>= λ ls. witness_at p.1 >>= λ w. Some (ls, w)) (parts.again (list (map thread x.0), witness x.1) tt)
-    ∙ ap (λ (o : Option (List ThreadLog)). o >>= λ ls. witness_at (witness x.1) >>= λ w. Some (ls, w)) threads-again
-    ∙ ap (λ (o : Option Witness). o >>= λ w. Some (x.0, w)) witness-again
+parts_lead : (p : Parts) (x : Pair) → pair_at p.0 p.1 p.2 ≡ Some x → document_at (list (parts_cells p)) ≡ Some x
+parts_lead p x h = ap (λ (o : Option Parts). o >>= λ q. pair_at q.0 q.1 q.2) (parts.again p tt) ∙ h
 
-pub wholes : IsFormat document_at whole WholeFits
-wholes = record { takes = λ d x h. whole_takes d x h; again = λ x h. whole_again x h }
+whole_again : (d : Data) (x : Pair) → IsDocument d x.0 x.1 → WholeFits x → document_at d ≡ Some x
+whole_again d x (first is) fits = ap document_at is ∙ parts_lead (First, list (map thread x.0), witness x.1) x (pair_1_again x fits)
+whole_again d x (second fits_log is) fits = ap document_at is ∙ parts_lead (Second, list (map (thread_by x.1) x.0), keys x.1.order) x (pair_2_again x fits_log fits)
 
 -- ---- for the readers
 
-pub is_log : (d : Data) (ls : List ThreadLog) → threads_at d ≡ Some ls → IsLog ls
-is_log d ls h = (all_threads.takes d ls h).1.placed
+pub is_log : (d : Data) (ls : List ThreadLog) → few_at limited_thread_at d ≡ Some ls → IsLog ls
+is_log d ls h = (threads_apart 0 ls (all_threads.takes d ls h).1.0).0
 
-pub too_many : (d : Data) (fields : List Data) (tv : Data) (wv : Data) → list_at d ≡ Some fields → parts_from fields ≡ Some (tv, wv) → MAX_THREADS < length (items_in tv) → HasTooManyThreads d
-too_many d fields tv wv e h lt = record {
+pub is_log_by : (d : Data) (ps : List ThreadWith) → few_at limited_thread_by_at d ≡ Some ps → IsLog (firsts ps)
+is_log_by d ps h = (withs_apart 0 ps (all_withs.takes d ps h).1.0).placed
+
+pub too_many : (d : Data) (fields : List Data) (v : Version) (ts last : Data) → list_at d ≡ Some fields → parts_from fields ≡ Some (v, ts, last) → 16 < length (items_in ts) → HasTooManyThreads d
+too_many d fields v ts last e h lt = record {
   name = string (codes "wasm-litmus-log");
-  version = count 1;
-  threads = items_in tv;
-  witness_value = wv;
-  is = list_takes d fields e ∙ ap list (parts_take fields (tv, wv) h).0 ∙ ap (λ (y : Data). list (parts_cells (y, wv))) (list_of_items_in tv (omega (arith, lt)));
+  version = count (version_number v);
+  threads = items_in ts;
+  last = last;
+  is = list_takes d fields e ∙ ap list (parts_take fields (v, ts, last) h).0 ∙ ap (λ (y : Data). list (parts_cells (v, y, last))) (list_of_items_in ts (omega (arith, lt)));
   many = lt;
 }
 
--- what was read is the document of the pair, within the limits
-pub is_document : (d : Data) (l : List ThreadLog) (w : Witness) → document_at d ≡ Some (l, w) → (d ≡ document l w) × IsLog l × IsWithinLimits l w
+-- what was read is spelled so, within the limits
+pub is_document : (d : Data) (l : List ThreadLog) (w : Witness) → document_at d ≡ Some (l, w) → IsDocument d l w × IsLog l × IsWithinLimits l w
 is_document d l w h =
-    let one = wholes.takes d (l, w) h in
+    let one = whole_takes d (l, w) h in
     (one.0, one.1.placed, record { threads = one.1.few; each = one.1.each; writers = one.1.writers; order = one.1.order })
 
-pub document_again : (l : List ThreadLog) (w : Witness) → IsLog l → IsWithinLimits l w → document_at (document l w) ≡ Some (l, w)
-document_again l w is h = wholes.again (l, w) (record { placed = is; few = h.threads; each = h.each; writers = h.writers; order = h.order })
+pub document_again : (d : Data) (l : List ThreadLog) (w : Witness) → IsDocument d l w → IsLog l → IsWithinLimits l w → document_at d ≡ Some (l, w)
+document_again d l w spelled is h = whole_again d (l, w) spelled (record { placed = is; few = h.threads; each = h.each; writers = h.writers; order = h.order })
 
-same_pair : (a b : List ThreadLog) (v w : Witness) → ◌≡◌ {A = Option (List ThreadLog × Witness)} (Some (a, v)) (Some (b, w)) → (a ≡ b) × (v ≡ w)
+same_pair : (a b : List ThreadLog) (v w : Witness) → ◌≡◌ {A = Option Pair} (Some (a, v)) (Some (b, w)) → (a ≡ b) × (v ≡ w)
 same_pair a b v w e = some_pair_parts a b v w e
 
 pub only_one : (bytes : List ℕ) (d : Data) (l : List ThreadLog) (w : Witness) (m : List ThreadLog) (v : Witness) → read bytes ≡ Some d → document_at d ≡ Some (l, w) → IsLog m → IsWithinLimits m v → Spells bytes m v → (m ≡ l) × (v ≡ w)
-only_one bytes d l w m v text h is fits spelled =
-    let same : d ≡ document m v = same_Some d (document m v) (sym text ∙ spelled.value) in
-    same_pair m l v w (sym (document_again m v is fits) ∙ ap document_at (sym same) ∙ h)
+only_one bytes d l w m v text h is fits spells =
+    let same : d ≡ spells.value = same_Some d spells.value (sym text ∙ spells.text) in
+    same_pair m l v w (sym (document_again spells.value m v spells.spelled is fits) ∙ ap document_at (sym same) ∙ h)
 
 pub none_spelled : (bytes : List ℕ) (d : Data) → read bytes ≡ Some d → document_at d ≡ None → (m : List ThreadLog) (v : Witness) → IsLog m → IsWithinLimits m v → Spells bytes m v → ⊥
-none_spelled bytes d text h m v is fits spelled =
-    let same : d ≡ document m v = same_Some d (document m v) (sym text ∙ spelled.value) in
-    none-some (m, v) (sym h ∙ ap document_at same ∙ document_again m v is fits)
+none_spelled bytes d text h m v is fits spells =
+    let same : d ≡ spells.value = same_Some d spells.value (sym text ∙ spells.text) in
+    none-some (m, v) (sym h ∙ ap document_at same ∙ document_again spells.value m v spells.spelled is fits)
 
 pub refusal : (e : DocFault) (d : Data) → (e ≡ OutOfMemory → ⊥) → DocRefuses e (document_at d) → document_at d ≡ None
 refusal NotJson d ne h = h
@@ -259,3 +338,7 @@ refusal BadVersion d ne h = h
 refusal (NumberRange p) d ne h = h
 refusal TooLarge d ne h = h
 refusal OutOfMemory d ne h = absurd (ne refl)
+refusal Misplaced d ne h = absurd h
+
+pub placed : (e : DocFault) (d : Data) → DocRefuses e (document_at d) → e ≡ Misplaced → ⊥
+placed e d h is = rw is at h

@@ -1,5 +1,5 @@
--- The value that a log with a witness is spelled by, the limits, and the text.
-use Rattle.std.specs.Prelude.{◌≡◌, ◌<◌, ◌≤◌, ◌⊎◌, ◌^◌, ℕ, List, [], ◌∷◌, map, length, codes, Some, None, Option, ⊤, IsUtf8, IfSome, All}
+-- The values that a log with a witness is spelled by, the limits, and the text.
+use Rattle.std.specs.Prelude.{◌≡◌, ◌<◌, ◌≤◌, ◌⊎◌, ◌^◌, ℕ, List, [], ◌∷◌, ◌++◌, map, length, codes, Some, None, Option, ⊤, IsUtf8, IfSome, All}
 use Rattle.serde_json.specs.Data.{Data, number, string, array, unsigned}
 use Rattle.serde_json.specs.Read.{read}
 use Rattle.serde_json.specs.View.{items_of}
@@ -14,10 +14,13 @@ use Rattle.wm_event.specs.declared.log.End.{End}
 use Rattle.wm_event.specs.declared.log.End.TheVariants.{Done, Trap, Cut}
 use Rattle.wm_event.specs.declared.log.ThreadLog.{ThreadLog}
 use Rattle.wm_event.specs.declared.witness.Witness.{Witness}
-use Rattle.wm_logfile.specs.declared.TheConstants.{MAX_DOCUMENT_BYTES, MAX_THREADS, MAX_STEPS}
-use Rattle.wm_logfile.specs.Words.{kind_word, order_word, trap_word}
+use Rattle.wm_event.specs.Event.{key_of}
+use Rattle.wm_event.specs.Fitting.{FitsLog}
+use Rattle.wm_event.specs.TrapText.{trap_text}
+use Rattle.wm_event.specs.Witness.{writers_in}
+use Rattle.wm_logfile.specs.Words.{kind_word, order_word}
 
--- ---- the value
+-- ---- the parts of both versions
 
 -- the array of these values
 abbrev pub list : List Data → Data
@@ -45,17 +48,15 @@ result_cells (Some v) = count v ∷ []
 
 abbrev pub end_cells : End → List Data
 end_cells (Done result) = string (codes "done") ∷ list (result_cells result) ∷ []
-end_cells (Trap kind) = string (codes "trap") ∷ string (trap_word kind) ∷ []
+end_cells (Trap kind) = string (codes "trap") ∷ string (trap_text kind) ∷ []
 end_cells Cut = string (codes "cut") ∷ []
 
 abbrev pub end : End → Data
 end e = list (end_cells e)
 
-abbrev pub thread_cells : ThreadLog → List Data
-thread_cells l = string l.start.name ∷ list (map count l.start.args) ∷ end l.end ∷ count l.steps ∷ list (map event l.events) ∷ []
-
-abbrev pub thread : ThreadLog → Data
-thread l = list (thread_cells l)
+-- a thread's log, with these as its events
+abbrev pub thread_cells : ThreadLog → List Data → List Data
+thread_cells l events = string l.start.name ∷ list (map count l.start.args) ∷ end l.end ∷ count l.steps ∷ list events ∷ []
 
 abbrev pub key_cells : EventKey → List Data
 key_cells key = count key.thread ∷ count key.number ∷ []
@@ -73,6 +74,18 @@ writer w = list (writer_cells w)
 abbrev pub event_writers : List EventId → Data
 event_writers ws = list (map writer ws)
 
+abbrev pub keys : List EventKey → Data
+keys order = list (map event_key order)
+
+-- a document of that version, whose last item is this
+abbrev pub document_cells : ℕ → List Data → Data → List Data
+document_cells version threads last = string (codes "wasm-litmus-log") ∷ count version ∷ list threads ∷ last ∷ []
+
+-- ---- version 1: the witness stands behind the threads
+
+abbrev pub thread : ThreadLog → Data
+thread l = list (thread_cells l (map event l.events))
+
 abbrev pub thread_writers : List (List EventId) → Data
 thread_writers ws = list (map event_writers ws)
 
@@ -80,14 +93,37 @@ abbrev pub writers : List (List (List EventId)) → Data
 writers ws = list (map thread_writers ws)
 
 abbrev pub witness_cells : Witness → List Data
-witness_cells w = writers w.writers ∷ list (map event_key w.order) ∷ []
+witness_cells w = writers w.writers ∷ keys w.order ∷ []
 
 abbrev pub witness : Witness → Data
 witness w = list (witness_cells w)
 
--- the value of version 1
-abbrev pub document : List ThreadLog → Witness → Data
-document log w = list (string (codes "wasm-litmus-log") ∷ count 1 ∷ list (map thread log) ∷ witness w ∷ [])
+abbrev pub document_1 : List ThreadLog → Witness → Data
+document_1 log w = list (document_cells 1 (map thread log) (witness w))
+
+-- ---- version 2: its writers stand in each event that reads
+
+abbrev pub by_cells : EventKind → List EventId → List Data
+by_cells Read ws = event_writers ws ∷ []
+by_cells Write ws = []
+by_cells Update ws = event_writers ws ∷ []
+
+-- an event, with the writers of the bytes that it read
+abbrev pub event_by : Event → List EventId → Data
+event_by e ws = list (event_cells e ++ by_cells e.kind ws)
+
+abbrev pub thread_by : Witness → ThreadLog → Data
+thread_by w l = list (thread_cells l (map (λ e. event_by e (writers_in w (key_of e))) l.events))
+
+abbrev pub document_2 : List ThreadLog → Witness → Data
+document_2 log w = list (document_cells 2 (map (thread_by w) log) (keys w.order))
+
+-- ---- the relation
+
+-- the value spells the log with the witness, in version 1 or, where the witness fits the log, in version 2
+pub data IsDocument (d : Data) (log : List ThreadLog) (w : Witness) : Type 0 where
+  first : d ≡ document_1 log w → IsDocument d log w
+  second : FitsLog log w → d ≡ document_2 log w → IsDocument d log w
 
 -- ---- the limits
 
@@ -106,7 +142,7 @@ EndFits Cut = ⊤
 pub record ThreadFits (l : ThreadLog) : Type 0 where
   pub args : All (λ a. a < 2 ^ 64) l.start.args
   pub end : EndFits l.end
-  pub steps : l.steps ≤ MAX_STEPS
+  pub steps : l.steps ≤ 1000000
   pub events : All EventFits l.events
 
 pub record KeyFits (key : EventKey) : Type 0 where
@@ -120,27 +156,29 @@ WriterFits (At key) = KeyFits key
 
 -- the ranges of the numbers that a document may hold, and at most so many threads
 pub record IsWithinLimits (log : List ThreadLog) (w : Witness) : Type 0 where
-  pub threads : length log ≤ MAX_THREADS
+  pub threads : length log ≤ 16
   pub each : All ThreadFits log
   pub writers : All (All (All WriterFits)) w.writers
   pub order : All KeyFits w.order
 
 -- ---- the text
 
--- the bytes are JSON text of the value
+-- the bytes are JSON text of a value that spells the log with the witness
 pub record Spells (bytes : List ℕ) (log : List ThreadLog) (w : Witness) : Type 0 where
   pub utf8 : IsUtf8 bytes
-  pub value : read bytes ≡ Some (document log w)
+  pub value : Data
+  pub text : read bytes ≡ Some value
+  pub spelled : IsDocument value log w
 
 -- the value lists more threads than a document may have
 pub record HasTooManyThreads (d : Data) : Type 0 where
   pub name : Data
   pub version : Data
   pub threads : List Data
-  pub witness_value : Data
-  pub is : d ≡ list (name ∷ version ∷ list threads ∷ witness_value ∷ [])
-  pub many : MAX_THREADS < length threads
+  pub last : Data
+  pub is : d ≡ list (name ∷ version ∷ list threads ∷ last ∷ [])
+  pub many : 16 < length threads
 
 -- past the limit of bytes, or JSON text past the limit of threads
 abbrev pub IsTooLarge : List ℕ → Type 0
-IsTooLarge bytes = (MAX_DOCUMENT_BYTES < length bytes) ⊎ ((d : Data) × (read bytes ≡ Some d) × HasTooManyThreads d)
+IsTooLarge bytes = (8388608 < length bytes) ⊎ ((d : Data) × (read bytes ≡ Some d) × HasTooManyThreads d)

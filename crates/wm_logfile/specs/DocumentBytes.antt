@@ -3,20 +3,20 @@ use Rattle.std.specs.Prelude.{◌≡◌, ◌≢◌, ◌≤◌, ℕ, List, length
 use Rattle.wm_event.specs.declared.log.ThreadLog.{ThreadLog}
 use Rattle.wm_event.specs.declared.witness.Witness.{Witness}
 use Rattle.wm_event.specs.Log.{IsLog}
-use Rattle.wm_logfile.specs.declared.TheConstants.{MAX_DOCUMENT_BYTES}
 use Rattle.wm_logfile.specs.declared.fault.DocFault.{DocFault}
-use Rattle.wm_logfile.specs.declared.fault.DocFault.TheVariants.{TooLarge, OutOfMemory}
+use Rattle.wm_logfile.specs.declared.fault.DocFault.TheVariants.{TooLarge, OutOfMemory, Misplaced}
 use Rattle.wm_logfile.specs.Document.{IsTooLarge, IsWithinLimits, Spells}
 
 -- the bytes spell the log with the witness, all within the limits
 pub record IsDocumentOf (bytes : List ℕ) (log : List ThreadLog) (witness : Witness) : Type 0 where
-  pub small : length bytes ≤ MAX_DOCUMENT_BYTES
+  pub small : length bytes ≤ 8388608
   pub spelled : Spells bytes log witness
   pub is_log : IsLog log
   pub limits : IsWithinLimits log witness
 
--- what the fault of a refused document says
+-- what the fault of reading a refused document says
 pub record IsNoDocument (bytes : List ℕ) (fault : DocFault) : Type 0 where
   pub no_document : (log : List ThreadLog) (witness : Witness) → ¬ IsDocumentOf bytes log witness
   pub too_large : fault ≡ TooLarge → IsTooLarge bytes
   pub no_want : fault ≢ OutOfMemory
+  pub placed : fault ≢ Misplaced

@@ -5,3 +5,5 @@ pub mod Faults
 pub mod PathText
 pub mod Texts
 pub mod DocumentBytes
+pub mod Migration
+pub mod Tokens

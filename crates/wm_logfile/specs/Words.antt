@@ -4,8 +4,6 @@ use Rattle.wm_event.specs.declared.event.EventKind.{EventKind}
 use Rattle.wm_event.specs.declared.event.EventKind.TheVariants.{Read, Write, Update}
 use Rattle.wm_access.specs.declared.MemoryOrder.{MemoryOrder}
 use Rattle.wm_access.specs.declared.MemoryOrder.TheVariants.{Unordered, SeqCst}
-use Rattle.wm_event.specs.declared.log.TrapKind.{TrapKind}
-use Rattle.wm_event.specs.declared.log.TrapKind.TheVariants.{Unreachable, DivideByZero, Overflow, OutOfBounds, Unaligned, Exhausted}
 
 abbrev pub kind_word : EventKind → List ℕ
 kind_word Read = codes "r"
@@ -15,11 +13,3 @@ kind_word Update = codes "x"
 abbrev pub order_word : MemoryOrder → List ℕ
 order_word Unordered = codes "un"
 order_word SeqCst = codes "sc"
-
-abbrev pub trap_word : TrapKind → List ℕ
-trap_word Unreachable = codes "unreachable"
-trap_word DivideByZero = codes "divide-by-zero"
-trap_word Overflow = codes "overflow"
-trap_word OutOfBounds = codes "out-of-bounds"
-trap_word Unaligned = codes "unaligned"
-trap_word Exhausted = codes "exhausted"

@@ -4,33 +4,48 @@ ghost use Rattle.serde_json.specs.View.{view};
 ghost use Rattle.wm_event.specs.declared.log.ThreadLog.{ThreadLog};
 ghost use Rattle.wm_event.specs.declared.witness.Witness.{Witness};
 ghost use Rattle.wm_event.specs.Log.{IsLog};
-ghost use Rattle.wm_logfile.specs.Document.{document, Spells, IsWithinLimits, HasTooManyThreads, IsTooLarge};
+ghost use Rattle.serde_json.specs.Data.{Data};
+ghost use Rattle.wm_logfile.specs.Document.{IsDocument, Spells, IsWithinLimits, HasTooManyThreads, IsTooLarge};
 ghost use Rattle.wm_logfile.specs.Faults.{Gives, DocGives};
-ghost use Rattle.wm_logfile.specs.Reading.{items_in, threads_at, name_at, version_at, parts_from, document_at};
+ghost use Rattle.wm_logfile.specs.Reading.{items_in, few_at, name_at, pair_1_at, pair_2_at, version_at, parts_from, document_at};
 
 use crate::fault::{DocFault, ReadFault};
 use crate::fields::list_of;
-use crate::items::each_of;
+use crate::items::{ItemReader, each_of, unzipped};
 use crate::path::Path;
-use crate::thread::ThreadReader;
-use crate::witness::witness_of;
+use crate::thread::{ThreadByReader, ThreadReader};
+use crate::witness::{order_keys_of, witness_of};
 use crate::{MAX_DOCUMENT_BYTES, MAX_THREADS};
 use serde_json::Value;
 use std::alloc::Global;
 use wm_event::{Log, ThreadLog, Witness};
 use wm_list::List;
 
-/// The logs of the threads.
-fn threads_of(alloc: Global, value: &Value, path: &Path) -> Result<List<ThreadLog>, DocFault>
-    ensures given { DocGives (λ ls. ls) result (threads_at (view value.now)) }
+/// How a document is written.
+#[derive(Clone, Copy)]
+enum Version {
+    /// The witness stands behind the threads.
+    First,
+    /// The writers of the bytes that an event read stand in the event, and the order behind the threads.
+    Second,
+}
+
+/// The threads, where there are not too many.
+fn threads_of<T: Drop, R: ItemReader<T>>(
+    alloc: Global,
+    reader: &R,
+    value: &Value,
+    path: &Path,
+) -> Result<List<T>, DocFault>
+    ensures given { DocGives (λ ts. ts) result (few_at (R.reads reader.now) (view value.now)) }
     ensures too_large { IfErr result (λ e. e ≡ DocFault.TooLarge
-        → MAX_THREADS < length (items_in (view value.now))) }
+        → 16 < length (items_in (view value.now))) }
 {
     let values = list_of(value, path)?;
     if values.len() > MAX_THREADS {
         return Err(DocFault::TooLarge);
     }
-    Ok(each_of(alloc, &ThreadReader, values, path)?)
+    Ok(each_of(alloc, reader, values, path)?)
 }
 
 /// Whether this is the name of the format.
@@ -43,33 +58,72 @@ fn check_name(value: &Value, path: &Path) -> Result<(), ReadFault>
     }
 }
 
-/// Whether this is the version that is read.
-fn check_version(value: &Value, path: &Path) -> Result<(), DocFault>
-    ensures given { DocGives (λ u. u) result (version_at (view value.now)) }
+/// The version, by its number.
+fn version_of(value: &Value, path: &Path) -> Result<Version, DocFault>
+    ensures given { DocGives (λ v. v) result (version_at (view value.now)) }
     ensures small { IfErr result (λ e. e ≢ DocFault.TooLarge) }
 {
     if !value.is_number() {
         return Err(DocFault::BadShape(path.copied()));
     }
     match value.as_u64() {
-        Some(1) => Ok(()),
+        Some(1) => Ok(Version::First),
+        Some(2) => Ok(Version::Second),
         _ => Err(DocFault::BadVersion),
     }
 }
 
-/// The threads and the witness, by the fields of a document.
+/// The version, the threads and what stands behind them, by the fields of a document.
 #[tactic(auto, unfolding(crate::specs::Reading::parts_from))]
-fn parts_of<'a>(fields: &'a [Value], path: &Path) -> Result<(&'a Value, &'a Value), DocFault>
-    ensures given { DocGives (λ p. (view p.0.now, view p.1.now)) result
+fn parts_of<'a>(
+    fields: &'a [Value],
+    path: &Path,
+) -> Result<(Version, &'a Value, &'a Value), DocFault>
+    ensures given { DocGives (λ p. (p.0, view p.1.now, view p.2.now)) result
         (parts_from (map view fields.now)) }
     ensures small { IfErr result (λ e. e ≢ DocFault.TooLarge) }
 {
-    let [name, version, threads, witness] = fields else {
+    let [name, version, threads, last] = fields else {
         return Err(DocFault::BadShape(path.copied()));
     };
     check_name(name, &path.child(0))?;
-    check_version(version, &path.child(1))?;
-    Ok((threads, witness))
+    let version = version_of(version, &path.child(1))?;
+    Ok((version, threads, last))
+}
+
+/// The log and the witness of a document of version 1, by its threads and its witness.
+fn pair_of_first(
+    alloc: Global,
+    threads: &Value,
+    witness: &Value,
+    path: &Path,
+) -> Result<(Log, Witness), DocFault>
+    ensures given { DocGives (λ p. (p.0, p.1)) result
+        (pair_1_at (view threads.now) (view witness.now)) }
+    ensures too_large { IfErr result (λ e. e ≡ DocFault.TooLarge
+        → 16 < length (items_in (view threads.now))) }
+{
+    let logs = threads_of(alloc, &ThreadReader, threads, &path.child(2))?;
+    let witness = witness_of(alloc, witness, &path.child(3))?;
+    Ok((Log::new(logs), witness))
+}
+
+/// The log and the witness of a document of version 2, by its threads and its order.
+fn pair_of_second(
+    alloc: Global,
+    threads: &Value,
+    order: &Value,
+    path: &Path,
+) -> Result<(Log, Witness), DocFault>
+    ensures given { DocGives (λ p. (p.0, p.1)) result
+        (pair_2_at (view threads.now) (view order.now)) }
+    ensures too_large { IfErr result (λ e. e ≡ DocFault.TooLarge
+        → 16 < length (items_in (view threads.now))) }
+{
+    let threads = threads_of(alloc, &ThreadByReader, threads, &path.child(2))?;
+    let order = order_keys_of(alloc, order, &path.child(3))?;
+    let (logs, writers) = unzipped(alloc, threads)?;
+    Ok((Log::new(logs), Witness { writers, order }))
 }
 
 /// The log and the witness that this value spells.
@@ -80,21 +134,23 @@ fn document_of(alloc: Global, value: &Value) -> Result<(Log, Witness), DocFault>
 {
     let path = Path::whole();
     let fields = list_of(value, &path)?;
-    let (threads, witness) = parts_of(fields, &path)?;
-    let logs = threads_of(alloc, threads, &path.child(2))?;
-    let witness = witness_of(alloc, witness, &path.child(3))?;
-    Ok((Log::new(logs), witness))
+    let (version, threads, last) = parts_of(fields, &path)?;
+    match version {
+        Version::First => pair_of_first(alloc, threads, last, &path),
+        Version::Second => pair_of_second(alloc, threads, last, &path),
+    }
 }
 
-/// The log and the witness that the bytes spell. JSON's white space is read anywhere.
+/// The log and the witness that the bytes spell, in version 1 or 2. JSON's white space is read anywhere.
 ///
 /// # Errors
 ///
-/// The first fault, in the order that [`DocFault`] states; `OutOfMemory` where memory was refused.
+/// The first fault, in the order that [`DocFault`] states, and never `Misplaced`; `OutOfMemory` where memory was
+/// refused.
 pub fn read_document(alloc: Global, bytes: &[u8]) -> Result<(Log, Witness), DocFault>
     // What is read is spelled so, and is within the limits.
     ensures spelled { IfOk result (λ p. Spells bytes.now p.0 p.1) }
-    ensures within { IfOk result (λ p. (length bytes.now ≤ MAX_DOCUMENT_BYTES) × IsLog p.0
+    ensures within { IfOk result (λ p. (length bytes.now ≤ 8388608) × IsLog p.0
         × IsWithinLimits p.0 p.1) }
 
     // Within the limits no other pair is spelled so.
@@ -103,9 +159,10 @@ pub fn read_document(alloc: Global, bytes: &[u8]) -> Result<(Log, Witness), DocF
 
     // What is spelled within the limits is refused only for want of memory.
     ensures refused { IfErr result (λ e. e ≢ DocFault.OutOfMemory
-        → length bytes.now ≤ MAX_DOCUMENT_BYTES → (log : List ThreadLog) → (w : Witness)
+        → length bytes.now ≤ 8388608 → (log : List ThreadLog) → (w : Witness)
         → IsLog log → IsWithinLimits log w → ¬ Spells bytes.now log w) }
     ensures too_large { IfErr result (λ e. e ≡ DocFault.TooLarge → IsTooLarge bytes.now) }
+    ensures placed { IfErr result (λ e. e ≢ DocFault.Misplaced) }
 {
     if bytes.len() > MAX_DOCUMENT_BYTES {
         return Err(DocFault::TooLarge);
@@ -117,9 +174,9 @@ pub fn read_document(alloc: Global, bytes: &[u8]) -> Result<(Log, Witness), DocF
     }
 }
 
-/// A value spells at most one log with a witness, whatever the limits.
+/// A value spells at most one log with a witness, whatever the version and the limits.
 pub fn one_pair()
-    ensures { (log : List ThreadLog) → (other : List ThreadLog) → (v : Witness)
-        → (w : Witness) → IsLog log → IsLog other → document log v ≡ document other w
+    ensures { (d : Data) → (log : List ThreadLog) → (other : List ThreadLog) → (v : Witness)
+        → (w : Witness) → IsLog log → IsLog other → IsDocument d log v → IsDocument d other w
         → (log ≡ other) × (v ≡ w) }
 {}

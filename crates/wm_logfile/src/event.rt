@@ -1,17 +1,27 @@
-//! The reader of an event.
+//! The readers of an event, which in version 2 stands with the writers of the bytes that it read.
 ghost use Rattle.std.specs.Prelude.{◌≡◌, map};
 ghost use Rattle.serde_json.specs.View.{view};
 ghost use Rattle.wm_logfile.specs.Faults.{Gives};
-ghost use Rattle.wm_logfile.specs.Reading.{event_at, fields_at, values_at, order_for, values_len, number_event_at};
+ghost use Rattle.wm_logfile.specs.Reading.{event_at, event_by_at, event_from, fields_at, fields_by_at, by_from, values_at, order_for, values_len, values_by_len, number_event_at, number_event_by_at};
 
 use crate::fault::ReadFault;
 use crate::fields::{kind_of, list_of, number_of, order_of, width_of};
 use crate::items::ItemReader;
 use crate::path::Path;
+use crate::witness::event_writers_of;
 use serde_json::Value;
 use std::alloc::Global;
 use wm_access::MemoryOrder;
-use wm_event::{Event, EventKind};
+use wm_event::{Event, EventId, EventKind};
+use wm_list::List;
+
+/// The items between the word of an event's kind and its values.
+#[derive(Clone, Copy)]
+struct EventParts<'a> {
+    order: &'a Value,
+    address: &'a Value,
+    width: &'a Value,
+}
 
 /// With how many values an event of the kind ends.
 fn value_count(kind: EventKind) -> usize
@@ -56,6 +66,34 @@ fn values_of(kind: EventKind, values: &[Value], path: &Path) -> Result<(u64, u64
     }
 }
 
+/// The event of the kind that is written so behind its word.
+fn event_of_parts(
+    kind: EventKind,
+    parts: &EventParts<'_>,
+    values: &[Value],
+    thread: u32,
+    number: u32,
+    path: &Path,
+) -> Result<Event, ReadFault>
+    ensures { Gives (λ e. e) result (event_from thread number kind (view parts.now.order.now)
+        (view parts.now.address.now) (view parts.now.width.now) (map view values.now)) }
+{
+    let order = order_for(kind, parts.order, &path.child(1))?;
+    let address = number_of(parts.address, u32::MAX as u64, &path.child(2))? as u32;
+    let width = width_of(parts.width, &path.child(3))?;
+    let (read, written) = values_of(kind, values, path)?;
+    Ok(Event {
+        thread,
+        number,
+        kind,
+        order,
+        address,
+        width,
+        read,
+        written,
+    })
+}
+
 /// The event of these fields. A length that no kind has is faulted before the kind.
 #[tactic(auto, unfolding(crate::specs::Reading::fields_at))]
 fn event_of_fields(
@@ -76,20 +114,12 @@ fn event_of_fields(
     if values.len() != value_count(kind) {
         return Err(ReadFault::Shape(path.copied()));
     }
-    let order = order_for(kind, order, &path.child(1))?;
-    let address = number_of(address, u32::MAX as u64, &path.child(2))? as u32;
-    let width = width_of(width, &path.child(3))?;
-    let (read, written) = values_of(kind, values, path)?;
-    Ok(Event {
-        thread,
-        number,
-        kind,
+    let parts = EventParts {
         order,
         address,
         width,
-        read,
-        written,
-    })
+    };
+    event_of_parts(kind, &parts, values, thread, number, path)
 }
 
 /// The event that this value spells at that place.
@@ -120,5 +150,104 @@ impl ItemReader<Event> for EventReader {
             return Err(ReadFault::Range(path.copied()));
         }
         event_of(value, self.thread, index as u32, path)
+    }
+}
+
+/// With how many values and lists of writers an event of the kind ends in version 2.
+fn value_by_count(kind: EventKind) -> usize
+    ensures { result ≡ values_by_len kind }
+{
+    match kind {
+        EventKind::Read => 2,
+        EventKind::Write => 1,
+        EventKind::Update => 3,
+    }
+}
+
+/// The writers of the bytes that an event of the kind read, by the list behind its values, which a write
+/// doesn't have.
+fn writers_by(
+    alloc: Global,
+    kind: EventKind,
+    lists: &[Value],
+    path: &Path,
+) -> Result<List<EventId>, ReadFault>
+    ensures { Gives (λ ws. ws) result (by_from kind (map view lists.now)) }
+{
+    match (kind, lists) {
+        (EventKind::Read, [by]) => event_writers_of(alloc, by, &path.child(5)),
+        (EventKind::Update, [by]) => event_writers_of(alloc, by, &path.child(6)),
+        (EventKind::Write, []) => Ok(List::new(alloc)),
+        _ => Err(ReadFault::Shape(path.copied())),
+    }
+}
+
+/// The event of these fields with the writers of the bytes that it read. A length that no kind has is faulted
+/// before the kind.
+#[tactic(auto, unfolding(crate::specs::Reading::fields_by_at))]
+fn event_by_of_fields(
+    alloc: Global,
+    fields: &[Value],
+    thread: u32,
+    number: u32,
+    path: &Path,
+) -> Result<(Event, List<EventId>), ReadFault>
+    ensures { Gives (λ p. (p.0, p.1)) result (fields_by_at thread number (map view fields.now)) }
+{
+    let [tag, order, address, width, rest @ ..] = fields else {
+        return Err(ReadFault::Shape(path.copied()));
+    };
+    if rest.is_empty() || rest.len() > 3 {
+        return Err(ReadFault::Shape(path.copied()));
+    }
+    let kind = kind_of(tag, &path.child(0))?;
+    if rest.len() != value_by_count(kind) {
+        return Err(ReadFault::Shape(path.copied()));
+    }
+    let parts = EventParts {
+        order,
+        address,
+        width,
+    };
+    let (values, lists) = rest.split_at(value_count(kind));
+    let event = event_of_parts(kind, &parts, values, thread, number, path)?;
+    let writers = writers_by(alloc, kind, lists, path)?;
+    Ok((event, writers))
+}
+
+/// The event with its writers that this value spells at that place.
+fn event_by_of(
+    alloc: Global,
+    value: &Value,
+    thread: u32,
+    number: u32,
+    path: &Path,
+) -> Result<(Event, List<EventId>), ReadFault>
+    ensures { Gives (λ p. (p.0, p.1)) result (event_by_at thread number (view value.now)) }
+{
+    let fields = list_of(value, path)?;
+    event_by_of_fields(alloc, fields, thread, number, path)
+}
+
+/// Reads an event of a thread with the writers of the bytes that it read.
+#[derive(Clone, Copy)]
+pub(crate) struct EventByReader {
+    pub(crate) thread: u32,
+}
+
+impl ItemReader<(Event, List<EventId>)> for EventByReader {
+    ghost reads = { λ r n d. number_event_by_at r.thread n d };
+
+    fn read(
+        &self,
+        alloc: Global,
+        value: &Value,
+        index: usize,
+        path: &Path,
+    ) -> Result<(Event, List<EventId>), ReadFault> {
+        if index > u32::MAX as usize {
+            return Err(ReadFault::Range(path.copied()));
+        }
+        event_by_of(alloc, value, self.thread, index as u32, path)
     }
 }

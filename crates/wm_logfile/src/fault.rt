@@ -24,7 +24,7 @@ pub enum DocFault {
     /// The value at this path is of another kind than the format wants there, is a list of another length, or
     /// is no word of the format.
     BadShape(Path),
-    /// The version is a number other than 1.
+    /// The version is a number other than 1 and 2.
     BadVersion,
     /// The number at this path is out of its range, or has a sign, a fraction or an exponent.
     NumberRange(Path),
@@ -32,6 +32,9 @@ pub enum DocFault {
     TooLarge,
     /// Memory was refused.
     OutOfMemory,
+    /// The witness doesn't fit the log: it has no list of writers for each event, or one with writers for a
+    /// write. Only [`crate::migrate`] answers it, after all faults of reading.
+    Misplaced,
 }
 
 impl fmt::Display for DocFault {
@@ -45,6 +48,7 @@ impl fmt::Display for DocFault {
             DocFault::NumberRange(path) => write!(f, "NumberRange at {path}"),
             DocFault::TooLarge => write!(f, "TooLarge"),
             DocFault::OutOfMemory => write!(f, "OutOfMemory"),
+            DocFault::Misplaced => write!(f, "Misplaced"),
         }
     }
 }

@@ -1,15 +1,15 @@
 //! The reader of a list, once for all kinds of item.
-ghost use Rattle.std.specs.Prelude.{ℕ, map, Option};
+ghost use Rattle.std.specs.Prelude.{◌≡◌, ℕ, map, IfOk, Option};
 ghost use Rattle.serde_json.specs.Data.{Data};
 ghost use Rattle.serde_json.specs.View.{view};
 ghost use Rattle.wm_logfile.specs.Faults.{Gives};
-ghost use Rattle.wm_logfile.specs.Reading.{traverse, items_at, number_at, u64_max};
+ghost use Rattle.wm_logfile.specs.Reading.{traverse, items_at, number_at, u64_max, firsts, seconds};
 
 use crate::fault::ReadFault;
 use crate::fields::{list_of, number_of};
 use crate::path::Path;
 use serde_json::Value;
-use std::alloc::Global;
+use std::alloc::{AllocError, Global};
 use wm_list::List;
 
 /// Reads one item of a list, by its index.
@@ -66,4 +66,21 @@ impl ItemReader<u64> for NumberReader {
     ) -> Result<u64, ReadFault> {
         number_of(value, u64::MAX, path)
     }
+}
+
+/// The first items of these pairs, and the second ones.
+pub(crate) fn unzipped<A: Drop, B: Drop>(
+    alloc: Global,
+    pairs: List<(A, B)>,
+) -> Result<(List<A>, List<B>), AllocError>
+    ensures first { IfOk result (λ p. p.0 ≡ firsts pairs) }
+    ensures second { IfOk result (λ p. p.1 ≡ seconds pairs) }
+{
+    let mut firsts = Vec::with_capacity(alloc, pairs.len())?;
+    let mut seconds = Vec::with_capacity(alloc, pairs.len())?;
+    for (first, second) in pairs.into_vec() {
+        firsts.push(first)?;
+        seconds.push(second)?;
+    }
+    Ok((List::from_vec(firsts), List::from_vec(seconds)))
 }

@@ -1,16 +1,20 @@
 //! The document of a log with a witness: JSON text (RFC 8259) of arrays, texts and whole numbers.
 //!
-//! - document: `["wasm-litmus-log",1,THREADS,[WRITERS,ORDER]]`
+//! - document: `["wasm-litmus-log",2,THREADS,ORDER]`
 //! - thread: `[NAME,[ARG..],END,STEPS,[EVENT..]]`
 //! - end: `["done",[V]]`, `["done",[]]`, `["trap",TRAP]` or `["cut"]`, where TRAP is `"unreachable"`,
 //!   `"divide-by-zero"`, `"overflow"`, `"out-of-bounds"`, `"unaligned"` or `"exhausted"`
-//! - event: `["r",ORD,ADDR,WIDTH,V]`, `["w",ORD,ADDR,WIDTH,V]` or `["x","sc",ADDR,WIDTH,READ,WRITTEN]`, where
-//!   ORD is `"un"` or `"sc"`
-//! - WRITERS: for each thread, each event and each byte read `[THREAD,NUMBER]`, or `[]` for Init
+//! - event: `["r",ORD,ADDR,WIDTH,V,BY]`, `["w",ORD,ADDR,WIDTH,V]` or
+//!   `["x","sc",ADDR,WIDTH,READ,WRITTEN,BY]`, where ORD is `"un"` or `"sc"`
+//! - BY: for each byte read `[THREAD,NUMBER]`, or `[]` for Init
 //! - ORDER: a list of `[THREAD,NUMBER]`
 //!
 //! ARG, V, READ and WRITTEN are at most 2^64 - 1, ADDR, THREAD and NUMBER at most 2^32 - 1, STEPS is at most
 //! 1,000,000, and WIDTH is 1, 2, 4 or 8.
+//!
+//! Version 1 is read too, and never written. It is `["wasm-litmus-log",1,THREADS,[WRITERS,ORDER]]`: its events
+//! have no BY, and WRITERS has for each thread and each event the list that BY would be, the empty one for a
+//! write.
 #![tactic(auto)]
 
 /// How many bytes a document may have.
@@ -27,13 +31,17 @@ mod event;
 mod fault;
 mod fields;
 mod items;
+mod migration;
 mod path;
+mod text;
 mod thread;
 mod witness;
 
 pub use document::{one_pair, read_document};
 pub use fault::DocFault;
+pub use migration::{migrate, write_and_read};
 pub use path::Path;
+pub use text::write_document;
 
 #[cfg(test)]
 mod tests;

@@ -1,5 +1,5 @@
-//! Documents that are read, and documents that are refused, each with its fault and path.
-use crate::{DocFault, MAX_DOCUMENT_BYTES, read_document};
+//! Documents that are read, refused with a fault and its path, written and migrated.
+use crate::{DocFault, MAX_DOCUMENT_BYTES, migrate, read_document, write_document};
 use std::alloc::{AllocError, Global};
 use std::process::Abort;
 use std::test::Fail;
@@ -151,12 +151,15 @@ fn another_version_is_refused(rt: HostRuntime) -> Result<(), Fail> {
         (r#""1""#, "BadShape at /1"),
         ("null", "BadShape at /1"),
         ("0", "BadVersion"),
+        ("3", "BadVersion"),
         ("7", "BadVersion"),
         ("-1", "BadVersion"),
         ("1.0", "BadVersion"),
         ("1.5", "BadVersion"),
         ("1e0", "BadVersion"),
+        ("2.0", "BadVersion"),
         ("1", "BadShape at /2"),
+        ("2", "BadShape at /2"),
     ];
     check(&rt, rt.alloc(), r#"["wasm-litmus-log","#, ",0,0]", &cases)?;
     Ok(())
@@ -361,5 +364,161 @@ fn a_byte_past_the_limit_is_too_large(rt: HostRuntime) -> Result<(), Fail> {
         let found = answer(rt.alloc(), bytes.as_slice())?;
         assert_eq!(rt; found.as_str(), expected, "of {len} bytes");
     }
+    Ok(())
+}
+
+/// The same as [`ENDS`], in version 2.
+const ENDS_WITH_WRITERS: &str =
+    r#"["wasm-litmus-log",2,[["f",[1,18446744073709551615],["done",[]],1000000,[["x","sc",4294967295,1,5,6,[[]]]]],["",[],["trap","divide-by-zero"],1,[["r","sc",0,2,65535,[[0,0],[4294967295,1]]]]],["g",[],["cut"],3,[]]],[[1,0],[0,0]]]"#;
+
+/// Two threads that each write an address and then read the other's, in version 2.
+const STORE_BUFFERING_WITH_WRITERS: &str =
+    r#"["wasm-litmus-log",2,[["a",[],["done",[0]],6,[["w","un",0,4,1],["r","un",4,4,0,[[],[],[],[]]]]],["b",[],["done",[0]],6,[["w","un",4,4,1],["r","un",0,4,0,[[],[],[],[]]]]]],[[0,0],[1,0],[0,1],[1,1]]]"#;
+
+/// What migrating the bytes answers: the text, or the fault's.
+fn migrated(alloc: Global, text: &str) -> Result<String, AllocError> {
+    match migrate(alloc, text.as_bytes()) {
+        Ok(text) => Ok(text),
+        Err(fault) => format!(in alloc; "{fault}"),
+    }
+}
+
+#[test]
+fn version_2_is_read(rt: HostRuntime) -> Result<(), Fail> {
+    let (log, witness) = read_document(rt.alloc(), ENDS_WITH_WRITERS.as_bytes())?;
+    let [returned, trapped, cut] = log.threads() else {
+        panic!(rt; "three threads");
+    };
+    let [update] = returned.events.as_slice() else {
+        panic!(rt; "one event");
+    };
+    assert_eq!(rt; update.read, 5);
+    assert_eq!(rt; update.written, 6);
+    assert_eq!(rt; trapped.end, End::Trap(TrapKind::DivideByZero));
+    assert_eq!(rt; cut.events.len(), 0);
+    assert_eq!(rt; witness.writers(key(0, 0)), [EventId::Init].as_slice());
+    let writers = [EventId::At(key(0, 0)), EventId::At(key(u32::MAX, 1))];
+    assert_eq!(rt; witness.writers(key(1, 0)), writers.as_slice());
+    assert_eq!(rt; witness.order.as_slice(), [key(1, 0), key(0, 0)].as_slice());
+    assert!(rt; witness.fits(&log));
+    Ok(())
+}
+
+#[test]
+fn malformed_events_of_version_2_are_refused(rt: HostRuntime) -> Result<(), Fail> {
+    let cases = [
+        (r#"["r","un",0,4,0]"#, "BadShape at /2/0/4/1"),
+        (r#"["x","sc",0,4,0,1]"#, "BadShape at /2/0/4/1"),
+        (r#"["w","un",0,4,0,[]]"#, "BadShape at /2/0/4/1"),
+        ("[0,0,0,0]", "BadShape at /2/0/4/1"),
+        ("[0,0,0,0,0,0,0,0]", "BadShape at /2/0/4/1"),
+        ("[0,0,0,0,0,0,0]", "BadShape at /2/0/4/1/0"),
+        (r#"["q",0,0,0,0,0]"#, "BadShape at /2/0/4/1/0"),
+        (r#"["r","un",0,3,-1,0]"#, "NumberRange at /2/0/4/1/3"),
+        (r#"["r","un",0,4,-1,0]"#, "NumberRange at /2/0/4/1/4"),
+        (r#"["r","un",0,4,0,0]"#, "BadShape at /2/0/4/1/5"),
+        (r#"["r","un",0,4,0,[0]]"#, "BadShape at /2/0/4/1/5/0"),
+        (r#"["r","un",0,4,0,[[],[0]]]"#, "BadShape at /2/0/4/1/5/1"),
+        (
+            r#"["r","un",0,4,0,[[0,4294967296]]]"#,
+            "NumberRange at /2/0/4/1/5/0/1",
+        ),
+        (r#"["x","sc",0,4,0,-1,0]"#, "NumberRange at /2/0/4/1/5"),
+        (r#"["x","sc",0,4,0,1,0]"#, "BadShape at /2/0/4/1/6"),
+        (
+            r#"["x","sc",0,4,0,1,[["0",0]]]"#,
+            "BadShape at /2/0/4/1/6/0/0",
+        ),
+        (r#"["r","un",0,4,0,[]]"#, "read"),
+    ];
+    check(
+        &rt,
+        rt.alloc(),
+        r#"["wasm-litmus-log",2,[["a",[],["cut"],0,[["w","un",0,4,1],"#,
+        "]]],[]]",
+        &cases,
+    )?;
+    Ok(())
+}
+
+#[test]
+fn malformed_documents_of_version_2_are_refused(rt: HostRuntime) -> Result<(), Fail> {
+    let cases = [
+        ("0,0", "BadShape at /2"),
+        ("[0],0", "BadShape at /2/0"),
+        (
+            r#"[["a",[],["cut"],1000001,[]]],0"#,
+            "NumberRange at /2/0/3",
+        ),
+        ("[],0", "BadShape at /3"),
+        ("[],[0]", "BadShape at /3/0"),
+        ("[],[[]]", "BadShape at /3/0"),
+        ("[],[[0,0],[0,4294967296]]", "NumberRange at /3/1/1"),
+        ("[],[],[]", "BadShape at /"),
+        ("[],[]", "read"),
+    ];
+    check(&rt, rt.alloc(), r#"["wasm-litmus-log",2,"#, "]", &cases)?;
+    Ok(())
+}
+
+#[test]
+fn documents_are_migrated(rt: HostRuntime) -> Result<(), Fail> {
+    let cases = [
+        (STORE_BUFFERING, STORE_BUFFERING_WITH_WRITERS),
+        (ENDS, ENDS_WITH_WRITERS),
+        (
+            r#"["wasm-litmus-log",1,[["a",[],["done",[100992003]],6,[["w","un",0,8,578437695752307201],["r","un",2,4,100992003]]]],[[[[],[[0,0],[0,0],[0,0],[0,0]]]],[[0,0],[0,1]]]]"#,
+            r#"["wasm-litmus-log",2,[["a",[],["done",[100992003]],6,[["w","un",0,8,578437695752307201],["r","un",2,4,100992003,[[0,0],[0,0],[0,0],[0,0]]]]]],[[0,0],[0,1]]]"#,
+        ),
+        (
+            r#"["wasm-litmus-log",1,[["a",[],["cut"],0,[]]],[[[]],[]]]"#,
+            r#"["wasm-litmus-log",2,[["a",[],["cut"],0,[]]],[]]"#,
+        ),
+        (
+            r#"["wasm-litmus-log",1,[["\u0001\"é",[],["cut"],0,[]]],[[[]],[]]]"#,
+            r#"["wasm-litmus-log",2,[["\u0001\"é",[],["cut"],0,[]]],[]]"#,
+        ),
+    ];
+    for (text, expected) in cases {
+        let found = migrated(rt.alloc(), text)?;
+        assert_eq!(rt; found.as_str(), expected);
+        let again = migrated(rt.alloc(), expected)?;
+        assert_eq!(rt; again.as_str(), expected);
+    }
+    Ok(())
+}
+
+#[test]
+fn a_witness_that_does_not_fit_is_misplaced(rt: HostRuntime) -> Result<(), Fail> {
+    let cases = [
+        ("[]", "Misplaced"),
+        ("[[[]]]", "Misplaced"),
+        ("[[[],[]],[]]", "Misplaced"),
+        ("[[[],[],[]]]", "Misplaced"),
+        ("[[[[]],[]]]", "Misplaced"),
+        ("[[[],[[0]]]]", "BadShape at /3/0/0/1/0"),
+        (
+            "[[[],[[]]]]",
+            r#"["wasm-litmus-log",2,[["a",[],["cut"],0,[["w","un",0,4,1],["r","un",0,4,1,[[]]]]]],[]]"#,
+        ),
+    ];
+    for (writers, expected) in cases {
+        let text = format!(in rt.alloc();
+            r#"["wasm-litmus-log",1,[["a",[],["cut"],0,[["w","un",0,4,1],["r","un",0,4,1]]]],[{writers},[]]]"#
+        )?;
+        let found = migrated(rt.alloc(), &text)?;
+        assert_eq!(rt; found.as_str(), expected, "of {text}");
+    }
+    Ok(())
+}
+
+#[test]
+fn what_is_written_is_read_again(rt: HostRuntime) -> Result<(), Fail> {
+    let (log, witness) = read_document(rt.alloc(), STORE_BUFFERING.as_bytes())?;
+    if !witness.fits(&log) {
+        panic!(rt; "the witness fits");
+    }
+    let text = write_document(rt.alloc(), &log, &witness)?;
+    assert_eq!(rt; text.as_str(), STORE_BUFFERING_WITH_WRITERS);
     Ok(())
 }

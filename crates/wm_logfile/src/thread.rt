@@ -1,20 +1,20 @@
-//! The reader of a thread's log.
-ghost use Rattle.std.specs.Prelude.{map};
+//! The readers of a thread's log.
+ghost use Rattle.std.specs.Prelude.{◌≡◌, map};
 ghost use Rattle.serde_json.specs.Find.{as_str};
 ghost use Rattle.serde_json.specs.View.{view};
 ghost use Rattle.wm_logfile.specs.Faults.{Gives};
-ghost use Rattle.wm_logfile.specs.Reading.{trap_at, result_from, end_from, end_at, start_at, thread_from, thread_at, limited_thread_at};
+ghost use Rattle.wm_logfile.specs.Reading.{trap_at, result_from, end_from, end_at, start_at, head_from, head_at, with_events, thread_at, thread_by_at, limited_thread_at, limited_thread_by_at};
 
 use crate::MAX_STEPS;
-use crate::event::EventReader;
+use crate::event::{EventByReader, EventReader};
 use crate::fault::ReadFault;
 use crate::fields::{list_of, number_of};
-use crate::items::{ItemReader, NumberReader, items_of};
+use crate::items::{ItemReader, NumberReader, items_of, unzipped};
 use crate::path::Path;
 use serde_json::Value;
 use std::alloc::Global;
-use wm_event::{End, Start, ThreadLog, TrapKind};
-use wm_list::Text;
+use wm_event::{End, Event, EventId, Start, ThreadLog, TrapKind};
+use wm_list::{List, Text};
 
 /// A name.
 fn name_of(alloc: Global, value: &Value, path: &Path) -> Result<Text, ReadFault>
@@ -101,15 +101,37 @@ fn start_of(alloc: Global, name: &Value, args: &Value, path: &Path) -> Result<St
     Ok(Start { name, args })
 }
 
-/// The log of a thread, by these fields.
-#[tactic(auto, unfolding(crate::specs::Reading::thread_from))]
-fn thread_of_fields(
+/// What stands before the events of a thread.
+#[derive(Drop)]
+struct ThreadHead {
+    start: Start,
+    end: End,
+    steps: u32,
+}
+
+impl ThreadHead {
+    /// The log of the thread with these events.
+    fn with_events(self, events: List<Event>) -> ThreadLog
+        ensures { result ≡ with_events self events }
+    {
+        let ThreadHead { start, end, steps } = self;
+        ThreadLog {
+            start,
+            end,
+            steps,
+            events,
+        }
+    }
+}
+
+/// What stands before the events of a thread, and the events, by these fields.
+#[tactic(auto, unfolding(crate::specs::Reading::head_from))]
+fn head_of_fields<'a>(
     alloc: Global,
-    fields: &[Value],
-    thread: u32,
+    fields: &'a [Value],
     path: &Path,
-) -> Result<ThreadLog, ReadFault>
-    ensures { Gives (λ l. l) result (thread_from thread (map view fields.now)) }
+) -> Result<(ThreadHead, &'a Value), ReadFault>
+    ensures { Gives (λ p. (p.0, view p.1.now)) result (head_from (map view fields.now)) }
 {
     let [name, args, end, steps, events] = fields else {
         return Err(ReadFault::Shape(path.copied()));
@@ -117,21 +139,43 @@ fn thread_of_fields(
     let start = start_of(alloc, name, args, path)?;
     let end = end_of(end, &path.child(2))?;
     let steps = number_of(steps, MAX_STEPS as u64, &path.child(3))? as u32;
-    let events = items_of(alloc, &EventReader { thread }, events, &path.child(4))?;
-    Ok(ThreadLog {
-        start,
-        end,
-        steps,
-        events,
-    })
+    Ok((ThreadHead { start, end, steps }, events))
+}
+
+/// What stands before the events of a thread, and the events.
+fn head_of<'a>(
+    alloc: Global,
+    value: &'a Value,
+    path: &Path,
+) -> Result<(ThreadHead, &'a Value), ReadFault>
+    ensures { Gives (λ p. (p.0, view p.1.now)) result (head_at (view value.now)) }
+{
+    let fields = list_of(value, path)?;
+    head_of_fields(alloc, fields, path)
 }
 
 /// The log of a thread.
 fn thread_of(alloc: Global, value: &Value, thread: u32, path: &Path) -> Result<ThreadLog, ReadFault>
     ensures { Gives (λ l. l) result (thread_at thread (view value.now)) }
 {
-    let fields = list_of(value, path)?;
-    thread_of_fields(alloc, fields, thread, path)
+    let (head, events) = head_of(alloc, value, path)?;
+    let events = items_of(alloc, &EventReader { thread }, events, &path.child(4))?;
+    Ok(head.with_events(events))
+}
+
+/// The log of a thread with the writers of its events.
+fn thread_by_of(
+    alloc: Global,
+    value: &Value,
+    thread: u32,
+    path: &Path,
+) -> Result<(ThreadLog, List<List<EventId>>), ReadFault>
+    ensures { Gives (λ p. (p.0, p.1)) result (thread_by_at thread (view value.now)) }
+{
+    let (head, events) = head_of(alloc, value, path)?;
+    let events = items_of(alloc, &EventByReader { thread }, events, &path.child(4))?;
+    let (events, writers) = unzipped(alloc, events)?;
+    Ok((head.with_events(events), writers))
 }
 
 /// Reads the log of a thread.
@@ -152,5 +196,26 @@ impl ItemReader<ThreadLog> for ThreadReader {
             return Err(ReadFault::Range(path.copied()));
         }
         thread_of(alloc, value, index as u32, path)
+    }
+}
+
+/// Reads the log of a thread with the writers of its events.
+#[derive(Clone, Copy)]
+pub(crate) struct ThreadByReader;
+
+impl ItemReader<(ThreadLog, List<List<EventId>>)> for ThreadByReader {
+    ghost reads = { λ _ n d. limited_thread_by_at n d };
+
+    fn read(
+        &self,
+        alloc: Global,
+        value: &Value,
+        index: usize,
+        path: &Path,
+    ) -> Result<(ThreadLog, List<List<EventId>>), ReadFault> {
+        if index > u32::MAX as usize {
+            return Err(ReadFault::Range(path.copied()));
+        }
+        thread_by_of(alloc, value, index as u32, path)
     }
 }

@@ -2,7 +2,7 @@
 ghost use Rattle.std.specs.Prelude.{map};
 ghost use Rattle.serde_json.specs.View.{view};
 ghost use Rattle.wm_logfile.specs.Faults.{Gives};
-ghost use Rattle.wm_logfile.specs.Reading.{key_from, key_at, writer_from, writer_at, event_writers_at, thread_writers_at, witness_from, witness_at};
+ghost use Rattle.wm_logfile.specs.Reading.{key_from, key_at, keys_at, writer_from, writer_at, event_writers_at, thread_writers_at, witness_from, witness_at};
 
 use crate::fault::ReadFault;
 use crate::fields::{list_of, number_of};
@@ -59,6 +59,17 @@ impl ItemReader<EventId> for WriterReader {
     }
 }
 
+/// The writers of the bytes of an event.
+pub(crate) fn event_writers_of(
+    alloc: Global,
+    value: &Value,
+    path: &Path,
+) -> Result<List<EventId>, ReadFault>
+    ensures { Gives (λ ws. ws) result (event_writers_at (view value.now)) }
+{
+    items_of(alloc, &WriterReader, value, path)
+}
+
 /// Reads the writers of the bytes of an event.
 #[derive(Clone, Copy)]
 struct EventWritersReader;
@@ -73,7 +84,7 @@ impl ItemReader<List<EventId>> for EventWritersReader {
         _index: usize,
         path: &Path,
     ) -> Result<List<EventId>, ReadFault> {
-        items_of(alloc, &WriterReader, value, path)
+        event_writers_of(alloc, value, path)
     }
 }
 
@@ -114,6 +125,17 @@ impl ItemReader<EventKey> for KeyReader {
     }
 }
 
+/// The names in an order.
+pub(crate) fn order_keys_of(
+    alloc: Global,
+    value: &Value,
+    path: &Path,
+) -> Result<List<EventKey>, ReadFault>
+    ensures { Gives (λ ks. ks) result (keys_at (view value.now)) }
+{
+    items_of(alloc, &KeyReader, value, path)
+}
+
 /// The witness, by these fields.
 #[tactic(auto, unfolding(crate::specs::Reading::witness_from))]
 fn witness_of_fields(alloc: Global, fields: &[Value], path: &Path) -> Result<Witness, ReadFault>
@@ -123,7 +145,7 @@ fn witness_of_fields(alloc: Global, fields: &[Value], path: &Path) -> Result<Wit
         return Err(ReadFault::Shape(path.copied()));
     };
     let writers = items_of(alloc, &ThreadWritersReader, writers, &path.child(0))?;
-    let order = items_of(alloc, &KeyReader, order, &path.child(1))?;
+    let order = order_keys_of(alloc, order, &path.child(1))?;
     Ok(Witness { writers, order })
 }
 

@@ -21,6 +21,7 @@ returns-in-Err g c =
       no_document = λ log witness d. c.in-Err.ensures.refused prints.0 d.small log witness d.is_log d.limits d.spelled;
       too_large = c.in-Err.ensures.too_large;
       no_want = prints.0;
+      placed = c.in-Err.ensures.placed;
     })
     prints.1.status_is prints.1.text_is)
     c.refused_document.ensures

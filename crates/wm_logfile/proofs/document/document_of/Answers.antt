@@ -1,13 +1,19 @@
-use Rattle.std.proofs.Common.{map, sym, ◌∙◌}
-use Rattle.std.proofs.lemmas.Result.{err_from_is_err_and}
+use Rattle.std.proofs.Common.{map}
+use Rattle.std.proofs.lemmas.Result.{IfErr-weaker}
 use Rattle.serde_json.specs.View.{view}
-use Rattle.wm_logfile.proofs.Whole.{too_many, is_log}
+use Rattle.wm_logfile.proofs.Whole.{too_many}
 use Rattle.wm_logfile.proofs.document.document_of.Goals as goal
 
-pub returns-in_err-logs-clause-too_large : goal.returns-in_err-logs-clause-too_large
-returns-in_err-logs-clause-too_large c =
-    let p = err_from_is_err_and c.from_residual-in_err-logs.result c.from_residual-in_err-logs.ensures.1 in
-    rw p.1 (λ e. too_many (view c.args.value.now) (map view c.in_ok-fields.fields.now) (view c.in_ok-threads.threads.now) (view c.in_ok-threads.witness.now) c.in_ok-fields.ensures c.in_ok-threads.ensures.given (c.in_err-logs.ensures.too_large (sym p.2 ∙ e)))
+pub returns-in-First-clause-too_large : goal.returns-in-First-clause-too_large
+returns-in-First-clause-too_large c =
+    let parts = c.in_ok-version in
+    IfErr-weaker c.pair_of_first.result _ _
+    (λ e large is. too_many (view c.args.value.now) (map view c.in_ok-fields.fields.now) parts.version (view parts.threads.now) (view parts.last.now) c.in_ok-fields.ensures parts.ensures.given (large is))
+    c.pair_of_first.ensures.too_large
 
-pub new-requires : goal.new-requires
-new-requires c = is_log (view c.in_ok-threads.threads.now) c.in_ok-logs.logs c.in_ok-logs.ensures.given
+pub returns-in-Second-clause-too_large : goal.returns-in-Second-clause-too_large
+returns-in-Second-clause-too_large c =
+    let parts = c.in_ok-version in
+    IfErr-weaker c.pair_of_second.result _ _
+    (λ e large is. too_many (view c.args.value.now) (map view c.in_ok-fields.fields.now) parts.version (view parts.threads.now) (view parts.last.now) c.in_ok-fields.ensures parts.ensures.given (large is))
+    c.pair_of_second.ensures.too_large

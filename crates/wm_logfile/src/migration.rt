@@ -1,0 +1,50 @@
+//! Documents of either version as documents of version 2, and read again.
+ghost use Rattle.std.specs.Prelude.{◌≡◌, ◌≢◌, ◌<◌, IfErr, IfOk, length, string_bytes};
+ghost use Rattle.serde_json.specs.Written.{compact_text};
+ghost use Rattle.wm_event.specs.Fitting.{FitsLog};
+ghost use Rattle.wm_logfile.specs.Document.{IsWithinLimits, document_2};
+ghost use Rattle.wm_logfile.specs.DocumentBytes.{IsNoDocument};
+ghost use Rattle.wm_logfile.specs.Migration.{IsMigrated, IsMisplaced};
+
+use crate::document::read_document;
+use crate::fault::DocFault;
+use crate::text::write_document;
+use std::alloc::Global;
+use wm_event::{Log, Witness};
+
+/// The text in version 2 of the log with the witness that the bytes spell, in version 1 or 2.
+///
+/// # Errors
+///
+/// The first fault of [`read_document`]; where there is none, `Misplaced` where the witness doesn't fit the log;
+/// `OutOfMemory` where memory was refused.
+pub fn migrate(alloc: Global, bytes: &[u8]) -> Result<String, DocFault>
+    ensures migrated { IfOk result (λ s. IsMigrated bytes.now (string_bytes s)) }
+    ensures misplaced { IfErr result (λ e. e ≡ DocFault.Misplaced → IsMisplaced bytes.now) }
+    ensures refused { IfErr result (λ e. e ≢ DocFault.OutOfMemory → e ≢ DocFault.Misplaced
+        → IsNoDocument bytes.now e) }
+{
+    let (log, witness) = read_document(alloc, bytes)?;
+    if !witness.fits(&log) {
+        return Err(DocFault::Misplaced);
+    }
+    let text = write_document(alloc, &log, &witness)?;
+    Ok(text)
+}
+
+/// Writes a log with its witness, and reads them again: the same pair, unless the text is too large or memory is
+/// refused.
+pub fn write_and_read(
+    alloc: Global,
+    log: &Log,
+    witness: &Witness,
+) -> Result<(Log, Witness), DocFault>
+    requires fits { FitsLog log.now witness.now }
+    requires limits { IsWithinLimits log.now witness.now }
+    ensures same { IfOk result (λ p. (p.0 ≡ log.now) × (p.1 ≡ witness.now)) }
+    ensures refused { IfErr result (λ e. e ≢ DocFault.OutOfMemory
+        → 8388608 < length (compact_text (document_2 log.now witness.now))) }
+{
+    let text = write_document(alloc, log, witness)?;
+    read_document(alloc, text.as_bytes())
+}
