@@ -1,4 +1,4 @@
-//! What the operators give at 32 bits, by the script of docs/OPERATOR_TABLE.md.
+//! What the operators give at 32 bits, by scripts/operator_tables.py.
 
 use crate::operator::BinaryOperator::{
     self, Add, And, DivS, DivU, Mul, Or, RemS, RemU, Rotl, Rotr, Shl, ShrS, ShrU, Sub, Xor,

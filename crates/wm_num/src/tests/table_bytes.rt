@@ -1,4 +1,4 @@
-//! What conversions and low bytes give, by the script of docs/OPERATOR_TABLE.md.
+//! What conversions and low bytes give, by scripts/operator_tables.py.
 
 use crate::operator::Width::{self, W32, W64};
 use crate::sign::Signedness::{self, Signed, Unsigned};
