@@ -1,13 +1,18 @@
 -- The text and the status of a verdict answer the bytes that it is on.
-use Rattle.std.proofs.Common.{◌≡◌, ℕ, List}
+use Rattle.std.proofs.Common.{◌≡◌, ℕ, List, refl}
 use Rattle.std.specs.Prelude.{Ok}
 use Rattle.std.specs.declared.alloc.AllocError.{AllocError}
 use Rattle.wm_check.specs.declared.verdict.Verdict.{Verdict}
 use Rattle.wm_check.specs.declared.verdict.Verdict.TheVariants.{Allowed, Refused, Broken}
 use Rattle.wm_check.specs.Verdicts.{IfAllowed, IfBroken, IfRefused, IsAllowed, IsBrokenBy, IsRefusedFor}
-use Rattle.wm_litmus.specs.Answers.{AnswersCheck}
+use Rattle.wm_logfile.specs.declared.fault.DocFault.{DocFault}
+use Rattle.wm_logfile.specs.declared.fault.DocFault.TheVariants.{NotJson, BadShape, BadVersion, NumberRange, TooLarge, OutOfMemory, Misplaced}
+use Rattle.wm_logfile.specs.DocumentBytes.{IsNoDocument}
+use Rattle.wm_logfile.specs.Migration.{IsMisplaced}
+use Rattle.wm_litmus.specs.Answers.{AnswersCheck, AnswersMigrate}
 use Rattle.wm_litmus.specs.Answers.AnswersCheck.{allowed, refused_for, broken_by}
-use Rattle.wm_litmus.specs.Lines.{verdict_status, verdict_text}
+use Rattle.wm_litmus.specs.Answers.AnswersMigrate.{misplaced, refused}
+use Rattle.wm_litmus.specs.Lines.{document_line_text, verdict_status, verdict_text}
 use Rattle.wm_litmus.specs.Prints.{ended}
 
 pub answers_check : (module_bytes document_bytes : List ℕ) (v : Verdict) (status : ℕ) (text : List ℕ)
@@ -17,3 +22,16 @@ pub answers_check : (module_bytes document_bytes : List ℕ) (v : Verdict) (stat
 answers_check mb db (Allowed certificate) status text is_allowed is_refused is_broken s l = allowed certificate is_allowed s l
 answers_check mb db (Refused refusal) status text is_allowed is_refused is_broken s l = refused_for refusal is_refused s l
 answers_check mb db (Broken breach) status text is_allowed is_refused is_broken s l = broken_by breach is_broken s l
+
+-- and those of a fault of migrating
+module _ (bytes : List ℕ) (status : ℕ) (text : List ℕ) where
+  pub answers_fault : (fault : DocFault) → (fault ≡ OutOfMemory → ⊥) → (fault ≡ Misplaced → IsMisplaced bytes)
+      → ((fault ≡ OutOfMemory → ⊥) → (fault ≡ Misplaced → ⊥) → IsNoDocument bytes fault)
+      → status ≡ 2 → text ≡ ended (document_line_text fault) → AnswersMigrate bytes status text
+  answers_fault NotJson memory place none s t = refused NotJson (none memory (λ e. absurd cc)) s t
+  answers_fault (BadShape p) memory place none s t = refused (BadShape p) (none memory (λ e. absurd cc)) s t
+  answers_fault BadVersion memory place none s t = refused BadVersion (none memory (λ e. absurd cc)) s t
+  answers_fault (NumberRange p) memory place none s t = refused (NumberRange p) (none memory (λ e. absurd cc)) s t
+  answers_fault TooLarge memory place none s t = refused TooLarge (none memory (λ e. absurd cc)) s t
+  answers_fault OutOfMemory memory place none s t = absurd (memory refl)
+  answers_fault Misplaced memory place none s t = misplaced (place refl) s t

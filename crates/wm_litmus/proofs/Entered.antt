@@ -11,7 +11,7 @@ use Rattle.clap.specs.declared.parser.matches.Found.{Found}
 use Rattle.clap.proofs.WalkLemmas.{first_value-rows}
 use Rattle.wm_litmus.specs.Commands.{Means}
 use Rattle.wm_litmus.specs.declared.command.Command.{Command}
-use Rattle.wm_litmus.specs.declared.command.Command.TheVariants.{Rules, Check}
+use Rattle.wm_litmus.specs.declared.command.Command.TheVariants.{Rules, Check, Migrate}
 
 -- the first parts of pairs
 first_parts : {X Y Z : Type 0} (f : X → Y) (g : X → Z) (o : Option X) → option_map f o ≡ option_map (λ (p : Y × Z). p.0) (option_map (λ x. (f x, g x)) o)
@@ -45,27 +45,42 @@ parts found name other rows others is also =
     let same = same_Some (name, rows) (other, others) (sym is ∙ also) in
     (ap (λ (p : Text × List Row). p.0) same, ap (λ (p : Text × List Row). p.1) same)
 
-apart : (name : Text) → codes "rules" ≡ name → codes "check" ≡ name → ⊥
-apart name e h = let first : slice_index (codes "rules") 0 ≡ slice_index (codes "check") 0 = ap (λ (t : Text). slice_index t 0) (e ∙ sym h) in absurd (omega arith)
+-- the names of the commands differ in their first letters
+letters : (name other : Text) → name ≡ other → slice_index name 0 ≡ slice_index other 0
+letters name other e = ap (λ (t : Text). slice_index t 0) e
+
+rules_check : codes "rules" ≡ codes "check" → ⊥
+rules_check e = let first = letters (codes "rules") (codes "check") e in absurd (omega arith)
+
+rules_migrate : codes "rules" ≡ codes "migrate" → ⊥
+rules_migrate e = let first = letters (codes "rules") (codes "migrate") e in absurd (omega arith)
+
+check_migrate : codes "check" ≡ codes "migrate" → ⊥
+check_migrate e = let first = letters (codes "check") (codes "migrate") e in absurd (omega arith)
 
 -- a subcommand without one of its words is no command
+missing : (rows others : List Row) (id : Text) (v : Bor Text) → rows ≡ others → first_of id others ≡ None → first_of id rows ≡ Some v.now → ⊥
+missing rows others id v same none some = let no : None ≡ Some v.now = sym none ∙ ap (first_of id) (sym same) ∙ some in cc
+
 pub no_rules : (found : Option (Text × List Row)) (rows : List Row) → found ≡ Some (codes "rules", rows) → first_of (codes "document") rows ≡ None → (command : Command) → Means found command → ⊥
-no_rules found rows is none (Rules d) means =
-    let same = parts found (codes "rules") (codes "rules") rows means.0 is means.1 in
-    let no : None ≡ Some d.now = sym none ∙ ap (first_of (codes "document")) same.1 ∙ means.2 in cc
-no_rules found rows is none (Check m d) means = apart (codes "check") (parts found (codes "rules") (codes "check") rows means.0 is means.1).0 refl
+no_rules found rows is none (Rules d) means = missing means.0 rows (codes "document") d (parts found _ _ means.0 rows means.1 is).1 none means.2
+no_rules found rows is none (Check m d) means = rules_check (parts found (codes "rules") (codes "check") rows means.0 is means.1).0
+no_rules found rows is none (Migrate d) means = rules_migrate (parts found (codes "rules") (codes "migrate") rows means.0 is means.1).0
 
 pub no_module : (found : Option (Text × List Row)) (rows : List Row) → found ≡ Some (codes "check", rows) → first_of (codes "module") rows ≡ None → (command : Command) → Means found command → ⊥
-no_module found rows is none (Rules d) means = apart (codes "rules") refl (parts found (codes "check") (codes "rules") rows means.0 is means.1).0
-no_module found rows is none (Check m d) means =
-    let same = parts found (codes "check") (codes "check") rows means.0 is means.1 in
-    let no : None ≡ Some m.now = sym none ∙ ap (first_of (codes "module")) same.1 ∙ means.2 in cc
+no_module found rows is none (Rules d) means = rules_check (parts found (codes "rules") (codes "check") means.0 rows means.1 is).0
+no_module found rows is none (Check m d) means = missing means.0 rows (codes "module") m (parts found _ _ means.0 rows means.1 is).1 none means.2
+no_module found rows is none (Migrate d) means = check_migrate (parts found (codes "check") (codes "migrate") rows means.0 is means.1).0
 
 pub no_document : (found : Option (Text × List Row)) (rows : List Row) → found ≡ Some (codes "check", rows) → first_of (codes "document") rows ≡ None → (command : Command) → Means found command → ⊥
-no_document found rows is none (Rules d) means = apart (codes "rules") refl (parts found (codes "check") (codes "rules") rows means.0 is means.1).0
-no_document found rows is none (Check m d) means =
-    let same = parts found (codes "check") (codes "check") rows means.0 is means.1 in
-    let no : None ≡ Some d.now = sym none ∙ ap (first_of (codes "document")) same.1 ∙ means.3 in cc
+no_document found rows is none (Rules d) means = rules_check (parts found (codes "rules") (codes "check") means.0 rows means.1 is).0
+no_document found rows is none (Check m d) means = missing means.0 rows (codes "document") d (parts found _ _ means.0 rows means.1 is).1 none means.3
+no_document found rows is none (Migrate d) means = check_migrate (parts found (codes "check") (codes "migrate") rows means.0 is means.1).0
+
+pub no_migrate : (found : Option (Text × List Row)) (rows : List Row) → found ≡ Some (codes "migrate", rows) → first_of (codes "document") rows ≡ None → (command : Command) → Means found command → ⊥
+no_migrate found rows is none (Rules d) means = rules_migrate (parts found (codes "rules") (codes "migrate") means.0 rows means.1 is).0
+no_migrate found rows is none (Check m d) means = check_migrate (parts found (codes "check") (codes "migrate") means.0 rows means.1 is).0
+no_migrate found rows is none (Migrate d) means = missing means.0 rows (codes "document") d (parts found _ _ means.0 rows means.1 is).1 none means.2
 
 -- a word is there as a text where one of the words is that text
 word_at : (ws : List (Bor Text)) (t : Text) (k : ℕ) → k < length ws → ((d : Bor Text) → bytes_eq (get_or ws k d).now t ≡ true) → get_or (map (λ (w : Bor Text). w.now) ws) k t ≡ t

@@ -1,5 +1,5 @@
 -- What clap's model says of some words.
-use Rattle.std.proofs.Common.{◌≡◌, List, [], ◌∷◌, Option, Some, option_map, codes, refl}
+use Rattle.std.proofs.Common.{◌≡◌, List, [], ◌∷◌, Option, None, Some, option_map, codes, refl}
 use Rattle.clap.specs.Words.{Row, Text, fault_of, first_of, subcommand_of}
 use Rattle.clap.proofs.OnLiterals.{clap_on_literals}
 use Rattle.wm_litmus.specs.Commands.{IsNoCommand, wmlab_app}
@@ -23,6 +23,14 @@ rules_is_taken : fault_of wmlab_app (codes "rules" ∷ codes "-" ∷ []) ≡ []
 unfolding clap_on_literals
 rules_is_taken = refl
 
+migrate_is_taken : fault_of wmlab_app (codes "migrate" ∷ codes "-" ∷ []) ≡ []
+unfolding clap_on_literals
+migrate_is_taken = refl
+
+migrate_is_read : read (codes "migrate" ∷ codes "-" ∷ []) ≡ Some (codes "migrate", None, Some (codes "-"))
+unfolding clap_on_literals read
+migrate_is_read = refl
+
 no_word_at_all : IsNoCommand []
 unfolding clap_on_literals
 no_word_at_all command is = let none = is.taken in cc
@@ -34,6 +42,10 @@ a_word_is_missing command is = let none = is.taken in cc
 a_word_is_too_many : IsNoCommand (codes "rules" ∷ codes "-" ∷ codes "-" ∷ [])
 unfolding clap_on_literals
 a_word_is_too_many command is = let none = is.taken in cc
+
+one_document_is_migrated : IsNoCommand (codes "migrate" ∷ codes "-" ∷ codes "-" ∷ [])
+unfolding clap_on_literals
+one_document_is_migrated command is = let none = is.taken in cc
 
 an_option_is_no_name : IsNoCommand (codes "rules" ∷ codes "-x" ∷ [])
 unfolding clap_on_literals

@@ -17,9 +17,11 @@ use Rattle.wm_event.specs.First.{IsFirst}
 use Rattle.wm_event.specs.LoggedRun.{LoggedRun, execution}
 use Rattle.wm_event.specs.Shape.{IsWellShaped, Misshapes, shape_rank}
 use Rattle.wm_logfile.specs.declared.fault.DocFault.{DocFault}
+use Rattle.wm_logfile.specs.declared.fault.DocFault.TheVariants.{Misplaced}
 use Rattle.wm_logfile.specs.DocumentBytes.{IsDocumentOf, IsNoDocument}
+use Rattle.wm_logfile.specs.Migration.{IsMigrated, IsMisplaced}
 use Rattle.clap.specs.Words.{Text}
-use Rattle.wm_litmus.specs.declared.command.Command.TheVariants.{Rules, Check}
+use Rattle.wm_litmus.specs.declared.command.Command.TheVariants.{Rules, Check, Migrate}
 use Rattle.wm_litmus.specs.Commands.{IsCommand, IsNoCommand}
 use Rattle.wm_litmus.specs.Input.{IsDocumentRead, IsReadOf}
 use Rattle.wm_litmus.specs.Output.{AppendsFront}
@@ -60,6 +62,17 @@ pub data AnswersCheck (module_bytes document_bytes : List ℕ) (status : ℕ) (t
   broken_by : (breach : Breach) → IsBrokenBy module_bytes document_bytes breach
       → status ≡ 1 → text ≡ ended (verdict_text (verdict.Broken breach)) → AnswersCheck module_bytes document_bytes status text
 
+-- ---- the command `migrate`
+
+-- the status and the text that answer a document: its text in version 2
+pub data AnswersMigrate (bytes : List ℕ) (status : ℕ) (text : List ℕ) : Type 0 where
+  migrated : (line : List ℕ) → IsMigrated bytes line
+      → status ≡ 0 → text ≡ ended line → AnswersMigrate bytes status text
+  misplaced : IsMisplaced bytes
+      → status ≡ 2 → text ≡ ended (document_line_text Misplaced) → AnswersMigrate bytes status text
+  refused : (fault : DocFault) → IsNoDocument bytes fault
+      → status ≡ 2 → text ≡ ended (document_line_text fault) → AnswersMigrate bytes status text
+
 -- ---- the program
 
 -- what the program is given: the words, and what the files and the input hold, where that is known
@@ -81,6 +94,9 @@ pub data IsAnswer (given : Given) (status : ℕ) (text : List ℕ) : Type 0 wher
       → IsReadOf (given.files file.now) 1048576 module_bytes
       → IsDocumentRead given.files given.input 8388608 document.now bytes
       → AnswersCheck module_bytes bytes status text → IsAnswer given status text
+  migrate_of : (document : Bor Text) (bytes : List ℕ) → IsCommand given.words (Migrate document)
+      → IsDocumentRead given.files given.input 8388608 document.now bytes
+      → AnswersMigrate bytes status text → IsAnswer given status text
 
 -- the writer gains what an answer of this status prints
 pub record WritesAnswer (given : Given) (old new : Option (List ℕ)) (status : ℕ) : Type 0 where

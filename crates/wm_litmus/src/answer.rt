@@ -39,7 +39,7 @@ fn verdict_status_of(verdict: &Verdict) -> u8
 
 impl Answer {
     /// The answer of one line, which is given without its newline.
-    fn of_line(status: u8, line: String) -> Result<Answer, AllocError>
+    pub fn of_line(status: u8, line: String) -> Result<Answer, AllocError>
         ensures { IfOk result (Prints status (string_bytes line)) }
     {
         let mut text = line;

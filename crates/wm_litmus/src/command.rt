@@ -16,6 +16,8 @@ pub enum Command<'a> {
     Rules { document: &'a str },
     /// Checks the run of a document against a module.
     Check { module: &'a str, document: &'a str },
+    /// Prints a document in version 2.
+    Migrate { document: &'a str },
 }
 
 /// Why the words are no command.
@@ -60,6 +62,7 @@ fn parser<'a>(alloc: Global) -> Result<Parser<'a>, AllocError>
     let check = Parser::new(alloc, "check")
         .arg(word(alloc, "module"))?
         .arg(word(alloc, "document"))?;
+    let migrate = Parser::new(alloc, "migrate").arg(word(alloc, "document"))?;
     Parser::new(alloc, "wmlab")
         .disable_help_flag(true)
         .disable_version_flag(true)
@@ -67,7 +70,8 @@ fn parser<'a>(alloc: Global) -> Result<Parser<'a>, AllocError>
         .disable_help_subcommand(true)
         .subcommand_required(true)
         .subcommand(rules)?
-        .subcommand(check)
+        .subcommand(check)?
+        .subcommand(migrate)
 }
 
 /// The command that was named, with its words.
@@ -85,6 +89,10 @@ fn named<'a>(matches: &ArgMatches<'a>) -> Option<Command<'a>>
             let module = words.get_str("module")?;
             let document = words.get_str("document")?;
             Some(Command::Check { module, document })
+        }
+        "migrate" => {
+            let document = words.get_str("document")?;
+            Some(Command::Migrate { document })
         }
         _ => None,
     }

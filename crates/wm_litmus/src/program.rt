@@ -10,6 +10,7 @@ use crate::check::check_answer;
 use crate::command::{Command, CommandFault, read_command};
 use crate::files::{FileFault, Files};
 use crate::input::read_limited;
+use crate::migration::migrate_answer;
 use crate::output::write_text;
 use crate::rules::rules_answer;
 use std::alloc::{AllocError, Global};
@@ -119,6 +120,10 @@ fn answer_of<'a, R: AllocGlobal + Threads + Sync, F: Files, I: Read>(
             let document_bytes = read_document_bytes(rt, files, input, document)?;
             Ok(check_answer(rt, module_bytes.as_slice(), document_bytes.as_slice())?)
         }
+        Ok(Command::Migrate { document }) => {
+            let bytes = read_document_bytes(rt, files, input, document)?;
+            Ok(migrate_answer(rt.alloc(), bytes.as_slice())?)
+        }
         Err(CommandFault::Words) => Ok(Answer::refused_words(rt.alloc())?),
         Err(CommandFault::OutOfMemory) => Err(Failure::OutOfMemory),
     }
@@ -128,7 +133,8 @@ fn answer_of<'a, R: AllocGlobal + Threads + Sync, F: Files, I: Read>(
 ///
 /// `rules DOC` reads the document of that name among `files`, or `input` for `-`, and judges it over 16 pages of
 /// zeros; it ignores starts, ends and steps. `check MODULE DOC` reads the module of that name among `files`, and
-/// then the document, and checks its run against the module and the memory rules.
+/// then the document, and checks its run against the module and the memory rules. `migrate DOC` reads a document
+/// and prints it in version 2.
 ///
 /// Each file is read to its limit and one byte more, in at most that many reads, and any failed read ends
 /// the program. The clauses speak of the words, by clap's model of the parse, of what `files` and `input` hold, where

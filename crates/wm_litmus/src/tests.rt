@@ -4,6 +4,7 @@ mod check;
 mod closure;
 mod documents;
 mod fakes;
+mod migration;
 mod modules;
 mod numeric_instructions;
 mod other_instructions;
@@ -76,12 +77,15 @@ fn events_are_limited(rt: HostRuntime) -> Result<(), Fail> {
 
 #[test]
 fn words_are_refused(rt: HostRuntime) {
-    let refused: [&[&str]; 26] = [
+    let refused: [&[&str]; 29] = [
         &[],
         &["rules"],
         &["rules", "-", "-"],
         &["rules", "log.json", "log.json"],
         &["judge", "-"],
+        &["migrate"],
+        &["migrate", "-", "-"],
+        &["migrate", "-x"],
         &["check"],
         &["check", "log.json"],
         &["check", "log.json", "-", "-"],

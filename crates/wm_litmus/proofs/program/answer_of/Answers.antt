@@ -1,7 +1,7 @@
 use Rattle.std.proofs.Common.{◌≡◌, ℕ, List, Option, subst, string_bytes}
 use Rattle.wm_litmus.specs.Input.{IsReadOf}
-use Rattle.wm_litmus.specs.Answers.{AnswersCheck, AnswersRules}
-use Rattle.wm_litmus.specs.Answers.IsAnswer.{check_of, rules_of}
+use Rattle.wm_litmus.specs.Answers.{AnswersCheck, AnswersMigrate, AnswersRules}
+use Rattle.wm_litmus.specs.Answers.IsAnswer.{check_of, migrate_of, rules_of}
 use Rattle.wm_litmus.proofs.program.answer_of.Goals as goal
 
 pub returns-in_ok-rules_answer-in-Ok-Rules-clause-answers : goal.returns-in_ok-rules_answer-in-Ok-Rules-clause-answers
@@ -29,3 +29,12 @@ returns-in_ok-check_answer-in-Ok-Check-clause-answers g c =
     (subst (λ bytes. AnswersCheck modules.items bytes answer.status (string_bytes answer.text)) of_document
     (subst (λ bytes. AnswersCheck bytes c.as_slice-in-Ok-Check-2.result.now answer.status (string_bytes answer.text)) of_module
     c.in_ok-check_answer-in-Ok-Check.ensures))
+
+pub returns-in_ok-migrate_answer-in-Ok-Migrate-clause-answers :
+    goal.returns-in_ok-migrate_answer-in-Ok-Migrate-clause-answers
+returns-in_ok-migrate_answer-in-Ok-Migrate-clause-answers g c =
+    let answer = c.in_ok-migrate_answer-in-Ok-Migrate.field-0 in
+    let read = c.in_ok-bytes-in-Ok-Migrate in
+    let slice : c.as_slice-in-Ok-Migrate.result.now ≡ read.bytes.items = c.as_slice-in-Ok-Migrate.ensures.value in
+    migrate_of c.in-Ok-Migrate.document read.bytes.items (rw c.in-Ok-Migrate.field-0-is at c.in-Ok-Migrate.ensures.read) read.ensures.known
+    (subst (λ bytes. AnswersMigrate bytes answer.status (string_bytes answer.text)) slice c.in_ok-migrate_answer-in-Ok-Migrate.ensures)
