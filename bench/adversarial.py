@@ -1,10 +1,15 @@
 """Writes logs that are hard for the scans of the memory rules into a folder: adversarial.py FOLDER [EVENTS..]
 
-Each is valid, so that every rule is judged to its end. In `old` a thread reads again and again the first of another's many writes.
-In `bytes` eight threads wrote one byte each of what is read, and a ninth writes it many times. In `own` the reader itself wrote many
-times before. In `widths` writes of 1, 2, 4 and 8 bytes overlap. In `plain_past` a reader is past many plain writes of its own before it
-synchronizes with the writer. `late` has atomic reads of a first write past many plain ones. `one_thread` and `sixteen` have that many
-threads on one address, and in `atomic` all of two threads' accesses are atomic on one.
+Each is valid, so that every rule is judged to its end.
+  old          a thread reads again and again the first of another's many writes
+  bytes        eight threads wrote one byte each of what is read, and a ninth writes all of it many times
+  own          the reader itself wrote many times behind the writers
+  widths       writes of 1, 2, 4 and 8 bytes overlap
+  plain_past   a reader's own many plain writes stand before it synchronizes with the writers
+  atomic_past  another thread's many atomic writes do
+  late         atomic reads of a first write, past many plain ones
+  one_thread, sixteen  so many threads on one address
+  atomic       two threads, all of whose accesses are atomic on one address
 """
 import json, os, random, sys
 
@@ -67,10 +72,10 @@ def bytes_of_eight(n):
 
 def own(n):
     run = Run(9)
-    for value in range(n // 2):
-        run.write(8, "un", 0, 8, value)
     others = [run.write(byte, "un", byte, 1, byte) for byte in range(8)]
-    for _ in range(n - n // 2 - 8):
+    for value in range(n // 2 - 8):
+        run.write(8, "un", 0, 8, value)
+    for _ in range(n - n // 2):
         run.read(8, "un", 0, 8, others)
     return run
 
@@ -108,6 +113,18 @@ def late(n):
     return run
 
 
+def atomic_past(n):
+    run = Run(10)
+    firsts = [run.write(byte, "sc", byte, 1, byte) for byte in range(8)]
+    for value in range(n // 2 - 16):
+        run.write(8, "sc", 0, 8, value)
+    for byte in range(8):
+        run.read(9, "sc", byte, 1, [firsts[byte]])
+    for _ in range(n - n // 2):
+        run.read(9, "sc", 0, 8, firsts)
+    return run
+
+
 def mixed(n, threads, order):
     run, r, memory = Run(threads), random.Random(3), [[]] * 8
     for index in range(n):
@@ -126,6 +143,7 @@ LOGS = {
     "widths": widths,
     "plain_past": plain_past,
     "late": late,
+    "atomic_past": atomic_past,
     "one_thread": lambda n: mixed(n, 1, "un"),
     "sixteen": lambda n: mixed(n, 16, "un"),
     "atomic": lambda n: mixed(n, 2, "sc"),

@@ -46,25 +46,6 @@ fn column(alloc: Global, graph: &[List<usize>], first: usize) -> Result<List<u64
     Ok(List::from_vec(column))
 }
 
-/// Whether each of these nodes stands before this one.
-fn are_below(sources: &[usize], node: usize) -> bool
-    ensures { IsTrue result ↔ All (λ p. p < node) sources.now }
-{
-    sources.iter().all(|source| *source < node)
-}
-
-/// Whether each node's sources stand before it.
-pub fn is_ordered(graph: &[List<usize>]) -> bool
-    ensures { IsTrue result → IsOrdered graph.now }
-{
-    for (node, sources) in graph.iter().enumerate() {
-        if !are_below(sources.as_slice(), node) {
-            return false;
-        }
-    }
-    true
-}
-
 /// All columns, worked in parallel.
 fn columns(
     rt: &(impl Threads + Sync),
@@ -87,7 +68,7 @@ fn columns(
         .collect::<Result<Vec<List<u64>>, AllocError>>(rt, alloc)?
 }
 
-/// What reaches what.
+/// What reaches what in a graph. It reads as the graph: for each node its sources.
 #[derive(Drop)]
 pub struct Closure {
     graph: Vec<List<usize>>,
@@ -106,6 +87,8 @@ impl Model for Closure {
 }
 
 impl Closure {
+    /// The closure of a graph whose nodes stand behind their sources. A column has a bit for each of 64 nodes, and the columns
+    /// are worked in parallel. An error comes only where memory was refused.
     pub fn of(
         rt: &(impl Threads + Sync),
         alloc: Global,
@@ -118,7 +101,7 @@ impl Closure {
         Ok(Closure { graph, columns })
     }
 
-    /// Whether there is a chain from one node to the other.
+    /// Whether there is a chain of edges from one node to the other; false for numbers that are no nodes.
     pub fn reaches(&self, from: usize, to: usize) -> bool
         ensures { IsTrue result ↔ Reaches self.now from to }
     {

@@ -14,7 +14,7 @@ use std::thread::Threads;
 use wm_closure::Closure;
 use wm_event::{Candidate, EventId, EventKey};
 
-/// What happens before what.
+/// What happens before what in a candidate whose order agrees with it.
 #[derive(Drop)]
 pub struct HappensBefore<'c, 'i> {
     candidate: &'c Candidate<'i>,
@@ -33,7 +33,7 @@ impl<'c, 'i> Model for HappensBefore<'c, 'i> {
 }
 
 impl<'c, 'i> HappensBefore<'c, 'i> {
-    /// The closure of the steps, worked in parallel.
+    /// Happens-before of an ordered candidate, worked in parallel. An error comes only where memory was refused.
     pub fn of(
         rt: &(impl Threads + Sync),
         alloc: Global,
@@ -56,7 +56,7 @@ impl<'c, 'i> HappensBefore<'c, 'i> {
         self.candidate
     }
 
-    /// Whether the event at one place of the order happens before the event at another.
+    /// Whether the event at one place of the order happens before the event at another, without a look-up.
     pub fn before_at(&self, from: usize, to: usize) -> bool
         ensures { (a b : EventKey) → slice_get self.now.witness.order from ≡ Some a → slice_get self.now.witness.order to ≡ Some b
             → IsTrue result ↔ IsBefore (execution self.now) (At a) (At b) }
@@ -81,7 +81,9 @@ impl<'c, 'i> HappensBefore<'c, 'i> {
         self.closure.reaches(start, end)
     }
 
-    /// Whether one event happens before the other, false for an id that isn't there.
+    /// Whether one event happens before another: whether a finite chain of edges leads from one to the other, where an edge
+    /// is Init to each event, an event to a later one of its thread, or an atomic write to an atomic read of equal range that
+    /// reads a byte from it. False for an id that isn't there.
     pub fn before(&self, from: EventId, to: EventId) -> bool
         ensures { IsTrue result ↔ IsBefore (execution self.now) from to }
     {
