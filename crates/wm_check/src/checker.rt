@@ -10,6 +10,7 @@ ghost use Rattle.wm_check.specs.declared.checker.Unread.TheVariants.{OutOfMemory
 
 use crate::verdict::{Breach, Certificate, Refusal, Verdict};
 use std::alloc::{AllocError, Global};
+use std::thread::Threads;
 use wm_decode::{DecodeFault, decode};
 use wm_event::{Candidate, Judgement, Log, ShapeFault, ThreadLog, Witness};
 use wm_logfile::{DocFault, read_document};
@@ -67,7 +68,7 @@ fn count_events(threads: &[ThreadLog]) -> usize
 }
 
 /// The verdict on a candidate.
-fn compare<R: AllocGlobal>(
+fn compare<R: AllocGlobal + Threads + Sync>(
     rt: &R,
     module: &ValidModule,
     candidate: &Candidate,
@@ -91,7 +92,7 @@ fn compare<R: AllocGlobal>(
 }
 
 /// The verdict on a log with a witness over the initial memory of a module.
-fn compare_log<R: AllocGlobal>(
+fn compare_log<R: AllocGlobal + Threads + Sync>(
     rt: &R,
     module: &ValidModule,
     log: Log,
@@ -107,7 +108,7 @@ fn compare_log<R: AllocGlobal>(
 }
 
 /// The verdict on the bytes, where both can be read.
-fn verdict_of<R: AllocGlobal>(
+fn verdict_of<R: AllocGlobal + Threads + Sync>(
     rt: &R,
     module_bytes: &[u8],
     document_bytes: &[u8],
@@ -136,7 +137,7 @@ fn verdict_of<R: AllocGlobal>(
 /// # Errors
 ///
 /// Only where memory was refused.
-pub fn check<R: AllocGlobal>(
+pub fn check<R: AllocGlobal + Threads + Sync>(
     rt: &R,
     module_bytes: &[u8],
     document_bytes: &[u8],

@@ -1,16 +1,16 @@
 //! The limits of a module.
 
 /// The most bytes of a module.
-pub const MODULE_BYTES: usize = 1_048_576;
+pub const MAX_MODULE_BYTES: usize = 1_048_576;
 
 /// The most initial pages of a memory, each of 65,536 bytes.
-pub const PAGES: u32 = 16;
+pub const MAX_INITIAL_PAGES: u32 = 16;
 
 /// The most functions of a module.
-pub const FUNCTIONS: u32 = 1_000;
+pub const MAX_FUNCTIONS: u32 = 1_000;
 
 /// The most parameters and locals of a function.
-pub const LOCALS: usize = 1_000;
+pub const MAX_LOCALS: usize = 1_000;
 
 /// The most blocks in one another in a function's body, which isn't counted itself.
-pub const NESTING: u32 = 64;
+pub const MAX_NESTING: u32 = 64;

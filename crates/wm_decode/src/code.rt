@@ -8,7 +8,7 @@ ghost use Rattle.wm_decode.specs.ReadingVectors.{byte_vector_at, sized_at, more_
 ghost use Rattle.wm_decode.specs.ReadingParts.{local_entry_at, local_step, locals_at, function_at, body_at, more_functions_at, code_at};
 
 use crate::body::blocks;
-use crate::bounds::{LOCALS, NESTING};
+use crate::bounds::{MAX_LOCALS, MAX_NESTING};
 use crate::fault::{FaultKind, ItemFault, Limit};
 use crate::number::unsigned_32;
 use crate::section::Content;
@@ -71,7 +71,7 @@ fn function(
 {
     let (entries, rest) = unsigned_32(bytes)?;
     let (locals, rest) = more_locals(alloc, most, entries, rest)?;
-    let (blocks, rest) = blocks(alloc, NESTING, rest)?;
+    let (blocks, rest) = blocks(alloc, MAX_NESTING, rest)?;
     let function = Func {
         type_index,
         locals,
@@ -115,10 +115,10 @@ fn sized_function<'a>(
 {
     let (inner, after) = own_bytes(bytes)?;
     let parameters = parameters(types, type_index);
-    if LOCALS < parameters {
+    if MAX_LOCALS < parameters {
         return Err(ItemFault::At(FaultKind::Limit(Limit::Locals), bytes.len()));
     }
-    let (function, left) = match function(alloc, LOCALS - parameters, type_index, inner) {
+    let (function, left) = match function(alloc, MAX_LOCALS - parameters, type_index, inner) {
         Ok(found) => found,
         Err(fault) => return Err(fault.inside(after.len())),
     };

@@ -7,7 +7,7 @@ ghost use Rattle.wm_decode.specs.Answers.{Answers, IsNoLimit, stop_of};
 ghost use Rattle.wm_decode.specs.ReadingVectors.{u32_at, vector_at, more_at};
 ghost use Rattle.wm_decode.specs.ReadingParts.{func_type_at, import_at, imports_at, memories_at, indices_at, no_items_at, initial_at, mutability_at, global_at, export_kind_at, export_entry_at, exports_at, export_step, byte_at, segment_at, segments_at, agrees};
 
-use crate::bounds::FUNCTIONS;
+use crate::bounds::MAX_FUNCTIONS;
 use crate::fault::{FaultKind, Feature, ItemFault, Limit};
 use crate::number::{signed_32, signed_64, unsigned_32};
 use crate::section::Content;
@@ -123,7 +123,7 @@ impl Content for TypeIndices {
     #[tactic(auto, unfolding(crate::specs::ReadingParts::indices_at))]
     fn read<'a>(&self, alloc: Global, bytes: &'a [u8]) -> Result<(List<u32>, &'a [u8]), ItemFault> {
         let (count, rest) = unsigned_32(bytes)?;
-        if count > FUNCTIONS {
+        if count > MAX_FUNCTIONS {
             return Err(ItemFault::At(FaultKind::Limit(Limit::Functions), bytes.len()));
         }
         items(alloc, count, rest)

@@ -14,7 +14,7 @@ mod text;
 mod types;
 mod vectors;
 
-pub use bounds::MODULE_BYTES;
+pub use bounds::MAX_MODULE_BYTES;
 pub use fault::{DecodeFault, FaultKind, Feature, Limit};
 pub use module::{decode, spelled_once};
 

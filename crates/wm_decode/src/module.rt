@@ -8,7 +8,7 @@ ghost use Rattle.wm_decode.specs.Answers.{Answers, Decodes, IsUnlessMemory, Refu
 ghost use Rattle.wm_decode.specs.Module.{items_of, memory_of, SpellsWithin, IsPast, spells};
 ghost use Rattle.wm_decode.specs.ReadingModule.{header_at, front_at, declared_at, module_at, whole_at};
 
-use crate::bounds::MODULE_BYTES;
+use crate::bounds::MAX_MODULE_BYTES;
 use crate::code::Code;
 use crate::contents::{
     DataCount, ExportNames, Globals, Imports, Memories, NoItems, Segments, TypeIndices, Types,
@@ -206,8 +206,8 @@ pub(crate) fn read_module(alloc: Global, bytes: &[u8]) -> Result<Module, ItemFau
 fn decode_whole(alloc: Global, bytes: &[u8]) -> Result<Module, DecodeFault>
     ensures { Decodes result (whole_at bytes.now) }
 {
-    if bytes.len() > MODULE_BYTES {
-        return Err(DecodeFault::At(FaultKind::Limit(Limit::ModuleBytes), MODULE_BYTES));
+    if bytes.len() > MAX_MODULE_BYTES {
+        return Err(DecodeFault::At(FaultKind::Limit(Limit::ModuleBytes), MAX_MODULE_BYTES));
     }
     match read_module(alloc, bytes) {
         Ok(module) => Ok(module),

@@ -6,7 +6,7 @@ ghost use Rattle.wm_decode.specs.Answers.{Answers, stop_of};
 ghost use Rattle.wm_decode.specs.ReadingInstructions.{value_type_at};
 ghost use Rattle.wm_decode.specs.ReadingParts.{func_type_at, result_at, limits_at};
 
-use crate::bounds::PAGES;
+use crate::bounds::MAX_INITIAL_PAGES;
 use crate::fault::{FaultKind, Feature, ItemFault, Limit};
 use crate::number::unsigned_32;
 use crate::vectors::{Item, vector};
@@ -86,7 +86,7 @@ pub(crate) fn limits(bytes: &[u8]) -> Result<(Limits, &[u8]), ItemFault>
         [_, ..] => return Err(ItemFault::At(FaultKind::BadNumber, bytes.len())),
     };
     let (minimum, after) = unsigned_32(rest)?;
-    if minimum > PAGES {
+    if minimum > MAX_INITIAL_PAGES {
         return Err(ItemFault::At(FaultKind::Limit(Limit::Pages), rest.len()));
     }
     let (maximum, after) = unsigned_32(after)?;

@@ -1,7 +1,7 @@
 //! Events, logs with their witnesses, candidates, and what it means that a run is allowed.
 #![tactic(auto)]
 
-/// How many events a log may have.
+/// How many events a log may have: 16,384.
 pub const MAX_EVENTS: usize = 16_384;
 
 mod candidate;
@@ -15,6 +15,7 @@ mod rule;
 mod shape;
 mod shape_fault;
 mod witness;
+mod writes;
 
 pub use candidate::Candidate;
 pub use event::{Event, EventId, EventKey, EventKind, Range, byte_of};
@@ -24,3 +25,4 @@ pub use op::{Op, OpFields, OpKind, Reply, updated};
 pub use rule::{Judgement, Rule, RuleFault};
 pub use shape_fault::ShapeFault;
 pub use witness::Witness;
+pub use writes::ByteWrite;

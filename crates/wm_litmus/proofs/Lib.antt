@@ -1,3 +1,4 @@
 pub mod Answering
 pub mod Entered
 pub mod Words
+pub mod Writing

@@ -1,8 +1,8 @@
 -- What clap's model says of some words.
-use Rattle.std.proofs.Common.{◌≡◌, List, [], ◌∷◌, Option, Some, option_map, codes, true, false, refl}
-use Rattle.clap.specs.Words.{Row, Text, first_of, subcommand_of, takes}
+use Rattle.std.proofs.Common.{◌≡◌, List, [], ◌∷◌, Option, Some, option_map, codes, refl}
+use Rattle.clap.specs.Words.{Row, Text, fault_of, first_of, subcommand_of}
 use Rattle.clap.proofs.OnLiterals.{clap_on_literals}
-use Rattle.wm_litmus.specs.Commands.{wmlab_app}
+use Rattle.wm_litmus.specs.Commands.{IsNoCommand, wmlab_app}
 
 -- the name of the command, and the values of its words
 read : List Text → Option (Text × Option Text × Option Text)
@@ -11,7 +11,7 @@ read words = option_map (λ (p : Text × List Row). (p.0, first_of (codes "modul
 check : List Text
 check = codes "check" ∷ codes "a.wasm" ∷ codes "-" ∷ []
 
-check_is_taken : takes wmlab_app check ≡ true
+check_is_taken : fault_of wmlab_app check ≡ []
 unfolding clap_on_literals check
 check_is_taken = refl
 
@@ -19,22 +19,30 @@ check_is_read : read check ≡ Some (codes "check", Some (codes "a.wasm"), Some 
 unfolding clap_on_literals read check
 check_is_read = refl
 
-rules_is_taken : takes wmlab_app (codes "rules" ∷ codes "-" ∷ []) ≡ true
+rules_is_taken : fault_of wmlab_app (codes "rules" ∷ codes "-" ∷ []) ≡ []
 unfolding clap_on_literals
 rules_is_taken = refl
 
-a_word_is_missing : takes wmlab_app (codes "check" ∷ codes "a.wasm" ∷ []) ≡ false
+no_word_at_all : IsNoCommand []
 unfolding clap_on_literals
-a_word_is_missing = refl
+no_word_at_all command is = let none = is.taken in cc
 
-a_word_is_too_many : takes wmlab_app (codes "rules" ∷ codes "-" ∷ codes "-" ∷ []) ≡ false
+a_word_is_missing : IsNoCommand (codes "check" ∷ codes "a.wasm" ∷ [])
 unfolding clap_on_literals
-a_word_is_too_many = refl
+a_word_is_missing command is = let none = is.taken in cc
 
-there_is_no_help : takes wmlab_app (codes "rules" ∷ codes "--help" ∷ []) ≡ false
+a_word_is_too_many : IsNoCommand (codes "rules" ∷ codes "-" ∷ codes "-" ∷ [])
 unfolding clap_on_literals
-there_is_no_help = refl
+a_word_is_too_many command is = let none = is.taken in cc
 
-there_is_no_other_command : takes wmlab_app (codes "judge" ∷ codes "-" ∷ []) ≡ false
+an_option_is_no_name : IsNoCommand (codes "rules" ∷ codes "-x" ∷ [])
 unfolding clap_on_literals
-there_is_no_other_command = refl
+an_option_is_no_name command is = let none = is.taken in cc
+
+there_is_no_help : IsNoCommand (codes "rules" ∷ codes "--help" ∷ [])
+unfolding clap_on_literals
+there_is_no_help command is = let none = is.taken in cc
+
+there_is_no_other_command : IsNoCommand (codes "judge" ∷ codes "-" ∷ [])
+unfolding clap_on_literals
+there_is_no_other_command command is = let none = is.taken in cc

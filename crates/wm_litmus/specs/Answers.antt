@@ -1,5 +1,5 @@
--- What the program answers: its line, and the exit status.
-use Rattle.std.specs.Prelude.{◌≡◌, ℕ, ◌*◌, List, [], ◌∷◌, ◌++◌, Option, replicate}
+-- What the program answers: what it prints, and the exit status.
+use Rattle.std.specs.Prelude.{◌≡◌, ℕ, ◌*◌, List, Option, replicate}
 use Rattle.std.specs.Borrow.{Bor}
 use Rattle.std.specs.Io.KnownBytes.{Appends}
 use Rattle.wm_check.specs.declared.verdict.Breach.{Breach}
@@ -16,15 +16,14 @@ use Rattle.wm_event.specs.Faults.{Judges}
 use Rattle.wm_event.specs.First.{IsFirst}
 use Rattle.wm_event.specs.LoggedRun.{LoggedRun, execution}
 use Rattle.wm_event.specs.Shape.{IsWellShaped, Misshapes, shape_rank}
-use Rattle.wm_decode.specs.declared.bounds.TheConstants.{MODULE_BYTES}
-use Rattle.wm_logfile.specs.declared.TheConstants.{MAX_DOCUMENT_BYTES}
 use Rattle.wm_logfile.specs.declared.fault.DocFault.{DocFault}
 use Rattle.wm_logfile.specs.DocumentBytes.{IsDocumentOf, IsNoDocument}
-use Rattle.wm_litmus.specs.declared.TheConstants.{INITIAL_PAGES}
 use Rattle.clap.specs.Words.{Text}
 use Rattle.wm_litmus.specs.declared.command.Command.TheVariants.{Rules, Check}
 use Rattle.wm_litmus.specs.Commands.{IsCommand, IsNoCommand}
 use Rattle.wm_litmus.specs.Input.{IsDocumentRead, IsReadOf}
+use Rattle.wm_litmus.specs.Output.{AppendsFront}
+use Rattle.wm_litmus.specs.Prints.{ended}
 use Rattle.wm_litmus.specs.Lines.{document_line_text, judgement_status, judgement_text, shape_line_text, verdict_text, words_line_text}
 
 -- ---- the command `rules`
@@ -36,30 +35,30 @@ zeros pages = replicate (pages * 65536) 0
 abbrev pub run_over : ℕ → List ThreadLog → Witness → LoggedRun
 run_over pages log witness = record { log = log; witness = witness; initial = zeros pages }
 
--- the status and the line that answer a run
-pub data AnswersRun (run : LoggedRun) (status : ℕ) (line : List ℕ) : Type 0 where
+-- the status and the text that answer a run
+pub data AnswersRun (run : LoggedRun) (status : ℕ) (text : List ℕ) : Type 0 where
   judged : (judgement : Judgement) → IsWellShaped run → Judges (execution run) judgement
-      → status ≡ judgement_status judgement → line ≡ judgement_text judgement → AnswersRun run status line
+      → status ≡ judgement_status judgement → text ≡ ended (judgement_text judgement) → AnswersRun run status text
   misshapen : (fault : ShapeFault) → IsFirst shape_rank (Misshapes run) fault
-      → status ≡ 2 → line ≡ shape_line_text fault → AnswersRun run status line
+      → status ≡ 2 → text ≡ ended (shape_line_text fault) → AnswersRun run status text
 
--- the status and the line that answer a document
-pub data AnswersRules (bytes : List ℕ) (status : ℕ) (line : List ℕ) : Type 0 where
+-- the status and the text that answer a document
+pub data AnswersRules (bytes : List ℕ) (status : ℕ) (text : List ℕ) : Type 0 where
   read : (log : List ThreadLog) (witness : Witness) → IsDocumentOf bytes log witness
-      → AnswersRun (run_over INITIAL_PAGES log witness) status line → AnswersRules bytes status line
+      → AnswersRun (run_over 16 log witness) status text → AnswersRules bytes status text
   refused : (fault : DocFault) → IsNoDocument bytes fault
-      → status ≡ 2 → line ≡ document_line_text fault → AnswersRules bytes status line
+      → status ≡ 2 → text ≡ ended (document_line_text fault) → AnswersRules bytes status text
 
 -- ---- the command `check`
 
--- the status and the line that answer a module and a document: those of the verdict on them
-pub data AnswersCheck (module_bytes document_bytes : List ℕ) (status : ℕ) (line : List ℕ) : Type 0 where
+-- the status and the text that answer a module and a document: those of the verdict on them
+pub data AnswersCheck (module_bytes document_bytes : List ℕ) (status : ℕ) (text : List ℕ) : Type 0 where
   allowed : (certificate : Certificate) → IsAllowed module_bytes document_bytes certificate
-      → status ≡ 0 → line ≡ verdict_text (Allowed certificate) → AnswersCheck module_bytes document_bytes status line
+      → status ≡ 0 → text ≡ ended (verdict_text (Allowed certificate)) → AnswersCheck module_bytes document_bytes status text
   refused_for : (refusal : Refusal) → IsRefusedFor module_bytes document_bytes refusal
-      → status ≡ 2 → line ≡ verdict_text (Refused refusal) → AnswersCheck module_bytes document_bytes status line
+      → status ≡ 2 → text ≡ ended (verdict_text (Refused refusal)) → AnswersCheck module_bytes document_bytes status text
   broken_by : (breach : Breach) → IsBrokenBy module_bytes document_bytes breach
-      → status ≡ 1 → line ≡ verdict_text (verdict.Broken breach) → AnswersCheck module_bytes document_bytes status line
+      → status ≡ 1 → text ≡ ended (verdict_text (verdict.Broken breach)) → AnswersCheck module_bytes document_bytes status text
 
 -- ---- the program
 
@@ -72,19 +71,25 @@ pub record Given : Type 0 where
 abbrev pub given : List Text → (List ℕ → Option (List ℕ)) → Option (List ℕ) → Given
 given words files input = record { words = words; files = files; input = input }
 
--- the status and the line that answer what is given
-pub data IsAnswer (given : Given) (status : ℕ) (line : List ℕ) : Type 0 where
-  no_command : IsNoCommand given.words → status ≡ 2 → line ≡ words_line_text → IsAnswer given status line
+-- the status and the text that answer what is given
+pub data IsAnswer (given : Given) (status : ℕ) (text : List ℕ) : Type 0 where
+  no_command : IsNoCommand given.words → status ≡ 2 → text ≡ ended words_line_text → IsAnswer given status text
   rules_of : (document : Bor Text) (bytes : List ℕ) → IsCommand given.words (Rules document)
-      → IsDocumentRead given.files given.input MAX_DOCUMENT_BYTES document.now bytes
-      → AnswersRules bytes status line → IsAnswer given status line
-  check_of : (program document : Bor Text) (module_bytes bytes : List ℕ) → IsCommand given.words (Check program document)
-      → IsReadOf (given.files program.now) MODULE_BYTES module_bytes
-      → IsDocumentRead given.files given.input MAX_DOCUMENT_BYTES document.now bytes
-      → AnswersCheck module_bytes bytes status line → IsAnswer given status line
+      → IsDocumentRead given.files given.input 8388608 document.now bytes
+      → AnswersRules bytes status text → IsAnswer given status text
+  check_of : (file document : Bor Text) (module_bytes bytes : List ℕ) → IsCommand given.words (Check file document)
+      → IsReadOf (given.files file.now) 1048576 module_bytes
+      → IsDocumentRead given.files given.input 8388608 document.now bytes
+      → AnswersCheck module_bytes bytes status text → IsAnswer given status text
 
--- the writer gains one line, that of an answer of this status
+-- the writer gains what an answer of this status prints
 pub record WritesAnswer (given : Given) (old new : Option (List ℕ)) (status : ℕ) : Type 0 where
-  pub line : List ℕ
-  pub answers : IsAnswer given status line
-  pub gains : Appends old new (line ++ 10 ∷ [])
+  pub text : List ℕ
+  pub answers : IsAnswer given status text
+  pub gains : Appends old new text
+
+-- the writer gains nothing, or a front of what an answer prints
+pub data WritesFront (given : Given) (old new : Option (List ℕ)) : Type 0 where
+  nothing : new ≡ old → WritesFront given old new
+  front : (status : ℕ) (text : List ℕ) → IsAnswer given status text
+      → AppendsFront old new text → WritesFront given old new

@@ -1,9 +1,9 @@
 -- What was read of the input and of files.
-use Rattle.std.specs.Prelude.{◌≡◌, ℕ, ◌+◌, List, Option, IfSome, codes, take}
+use Rattle.std.specs.Prelude.{◌≡◌, ℕ, ◌+◌, ◌≤◌, List, Option, IfSome, codes, length, take}
 
--- the bytes are these, to the limit and one more, where they are known
+-- at most the limit and one byte more, and of known bytes these first ones
 abbrev pub IsReadOf : Option (List ℕ) → ℕ → List ℕ → Type 0
-IsReadOf known limit bytes = IfSome known (λ all. bytes ≡ take (limit + 1) all)
+IsReadOf known limit bytes = (length bytes ≤ limit + 1) × IfSome known (λ all. bytes ≡ take (limit + 1) all)
 
 -- the bytes are those of the input for `-`, and else those of the file of that name
 pub record IsDocumentRead (files : List ℕ → Option (List ℕ)) (input : Option (List ℕ)) (limit : ℕ) (name bytes : List ℕ) : Type 0 where

@@ -1,7 +1,11 @@
--- What an answer says.
-use Rattle.std.specs.Prelude.{◌≡◌, ℕ, List, string_bytes}
+-- What an answer prints.
+use Rattle.std.specs.Prelude.{◌≡◌, ℕ, List, [], ◌∷◌, ◌++◌, string_bytes}
 use Rattle.wm_litmus.specs.declared.answer.Answer.{Answer}
+
+-- a line ends in one newline
+abbrev pub ended : List ℕ → List ℕ
+ended line = line ++ 10 ∷ []
 
 pub record Prints (status : ℕ) (line : List ℕ) (answer : Answer) : Type 0 where
   pub status_is : answer.status ≡ status
-  pub line_is : string_bytes answer.text ≡ line
+  pub text_is : string_bytes answer.text ≡ ended line

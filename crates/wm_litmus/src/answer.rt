@@ -1,15 +1,15 @@
 //! What a command answers.
-ghost use Rattle.std.specs.Prelude.{◌≡◌, ◌≢◌, IfOk};
+ghost use Rattle.std.specs.Prelude.{◌≡◌, ◌≢◌, IfOk, string_bytes};
 ghost use Rattle.wm_litmus.specs.Lines.{document_line_text, judgement_status, judgement_text, shape_line_text, verdict_status, verdict_text, words_line_text};
 ghost use Rattle.wm_litmus.specs.Prints.{Prints};
 
-use crate::line::{document_line, rules_line, shape_line, verdict_line, words_line};
+use crate::line::{rules_line, verdict_line};
 use std::alloc::{AllocError, Global};
 use wm_check::Verdict;
 use wm_event::{Judgement, ShapeFault};
 use wm_logfile::DocFault;
 
-/// The line that a command prints, without its newline, and the exit status.
+/// What a command prints, and the exit status.
 #[derive(Drop)]
 pub(crate) struct Answer {
     pub text: String,
@@ -38,16 +38,32 @@ fn verdict_status_of(verdict: &Verdict) -> u8
 }
 
 impl Answer {
+    /// The answer of one line, which is given without its newline.
+    fn of_line(status: u8, line: String) -> Result<Answer, AllocError>
+        ensures { IfOk result (Prints status (string_bytes line)) }
+    {
+        let mut text = line;
+        text.push('\n')?;
+        Ok(Answer { text, status })
+    }
+
     /// The answer that a judgement is.
     pub fn judged(alloc: Global, judgement: &Judgement) -> Result<Answer, AllocError>
         ensures { IfOk result (Prints (judgement_status judgement.now) (judgement_text judgement.now)) }
     {
-        let text = rules_line(alloc, judgement)?;
-        let status = status_of(judgement);
-        Ok(Answer { text, status })
+        let line = rules_line(alloc, judgement)?;
+        Answer::of_line(status_of(judgement), line)
     }
 
-    /// The refusal of a document; want of memory is no answer.
+    /// The answer that a verdict is.
+    pub fn of_verdict(alloc: Global, verdict: &Verdict) -> Result<Answer, AllocError>
+        ensures { IfOk result (Prints (verdict_status verdict.now) (verdict_text verdict.now)) }
+    {
+        let line = verdict_line(alloc, verdict)?;
+        Answer::of_line(verdict_status_of(verdict), line)
+    }
+
+    /// The refusal of a document, such as `refused document BadShape at /2/0/1`; want of memory is no answer.
     pub fn refused_document(alloc: Global, fault: &DocFault) -> Result<Answer, AllocError>
         ensures { IfOk result (λ answer. (fault.now ≢ DocFault.OutOfMemory)
             × Prints 2 (document_line_text fault.now) answer) }
@@ -55,13 +71,14 @@ impl Answer {
         match fault {
             DocFault::OutOfMemory => Err(AllocError),
             _ => {
-                let text = document_line(alloc, fault)?;
-                Ok(Answer { text, status: 2 })
+                let line = format!(in alloc; "refused document {fault}")?;
+                Answer::of_line(2, line)
             }
         }
     }
 
-    /// The refusal of a log and a witness that are no candidate; want of memory is no answer.
+    /// The refusal of a log and a witness that are no candidate, such as `refused shape WriterCount at 0.1`; want of
+    /// memory is no answer.
     pub fn refused_shape(alloc: Global, fault: ShapeFault) -> Result<Answer, AllocError>
         ensures { IfOk result (λ answer. (fault ≢ ShapeFault.OutOfMemory)
             × Prints 2 (shape_line_text fault) answer) }
@@ -69,26 +86,17 @@ impl Answer {
         match fault {
             ShapeFault::OutOfMemory => Err(AllocError),
             _ => {
-                let text = shape_line(alloc, fault)?;
-                Ok(Answer { text, status: 2 })
+                let line = format!(in alloc; "refused shape {fault}")?;
+                Answer::of_line(2, line)
             }
         }
-    }
-
-    /// The answer that a verdict is.
-    pub fn of_verdict(alloc: Global, verdict: &Verdict) -> Result<Answer, AllocError>
-        ensures { IfOk result (Prints (verdict_status verdict.now) (verdict_text verdict.now)) }
-    {
-        let text = verdict_line(alloc, verdict)?;
-        let status = verdict_status_of(verdict);
-        Ok(Answer { text, status })
     }
 
     /// The refusal of the words.
     pub fn refused_words(alloc: Global) -> Result<Answer, AllocError>
         ensures { IfOk result (Prints 2 words_line_text) }
     {
-        let text = words_line(alloc)?;
-        Ok(Answer { text, status: 2 })
+        let line = String::from_str(alloc, "refused command words")?;
+        Answer::of_line(2, line)
     }
 }

@@ -4,6 +4,7 @@ ghost use Rattle.wm_litmus.specs.Answers.{AnswersCheck};
 
 use crate::answer::Answer;
 use std::alloc::AllocError;
+use std::thread::Threads;
 use wm_check::check;
 
 /// The answer to the bytes of a module and of a document.
@@ -11,7 +12,7 @@ use wm_check::check;
 /// # Errors
 ///
 /// Only where memory was refused.
-pub(crate) fn check_answer<R: AllocGlobal>(
+pub(crate) fn check_answer<R: AllocGlobal + Threads + Sync>(
     rt: &R,
     module_bytes: &[u8],
     document_bytes: &[u8],

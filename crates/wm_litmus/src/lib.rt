@@ -24,6 +24,7 @@ mod command;
 mod files;
 mod input;
 mod line;
+mod output;
 mod program;
 mod rules;
 

@@ -1,12 +1,11 @@
 //! The lines that answers print as, without their newline.
 ghost use Rattle.std.specs.Prelude.{◌≡◌, IfOk, Some, string_bytes};
-ghost use Rattle.wm_litmus.specs.Lines.{document_line_text, judgement_text, refusal_text, replay_text, shape_line_text, verdict_text, words_line_text};
+ghost use Rattle.wm_litmus.specs.Lines.{judgement_text, refusal_text, replay_text, verdict_text};
 
 use std::alloc::{AllocError, Global};
 use std::fmt;
 use wm_check::{Breach, Refusal, Verdict};
-use wm_event::{Judgement, ShapeFault};
-use wm_logfile::DocFault;
+use wm_event::Judgement;
 use wm_replay::{Place, ReplayAnswer};
 
 /// A judgement, as it prints.
@@ -35,27 +34,6 @@ pub fn rules_line(alloc: Global, judgement: &Judgement) -> Result<String, AllocE
 {
     let line = JudgementLine(judgement);
     format!(in alloc; "{line}")
-}
-
-/// The line of a refused document, such as `refused document BadShape at /2/0/1`.
-pub(crate) fn document_line(alloc: Global, fault: &DocFault) -> Result<String, AllocError>
-    ensures { IfOk result (λ line. string_bytes line ≡ document_line_text fault.now) }
-{
-    format!(in alloc; "refused document {fault}")
-}
-
-/// The line of a log and a witness that are no candidate, such as `refused shape WriterCount at 0.1`.
-pub(crate) fn shape_line(alloc: Global, fault: ShapeFault) -> Result<String, AllocError>
-    ensures { IfOk result (λ line. string_bytes line ≡ shape_line_text fault) }
-{
-    format!(in alloc; "refused shape {fault}")
-}
-
-/// The line of words that are no command.
-pub(crate) fn words_line(alloc: Global) -> Result<String, AllocError>
-    ensures { IfOk result (λ line. string_bytes line ≡ words_line_text) }
-{
-    format!(in alloc; "refused command words")
 }
 
 /// A refusal, as it prints.

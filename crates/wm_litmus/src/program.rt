@@ -1,8 +1,6 @@
 //! The whole program.
-ghost use Rattle.std.specs.Prelude.{◌≡◌, ◌+◌, ◌^◌, ◌∷◌, ◌++◌, [], ◌≤◌, ◌<◌, IfErr, IfOk, OnOk, List, ℕ, map, string_bytes, vec_len};
-ghost use Rattle.std.specs.Io.KnownBytes.{Appends};
-ghost use Rattle.wm_logfile.specs.declared.TheConstants.{MAX_DOCUMENT_BYTES};
-ghost use Rattle.wm_litmus.specs.Answers.{IsAnswer, WritesAnswer, given};
+ghost use Rattle.std.specs.Prelude.{◌≡◌, ◌+◌, ◌^◌, ◌≤◌, ◌<◌, IfErr, IfOk, OnOk, List, ℕ, map, string_bytes};
+ghost use Rattle.wm_litmus.specs.Answers.{IsAnswer, WritesAnswer, WritesFront, given};
 ghost use Rattle.wm_litmus.specs.Failures.{IsUnreadFile};
 ghost use Rattle.wm_litmus.specs.Input.{IsDocumentRead, IsReadOf};
 ghost use Rattle.wm_litmus.specs.declared.program.Failure.TheVariants.{OutOfMemory};
@@ -12,11 +10,12 @@ use crate::check::check_answer;
 use crate::command::{Command, CommandFault, read_command};
 use crate::files::{FileFault, Files};
 use crate::input::read_limited;
+use crate::output::write_text;
 use crate::rules::rules_answer;
 use std::alloc::{AllocError, Global};
-use std::io;
 use std::io::{Read, Write};
-use wm_decode::MODULE_BYTES;
+use std::thread::Threads;
+use wm_decode::MAX_MODULE_BYTES;
 use wm_logfile::MAX_DOCUMENT_BYTES;
 
 /// Why there is no answer.
@@ -85,7 +84,7 @@ fn read_document_bytes<'a, R: AllocGlobal, F: Files, I: Read>(
 ) -> Result<Vec<u8>, Failure<'a>>
     requires { F.failures_of files.old + 1 < 2 ^ 64 }
     ensures known { IfOk result (λ bytes.
-        IsDocumentRead (F.content_of files.old) (I.remaining input.old) MAX_DOCUMENT_BYTES name.now bytes.items) }
+        IsDocumentRead (F.content_of files.old) (I.remaining input.old) 8388608 name.now bytes.items) }
     ensures unread { IfErr result (λ stop. IsUnreadFile stop
         → F.failures_of files.old < F.failures_of files.new) }
 {
@@ -97,7 +96,7 @@ fn read_document_bytes<'a, R: AllocGlobal, F: Files, I: Read>(
 }
 
 /// The answer to the words.
-fn answer_of<'a, R: AllocGlobal, F: Files, I: Read>(
+fn answer_of<'a, R: AllocGlobal + Threads + Sync, F: Files, I: Read>(
     rt: &R,
     words: &'a [&'a str],
     files: &mut F,
@@ -116,7 +115,7 @@ fn answer_of<'a, R: AllocGlobal, F: Files, I: Read>(
             Ok(rules_answer(rt, bytes.as_slice())?)
         }
         Ok(Command::Check { module, document }) => {
-            let module_bytes = read_file(files, module, MODULE_BYTES)?;
+            let module_bytes = read_file(files, module, MAX_MODULE_BYTES)?;
             let document_bytes = read_document_bytes(rt, files, input, document)?;
             Ok(check_answer(rt, module_bytes.as_slice(), document_bytes.as_slice())?)
         }
@@ -125,17 +124,7 @@ fn answer_of<'a, R: AllocGlobal, F: Files, I: Read>(
     }
 }
 
-/// Writes the line and a newline.
-fn write_line<W: Write>(out: &mut W, line: &str) -> io::Result<()>
-    ensures { OnOk result
-        (Appends (W.contents out.old) (W.contents out.new) (line.now ++ 10 ∷ [])) }
-{
-    writeln!(out, "{line}")?;
-    out.flush()
-}
-
-/// The whole program: answers `words`, those after the program's name, by a line on `out`, and returns the
-/// exit status.
+/// The whole program: answers `words`, those after the program's name, on `out`, and returns the exit status.
 ///
 /// `rules DOC` reads the document of that name among `files`, or `input` for `-`, and judges it over 16 pages of
 /// zeros; it ignores starts, ends and steps. `check MODULE DOC` reads the module of that name among `files`, and
@@ -143,14 +132,14 @@ fn write_line<W: Write>(out: &mut W, line: &str) -> io::Result<()>
 ///
 /// Each file is read to its limit and one byte more, in at most that many reads, and any failed read ends
 /// the program. The clauses speak of the words, by clap's model of the parse, of what `files` and `input` hold, where
-/// that is known, and of the line and the status; the lines on `err` are shown by tests.
+/// that is known, and of the text and the status; the lines on `err` are shown by tests.
 ///
 /// # Errors
 ///
 /// Status 3, with one line on `err` and no answer: `out of memory` where memory was refused, `cannot read NAME`
-/// where `files` or a read of `input` failed, `cannot write` where a write to `out` failed. That a write to
-/// `err` failed changes no status.
-pub fn serve<R: AllocGlobal, F: Files, I: Read, O: Write, E: Write>(
+/// where `files` or a read of `input` failed, `cannot write` where a write to `out` failed, which has then gained a
+/// front of the answer at most. That a write to `err` failed changes no status.
+pub fn serve<R: AllocGlobal + Threads + Sync, F: Files, I: Read, O: Write, E: Write>(
     rt: &R,
     words: &[&str],
     files: &mut F,
@@ -164,10 +153,13 @@ pub fn serve<R: AllocGlobal, F: Files, I: Read, O: Write, E: Write>(
         → WritesAnswer (given (map (λ word. word.now) words.now) (F.content_of files.old) (I.remaining input.old))
         (O.contents out.old) (O.contents out.new) result }
     ensures silent { result < 3 → err.new ≡ err.old }
+    ensures stopped { result ≡ 3
+        → WritesFront (given (map (λ word. word.now) words.now) (F.content_of files.old) (I.remaining input.old))
+        (O.contents out.old) (O.contents out.new) }
 {
     match answer_of(rt, words, files, input) {
         Ok(answer) => {
-            if write_line(out, answer.text.as_str()).is_err() {
+            if let Err(_) = write_text(out, answer.text.as_str()) {
                 let _ = writeln!(err, "cannot write");
                 return 3;
             }

@@ -5,12 +5,13 @@ ghost use Rattle.wm_litmus.specs.Answers.{AnswersRules, AnswersRun, run_over};
 use crate::INITIAL_PAGES;
 use crate::answer::Answer;
 use std::alloc::AllocError;
+use std::thread::Threads;
 use wm_event::{Candidate, Initial, Log, Witness};
 use wm_logfile::read_document;
 use wm_rules::judge;
 
 /// The answer to a log with a witness, over so many pages of zeros.
-fn run_answer<R: AllocGlobal>(
+fn run_answer<R: AllocGlobal + Threads + Sync>(
     rt: &R,
     log: Log,
     witness: Witness,
@@ -34,7 +35,10 @@ fn run_answer<R: AllocGlobal>(
 /// # Errors
 ///
 /// Only where memory was refused.
-pub(crate) fn rules_answer<R: AllocGlobal>(rt: &R, bytes: &[u8]) -> Result<Answer, AllocError>
+pub(crate) fn rules_answer<R: AllocGlobal + Threads + Sync>(
+    rt: &R,
+    bytes: &[u8],
+) -> Result<Answer, AllocError>
     ensures { IfOk result (λ answer.
         AnswersRules bytes.now answer.status (string_bytes answer.text)) }
 {

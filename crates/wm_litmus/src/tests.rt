@@ -11,17 +11,18 @@ mod threads;
 
 use super::*;
 use documents::{ALLOWED, BROKEN, REFUSED, Row};
-use fakes::{Endless, NEVER, blank_paper, says, shelf_of, source_of};
+use fakes::{EndlessReader, NEVER, fake_files, fake_reader, fake_writer, holding_writer, says};
 use std::alloc::{AllocError, Global};
 use std::process::Abort;
 use std::test::Fail;
+use std::thread::Threads;
 
-fn answers<R: Abort + AllocGlobal>(rt: &R, rows: &[Row]) {
+fn answers<R: Abort + AllocGlobal + Threads + Sync>(rt: &R, rows: &[Row]) {
     for row in rows {
-        let mut files = shelf_of(rt.alloc(), None, Some(row.document.as_bytes()));
-        let mut input = source_of(b"", NEVER);
-        let mut out = blank_paper(rt.alloc(), NEVER);
-        let mut err = blank_paper(rt.alloc(), NEVER);
+        let mut files = fake_files(rt.alloc(), None, Some(row.document.as_bytes()));
+        let mut input = fake_reader(b"", NEVER);
+        let mut out = fake_writer(rt.alloc(), NEVER);
+        let mut err = fake_writer(rt.alloc(), NEVER);
         let status = serve(
             rt,
             &["rules", "log.json"],
@@ -62,11 +63,11 @@ fn reads(alloc: Global, count: u32) -> Result<String, AllocError> {
 
 #[test]
 fn events_are_limited(rt: HostRuntime) -> Result<(), Fail> {
-    let most = reads(rt.alloc(), 64)?;
-    let mut input = source_of(most.as_bytes(), NEVER);
+    let most = reads(rt.alloc(), 16_384)?;
+    let mut input = fake_reader(most.as_bytes(), NEVER);
     says(&rt, &["rules", "-"], &mut input, "allowed\n", "", 0);
-    let more = reads(rt.alloc(), 65)?;
-    let mut input = source_of(more.as_bytes(), NEVER);
+    let more = reads(rt.alloc(), 16_385)?;
+    let mut input = fake_reader(more.as_bytes(), NEVER);
     let line = "refused shape TooManyEvents\n";
     says(&rt, &["rules", "-"], &mut input, line, "", 2);
     Ok(())
@@ -103,7 +104,7 @@ fn words_are_refused(rt: HostRuntime) {
         &["--", "rules", "-"],
     ];
     for words in &refused {
-        let mut input = source_of(b"[", NEVER);
+        let mut input = fake_reader(b"[", NEVER);
         says(&rt, words, &mut input, "refused command words\n", "", 2);
         assert_eq!(rt; input.reads, 0);
     }
@@ -111,7 +112,7 @@ fn words_are_refused(rt: HostRuntime) {
 
 #[test]
 fn a_document_is_read_by_its_name(rt: HostRuntime) {
-    let mut input = source_of(b"", NEVER);
+    let mut input = fake_reader(b"", NEVER);
     let line = "refused document NotJson\n";
     says(&rt, &["rules", "log.json"], &mut input, line, "", 2);
     says(&rt, &["rules", "x"], &mut input, "", "cannot read x\n", 3);
@@ -119,43 +120,43 @@ fn a_document_is_read_by_its_name(rt: HostRuntime) {
     assert_eq!(rt; input.reads, 0);
     says(&rt, &["rules", "-"], &mut input, line, "", 2);
     assert_eq!(rt; input.reads, 1);
-    let mut bytes = source_of(&[b'"', 0xff, b'"'], NEVER);
+    let mut bytes = fake_reader(&[b'"', 0xff, b'"'], NEVER);
     says(&rt, &["rules", "-"], &mut bytes, line, "", 2);
 }
 
 #[test]
 fn each_read_fails_in_turn(rt: HostRuntime) {
     for number in 0..4u64 {
-        let mut input = source_of(ALLOWED[0].document.as_bytes(), number);
+        let mut input = fake_reader(ALLOWED[0].document.as_bytes(), number);
         input.piece = 100;
         says(&rt, &["rules", "-"], &mut input, "", "cannot read -\n", 3);
         assert_eq!(rt; input.reads, number + 1);
     }
-    let mut input = source_of(ALLOWED[0].document.as_bytes(), 4);
+    let mut input = fake_reader(ALLOWED[0].document.as_bytes(), 4);
     input.piece = 100;
     says(&rt, &["rules", "-"], &mut input, "allowed\n", "", 0);
 }
 
 #[test]
 fn an_endless_input_is_too_large(rt: HostRuntime) {
-    let mut input = Endless { reads: 0 };
+    let mut input = EndlessReader { reads: 0 };
     let line = "refused document TooLarge\n";
     says(&rt, &["rules", "-"], &mut input, line, "", 2);
     assert_eq!(rt; input.reads, 8_388_609);
 }
 
 /// Runs the program where a write to `out` and a write to `err` fail, and says how often `out` was written.
-fn writes<R: Abort + AllocGlobal>(
+fn writes<R: Abort + AllocGlobal + Threads + Sync>(
     rt: &R,
     out_fails: u64,
     err_fails: u64,
     error: &str,
     status: u8,
 ) -> u64 {
-    let mut files = shelf_of(rt.alloc(), None, Some(b"["));
-    let mut input = source_of(b"", NEVER);
-    let mut out = blank_paper(rt.alloc(), out_fails);
-    let mut err = blank_paper(rt.alloc(), err_fails);
+    let mut files = fake_files(rt.alloc(), None, Some(b"["));
+    let mut input = fake_reader(b"", NEVER);
+    let mut out = fake_writer(rt.alloc(), out_fails);
+    let mut err = fake_writer(rt.alloc(), err_fails);
     let got = serve(
         rt,
         &["rules", "log.json"],
@@ -178,10 +179,10 @@ fn each_write_fails_in_turn(rt: HostRuntime) {
         assert_eq!(rt; made, number.saturating_add(1));
         writes(&rt, number, 0, "", 3);
     }
-    let mut input = source_of(b"", 0);
-    let mut files = shelf_of(rt.alloc(), None, None);
-    let mut out = blank_paper(rt.alloc(), NEVER);
-    let mut err = blank_paper(rt.alloc(), 0);
+    let mut input = fake_reader(b"", 0);
+    let mut files = fake_files(rt.alloc(), None, None);
+    let mut out = fake_writer(rt.alloc(), NEVER);
+    let mut err = fake_writer(rt.alloc(), 0);
     let status = serve(
         &rt,
         &["rules", "-"],
@@ -192,4 +193,19 @@ fn each_write_fails_in_turn(rt: HostRuntime) {
     );
     assert_eq!(rt; status, 3);
     assert_eq!(rt; out.writes, 0);
+}
+
+#[test]
+fn an_answer_is_flushed(rt: HostRuntime) {
+    let mut files = fake_files(rt.alloc(), None, Some(b"["));
+    let mut input = fake_reader(b"", NEVER);
+    let mut out = holding_writer(rt.alloc());
+    let mut err = fake_writer(rt.alloc(), NEVER);
+    let words = ["rules", "log.json"];
+    let status = serve(&rt, &words, &mut files, &mut input, &mut out, &mut err);
+    assert_eq!(rt; status, 2);
+    assert_eq!(rt;
+        out.bytes.as_slice(),
+        b"refused document NotJson\n".as_slice()
+    );
 }

@@ -11,8 +11,8 @@ use Rattle.wm_event.specs.declared.log.End.TheVariants.{Trap, Done}
 use Rattle.wm_machine.specs.declared.value.TypedValue.{TypedValue}
 use Rattle.wm_machine.specs.declared.activation.Activation.{Activation}
 use Rattle.wm_machine.specs.declared.activation.Reached.TheVariants.{Within, Trapped}
-use Rattle.wm_machine.specs.declared.fault.AdvanceFault.{AdvanceFault}
-use Rattle.wm_machine.specs.declared.fault.AdvanceFault.TheVariants.{Stuck as StuckFault, OutOfMemory}
+use Rattle.wm_machine.specs.declared.fault.StepFault.{StepFault}
+use Rattle.wm_machine.specs.declared.fault.StepFault.TheVariants.{Stuck as StuckFault, OutOfMemory}
 use Rattle.wm_ast.specs.Module.{func_type}
 use Rattle.wm_machine.specs.Functions.{callable, todo}
 use Rattle.wm_machine.specs.Term.{Vars, Term, Here, Frame, Config, Over, Reduced, Next, Ends, Leaves, Returns, Traps, Stuck, Step, Went, NoStep}
@@ -142,7 +142,7 @@ module _ (m : Module) (read : ℕ) (globals : List TypedValue) (a : Activation) 
       ∙ ap (λ (n : Activation). Some (running_in m globals bs n)) (sym g.0)
       ∙ ap (λ (cs : List Activation). Some (running_in m globals cs new)) (sym g.1)
 
-pub refuses_same : (m : Module) (r : Reduced) (old : Activation) (globals : List TypedValue) (new : Activation) (globals' : List TypedValue) (fault : AdvanceFault) → Refuses m r old globals new globals' fault → Same old globals new globals'
+pub refuses_same : (m : Module) (r : Reduced) (old : Activation) (globals : List TypedValue) (new : Activation) (globals' : List TypedValue) (fault : StepFault) → Refuses m r old globals new globals' fault → Same old globals new globals'
 refuses_same m r old globals new globals' StuckFault h = h.1
 refuses_same m r old globals new globals' OutOfMemory h = h
 
@@ -173,6 +173,6 @@ module _ (m : Module) (read : ℕ) (globals : List TypedValue) (cs : List Activa
       let e1 = h ∙ ap (out_of_labels m a.func (vars_of a globals) a.levels.outer) g.0 ∙ labels_stuck m 0 a.func (vars_of a globals) a.levels.outer in
       at_depth ∙ ap (λ (x : Reduced). went (out_of_calls m globals cs a.func x)) e1 ∙ ap went (calls_stuck m globals cs a.func)
 
-pub called_same : (m : Module) (callee : ℕ) (r : Reduced) (old : Activation) (globals : List TypedValue) (new : Activation) (cs cs' : List Activation) (fault : AdvanceFault) → Called m callee r old globals cs new cs' (Err fault) → (new ≡ old) × (cs' ≡ cs)
+pub called_same : (m : Module) (callee : ℕ) (r : Reduced) (old : Activation) (globals : List TypedValue) (new : Activation) (cs cs' : List Activation) (fault : StepFault) → Called m callee r old globals cs new cs' (Err fault) → (new ≡ old) × (cs' ≡ cs)
 called_same m callee r old globals new cs cs' StuckFault h = (h.1, h.2)
 called_same m callee r old globals new cs cs' OutOfMemory h = h

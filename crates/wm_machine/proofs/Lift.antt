@@ -12,8 +12,8 @@ use Rattle.wm_machine.specs.declared.action.Action.{Action}
 use Rattle.wm_machine.specs.declared.activation.Activation.{Activation}
 use Rattle.wm_machine.specs.declared.activation.Reached.{Reached}
 use Rattle.wm_machine.specs.declared.activation.Reached.TheVariants.{Within, Trapped, Left, Calling}
-use Rattle.wm_machine.specs.declared.fault.AdvanceFault.{AdvanceFault}
-use Rattle.wm_machine.specs.declared.fault.AdvanceFault.TheVariants.{Stuck as StuckFault, OutOfMemory}
+use Rattle.wm_machine.specs.declared.fault.StepFault.{StepFault}
+use Rattle.wm_machine.specs.declared.fault.StepFault.TheVariants.{Stuck as StuckFault, OutOfMemory}
 use Rattle.wm_machine.specs.Functions.{todo, from_place}
 use Rattle.wm_machine.specs.Term.{Vars, Term, Here, Label, Reduced, Next, Leaves, Returns, Traps, Stuck}
 use Rattle.wm_machine.specs.Step.{reduce, land, stays, act, after, enter, returned}
@@ -148,7 +148,7 @@ branches_out m func vars values outer label h =
     ap (seen m func) (leaves_func m func vars values outer label le ∙ ap (λ (j : ℕ). Leaves j values) e)
 
 -- what a function gives back
-pub gives_back_goes : (m : Module) (depth : ℕ) (r : Reduced) (old : Activation) (globals : List TypedValue) (values : Option (List TypedValue)) (result : Result Reached AdvanceFault) → seen m old.func r ≡ back values → GivesBack values result → Goes m depth r old globals old globals result
+pub gives_back_goes : (m : Module) (depth : ℕ) (r : Reduced) (old : Activation) (globals : List TypedValue) (values : Option (List TypedValue)) (result : Result Reached StepFault) → seen m old.func r ≡ back values → GivesBack values result → Goes m depth r old globals old globals result
 gives_back_goes m depth r old globals values (Ok (Left v)) e g = (e ∙ ap back g, (refl, refl))
 gives_back_goes m depth r old globals values (Ok Within) e g = absurd g
 gives_back_goes m depth r old globals values (Ok (Trapped kind)) e g = absurd g

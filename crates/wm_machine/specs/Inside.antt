@@ -7,8 +7,8 @@ use Rattle.wm_machine.specs.declared.value.TypedValue.{TypedValue}
 use Rattle.wm_machine.specs.declared.activation.Activation.{Activation}
 use Rattle.wm_machine.specs.declared.activation.Reached.{Reached}
 use Rattle.wm_machine.specs.declared.activation.Reached.TheVariants.{Within, Trapped, Left, Calling}
-use Rattle.wm_machine.specs.declared.fault.AdvanceFault.{AdvanceFault}
-use Rattle.wm_machine.specs.declared.fault.AdvanceFault.TheVariants.{Stuck as StuckFault, OutOfMemory}
+use Rattle.wm_machine.specs.declared.fault.StepFault.{StepFault}
+use Rattle.wm_machine.specs.declared.fault.StepFault.TheVariants.{Stuck as StuckFault, OutOfMemory}
 use Rattle.wm_machine.specs.Functions.{Callable, callable, todo}
 use Rattle.wm_machine.specs.Term.{Vars, Frame, Reduced, Next, Ends, Leaves, Returns, Traps, Stuck}
 use Rattle.wm_machine.specs.Step.{reduce, returned, invoke, out_of_label}
@@ -61,11 +61,11 @@ Reaches m depth r old globals new globals' (Calling callee) =
     (invoke (callable m callee) depth callee (vars_of old globals) old.levels.operands (todo m old.func old.levels.block (old.levels.at + 1))))
     × Same old globals new globals' × (old.levels.at + 1 < 2 ^ 64)
 
-abbrev pub Refuses : Module → Reduced → Activation → List TypedValue → Activation → List TypedValue → AdvanceFault → Type 0
+abbrev pub Refuses : Module → Reduced → Activation → List TypedValue → Activation → List TypedValue → StepFault → Type 0
 Refuses m r old globals new globals' StuckFault = (seen m old.func r ≡ Stuck) × Same old globals new globals'
 Refuses m r old globals new globals' OutOfMemory = Same old globals new globals'
 
-abbrev pub Goes : Module → ℕ → Reduced → Activation → List TypedValue → Activation → List TypedValue → Result Reached AdvanceFault → Type 0
+abbrev pub Goes : Module → ℕ → Reduced → Activation → List TypedValue → Activation → List TypedValue → Result Reached StepFault → Type 0
 Goes m depth r old globals new globals' (Ok reached) = Reaches m depth r old globals new globals' reached
 Goes m depth r old globals new globals' (Err fault) = Refuses m r old globals new globals' fault
 
@@ -73,7 +73,7 @@ Goes m depth r old globals new globals' (Err fault) = Refuses m r old globals ne
 abbrev pub call_step : Module → ℕ → ℕ → Activation → List TypedValue → Reduced
 call_step m read depth a globals = reduce m read depth a.func (vars_of a globals) (left_of m a.func a.levels)
 
-abbrev pub GivesBack : Option (List TypedValue) → Result Reached AdvanceFault → Type 0
+abbrev pub GivesBack : Option (List TypedValue) → Result Reached StepFault → Type 0
 GivesBack values (Ok (Left value)) = values ≡ Some (as_list value)
 GivesBack values (Ok Within) = ⊥
 GivesBack values (Ok (Trapped kind)) = ⊥
@@ -96,7 +96,7 @@ abbrev pub without_arguments : ℕ → Activation → Activation
 without_arguments count a = record a { levels = record a.levels { operands = drop count a.levels.operands; at = a.levels.at + 1 } }
 
 -- from r, what a call makes of the caller's place, to the calls after it
-abbrev pub Called : Module → ℕ → Reduced → Activation → List TypedValue → List Activation → Activation → List Activation → Result Bool AdvanceFault → Type 0
+abbrev pub Called : Module → ℕ → Reduced → Activation → List TypedValue → List Activation → Activation → List Activation → Result Bool StepFault → Type 0
 Called m callee r old globals callers new callers' (Ok true) =
     (callers' ≡ without_arguments (param_count (callable m callee)) old ∷ callers)
     × (r ≡ Next None (vars_of old globals) (Frame (drop (param_count (callable m callee)) old.levels.operands) (todo m old.func old.levels.block (old.levels.at + 1)) new.func new.locals (left_of m new.func new.levels)))

@@ -15,6 +15,8 @@ use Rattle.wm_machine.specs.Term.{Config, Over}
 use Rattle.wm_machine.specs.Step.{step, access_of}
 use Rattle.wm_machine.specs.Configuration.{left_of, under}
 use Rattle.wm_machine.specs.Inside.{vars_of}
+use Rattle.wm_machine.specs.Fits.{FitsConfig}
+use Rattle.wm_valid.specs.Valid.{Valid}
 
 -- the calls of a thread, the innermost apart and its callers after it
 pub record State : Type 0 where
@@ -32,6 +34,11 @@ config_from None s =
 -- the configuration of a thread
 abbrev pub config_of : State → Config
 config_of s = config_from s.ended s
+
+-- the module is valid, and what is left of the thread fits it
+pub record Sound (s : State) : Type 0 where
+  pub valid : Valid s.module
+  pub fits : FitsConfig s.module (config_of s)
 
 -- what a thread needs for its next step
 abbrev pub as_need : Option OpFields → Need

@@ -1,6 +1,7 @@
 //! A thread, step by step.
-ghost use Rattle.std.specs.Prelude.{◌≡◌, ◌≤◌, ◌⊎◌, ℕ, Some, None, Ok, Err, OnOk, OnErr, IfErr, IfOk};
-ghost use Rattle.wm_ast.specs.Module.{pages_of};
+ghost use Rattle.std.specs.Prelude.{◌≡◌, ◌⊎◌, ℕ, Some, Ok, Err, OnOk, OnErr, IfErr, IfOk};
+ghost use Rattle.wm_valid.specs.Valid.{Valid};
+ghost use Rattle.wm_machine.specs.Term.{Config};
 ghost use Rattle.wm_machine.specs.State.{config_of, need_of, read_in, Answers};
 ghost use Rattle.wm_machine.specs.Step.{step, went, result_of};
 ghost use Rattle.wm_machine.specs.Start.{started, started_in};
@@ -9,7 +10,7 @@ ghost use Rattle.wm_machine.specs.Inside.{as_list};
 
 use crate::activation::{Activation, Reached};
 use crate::call::{call, leave};
-use crate::fault::{AdvanceFault, StartFault};
+use crate::fault::{AdvanceFault, StartFault, StepFault};
 use crate::functions::callable;
 use crate::levels::Levels;
 use crate::perform::{go_on, next_op};
@@ -46,16 +47,14 @@ pub struct Thread<'m> {
 }
 
 impl<'m> Model for Thread<'m> {
-    ghost use Rattle.std.specs.Prelude.{reverse, ◌≤◌};
-    ghost use Rattle.wm_machine.specs.State.{State};
+    ghost use Rattle.std.specs.Prelude.{reverse};
+    ghost use Rattle.wm_machine.specs.State.{State, Sound};
 
     ghost Value = { State };
 
-    ghost use Rattle.wm_ast.specs.Module.{pages_of};
-
     ghost view = { λ t. record { «module» = t.module.now; ended = t.end; running = t.running; callers = reverse t.callers.items; globals = t.globals } };
 
-    ghost invariant = { λ t. pages_of t.module.now.memory ≤ 65536 };
+    ghost invariant = { λ t. Sound record { «module» = t.module.now; ended = t.end; running = t.running; callers = reverse t.callers.items; globals = t.globals } };
 }
 
 impl<'m> Thread<'m> {
@@ -66,7 +65,7 @@ impl<'m> Thread<'m> {
         func: usize,
         args: &[u64],
     ) -> Result<Thread<'m>, StartFault>
-        requires { pages_of «module».now.memory ≤ 65536 }
+        requires { Valid «module».now }
         ensures ok { IfOk result (λ t. (started_in «module».now func (callable_in «module».now func) args.now ≡ Ok (config_of t)) × (t.module ≡ «module».now)) }
         ensures fault { IfErr result (λ f. (f ≡ StartFault.OutOfMemory) ⊎ (started_in «module».now func (callable_in «module».now func) args.now ≡ Err f)) }
     {
@@ -140,11 +139,11 @@ impl<'m> Thread<'m> {
     ///
     /// # Errors
     ///
-    /// `Stuck` where there is no step, `OutOfMemory` where memory was refused.
+    /// `OutOfMemory` where memory was refused. There is a step whatever the access reads: the thread is of a valid module.
     pub fn advance(&mut self, reply: Option<Reply>) -> Result<(), AdvanceFault>
         requires { Answers (need_of 0 self.old) reply }
         ensures ok { OnOk result (went (step self.old.module (read_in reply) (config_of self.old)) ≡ Some (config_of self.new)) }
-        ensures stuck { result ≡ Err AdvanceFault.Stuck → went (step self.old.module (read_in reply) (config_of self.old)) ≡ None }
+        ensures never_stuck { (read : ℕ) → (c : Config) × (went (step self.old.module read (config_of self.old)) ≡ Some c) }
         ensures err { OnErr result (self.new ≡ self.old) }
         ensures same { self.new.module ≡ self.old.module }
     {
@@ -154,7 +153,8 @@ impl<'m> Thread<'m> {
             &mut self.globals,
             value_read(reply),
         ) {
-            Err(fault) => Err(fault),
+            Err(StepFault::Stuck) => unreachable!(),
+            Err(StepFault::OutOfMemory) => Err(AdvanceFault::OutOfMemory),
             Ok(Reached::Within) => Ok(()),
             Ok(Reached::Trapped(kind)) => {
                 self.end = Some(End::Trap(kind));
@@ -176,7 +176,8 @@ impl<'m> Thread<'m> {
                     &mut self.callers,
                     callee as usize,
                 ) {
-                    Err(fault) => Err(fault),
+                    Err(StepFault::Stuck) => unreachable!(),
+                    Err(StepFault::OutOfMemory) => Err(AdvanceFault::OutOfMemory),
                     Ok(true) => Ok(()),
                     Ok(false) => {
                         self.end = Some(End::Trap(TrapKind::Exhausted));

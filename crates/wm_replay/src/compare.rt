@@ -66,7 +66,6 @@ fn access_on(
     }
     match thread.advance(Some(reply_of(op, event))) {
         Ok(()) => Ok(Progress::Made(made + 1)),
-        Err(AdvanceFault::Stuck) => Ok(Progress::Rests),
         Err(AdvanceFault::OutOfMemory) => Err(AllocError),
     }
 }
@@ -81,7 +80,6 @@ fn step_on(thread: &mut Thread, stated: &[Event], made: usize) -> Result<Progres
         Need::Access(op) => access_on(thread, &op, stated, made),
         Need::Local => match thread.advance(None) {
             Ok(()) => Ok(Progress::Made(made)),
-            Err(AdvanceFault::Stuck) => Ok(Progress::Rests),
             Err(AdvanceFault::OutOfMemory) => Err(AllocError),
         },
     }
@@ -161,7 +159,7 @@ fn difference(
     }
 }
 
-/// IsDifference a log with the runs of its threads: each is started as its log says, and run for its stated steps on the
+/// Compares a log with the runs of its threads: each is started as its log says, and run for its stated steps on the
 /// values that its events read.
 ///
 /// # Errors

@@ -14,8 +14,10 @@ use Rattle.wm_event.specs.LoggedRun.{LoggedRun, execution}
 use Rattle.wm_event.specs.Shape.{ListsEachOnce}
 use Rattle.wm_event.proofs.PlaceLemmas.{position_listed}
 use Rattle.wm_event.proofs.Scan.{NoneBelow, none-found, scan-found, scan-more}
+use Rattle.wm_rules.specs.declared.scan.LateRule.TheVariants.{Coherence, NoTearing, SequentialConsistency}
+use Rattle.wm_rules.specs.Late.{late_number}
 use Rattle.wm_rules.specs.Others.{FindsListed}
-use Rattle.wm_rules.specs.Scan.{Finds}
+use Rattle.wm_hb.specs.Scan.{Finds}
 
 -- of two faults of one case the one whose other write stands no later comes no later
 pub other_no_later : (x : Execution) (a t i k c : ℕ) (f g : RuleFault) → BeginsWith (a ∷ t ∷ i ∷ k ∷ c ∷ []) (rank x f) → BeginsWith (a ∷ t ∷ i ∷ k ∷ c ∷ []) (rank x g)
@@ -68,23 +70,6 @@ module _ (run : LoggedRun) (once : ListsEachOnce run.log run.witness.order) (a t
           let order : found.place ≤ l.0 = ⊎_elim (λ (e : l.0 < found.place). absurd (found.first l.0 s.0 e l.1 s.3)) (λ (e : found.place ≤ l.0). e) (cases_lt l.0 found.place) in
           other_no_later (execution run) a t i k c (make key) f (makes key found.holds).1 u.1 (omega (arith, mine, its, order))
 
-module _ (x : Execution) (a t i : ℕ) where
-  -- the first byte with a fault has the first fault of the event
-  pub byte_found : (k : ℕ) (r : Option RuleFault) → is_some r ≡ true → Finds x (a ∷ t ∷ i ∷ k ∷ []) r → NoneBelow (rank x) (Breaks x) (a ∷ t ∷ i ∷ []) k → Finds x (a ∷ t ∷ i ∷ []) r
-  byte_found k r some found none = scan-found (rank x) (Breaks x) (a ∷ t ∷ i ∷ []) k r some found none (λ f h b. (f.byte, (b.0, (b.1.0, (b.1.1.0, (refl, tt))))))
-
-  -- and where none of the bytes has one, the event has none
-  pub bytes_none : (n : ℕ) → ((f : RuleFault) → Under (rank x) (Breaks x) (a ∷ t ∷ i ∷ []) f → f.byte < n) → NoneBelow (rank x) (Breaks x) (a ∷ t ∷ i ∷ []) n → Finds x (a ∷ t ∷ i ∷ []) None
-  bytes_none n few none = none-found (rank x) (Breaks x) (a ∷ t ∷ i ∷ []) n (λ f h b. (f.byte, few f (h, b), (b.0, (b.1.0, (b.1.1.0, (refl, tt)))))) none
-
-module _ (x : Execution) (a : ℕ) where
-  -- the first thread with a fault has the first fault of the rule
-  pub thread_found : (t : ℕ) (r : Option RuleFault) → is_some r ≡ true → Finds x (a ∷ t ∷ []) r → NoneBelow (rank x) (Breaks x) (a ∷ []) t → Finds x (a ∷ []) r
-  thread_found t r some found none = scan-found (rank x) (Breaks x) (a ∷ []) t r some found none (λ f h b. (f.event.thread, (b.0, (refl, tt))))
-
-  pub threads_none : (n : ℕ) → ((f : RuleFault) → Breaks x f → f.event.thread < n) → NoneBelow (rank x) (Breaks x) (a ∷ []) n → Finds x (a ∷ []) None
-  threads_none n few none = none-found (rank x) (Breaks x) (a ∷ []) n (λ f h b. (f.event.thread, few f h, (b.0, (refl, tt)))) none
-
 module _ (x : Execution) where
   -- the first rule with a fault has the first fault of all
   pub rule_found : (a : ℕ) (r : Option RuleFault) → is_some r ≡ true → Finds x (a ∷ []) r → NoneBelow (rank x) (Breaks x) [] a → Finds x [] r
@@ -96,11 +81,9 @@ module _ (x : Execution) where
   pub none_of : (begin : List ℕ) → Finds x [] None → Finds x begin None
   none_of begin none f u = none f (u.0, tt)
 
--- the rules are judged in the order of their numbers
-pub rule_at : (i : ℕ) → i < 5 → rule_number (get_or (WrittenValues ∷ Order ∷ Coherence ∷ NoTearing ∷ SequentialConsistency ∷ []) i WrittenValues) ≡ i + 1
-rule_at zero l = refl
-rule_at (suc zero) l = refl
-rule_at (suc (suc zero)) l = refl
-rule_at (suc (suc (suc zero))) l = refl
-rule_at (suc (suc (suc (suc zero)))) l = refl
-rule_at (suc (suc (suc (suc (suc i))))) l = absurd (omega arith)
+-- the last three rules are judged in the order of their numbers
+pub late_at : (i : ℕ) → i < 3 → late_number (get_or (Coherence ∷ NoTearing ∷ SequentialConsistency ∷ []) i Coherence) ≡ i + 3
+late_at zero l = refl
+late_at (suc zero) l = refl
+late_at (suc (suc zero)) l = refl
+late_at (suc (suc (suc i))) l = absurd (omega arith)

@@ -1,5 +1,5 @@
 -- The faults of V3 at a byte.
-use Rattle.std.proofs.Common.{◌≡◌, ℕ, ◌≤◌, List, [], ◌∷◌, Option, None, Some, IsSome, arith, refl, subst}
+use Rattle.std.proofs.Common.{◌≡◌, ℕ, ◌≤◌, List, [], ◌∷◌, Option, None, Some, IsSome, arith, refl, slice_get, ◌+◌, sym, subst}
 use Rattle.std.specs.Option.{option_map}
 use Rattle.wm_event.specs.declared.event.Event.{Event}
 use Rattle.wm_event.specs.declared.event.EventKey.{EventKey}
@@ -14,11 +14,18 @@ use Rattle.wm_event.specs.First.{Under}
 use Rattle.wm_event.specs.HappensBefore.{Chain, HappensBefore}
 use Rattle.wm_event.specs.LoggedRun.{LoggedRun, execution}
 use Rattle.wm_event.specs.Shape.{ListsEachOnce}
+use Rattle.std.specs.List.{filter}
+use Rattle.std.specs.Prelude.{unwrap_or}
+use Rattle.wm_event.specs.declared.writes.ByteWrite.{ByteWrite}
+use Rattle.wm_event.specs.Rules.{KeepsOrder}
+use Rattle.wm_event.specs.Writes.{writes_from}
+use Rattle.wm_rules.specs.Between.{IsPlaceOf, stands_between}
+use Rattle.wm_rules.proofs.BetweenLemmas.{Covers, covers_between}
 use Rattle.wm_rules.specs.Others.{FindsListed, IsWrittenBetween}
-use Rattle.wm_rules.specs.Scan.{Finds, IsEventOf}
+use Rattle.wm_hb.specs.Scan.{Finds, IsEventOf}
 use Rattle.wm_rules.proofs.Before.{before_from}
 use Rattle.wm_rules.proofs.CaseLemmas.{finds_other, other_no_later}
-use Rattle.wm_rules.proofs.FaultLemmas.{read_moves, rule_three, same_key_parts}
+use Rattle.wm_hb.proofs.FaultLemmas.{read_moves, rule_three, same_key_parts}
 
 -- nothing happens before Init
 pub nothing_before_init : (x : Execution) (a : EventId) → HappensBefore x a Init → ⊥
@@ -80,3 +87,13 @@ between_finds run e k w once there reads =
     (λ f u. between_says run (key_of e) e k w f.case f.other (coherence_says (execution run) e k w there reads f (under_case (execution run) e.thread e.number k 2 f u)) u.1.1.1.1.1.0)
     (λ v h. ((e, there, reads, written_between refl (At v) refl h.writes h.after h.before), (refl, (refl, (refl, (refl, (refl, tt)))))))
     (λ v. refl)
+
+-- the writes of a byte between its writer and the read have each that happens between the two
+pub covers_written : (run : LoggedRun) → ListsEachOnce run.log run.witness.order → KeepsOrder (execution run) → (e : Event) (k : ℕ) (w : EventId) (start : Option ℕ) (end : ℕ) (part : List ByteWrite)
+    → IsPlaceOf run.witness.order start w → slice_get run.witness.order end ≡ Some (key_of e)
+    → part ≡ filter (stands_between (unwrap_or start 0) end) (writes_from run.log (e.address + k) 0 run.witness.order)
+    → Covers run.witness.order part (λ key. IsWrittenBetween (execution run) (key_of e) e k w (At key))
+covers_written run once agrees e k w start end part is at same =
+    subst (λ (xs : List ByteWrite). Covers run.witness.order xs (λ key. IsWrittenBetween (execution run) (key_of e) e k w (At key))) (sym same)
+    (covers_between run once w start (unwrap_or start 0) end (key_of e) is refl at (e.address + k) (λ key. IsWrittenBetween (execution run) (key_of e) e k w (At key))
+    (λ v p. (p.writes, agrees w (At v) p.after, agrees (At v) (At (key_of e)) p.before)))

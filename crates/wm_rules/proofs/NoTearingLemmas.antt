@@ -15,9 +15,9 @@ use Rattle.wm_event.specs.First.{Under}
 use Rattle.wm_event.specs.LoggedRun.{LoggedRun, execution}
 use Rattle.wm_event.specs.Shape.{ListsEachOnce}
 use Rattle.wm_rules.specs.Others.{FindsListed}
-use Rattle.wm_rules.specs.Scan.{Finds, IsEventOf}
+use Rattle.wm_hb.specs.Scan.{Finds, IsEventOf}
 use Rattle.wm_rules.proofs.CaseLemmas.{finds_other, first_case, last_case}
-use Rattle.wm_rules.proofs.FaultLemmas.{read_moves, rule_four, same_key_parts, some_of}
+use Rattle.wm_hb.proofs.FaultLemmas.{read_moves, rule_four, same_key_parts, some_of}
 
 -- what a fault of V4 under a byte says
 tearing_says : (x : Execution) (e : Event) (k : ℕ) (w : EventId) → IsEventOf x e → ReadsFrom x (key_of e) k w

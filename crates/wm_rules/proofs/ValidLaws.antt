@@ -1,5 +1,5 @@
 -- Where no fault of V3 to V5 is found, the rule holds.
-use Rattle.std.proofs.Common.{◌≡◌, ◌≢◌, ℕ, ◌<◌, [], ◌∷◌, None, Some, refl, sym, ap, ◌∙◌, slice_get, ◌⊎◌, inl, inr, ⊎_elim}
+use Rattle.std.proofs.Common.{◌≡◌, ◌≢◌, ℕ, ◌<◌, ◌≤◌, arith, subst, [], ◌∷◌, None, Some, refl, sym, ap, ◌∙◌, slice_get, ◌⊎◌, inl, inr, ⊎_elim}
 use Rattle.std.proofs.lemmas.Bool.{cases_eq, cases_order}
 use Rattle.std.proofs.lemmas.Option.{same_Some}
 use Rattle.wm_event.specs.declared.event.EventKey.{EventKey}
@@ -10,10 +10,17 @@ use Rattle.wm_event.specs.Execution.{Execution, ReadsFrom}
 use Rattle.wm_event.specs.Faults.{reads_future, written_between}
 use Rattle.wm_event.specs.LoggedRun.{LoggedRun, execution}
 use Rattle.wm_event.specs.Rules.{IsTearFreeWriter, IsValid, KeepsSequentialConsistency, KeepsCoherence, KeepsNoTearing}
-use Rattle.wm_rules.specs.Scan.{Finds}
-use Rattle.wm_rules.proofs.CaseLemmas.{none_of}
-use Rattle.wm_rules.proofs.FaultLemmas.{same_key_parts}
-use Rattle.wm_rules.proofs.Valid.{has_earlier, keeps_order, keeps_written_values}
+use Rattle.wm_event.specs.declared.rule.Rule.{Rule}
+use Rattle.wm_event.specs.declared.rule.Rule.TheVariants.{WrittenValues, Order}
+use Rattle.wm_event.specs.declared.rule.RuleFault.{RuleFault}
+use Rattle.wm_event.specs.Faults.{Breaks, BreaksRule, rank, rule_number}
+use Rattle.wm_event.specs.First.{IsFirst}
+use Rattle.wm_event.specs.Rules.{KeepsOrder}
+use Rattle.wm_hb.proofs.Broken.{disagrees}
+use Rattle.wm_hb.specs.Scan.{Finds}
+use Rattle.wm_rules.proofs.CaseLemmas.{none_of, of_all, rule_found}
+use Rattle.wm_hb.proofs.FaultLemmas.{same_key_parts}
+use Rattle.wm_hb.proofs.Valid.{has_earlier, keeps_order, keeps_written_values}
 
 pub keeps_coherence : (x : Execution) → Finds x (3 ∷ []) None → KeepsCoherence x
 keeps_coherence x none r e k w there reads = (
@@ -70,3 +77,45 @@ is_valid run none = record {
   keeps_no_tearing = keeps_no_tearing (execution run) (none_of (execution run) (4 ∷ []) none);
   keeps_sequential_consistency = keeps_sequential_consistency (execution run) (none_of (execution run) (5 ∷ []) none);
 }
+
+-- a rule's number is one of the five
+rule_small : (r : Rule) → rule_number r < 6
+rule_small WrittenValues = omega arith
+rule_small Order = omega arith
+rule_small Coherence = omega arith
+rule_small NoTearing = omega arith
+rule_small SequentialConsistency = omega arith
+
+pub from_value : (x : Execution) (f : RuleFault) → Finds x (1 ∷ []) (Some f) → IsFirst (rank x) (Breaks x) f
+from_value x f found = of_all x f (rule_found x 1 (Some f) refl found (λ j l g h b. first_rule g.rule j l b.0))
+  where
+    first_rule : (r : Rule) (j : ℕ) → j < 1 → rule_number r ≡ j → ⊥
+    first_rule WrittenValues j l e = absurd (omega arith)
+    first_rule Order j l e = absurd (omega arith)
+    first_rule Coherence j l e = absurd (omega arith)
+    first_rule NoTearing j l e = absurd (omega arith)
+    first_rule SequentialConsistency j l e = absurd (omega arith)
+
+pub from_order : (x : Execution) (f : RuleFault) → Finds x (1 ∷ []) None → Finds x (2 ∷ []) (Some f) → IsFirst (rank x) (Breaks x) f
+from_order x f none found = of_all x f (rule_found x 2 (Some f) refl found (λ j l g h b. none_before g h j l b.0))
+  where
+    none_before : (g : RuleFault) → Breaks x g → (j : ℕ) → j < 2 → rule_number g.rule ≡ j → ⊥
+    none_before g h j l e = by g.rule refl
+      where
+        by : (r : Rule) → g.rule ≡ r → ⊥
+        by WrittenValues s = none g (h, (ap rule_number s, tt))
+        by Order s = let n = ap rule_number s in absurd (omega arith)
+        by Coherence s = let n = ap rule_number s in absurd (omega arith)
+        by NoTearing s = let n = ap rule_number s in absurd (omega arith)
+        by SequentialConsistency s = let n = ap rule_number s in absurd (omega arith)
+
+-- where V1 has no fault and the order agrees, a fault is of a later rule
+pub later_rule : (x : Execution) → Finds x (1 ∷ []) None → KeepsOrder x → (f : RuleFault) → Breaks x f → 3 ≤ rule_number f.rule
+later_rule x none agrees f h = by f.rule refl
+  where
+    by : (r : Rule) → f.rule ≡ r → 3 ≤ rule_number f.rule
+    by WrittenValues s = absurd (none f (h, (ap rule_number s, tt)))
+    by Order s = absurd (disagrees x f (subst (BreaksRule x f) s h) agrees)
+    by Coherence s = let n = ap rule_number s in omega arith
+    by NoTearing s = let n = ap rule_number s in omega arith
+    by SequentialConsistency s = let n = ap rule_number s in omega arith

@@ -1,46 +1,94 @@
 //! V3: a read doesn't happen before its writer, and no write of the byte happens between the two.
-ghost use Rattle.std.specs.Prelude.{◌≡◌, ◌+◌, ◌<◌, ◌↔◌, [], ◌∷◌, IsTrue};
+ghost use Rattle.std.specs.Prelude.{◌≡◌, ◌+◌, ◌<◌, ◌↔◌, [], ◌∷◌, IsTrue, MatchOption, Some, slice_get};
 ghost use Rattle.wm_event.specs.declared.event.EventId.TheVariants.{At};
 ghost use Rattle.wm_event.specs.Event.{key_of};
 ghost use Rattle.wm_event.specs.Execution.{ReadsFrom};
 ghost use Rattle.wm_event.specs.LoggedRun.{execution};
-ghost use Rattle.wm_event.specs.Shape.{ListsEachOnce};
+ghost use Rattle.wm_event.specs.Shape.{IsThere, ListsEachOnce};
+ghost use Rattle.wm_event.specs.declared.event.EventKey.{EventKey};
+ghost use Rattle.wm_event.specs.HappensBefore.{HappensBefore as IsBefore};
+ghost use Rattle.wm_rules.specs.Between.{IsPlaceOf};
 ghost use Rattle.wm_rules.specs.Others.{FindsListed, IsWrittenBetween};
-ghost use Rattle.wm_rules.specs.Scan.{Finds, IsEventOf};
+ghost use Rattle.wm_hb.specs.Scan.{Finds, IsEventOf};
 
-use crate::happens_before::HappensBefore;
+use crate::between::{is_after, part_between};
+use wm_hb::HappensBefore;
 use wm_event::{Event, EventId, EventKey, Rule, RuleFault};
 
 /// Whether an event writes a byte of a read and happens between it and the byte's writer.
 fn is_written_between(
-    before: &HappensBefore,
+    relation: &HappensBefore,
     event: &Event,
     byte: u8,
     writer: EventId,
     other: EventId,
 ) -> bool
-    ensures { IsTrue result ↔ IsWrittenBetween (execution before.now) (key_of event.now) event.now byte writer other }
+    ensures { IsTrue result ↔ IsWrittenBetween (execution relation.now) (key_of event.now) event.now byte writer other }
 {
     let address = u64::from(event.address) + u64::from(byte);
-    before.candidate().byte_by(other, address).is_some()
-        && before.before(writer, other)
-        && before.before(other, EventId::At(event.key()))
+    relation.candidate().byte_by(other, address).is_some()
+        && relation.before(writer, other)
+        && relation.before(other, EventId::At(event.key()))
+}
+
+/// The event at a place of the order, where it writes a byte of a read and happens between it and the byte's writer.
+fn written_between_at(
+    relation: &HappensBefore,
+    event: &Event,
+    byte: u8,
+    writer: EventId,
+    start: Option<usize>,
+    end: usize,
+    place: usize,
+) -> Option<EventKey>
+    requires start { IsPlaceOf relation.now.witness.order start writer }
+    requires end { slice_get relation.now.witness.order end ≡ Some (key_of event.now) }
+    ensures { MatchOption result
+        ((v : EventKey) → slice_get relation.now.witness.order place ≡ Some v → IsWrittenBetween (execution relation.now) (key_of event.now) event.now byte writer (At v) → ⊥)
+        (λ v. (slice_get relation.now.witness.order place ≡ Some v) × IsWrittenBetween (execution relation.now) (key_of event.now) event.now byte writer (At v)) }
+{
+    if !is_after(relation, writer, start, place) {
+        return None;
+    }
+    if !relation.before_at(place, end) {
+        return None;
+    }
+    let candidate = relation.candidate();
+    let order = candidate.witness().order.as_slice();
+    let Some(key) = order.get(place) else {
+        return None;
+    };
+    if is_written_between(relation, event, byte, writer, EventId::At(*key)) {
+        Some(*key)
+    } else {
+        None
+    }
 }
 
 /// The first listed write of a byte that happens between a read and its writer.
 fn first_between(
-    before: &HappensBefore,
+    relation: &HappensBefore,
     event: &Event,
     byte: u8,
     writer: EventId,
 ) -> Option<EventKey>
-    ensures first { FindsListed before.now.witness.order
-        (λ key. IsWrittenBetween (execution before.now) (key_of event.now) event.now byte writer (At key)) result }
-    ensures order { ListsEachOnce before.now.log before.now.witness.order }
+    requires listed { IsEventOf (execution relation.now) event.now }
+    requires there { IsThere relation.now.log writer }
+    ensures first { FindsListed relation.now.witness.order
+        (λ key. IsWrittenBetween (execution relation.now) (key_of event.now) event.now byte writer (At key)) result }
+    ensures order { ListsEachOnce relation.now.log relation.now.witness.order }
 {
-    for key in before.candidate().witness().order.as_slice() {
-        if is_written_between(before, event, byte, writer, EventId::At(*key)) {
-            return Some(*key);
+    let candidate = relation.candidate();
+    let _order = candidate.witness();
+    let Some(end) = candidate.place(EventId::At(event.key())) else {
+        return None;
+    };
+    let start = candidate.place(writer);
+    let writes = candidate.byte_writes(u64::from(event.address) + u64::from(byte));
+    for write in part_between(writes, start.unwrap_or(0), end) {
+        let found = written_between_at(relation, event, byte, writer, start, end, write.place);
+        if found.is_some() {
+            return found;
         }
     }
     None
@@ -48,16 +96,16 @@ fn first_between(
 
 /// The fault of a read that happens before the writer of a byte.
 fn future_fault_at(
-    before: &HappensBefore,
+    relation: &HappensBefore,
     event: &Event,
     byte: u8,
     writer: EventId,
 ) -> Option<RuleFault>
-    requires listed { IsEventOf (execution before.now) event.now }
-    requires writer { ReadsFrom (execution before.now) (key_of event.now) byte writer }
-    ensures { Finds (execution before.now) (3 ∷ event.now.thread ∷ event.now.number ∷ byte ∷ 1 ∷ []) result }
+    requires listed { IsEventOf (execution relation.now) event.now }
+    requires writer { ReadsFrom (execution relation.now) (key_of event.now) byte writer }
+    ensures { Finds (execution relation.now) (3 ∷ event.now.thread ∷ event.now.number ∷ byte ∷ 1 ∷ []) result }
 {
-    if !before.before(EventId::At(event.key()), writer) {
+    if !relation.before(EventId::At(event.key()), writer) {
         return None;
     }
     Some(RuleFault {
@@ -72,16 +120,17 @@ fn future_fault_at(
 
 /// The fault of a byte that is written between a read and its writer.
 fn between_fault_at(
-    before: &HappensBefore,
+    relation: &HappensBefore,
     event: &Event,
     byte: u8,
     writer: EventId,
 ) -> Option<RuleFault>
-    requires listed { IsEventOf (execution before.now) event.now }
-    requires writer { ReadsFrom (execution before.now) (key_of event.now) byte writer }
-    ensures { Finds (execution before.now) (3 ∷ event.now.thread ∷ event.now.number ∷ byte ∷ 2 ∷ []) result }
+    requires listed { IsEventOf (execution relation.now) event.now }
+    requires writer { ReadsFrom (execution relation.now) (key_of event.now) byte writer }
+    requires there { IsThere relation.now.log writer }
+    ensures { Finds (execution relation.now) (3 ∷ event.now.thread ∷ event.now.number ∷ byte ∷ 2 ∷ []) result }
 {
-    let Some(other) = first_between(before, event, byte, writer) else {
+    let Some(other) = first_between(relation, event, byte, writer) else {
         return None;
     };
     Some(RuleFault {
@@ -96,30 +145,31 @@ fn between_fault_at(
 
 /// The first fault at a byte of a read.
 fn coherence_fault_at(
-    before: &HappensBefore,
+    relation: &HappensBefore,
     event: &Event,
     byte: u8,
     writer: EventId,
 ) -> Option<RuleFault>
-    requires listed { IsEventOf (execution before.now) event.now }
-    requires writer { ReadsFrom (execution before.now) (key_of event.now) byte writer }
-    ensures { Finds (execution before.now) (3 ∷ event.now.thread ∷ event.now.number ∷ byte ∷ []) result }
+    requires listed { IsEventOf (execution relation.now) event.now }
+    requires writer { ReadsFrom (execution relation.now) (key_of event.now) byte writer }
+    requires there { IsThere relation.now.log writer }
+    ensures { Finds (execution relation.now) (3 ∷ event.now.thread ∷ event.now.number ∷ byte ∷ []) result }
 {
-    let fault = future_fault_at(before, event, byte, writer);
+    let fault = future_fault_at(relation, event, byte, writer);
     if fault.is_some() {
         return fault;
     }
-    between_fault_at(before, event, byte, writer)
+    between_fault_at(relation, event, byte, writer)
 }
 
 /// The first fault of an event.
-pub fn coherence_fault(before: &HappensBefore, event: &Event) -> Option<RuleFault>
-    requires { IsEventOf (execution before.now) event.now }
-    ensures { Finds (execution before.now) (3 ∷ event.now.thread ∷ event.now.number ∷ []) result }
+pub fn coherence_fault(relation: &HappensBefore, event: &Event) -> Option<RuleFault>
+    requires { IsEventOf (execution relation.now) event.now }
+    ensures { Finds (execution relation.now) (3 ∷ event.now.thread ∷ event.now.number ∷ []) result }
 {
-    let writers = before.candidate().writers(event.key());
+    let writers = relation.candidate().writers(event.key());
     for (byte, writer) in writers.iter().enumerate() {
-        let fault = coherence_fault_at(before, event, byte as u8, *writer);
+        let fault = coherence_fault_at(relation, event, byte as u8, *writer);
         if fault.is_some() {
             return fault;
         }

@@ -1,5 +1,6 @@
 //! V4: among the writers of a tear-free read at most one event is tear-free with its range.
 ghost use Rattle.std.specs.Prelude.{◌≡◌, ℕ, ◌<◌, ◌↔◌, [], ◌∷◌, IsTrue};
+ghost use Rattle.wm_event.specs.declared.event.EventId.{EventId};
 ghost use Rattle.wm_event.specs.declared.event.EventId.TheVariants.{At};
 ghost use Rattle.wm_event.specs.Event.{key_of};
 ghost use Rattle.wm_event.specs.Execution.{ReadsFrom};
@@ -8,7 +9,7 @@ ghost use Rattle.wm_event.specs.LoggedRun.{execution};
 ghost use Rattle.wm_event.specs.Rules.{IsTearFree, IsTearFreeLike};
 ghost use Rattle.wm_event.specs.Shape.{ListsEachOnce};
 ghost use Rattle.wm_rules.specs.Others.{FindsListed};
-ghost use Rattle.wm_rules.specs.Scan.{Finds, IsEventOf};
+ghost use Rattle.wm_hb.specs.Scan.{Finds, IsEventOf};
 
 use wm_access::AccessWidth;
 use wm_event::{Candidate, Event, EventId, EventKey, Rule, RuleFault};
@@ -59,6 +60,18 @@ fn is_torn(candidate: &Candidate, event: &Event, byte: u8, writer: EventId, othe
         && has_earlier(candidate, event, byte, other)
 }
 
+/// Whether one of its writers tears a read at a byte.
+fn is_torn_by_any(candidate: &Candidate, event: &Event, byte: u8, writer: EventId) -> bool
+    ensures { (v : EventId) → BreaksNoTearing (execution candidate.now) (key_of event.now) event.now byte writer v → IsTrue result }
+{
+    for other in candidate.writers(event.key()) {
+        if is_torn(candidate, event, byte, writer, *other) {
+            return true;
+        }
+    }
+    false
+}
+
 /// The first listed event that tears a read at a byte.
 fn first_tearing(
     candidate: &Candidate,
@@ -70,6 +83,10 @@ fn first_tearing(
         (λ key. BreaksNoTearing (execution candidate.now) (key_of event.now) event.now byte writer (At key)) result }
     ensures order { ListsEachOnce candidate.now.log candidate.now.witness.order }
 {
+    let _order = candidate.witness();
+    if !is_torn_by_any(candidate, event, byte, writer) {
+        return None;
+    }
     for key in candidate.witness().order.as_slice() {
         if is_torn(candidate, event, byte, writer, EventId::At(*key)) {
             return Some(*key);

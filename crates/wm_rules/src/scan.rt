@@ -1,62 +1,148 @@
 //! The scan of all events, by one rule after the other.
-ghost use Rattle.std.specs.Prelude.{◌≡◌, ◌<◌, [], ◌∷◌, IfOk, length};
-ghost use Rattle.wm_event.specs.Faults.{Judges, rule_number};
+ghost use Rattle.std.specs.Prelude.{◌≡◌, ◌<◌, ◌≤◌, [], ◌∷◌, All, Bool, IfOk, List, length};
+ghost use Rattle.std.specs.List.{AllZip};
+ghost use Rattle.rayon.specs.Lists.{first_true};
+ghost use Rattle.wm_event.specs.declared.rule.RuleFault.{RuleFault};
+ghost use Rattle.wm_event.specs.Faults.{Breaks, Judges, rule_number};
 ghost use Rattle.wm_event.specs.LoggedRun.{execution};
-ghost use Rattle.wm_rules.specs.Scan.{Finds, IsEventOf};
+ghost use Rattle.wm_hb.specs.Edges.{fault_of};
+ghost use Rattle.wm_rules.specs.Late.{IsFaulty, late_number};
+ghost use Rattle.wm_hb.specs.Scan.{Finds, IsEventOf};
 
 use crate::coherence::coherence_fault;
-use crate::happens_before::HappensBefore;
-use crate::no_tearing::tearing_fault;
-use crate::order::order_fault;
 use crate::sequential_consistency::consistency_fault;
+use crate::no_tearing::tearing_fault;
 use crate::written_values::value_fault;
+use rayon::prelude::*;
 use std::alloc::AllocError;
+use std::thread::Threads;
 use wm_event::{Candidate, Event, Judgement, Rule, RuleFault};
+use wm_hb::{Edge, HappensBefore, Ordered};
 
-/// The rules, in the order in which they are judged.
-const RULES: [Rule; 5] = [
-    Rule::WrittenValues,
-    Rule::Order,
-    Rule::Coherence,
-    Rule::NoTearing,
-    Rule::SequentialConsistency,
+/// The first fault of a thread by V1.
+fn value_fault_in_thread(candidate: &Candidate, thread: usize) -> Option<RuleFault>
+    requires { thread < length candidate.now.log }
+    ensures { Finds (execution candidate.now) (1 ∷ thread ∷ []) result }
+{
+    let log = &candidate.log().threads()[thread];
+    for event in log.events.as_slice() {
+        let fault = value_fault(candidate, event);
+        if fault.is_some() {
+            return fault;
+        }
+    }
+    None
+}
+
+/// The first fault by V1.
+fn first_value_fault(candidate: &Candidate) -> Option<RuleFault>
+    ensures { Finds (execution candidate.now) (1 ∷ []) result }
+{
+    for thread in 0..candidate.log().threads().len() {
+        let fault = value_fault_in_thread(candidate, thread);
+        if fault.is_some() {
+            return fault;
+        }
+    }
+    None
+}
+
+/// The rules that speak of an order that agrees with happens-before.
+#[derive(Clone, Copy)]
+enum LateRule {
+    Coherence,
+    NoTearing,
+    SequentialConsistency,
+}
+
+/// Those rules, in the order in which they are judged.
+const LATE_RULES: [LateRule; 3] = [
+    LateRule::Coherence,
+    LateRule::NoTearing,
+    LateRule::SequentialConsistency,
 ];
 
 /// The first fault of an event by a rule.
-fn fault_at_event(before: &HappensBefore, rule: Rule, event: &Event) -> Option<RuleFault>
-    requires { IsEventOf (execution before.now) event.now }
-    ensures { Finds (execution before.now) (rule_number rule ∷ event.now.thread ∷ event.now.number ∷ []) result }
+fn fault_at_event(relation: &HappensBefore, rule: LateRule, event: &Event) -> Option<RuleFault>
+    requires { IsEventOf (execution relation.now) event.now }
+    ensures { Finds (execution relation.now) (late_number rule ∷ event.now.thread ∷ event.now.number ∷ []) result }
 {
     match rule {
-        Rule::WrittenValues => value_fault(before.candidate(), event),
-        Rule::Order => order_fault(before.candidate(), event),
-        Rule::Coherence => coherence_fault(before, event),
-        Rule::NoTearing => tearing_fault(before.candidate(), event),
-        Rule::SequentialConsistency => consistency_fault(before, event),
+        LateRule::Coherence => coherence_fault(relation, event),
+        LateRule::NoTearing => tearing_fault(relation.candidate(), event),
+        LateRule::SequentialConsistency => consistency_fault(relation, event),
     }
+}
+
+/// Whether an event has a fault by a rule.
+fn is_faulty(relation: &HappensBefore, rule: LateRule, event: &Event) -> bool
+    requires { IsEventOf (execution relation.now) event.now }
+    ensures { IsFaulty (execution relation.now) (late_number rule) event.now result }
+{
+    fault_at_event(relation, rule, event).is_some()
+}
+
+/// Where the first event with a fault by a rule stands among events, worked in parallel.
+fn first_faulty(
+    rt: &(impl Threads + Sync),
+    relation: &HappensBefore,
+    rule: LateRule,
+    events: &[Event],
+) -> Option<usize>
+    requires { All (IsEventOf (execution relation.now)) events.now }
+    ensures { (bs : List Bool) × AllZip (IsFaulty (execution relation.now) (late_number rule)) events.now bs × (result ≡ first_true bs) }
+{
+    events.par_iter().position_first(
+        rt,
+        |event: &Event| -> bool
+            requires { IsEventOf (execution relation.now) event.now }
+            ensures { IsFaulty (execution relation.entry.now) (late_number rule) event.now result }
+        { is_faulty(relation, rule, event) },
+    )
 }
 
 /// The first fault in a thread by a rule.
-fn fault_in_thread(before: &HappensBefore, rule: Rule, thread: usize) -> Option<RuleFault>
-    requires { thread < length before.now.log }
-    ensures { Finds (execution before.now) (rule_number rule ∷ thread ∷ []) result }
+fn fault_in_thread(relation: &HappensBefore, rule: LateRule, thread: usize) -> Option<RuleFault>
+    requires { thread < length relation.now.log }
+    ensures { Finds (execution relation.now) (late_number rule ∷ thread ∷ []) result }
 {
-    let log = &before.candidate().log().threads()[thread];
+    let log = &relation.candidate().log().threads()[thread];
     for event in log.events.as_slice() {
-        let fault = fault_at_event(before, rule, event);
+        let fault = fault_at_event(relation, rule, event);
         if fault.is_some() {
             return fault;
         }
     }
     None
+}
+
+/// The first fault in a thread by a rule. It looks in parallel whether there is any.
+fn fault_of_thread(
+    rt: &(impl Threads + Sync),
+    relation: &HappensBefore,
+    rule: LateRule,
+    thread: usize,
+) -> Option<RuleFault>
+    requires { thread < length relation.now.log }
+    ensures { Finds (execution relation.now) (late_number rule ∷ thread ∷ []) result }
+{
+    let log = &relation.candidate().log().threads()[thread];
+    if first_faulty(rt, relation, rule, log.events.as_slice()).is_none() {
+        return None;
+    }
+    fault_in_thread(relation, rule, thread)
 }
 
 /// The first fault by a rule.
-fn fault_by_rule(before: &HappensBefore, rule: Rule) -> Option<RuleFault>
-    ensures { Finds (execution before.now) (rule_number rule ∷ []) result }
+fn fault_by_rule(
+    rt: &(impl Threads + Sync),
+    relation: &HappensBefore,
+    rule: LateRule,
+) -> Option<RuleFault>
+    ensures { Finds (execution relation.now) (late_number rule ∷ []) result }
 {
-    for thread in 0..before.candidate().log().threads().len() {
-        let fault = fault_in_thread(before, rule, thread);
+    for thread in 0..relation.candidate().log().threads().len() {
+        let fault = fault_of_thread(rt, relation, rule, thread);
         if fault.is_some() {
             return fault;
         }
@@ -64,29 +150,55 @@ fn fault_by_rule(before: &HappensBefore, rule: Rule) -> Option<RuleFault>
     None
 }
 
-/// The first fault by any rule.
-fn first_fault(before: &HappensBefore) -> Option<RuleFault>
-    ensures { Finds (execution before.now) [] result }
+/// The first fault, where none is of the first two rules.
+fn first_fault(rt: &(impl Threads + Sync), relation: &HappensBefore) -> Option<RuleFault>
+    requires { (f : RuleFault) → Breaks (execution relation.now) f → 3 ≤ rule_number f.rule }
+    ensures { Finds (execution relation.now) [] result }
 {
-    for rule in RULES {
-        let fault = fault_by_rule(before, rule);
+    for rule in LATE_RULES {
+        let fault = fault_by_rule(rt, relation, rule);
         if fault.is_some() {
             return fault;
         }
     }
     None
+}
+
+/// The fault of an edge that the order doesn't agree with.
+fn fault_of_edge(edge: Edge) -> RuleFault
+    ensures { result ≡ fault_of edge }
+{
+    RuleFault {
+        rule: Rule::Order,
+        case: edge.case,
+        event: edge.event,
+        byte: edge.byte,
+        writer: edge.writer,
+        other: None,
+    }
 }
 
 /// Whether the memory rules permit a run: Valid where all five hold, else the first fault, which is the
 /// least by rule, event, byte, case and the place of the other write in the order.
 ///
 /// An error comes only where memory was refused.
-pub fn judge(rt: &impl AllocGlobal, candidate: &Candidate) -> Result<Judgement, AllocError>
+pub fn judge(
+    rt: &(impl AllocGlobal + Threads + Sync),
+    candidate: &Candidate,
+) -> Result<Judgement, AllocError>
     ensures judged { IfOk result (λ judgement. Judges (execution candidate.now) judgement) }
 {
-    let before = HappensBefore::of(rt.alloc(), candidate)?;
-    match first_fault(&before) {
-        Some(fault) => Ok(Judgement::Broken(fault)),
-        None => Ok(Judgement::Valid),
+    if let Some(fault) = first_value_fault(candidate) {
+        return Ok(Judgement::Broken(fault));
+    }
+    match Ordered::of(candidate) {
+        Err(edge) => Ok(Judgement::Broken(fault_of_edge(edge))),
+        Ok(ordered) => {
+            let relation = HappensBefore::of(rt, rt.alloc(), &ordered)?;
+            match first_fault(rt, &relation) {
+                Some(fault) => Ok(Judgement::Broken(fault)),
+                None => Ok(Judgement::Valid),
+            }
+        }
     }
 }

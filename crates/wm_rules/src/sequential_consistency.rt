@@ -1,5 +1,10 @@
 //! V5: no atomic write stands in the order between an atomic read and its writer.
-ghost use Rattle.std.specs.Prelude.{◌≡◌, ◌<◌, ◌↔◌, [], ◌∷◌, IsTrue};
+ghost use Rattle.std.specs.Prelude.{◌≡◌, ◌≢◌, ◌<◌, ◌↔◌, [], ◌∷◌, IsTrue, MatchOption, Some, slice_get};
+ghost use Rattle.wm_event.specs.declared.event.Event.{Event};
+ghost use Rattle.wm_event.specs.declared.event.EventKey.{EventKey};
+ghost use Rattle.wm_event.specs.declared.event.EventId.{EventId};
+ghost use Rattle.wm_event.specs.Execution.{event_at};
+ghost use Rattle.wm_rules.specs.Between.{IsPlaceOf};
 ghost use Rattle.wm_event.specs.declared.event.EventId.TheVariants.{At};
 ghost use Rattle.wm_event.specs.Event.{key_of};
 ghost use Rattle.wm_event.specs.Execution.{ReadsFrom};
@@ -8,10 +13,10 @@ ghost use Rattle.wm_event.specs.LoggedRun.{execution};
 ghost use Rattle.wm_event.specs.Rules.{HasRange, IsAtomicWrite, Overtakes};
 ghost use Rattle.wm_event.specs.Shape.{IsThere, ListsEachOnce};
 ghost use Rattle.wm_rules.specs.Others.{FindsListed};
-ghost use Rattle.wm_rules.specs.Scan.{Finds, IsEventOf};
+ghost use Rattle.wm_hb.specs.Scan.{Finds, IsEventOf};
 
-use crate::happens_before::{HappensBefore, synchronizes};
-use crate::order::stands_before;
+use crate::between::{is_after, key_at, part_between};
+use wm_hb::{HappensBefore, stands_before, synchronizes};
 use wm_event::{Candidate, Event, EventId, EventKey, Rule, RuleFault};
 
 /// How many cases the rule has.
@@ -50,83 +55,179 @@ fn is_synchronized(candidate: &Candidate, event: &Event, writer: EventId, other:
 }
 
 /// The second case: both writes happen before the read, and the writer is atomic with the other's range.
-fn is_written_over(before: &HappensBefore, event: &Event, writer: EventId, other: EventId) -> bool
-    ensures { IsTrue result ↔ Overtakes (execution before.now) writer other (key_of event.now) event.now 2 }
+fn is_written_over(relation: &HappensBefore, event: &Event, writer: EventId, other: EventId) -> bool
+    ensures { IsTrue result ↔ Overtakes (execution relation.now) writer other (key_of event.now) event.now 2 }
 {
-    match before.candidate().event(writer) {
+    match relation.candidate().event(writer) {
         None => false,
         Some(written) => {
             written.is_atomic()
-                && has_range(before.candidate(), other, written)
-                && before.before(writer, EventId::At(event.key()))
-                && before.before(other, EventId::At(event.key()))
+                && has_range(relation.candidate(), other, written)
+                && relation.before(writer, EventId::At(event.key()))
+                && relation.before(other, EventId::At(event.key()))
         }
     }
 }
 
 /// The third case: the writer happens before the read and the other write, which has the atomic read's range.
-fn is_read_past(before: &HappensBefore, event: &Event, writer: EventId, other: EventId) -> bool
-    ensures { IsTrue result ↔ Overtakes (execution before.now) writer other (key_of event.now) event.now 3 }
+fn is_read_past(relation: &HappensBefore, event: &Event, writer: EventId, other: EventId) -> bool
+    ensures { IsTrue result ↔ Overtakes (execution relation.now) writer other (key_of event.now) event.now 3 }
 {
     event.is_atomic()
-        && has_range(before.candidate(), other, event)
-        && before.before(writer, EventId::At(event.key()))
-        && before.before(writer, other)
+        && has_range(relation.candidate(), other, event)
+        && relation.before(writer, EventId::At(event.key()))
+        && relation.before(writer, other)
 }
 
 /// Whether a write may not stand between a read and its writer, by a case of the rule.
 fn overtakes(
-    before: &HappensBefore,
+    relation: &HappensBefore,
     event: &Event,
     writer: EventId,
     other: EventId,
     case: u8,
 ) -> bool
-    ensures { IsTrue result ↔ Overtakes (execution before.now) writer other (key_of event.now) event.now case }
+    ensures { IsTrue result ↔ Overtakes (execution relation.now) writer other (key_of event.now) event.now case }
 {
     match case {
-        1 => is_synchronized(before.candidate(), event, writer, other),
-        2 => is_written_over(before, event, writer, other),
-        3 => is_read_past(before, event, writer, other),
+        1 => is_synchronized(relation.candidate(), event, writer, other),
+        2 => is_written_over(relation, event, writer, other),
+        3 => is_read_past(relation, event, writer, other),
         _ => false,
     }
 }
 
 /// Whether an atomic write stands between a read and its writer where it may not, by a case of the rule.
 fn is_out_of_order(
-    before: &HappensBefore,
+    relation: &HappensBefore,
     event: &Event,
     writer: EventId,
     other: EventId,
     case: u8,
 ) -> bool
-    requires listed { IsEventOf (execution before.now) event.now }
-    requires writer { IsThere before.now.log writer }
-    requires other { IsThere before.now.log other }
-    ensures { IsTrue result ↔ BreaksSequentialConsistency (execution before.now) (key_of event.now) event.now writer other case }
+    requires listed { IsEventOf (execution relation.now) event.now }
+    requires writer { IsThere relation.now.log writer }
+    requires other { IsThere relation.now.log other }
+    ensures { IsTrue result ↔ BreaksSequentialConsistency (execution relation.now) (key_of event.now) event.now writer other case }
 {
-    is_atomic_write(before.candidate(), other)
-        && stands_before(before.candidate(), writer, other)
-        && stands_before(before.candidate(), other, EventId::At(event.key()))
-        && overtakes(before, event, writer, other, case)
+    is_atomic_write(relation.candidate(), other)
+        && stands_before(relation.candidate(), writer, other)
+        && stands_before(relation.candidate(), other, EventId::At(event.key()))
+        && overtakes(relation, event, writer, other, case)
+}
+
+/// Whether a writer of a read can be overtaken by a case of the rule.
+fn may_be_overtaken(relation: &HappensBefore, event: &Event, writer: EventId, case: u8) -> bool
+    ensures { (v : EventId) → Overtakes (execution relation.now) writer v (key_of event.now) event.now case → IsTrue result }
+{
+    match case {
+        1 => match writer {
+            EventId::Init => false,
+            EventId::At(key) => synchronizes(relation.candidate(), key, event.key()),
+        },
+        2 => match relation.candidate().event(writer) {
+            None => false,
+            Some(written) => {
+                written.is_atomic() && relation.before(writer, EventId::At(event.key()))
+            }
+        },
+        3 => event.is_atomic() && relation.before(writer, EventId::At(event.key())),
+        _ => false,
+    }
+}
+
+/// Whether the event at a place can overtake a writer, by a case of the rule.
+fn may_overtake(
+    relation: &HappensBefore,
+    writer: EventId,
+    start: Option<usize>,
+    end: usize,
+    place: usize,
+    case: u8,
+) -> bool
+    requires { IsPlaceOf relation.now.witness.order start writer }
+    ensures { (v r : EventKey) (e : Event) → slice_get relation.now.witness.order place ≡ Some v → slice_get relation.now.witness.order end ≡ Some r
+        → Overtakes (execution relation.now) writer (At v) r e case → IsTrue result }
+{
+    match case {
+        2 => relation.before_at(place, end),
+        3 => is_after(relation, writer, start, place),
+        _ => true,
+    }
+}
+
+/// Where the range begins that the other write has, by a case of the rule.
+fn range_start(candidate: &Candidate, event: &Event, writer: EventId, case: u8) -> u32
+    ensures second { case ≡ 2 → (f : Event) → event_at (execution candidate.now) writer ≡ Some f → result ≡ f.address }
+    ensures others { case ≢ 2 → result ≡ event.now.address }
+{
+    if case != 2 {
+        return event.address;
+    }
+    match candidate.event(writer) {
+        Some(written) => written.address,
+        None => event.address,
+    }
+}
+
+/// The event at a place of the order, where it is a write that stands so, by a case of the rule.
+fn out_of_order_at(
+    relation: &HappensBefore,
+    event: &Event,
+    writer: EventId,
+    start: Option<usize>,
+    end: usize,
+    place: usize,
+    case: u8,
+) -> Option<EventKey>
+    requires listed { IsEventOf (execution relation.now) event.now }
+    requires writer { IsThere relation.now.log writer }
+    requires start { IsPlaceOf relation.now.witness.order start writer }
+    requires end { slice_get relation.now.witness.order end ≡ Some (key_of event.now) }
+    ensures { MatchOption result
+        ((v : EventKey) → slice_get relation.now.witness.order place ≡ Some v → BreaksSequentialConsistency (execution relation.now) (key_of event.now) event.now writer (At v) case → ⊥)
+        (λ v. (slice_get relation.now.witness.order place ≡ Some v) × BreaksSequentialConsistency (execution relation.now) (key_of event.now) event.now writer (At v) case) }
+{
+    if !may_overtake(relation, writer, start, end, place, case) {
+        return None;
+    }
+    let Some(key) = key_at(relation, place) else {
+        return None;
+    };
+    if is_out_of_order(relation, event, writer, EventId::At(key), case) {
+        Some(key)
+    } else {
+        None
+    }
 }
 
 /// The first listed write that stands so, by a case of the rule.
 fn first_out_of_order(
-    before: &HappensBefore,
+    relation: &HappensBefore,
     event: &Event,
     writer: EventId,
     case: u8,
 ) -> Option<EventKey>
-    requires listed { IsEventOf (execution before.now) event.now }
-    requires writer { IsThere before.now.log writer }
-    ensures first { FindsListed before.now.witness.order
-        (λ key. BreaksSequentialConsistency (execution before.now) (key_of event.now) event.now writer (At key) case) result }
-    ensures order { ListsEachOnce before.now.log before.now.witness.order }
+    requires listed { IsEventOf (execution relation.now) event.now }
+    requires writer { IsThere relation.now.log writer }
+    ensures first { FindsListed relation.now.witness.order
+        (λ key. BreaksSequentialConsistency (execution relation.now) (key_of event.now) event.now writer (At key) case) result }
+    ensures order { ListsEachOnce relation.now.log relation.now.witness.order }
 {
-    for key in before.candidate().witness().order.as_slice() {
-        if is_out_of_order(before, event, writer, EventId::At(*key), case) {
-            return Some(*key);
+    let candidate = relation.candidate();
+    let _order = candidate.witness();
+    if !may_be_overtaken(relation, event, writer, case) {
+        return None;
+    }
+    let Some(end) = candidate.place(EventId::At(event.key())) else {
+        return None;
+    };
+    let start = candidate.place(writer);
+    let writes = candidate.byte_writes(u64::from(range_start(candidate, event, writer, case)));
+    for write in part_between(writes, start.unwrap_or(0), end) {
+        let found = out_of_order_at(relation, event, writer, start, end, write.place, case);
+        if found.is_some() {
+            return found;
         }
     }
     None
@@ -134,18 +235,18 @@ fn first_out_of_order(
 
 /// The fault at a byte of a read, by a case of the rule.
 fn fault_of_case(
-    before: &HappensBefore,
+    relation: &HappensBefore,
     event: &Event,
     byte: u8,
     writer: EventId,
     case: u8,
 ) -> Option<RuleFault>
-    requires listed { IsEventOf (execution before.now) event.now }
-    requires writer { ReadsFrom (execution before.now) (key_of event.now) byte writer }
-    requires there { IsThere before.now.log writer }
-    ensures { Finds (execution before.now) (5 ∷ event.now.thread ∷ event.now.number ∷ byte ∷ case ∷ []) result }
+    requires listed { IsEventOf (execution relation.now) event.now }
+    requires writer { ReadsFrom (execution relation.now) (key_of event.now) byte writer }
+    requires there { IsThere relation.now.log writer }
+    ensures { Finds (execution relation.now) (5 ∷ event.now.thread ∷ event.now.number ∷ byte ∷ case ∷ []) result }
 {
-    let Some(other) = first_out_of_order(before, event, writer, case) else {
+    let Some(other) = first_out_of_order(relation, event, writer, case) else {
         return None;
     };
     Some(RuleFault {
@@ -160,18 +261,18 @@ fn fault_of_case(
 
 /// The first fault at a byte of a read.
 fn consistency_fault_at(
-    before: &HappensBefore,
+    relation: &HappensBefore,
     event: &Event,
     byte: u8,
     writer: EventId,
 ) -> Option<RuleFault>
-    requires listed { IsEventOf (execution before.now) event.now }
-    requires writer { ReadsFrom (execution before.now) (key_of event.now) byte writer }
-    requires there { IsThere before.now.log writer }
-    ensures { Finds (execution before.now) (5 ∷ event.now.thread ∷ event.now.number ∷ byte ∷ []) result }
+    requires listed { IsEventOf (execution relation.now) event.now }
+    requires writer { ReadsFrom (execution relation.now) (key_of event.now) byte writer }
+    requires there { IsThere relation.now.log writer }
+    ensures { Finds (execution relation.now) (5 ∷ event.now.thread ∷ event.now.number ∷ byte ∷ []) result }
 {
     for case in 1..CASES + 1 {
-        let fault = fault_of_case(before, event, byte, writer, case);
+        let fault = fault_of_case(relation, event, byte, writer, case);
         if fault.is_some() {
             return fault;
         }
@@ -180,13 +281,13 @@ fn consistency_fault_at(
 }
 
 /// The first fault of an event.
-pub fn consistency_fault(before: &HappensBefore, event: &Event) -> Option<RuleFault>
-    requires { IsEventOf (execution before.now) event.now }
-    ensures { Finds (execution before.now) (5 ∷ event.now.thread ∷ event.now.number ∷ []) result }
+pub fn consistency_fault(relation: &HappensBefore, event: &Event) -> Option<RuleFault>
+    requires { IsEventOf (execution relation.now) event.now }
+    ensures { Finds (execution relation.now) (5 ∷ event.now.thread ∷ event.now.number ∷ []) result }
 {
-    let writers = before.candidate().writers(event.key());
+    let writers = relation.candidate().writers(event.key());
     for (byte, writer) in writers.iter().enumerate() {
-        let fault = consistency_fault_at(before, event, byte as u8, *writer);
+        let fault = consistency_fault_at(relation, event, byte as u8, *writer);
         if fault.is_some() {
             return fault;
         }

@@ -5,7 +5,7 @@ ghost use Rattle.wm_event.specs.Event.{key_of};
 ghost use Rattle.wm_event.specs.Execution.{ReadsFrom};
 ghost use Rattle.wm_event.specs.Faults.{BreaksWrittenValues};
 ghost use Rattle.wm_event.specs.LoggedRun.{execution};
-ghost use Rattle.wm_rules.specs.Scan.{Finds, IsEventOf};
+ghost use Rattle.wm_hb.specs.Scan.{Finds, IsEventOf};
 
 use wm_event::{Candidate, Event, EventId, Rule, RuleFault, byte_of};
 

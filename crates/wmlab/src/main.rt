@@ -7,8 +7,10 @@ use disk::Disk;
 use std::alloc::{AllocError, Global};
 use std::env;
 use std::env::Env;
-use std::io::ErrorKind;
+use std::fs::Files as FileSystem;
+use std::io::{ErrorKind, Read, Write};
 use std::process::ExitCode;
+use std::thread::Threads;
 use wm_litmus::serve;
 
 /// The arguments after the program's name; none where one of them is no text, which no command is.
@@ -25,27 +27,41 @@ fn words_of<'a>(alloc: Global, texts: &'a [String]) -> Result<Vec<&'a str>, Allo
     texts.iter().map(|text| text.as_str()).collect(alloc)
 }
 
-/// Says that memory was refused.
-fn out_of_memory(rt: &impl Eprint) -> ExitCode {
-    let _ = eprintln!(rt; "out of memory");
-    ExitCode::from(3)
+/// Answers the arguments over the system's files and these streams, and returns the exit status: 3, and
+/// `out of memory` on `err`, where memory was refused for them.
+fn run<R: FileSystem + AllocGlobal + Threads + Sync, I: Read, O: Write, E: Write>(
+    rt: &R,
+    arguments: Result<Vec<String>, AllocError>,
+    input: &mut I,
+    out: &mut O,
+    err: &mut E,
+) -> u8 {
+    let words = match &arguments {
+        Ok(texts) => words_of(rt.alloc(), texts.as_slice()),
+        Err(_) => Err(AllocError),
+    };
+    match words {
+        Ok(words) => {
+            let mut files = Disk::new(rt);
+            serve(rt, words.as_slice(), &mut files, input, out, err)
+        }
+        Err(_) => {
+            let _ = writeln!(err, "out of memory");
+            3
+        }
+    }
 }
 
 fn main(rt: HostRuntime) -> ExitCode {
-    let Ok(texts) = arguments(&rt) else {
-        return out_of_memory(&rt);
-    };
-    let Ok(words) = words_of(rt.alloc(), texts.as_slice()) else {
-        return out_of_memory(&rt);
-    };
-    let mut files = Disk::new(&rt);
-    let status = serve(
+    let status = run(
         &rt,
-        words.as_slice(),
-        &mut files,
+        arguments(&rt),
         &mut rt.stdin(),
         &mut rt.stdout(),
         &mut rt.stderr(),
     );
     ExitCode::from(status)
 }
+
+#[cfg(test)]
+mod tests;

@@ -1,21 +1,22 @@
 //! The command `check`.
 
-use super::fakes::{NEVER, blank_paper, shelf_of, source_of};
+use super::fakes::{NEVER, fake_files, fake_reader, fake_writer};
 use super::modules::STORE_BUFFERING;
 use super::numeric_instructions::NUMERIC;
 use super::other_instructions::{CONTROL, MEMORY};
 use super::runs::{ALLOWED, BROKEN, LOG, REFUSED_BYTES, REFUSED_MODULES, REFUSED_SHAPES, Row};
 use crate::serve;
 use std::process::Abort;
+use std::thread::Threads;
 
 /// Runs `check` over the files of each row, and looks at its line and its status.
-fn checks<R: Abort + AllocGlobal>(rt: &R, rows: &[Row], status: u8) {
+fn checks<R: Abort + AllocGlobal + Threads + Sync>(rt: &R, rows: &[Row], status: u8) {
     for row in rows {
         let document = row.document.as_bytes();
-        let mut files = shelf_of(rt.alloc(), Some(row.module), Some(document));
-        let mut input = source_of(b"", NEVER);
-        let mut out = blank_paper(rt.alloc(), NEVER);
-        let mut err = blank_paper(rt.alloc(), NEVER);
+        let mut files = fake_files(rt.alloc(), Some(row.module), Some(document));
+        let mut input = fake_reader(b"", NEVER);
+        let mut out = fake_writer(rt.alloc(), NEVER);
+        let mut err = fake_writer(rt.alloc(), NEVER);
         let words = ["check", "module.wasm", "log.json"];
         let got = serve(rt, &words, &mut files, &mut input, &mut out, &mut err);
         assert_eq!(rt; out.bytes.as_slice(), row.line.as_bytes(), "{}", row.shows);
@@ -57,7 +58,7 @@ fn a_misshapen_run_has_its_line(rt: HostRuntime) {
 }
 
 /// Runs `check` over one module and the input, and looks at its lines and its status.
-fn checks_input<R: Abort + AllocGlobal>(
+fn checks_input<R: Abort + AllocGlobal + Threads + Sync>(
     rt: &R,
     words: &[&str],
     fails_at: u64,
@@ -65,10 +66,10 @@ fn checks_input<R: Abort + AllocGlobal>(
     error: &str,
     status: u8,
 ) -> u64 {
-    let mut files = shelf_of(rt.alloc(), Some(&STORE_BUFFERING), None);
-    let mut input = source_of(LOG.as_bytes(), fails_at);
-    let mut out = blank_paper(rt.alloc(), NEVER);
-    let mut err = blank_paper(rt.alloc(), NEVER);
+    let mut files = fake_files(rt.alloc(), Some(&STORE_BUFFERING), None);
+    let mut input = fake_reader(LOG.as_bytes(), fails_at);
+    let mut out = fake_writer(rt.alloc(), NEVER);
+    let mut err = fake_writer(rt.alloc(), NEVER);
     let got = serve(rt, words, &mut files, &mut input, &mut out, &mut err);
     assert_eq!(rt; out.bytes.as_slice(), line.as_bytes());
     assert_eq!(rt; err.bytes.as_slice(), error.as_bytes());

@@ -6,20 +6,21 @@ use std::alloc::Global;
 use std::io;
 use std::io::{ErrorKind, Read, Write};
 use std::process::Abort;
+use std::thread::Threads;
 
 /// No read or write fails.
 pub(super) const NEVER: u64 = u64::MAX;
 
 /// Gives a text by pieces of so many bytes, and fails at one read.
 #[derive(Drop)]
-pub(super) struct Source<'a> {
+pub(super) struct FakeReader<'a> {
     left: &'a [u8],
     pub piece: usize,
     pub reads: u64,
     fails_at: u64,
 }
 
-impl Read for Source<'_> {
+impl Read for FakeReader<'_> {
     fn read(&mut self, buf: &mut [u8]) -> io::Result<usize> {
         let at = self.reads;
         self.reads = at.saturating_add(1);
@@ -35,11 +36,11 @@ impl Read for Source<'_> {
 
 /// Gives a space at each read, without end.
 #[derive(Drop)]
-pub(super) struct Endless {
+pub(super) struct EndlessReader {
     pub reads: u64,
 }
 
-impl Read for Endless {
+impl Read for EndlessReader {
     fn read(&mut self, buf: &mut [u8]) -> io::Result<usize> {
         self.reads = self.reads.saturating_add(1);
         let Some(first) = buf.first_mut() else {
@@ -52,13 +53,13 @@ impl Read for Endless {
 
 /// Keeps what is written, and fails at one write.
 #[derive(Drop)]
-pub(super) struct Paper {
+pub(super) struct FakeWriter {
     pub bytes: Vec<u8>,
     pub writes: u64,
     fails_at: u64,
 }
 
-impl Write for Paper {
+impl Write for FakeWriter {
     fn write(&mut self, buf: &[u8]) -> io::Result<usize> {
         let at = self.writes;
         self.writes = at.saturating_add(1);
@@ -74,10 +75,37 @@ impl Write for Paper {
     }
 }
 
+/// Keeps what is written, and hands it on only where it is flushed.
+#[derive(Drop)]
+pub(super) struct HoldingWriter {
+    held: Vec<u8>,
+    pub bytes: Vec<u8>,
+}
+
+impl Write for HoldingWriter {
+    fn write(&mut self, buf: &[u8]) -> io::Result<usize> {
+        self.held.extend_from_slice(buf)?;
+        Ok(buf.len())
+    }
+
+    fn flush(&mut self) -> io::Result<()> {
+        self.bytes.extend_from_slice(self.held.as_slice())?;
+        self.held.clear();
+        Ok(())
+    }
+}
+
+pub(super) fn holding_writer(alloc: Global) -> HoldingWriter {
+    HoldingWriter {
+        held: Vec::new(alloc),
+        bytes: Vec::new(alloc),
+    }
+}
+
 /// The files `module.wasm` and `log.json`, where the device fails at every other name, and at a file that isn't there;
 /// and the limit of the last read.
 #[derive(Drop)]
-pub(super) struct Shelf<'a> {
+pub(super) struct FakeFiles<'a> {
     alloc: Global,
     program: Option<&'a [u8]>,
     document: Option<&'a [u8]>,
@@ -85,14 +113,14 @@ pub(super) struct Shelf<'a> {
     failures: u64,
 }
 
-pub(super) fn shelf_of<'a>(
+pub(super) fn fake_files<'a>(
     alloc: Global,
     program: Option<&'a [u8]>,
     document: Option<&'a [u8]>,
-) -> Shelf<'a>
+) -> FakeFiles<'a>
     ensures { result.failures ≡ 0 }
 {
-    Shelf {
+    FakeFiles {
         alloc,
         program,
         document,
@@ -101,15 +129,15 @@ pub(super) fn shelf_of<'a>(
     }
 }
 
-impl Files for Shelf<'_> {
-    ghost failures_of = { λ shelf. shelf.failures };
+impl Files for FakeFiles<'_> {
+    ghost failures_of = { λ files. files.failures };
 
     ghost use Rattle.std.specs.Prelude.{None, codes, if◌then◌else◌, option_map};
     ghost use Rattle.std.specs.Str.{bytes_eq};
 
-    ghost content_of = { λ shelf name.
-        if bytes_eq name (codes "module.wasm") then option_map (λ bytes. bytes.now) shelf.program else (
-        if bytes_eq name (codes "log.json") then option_map (λ bytes. bytes.now) shelf.document else None) };
+    ghost content_of = { λ files name.
+        if bytes_eq name (codes "module.wasm") then option_map (λ bytes. bytes.now) files.program else (
+        if bytes_eq name (codes "log.json") then option_map (λ bytes. bytes.now) files.document else None) };
 
     fn read(&mut self, name: &str, limit: usize) -> Result<Vec<u8>, FileFault> {
         self.limit = limit;
@@ -132,8 +160,8 @@ impl Files for Shelf<'_> {
     }
 }
 
-pub(super) fn source_of(text: &[u8], fails_at: u64) -> Source<'_> {
-    Source {
+pub(super) fn fake_reader(text: &[u8], fails_at: u64) -> FakeReader<'_> {
+    FakeReader {
         left: text,
         piece: 1000,
         reads: 0,
@@ -141,8 +169,8 @@ pub(super) fn source_of(text: &[u8], fails_at: u64) -> Source<'_> {
     }
 }
 
-pub(super) fn blank_paper(alloc: Global, fails_at: u64) -> Paper {
-    Paper {
+pub(super) fn fake_writer(alloc: Global, fails_at: u64) -> FakeWriter {
+    FakeWriter {
         bytes: Vec::new(alloc),
         writes: 0,
         fails_at,
@@ -150,7 +178,7 @@ pub(super) fn blank_paper(alloc: Global, fails_at: u64) -> Paper {
 }
 
 /// Runs the program over one file, `log.json`, and this input, and looks at its lines and its status.
-pub(super) fn says<R: Abort + AllocGlobal, I: Read>(
+pub(super) fn says<R: Abort + AllocGlobal + Threads + Sync, I: Read>(
     rt: &R,
     words: &[&str],
     input: &mut I,
@@ -158,9 +186,9 @@ pub(super) fn says<R: Abort + AllocGlobal, I: Read>(
     error: &str,
     status: u8,
 ) {
-    let mut files = shelf_of(rt.alloc(), None, Some(b"["));
-    let mut out = blank_paper(rt.alloc(), NEVER);
-    let mut err = blank_paper(rt.alloc(), NEVER);
+    let mut files = fake_files(rt.alloc(), None, Some(b"["));
+    let mut out = fake_writer(rt.alloc(), NEVER);
+    let mut err = fake_writer(rt.alloc(), NEVER);
     let got = serve(rt, words, &mut files, input, &mut out, &mut err);
     assert_eq!(rt; out.bytes.as_slice(), line.as_bytes());
     assert_eq!(rt; err.bytes.as_slice(), error.as_bytes());

@@ -1,5 +1,4 @@
 use Rattle.std.proofs.Common.{◌≡◌, ℕ, List, Option, subst, string_bytes}
-use Rattle.wm_logfile.specs.declared.TheConstants.{MAX_DOCUMENT_BYTES}
 use Rattle.wm_litmus.specs.Input.{IsReadOf}
 use Rattle.wm_litmus.specs.Answers.{AnswersCheck, AnswersRules}
 use Rattle.wm_litmus.specs.Answers.IsAnswer.{check_of, rules_of}
@@ -25,7 +24,7 @@ returns-in_ok-check_answer-in-Ok-Check-clause-answers g c =
     c.in_ok-module_bytes-in-Ok-Check.ensures.known
     (record {
       of_input = known.of_input;
-      of_file = λ other. subst (λ (all : Option (List ℕ)). IsReadOf all MAX_DOCUMENT_BYTES read.document_bytes.items) (c.read_file.ensures.same c.in-Ok-Check.document.now) (known.of_file other);
+      of_file = λ other. subst (λ (all : Option (List ℕ)). IsReadOf all 8388608 read.document_bytes.items) (c.read_file.ensures.same c.in-Ok-Check.document.now) (known.of_file other);
     })
     (subst (λ bytes. AnswersCheck modules.items bytes answer.status (string_bytes answer.text)) of_document
     (subst (λ bytes. AnswersCheck bytes c.as_slice-in-Ok-Check-2.result.now answer.status (string_bytes answer.text)) of_module

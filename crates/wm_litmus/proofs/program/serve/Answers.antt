@@ -1,9 +1,10 @@
-use Rattle.std.proofs.Common.{rules, string_bytes}
+use Rattle.std.proofs.Common.{List, ℕ, string_bytes, subst}
+use Rattle.wm_litmus.specs.Answers.WritesFront.{front}
+use Rattle.wm_litmus.specs.Output.{AppendsFront}
 use Rattle.wm_litmus.proofs.program.serve.Goals as goal
 
-pub returns-else-is_err-clause-answers : goal.returns-else-is_err-clause-answers
-returns-else-is_err-clause-answers g c h = record {
-  line = string_bytes c.in-Ok.answer.text;
-  answers = c.in-Ok.ensures.answers;
-  gains = search rules;
-}
+pub returns-in-Err-clause-stopped : goal.returns-in-Err-clause-stopped
+returns-in-Err-clause-stopped g c _ =
+    let text = string_bytes c.in-Ok.answer.text in
+    front c.in-Ok.answer.status text c.in-Ok.ensures.answers
+    (subst (AppendsFront (g.O.Write.contents c.args.out.now) (g.O.Write.contents c.write_text.new.out)) c.as_str.ensures.value c.in-Err.ensures)

@@ -16,11 +16,11 @@ returns-in-Ok g c =
 pub returns-in-Err : goal.returns-in-Err
 returns-in-Err g c =
     IfOk-weaker c.refused_document.result _ _
-    (λ answer says. refused c.in-Err.fault
+    (λ answer prints. refused c.in-Err.fault
     (record {
-      no_document = λ log witness d. c.in-Err.ensures.refused says.0 d.small log witness d.is_log d.limits d.spelled;
+      no_document = λ log witness d. c.in-Err.ensures.refused prints.0 d.small log witness d.is_log d.limits d.spelled;
       too_large = c.in-Err.ensures.too_large;
-      no_want = says.0;
+      no_want = prints.0;
     })
-    says.1.status_is says.1.line_is)
+    prints.1.status_is prints.1.text_is)
     c.refused_document.ensures

@@ -14,9 +14,9 @@ returns-in-Err g c =
     let run : List ℕ → LoggedRun = λ initial. record { log = c.args.log; witness = c.args.witness; initial = initial } in
     let over : c.in_ok-initial.initial ≡ zeros c.args.pages = search rules in
     IfOk-weaker c.refused_shape.result _ _
-    (λ answer says. misshapen c.in-Err.fault
-    (subst (λ m. IsFirst shape_rank (Misshapes (run m)) c.in-Err.fault) over (c.in-Err.ensures.fault says.0))
-    says.1.status_is says.1.line_is)
+    (λ answer prints. misshapen c.in-Err.fault
+    (subst (λ m. IsFirst shape_rank (Misshapes (run m)) c.in-Err.fault) over (c.in-Err.ensures.fault prints.0))
+    prints.1.status_is prints.1.text_is)
     c.refused_shape.ensures
 
 pub returns : goal.returns
@@ -30,5 +30,5 @@ returns g c =
     subst (λ m. Judges (execution (run m)) c.in_ok-judgement.judgement) over
     (subst (λ r. Judges (execution r) c.in_ok-judgement.judgement) same c.in_ok-judgement.ensures.judged) in
     IfOk-weaker c.judged.result _ _
-    (λ answer says. judged c.in_ok-judgement.judgement shape judges says.status_is says.line_is)
+    (λ answer prints. judged c.in_ok-judgement.judgement shape judges prints.status_is prints.text_is)
     c.judged.ensures

@@ -1,8 +1,8 @@
-use Rattle.std.proofs.Common.{◌≡◌, inr, Some, Err, refl, ap, sym, subst, ◌∙◌}
+use Rattle.std.proofs.Common.{◌≡◌, inr, Some, refl, sym, subst, ◌∙◌}
 use Rattle.std.proofs.lemmas.Option.{none-some, slice_get_past}
 use Rattle.wm_machine.specs.State.{config_of}
 use Rattle.wm_machine.specs.Step.{step, went}
-use Rattle.wm_replay.proofs.Needs.{access_at, access_goes, access_of_need, other_at}
+use Rattle.wm_replay.proofs.Needs.{access_at, access_of_need, other_at}
 use Rattle.wm_replay.proofs.compare.access_on.Goals as goal
 
 pub returns-then-made-stated-clause-steps : goal.returns-then-made-stated-clause-steps
@@ -30,10 +30,3 @@ returns-in-Ok-clause-steps c =
           (λ r. access_of_need c.args.thread.now r c.args.op.now (c.requires r))
           (subst (λ r. went (step m r old) ≡ Some new) c.reply_of.ensures.value c.in-Ok.ensures.ok),
     )
-
-pub returns-in-Err-Stuck-clause-steps : goal.returns-in-Err-Stuck-clause-steps
-returns-in-Err-Stuck-clause-steps c =
-    let m = c.args.thread.now.module in
-    let old = config_of c.args.thread.now in
-    let stuck = c.in-Err-Stuck.ensures.stuck (ap Err c.in-Err-Stuck.field-0-is) in
-    absurd (access_goes (step m _ old) c.args.op.now (access_of_need c.args.thread.now _ c.args.op.now (c.requires _)) stuck)

@@ -23,3 +23,6 @@ pub returns-clause-first : goal.returns-clause-first
 returns-clause-first c =
     listed-none c.as_slice-key-items.result.now (λ (key : EventKey). BreaksNoTearing (execution c.args.candidate.now) (key_of c.args.event.now) c.args.event.now c.args.byte c.args.writer (At key)) c.loop-key.key-index c.loop-key.invariant c.args.candidate.now.witness.order
     (search rules) (search rules)
+
+pub returns-then-not-is_torn_by_any-clause-first : goal.returns-then-not-is_torn_by_any-clause-first
+returns-then-not-is_torn_by_any-clause-first c = λ n key at p. both_ways c.is_torn_by_any.result (search rules) (c.is_torn_by_any.ensures (At key) p)

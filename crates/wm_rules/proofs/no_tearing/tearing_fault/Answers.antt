@@ -1,7 +1,7 @@
 -- The bytes of a read in turn.
 use Rattle.std.proofs.Common.{rules, arith}
 use Rattle.wm_event.specs.LoggedRun.{execution}
-use Rattle.wm_rules.proofs.CaseLemmas.{byte_found, bytes_none}
+use Rattle.wm_hb.proofs.Parts.{byte_found, bytes_none}
 use Rattle.wm_rules.proofs.NoTearingLemmas.{tearing_byte}
 use Rattle.wm_rules.proofs.no_tearing.tearing_fault.Goals as goal
 

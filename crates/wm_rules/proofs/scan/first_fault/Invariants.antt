@@ -6,4 +6,4 @@ use Rattle.wm_event.proofs.Scan.{NoneBelow}
 use Rattle.wm_rules.proofs.scan.first_fault.Given as goal
 
 abbrev pub invariant-loop-rule : goal.invariant-loop-rule
-invariant-loop-rule l = NoneBelow (rank (execution l.before)) (Breaks (execution l.before)) [] (l.rule-index + 1)
+invariant-loop-rule g l = NoneBelow (rank (execution l.relation)) (Breaks (execution l.relation)) [] (l.rule-index + 3)

@@ -1,18 +1,26 @@
 -- What the scan finds is the first fault, and where it finds none the run is valid.
-use Rattle.std.proofs.Common.{None, Some, [], subst}
+use Rattle.std.proofs.Common.{◌≡◌, ◌≤◌, sym, None, Some, [], subst, ◌∙◌}
 use Rattle.wm_event.specs.LoggedRun.{LoggedRun, execution}
-use Rattle.wm_rules.specs.Scan.{Finds}
+use Rattle.wm_event.specs.declared.rule.RuleFault.{RuleFault}
+use Rattle.wm_event.specs.Faults.{Breaks, rule_number}
+use Rattle.wm_hb.specs.Scan.{Finds}
 use Rattle.wm_rules.proofs.CaseLemmas.{of_all}
-use Rattle.wm_rules.proofs.ValidLaws.{is_valid}
+use Rattle.wm_rules.proofs.ValidLaws.{from_value, from_order, is_valid, later_rule}
 use Rattle.wm_rules.proofs.scan.judge.Goals as goal
 
-pub returns-in-Some : goal.returns-in-Some
-returns-in-Some g c = record {
-  judged = of_all (execution c.args.candidate.now) c.in-Some.fault
-      (subst (λ (run : LoggedRun). Finds (execution run) [] (Some c.in-Some.fault)) c.in_ok-before.ensures c.in-Some.ensures);
+pub first_fault-requires-after_bounds : goal.first_fault-requires-after_bounds
+first_fault-requires-after_bounds g c κs within =
+    let same : c.in_ok-relation-in-Ok.relation ≡ c.args.candidate.now = c.in_ok-relation-in-Ok.ensures ∙ c.in-Ok.ensures.value in
+    subst (λ (run : LoggedRun). (f : RuleFault) → Breaks (execution run) f → 3 ≤ rule_number f.rule) (sym same)
+    (later_rule (execution c.args.candidate.now) c.in_default.ensures c.in-Ok.ensures.agrees)
+
+pub returns-in-Some-first_fault : goal.returns-in-Some-first_fault
+returns-in-Some-first_fault g c = record {
+  judged = of_all (execution c.args.candidate.now) c.in-Some-first_fault.fault
+      (subst (λ (run : LoggedRun). Finds (execution run) [] (Some c.in-Some-first_fault.fault)) (c.in_ok-relation-in-Ok.ensures ∙ c.in-Ok.ensures.value) c.in-Some-first_fault.ensures);
 }
 
 pub returns : goal.returns
 returns g c = record {
-  judged = is_valid c.args.candidate.now (subst (λ (run : LoggedRun). Finds (execution run) [] None) c.in_ok-before.ensures c.in-None.ensures);
+  judged = is_valid c.args.candidate.now (subst (λ (run : LoggedRun). Finds (execution run) [] None) (c.in_ok-relation-in-Ok.ensures ∙ c.in-Ok.ensures.value) c.in-None.ensures);
 }

@@ -1,25 +1,75 @@
--- The first write that is out of order.
-use Rattle.std.proofs.Common.{rules}
+use Rattle.std.proofs.Common.{◌≡◌, ◌≢◌, ◌∙◌, List, Some, slice_get, subst, sym, rules, arith}
+use Rattle.std.specs.List.{filter}
+use Rattle.std.specs.Prelude.{unwrap_or}
+use Rattle.std.proofs.lemmas.Bool.{both_ways}
+use Rattle.wm_event.specs.declared.event.Event.{Event}
 use Rattle.wm_event.specs.declared.event.EventKey.{EventKey}
 use Rattle.wm_event.specs.declared.event.EventId.TheVariants.{At}
+use Rattle.wm_event.specs.declared.writes.ByteWrite.{ByteWrite}
 use Rattle.wm_event.specs.Event.{key_of}
+use Rattle.wm_event.specs.Execution.{event_at}
 use Rattle.wm_event.specs.Faults.{BreaksSequentialConsistency}
-use Rattle.wm_event.specs.LoggedRun.{execution}
-use Rattle.std.proofs.lemmas.Bool.{both_ways}
-use Rattle.wm_rules.proofs.ListedLemmas.{listed-found, listed-none, none_listed-more}
+use Rattle.wm_event.specs.LoggedRun.{LoggedRun, execution}
+use Rattle.wm_event.specs.Shape.{ListsEachOnce}
+use Rattle.wm_event.specs.Writes.{writes_from}
+use Rattle.wm_rules.specs.Between.{IsPlaceOf, Rises, stands_between}
+use Rattle.wm_rules.proofs.BetweenLemmas.{found_none, found_some, none_written, writes_rise}
+use Rattle.wm_rules.proofs.SequentialConsistencyLemmas.{covers_overtaking}
 use Rattle.wm_rules.proofs.sequential_consistency.first_out_of_order.Goals as goal
 
-pub returns-then-is_out_of_order-clause-first : goal.returns-then-is_out_of_order-clause-first
-returns-then-is_out_of_order-clause-first c =
-    listed-found c.as_slice-key-items.result.now (λ (key : EventKey). BreaksSequentialConsistency (execution c.args.before.now) (key_of c.args.event.now) c.args.event.now c.args.writer (At key) c.args.case) c.loop-key.key-index c.loop-key.invariant c.args.before.now.witness.order
-    (search rules) (search rules) (c.is_out_of_order.ensures.0 c.if-is_out_of_order.true)
+pub returns-then-not-may_be_overtaken-clause-first : goal.returns-then-not-may_be_overtaken-clause-first
+returns-then-not-may_be_overtaken-clause-first c = λ n key at p. both_ways c.may_be_overtaken.result (search rules) (c.may_be_overtaken.ensures (At key) p.overtakes)
 
-pub loop-key-preserved : goal.loop-key-preserved
-loop-key-preserved c =
-    none_listed-more c.as_slice-key-items.result.now (λ (key : EventKey). BreaksSequentialConsistency (execution c.args.before.now) (key_of c.args.event.now) c.args.event.now c.args.writer (At key) c.args.case) c.loop-key.key-index c.loop-key.invariant
-    (search rules) (λ h. both_ways c.is_out_of_order.result c.if-is_out_of_order.false (c.is_out_of_order.ensures.1 h))
+pub part_between-write-items-requires : goal.part_between-write-items-requires
+part_between-write-items-requires c =
+    subst (λ (xs : List ByteWrite). Rises xs) (sym c.byte_writes-writes.ensures) (writes_rise c.candidate-candidate.result.now.log c.from.result c.candidate-candidate.result.now.witness.order)
+
+pub returns-then-is_some-clause-first : goal.returns-then-is_some-clause-first
+returns-then-is_some-clause-first c =
+    let run = c.args.relation.now in
+    let e = c.args.event.now in
+    let x = execution run in
+    let a = c.from.result in
+    let same : c.part_between-write-items.result.now ≡ filter (stands_between (unwrap_or c.place-start.result 0) c.in-Some.end) (writes_from run.log a 0 run.witness.order) =
+      cc (c.part_between-write-items.ensures, c.byte_writes-writes.ensures, c.candidate-candidate.ensures.value, c.unwrap_or.ensures) in
+    let is : IsPlaceOf run.witness.order c.place-start.result c.args.writer = search rules in
+    let at : slice_get run.witness.order c.in-Some.end ≡ Some (key_of e) = search rules in
+    let once : ListsEachOnce run.log run.witness.order = search rules in
+    let second : c.args.case ≡ 2 → (f : Event) → event_at x c.args.writer ≡ Some f → a ≡ f.address = (λ t f h. c.from.ensures ∙ c.range_start.ensures.second t f (subst (λ (r : LoggedRun). event_at (execution r) c.args.writer ≡ Some f) (sym c.candidate-candidate.ensures.value) h)) in
+    let others : c.args.case ≢ 2 → a ≡ e.address = (λ t. c.from.ensures ∙ c.range_start.ensures.others t) in
+    let all = covers_overtaking run once e c.args.writer c.args.case a c.place-start.result c.in-Some.end c.part_between-write-items.result.now second others is at same in
+    found_some run.witness.order c.part_between-write-items.result.now (λ (key : EventKey). BreaksSequentialConsistency x (key_of e) e c.args.writer (At key) c.args.case) all c.loop-write.write-index (record { address = 0; place = 0 }) (omega arith)
+    c.out_of_order_at-found.result (search rules) c.out_of_order_at-found.ensures c.loop-write.invariant
+
+pub loop-write-preserved : goal.loop-write-preserved
+loop-write-preserved c =
+    let run = c.args.relation.now in
+    let e = c.args.event.now in
+    let x = execution run in
+    let a = c.from.result in
+    let same : c.part_between-write-items.result.now ≡ filter (stands_between (unwrap_or c.place-start.result 0) c.in-Some.end) (writes_from run.log a 0 run.witness.order) =
+      cc (c.part_between-write-items.ensures, c.byte_writes-writes.ensures, c.candidate-candidate.ensures.value, c.unwrap_or.ensures) in
+    let is : IsPlaceOf run.witness.order c.place-start.result c.args.writer = search rules in
+    let at : slice_get run.witness.order c.in-Some.end ≡ Some (key_of e) = search rules in
+    let once : ListsEachOnce run.log run.witness.order = search rules in
+    let second : c.args.case ≡ 2 → (f : Event) → event_at x c.args.writer ≡ Some f → a ≡ f.address = (λ t f h. c.from.ensures ∙ c.range_start.ensures.second t f (subst (λ (r : LoggedRun). event_at (execution r) c.args.writer ≡ Some f) (sym c.candidate-candidate.ensures.value) h)) in
+    let others : c.args.case ≢ 2 → a ≡ e.address = (λ t. c.from.ensures ∙ c.range_start.ensures.others t) in
+    let all = covers_overtaking run once e c.args.writer c.args.case a c.place-start.result c.in-Some.end c.part_between-write-items.result.now second others is at same in
+    found_none run.witness.order c.part_between-write-items.result.now (λ (key : EventKey). BreaksSequentialConsistency x (key_of e) e c.args.writer (At key) c.args.case) all c.loop-write.write-index (record { address = 0; place = 0 }) (omega arith)
+    c.out_of_order_at-found.result (search rules) c.out_of_order_at-found.ensures c.loop-write.invariant
 
 pub returns-clause-first : goal.returns-clause-first
 returns-clause-first c =
-    listed-none c.as_slice-key-items.result.now (λ (key : EventKey). BreaksSequentialConsistency (execution c.args.before.now) (key_of c.args.event.now) c.args.event.now c.args.writer (At key) c.args.case) c.loop-key.key-index c.loop-key.invariant c.args.before.now.witness.order
-    (search rules) (search rules)
+    let run = c.args.relation.now in
+    let e = c.args.event.now in
+    let x = execution run in
+    let a = c.from.result in
+    let same : c.part_between-write-items.result.now ≡ filter (stands_between (unwrap_or c.place-start.result 0) c.in-Some.end) (writes_from run.log a 0 run.witness.order) =
+      cc (c.part_between-write-items.ensures, c.byte_writes-writes.ensures, c.candidate-candidate.ensures.value, c.unwrap_or.ensures) in
+    let is : IsPlaceOf run.witness.order c.place-start.result c.args.writer = search rules in
+    let at : slice_get run.witness.order c.in-Some.end ≡ Some (key_of e) = search rules in
+    let once : ListsEachOnce run.log run.witness.order = search rules in
+    let second : c.args.case ≡ 2 → (f : Event) → event_at x c.args.writer ≡ Some f → a ≡ f.address = (λ t f h. c.from.ensures ∙ c.range_start.ensures.second t f (subst (λ (r : LoggedRun). event_at (execution r) c.args.writer ≡ Some f) (sym c.candidate-candidate.ensures.value) h)) in
+    let others : c.args.case ≢ 2 → a ≡ e.address = (λ t. c.from.ensures ∙ c.range_start.ensures.others t) in
+    let all = covers_overtaking run once e c.args.writer c.args.case a c.place-start.result c.in-Some.end c.part_between-write-items.result.now second others is at same in
+    none_written run.witness.order c.part_between-write-items.result.now (λ (key : EventKey). BreaksSequentialConsistency x (key_of e) e c.args.writer (At key) c.args.case) all c.loop-write.write-index (omega arith) c.loop-write.invariant

@@ -7,5 +7,5 @@ use Rattle.wm_rules.proofs.sequential_consistency.is_out_of_order.Goals as goal
 
 pub returns-then-stands_before-2 : goal.returns-then-stands_before-2
 returns-then-stands_before-2 c =
-    out_of_order_if (execution c.args.before.now) c.args.writer c.args.other (key_of c.args.event.now) c.args.event.now c.args.case c.overtakes.result
+    out_of_order_if (execution c.args.relation.now) c.args.writer c.args.other (key_of c.args.event.now) c.args.event.now c.args.case c.overtakes.result
     (search rules) (search rules) (search rules) c.overtakes.ensures

@@ -7,5 +7,5 @@ use Rattle.wm_rules.proofs.sequential_consistency.is_written_over.Goals as goal
 
 pub returns-then-before : goal.returns-then-before
 returns-then-before c =
-    written_over_if (execution c.args.before.now) c.args.writer c.args.other (key_of c.args.event.now) c.args.event.now c.in-Some.written.now c.before-then-before.result
+    written_over_if (execution c.args.relation.now) c.args.writer c.args.other (key_of c.args.event.now) c.args.event.now c.in-Some.written.now c.before-then-before.result
     (search rules) (search rules) (search rules) (search rules) (search rules)

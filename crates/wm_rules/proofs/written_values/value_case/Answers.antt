@@ -4,7 +4,7 @@ use Rattle.wm_event.specs.Byte.{byte_of}
 use Rattle.wm_event.specs.Execution.{byte_by}
 use Rattle.wm_event.specs.Event.{key_of}
 use Rattle.wm_event.specs.LoggedRun.{execution}
-use Rattle.wm_rules.proofs.FaultLemmas.{third_case}
+use Rattle.wm_hb.proofs.FaultLemmas.{third_case}
 use Rattle.wm_rules.proofs.written_values.value_case.Goals as goal
 
 pub returns-in-Some : goal.returns-in-Some

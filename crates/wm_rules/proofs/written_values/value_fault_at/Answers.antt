@@ -1,6 +1,6 @@
 use Rattle.std.proofs.Common.{rules}
 use Rattle.wm_event.specs.LoggedRun.{execution}
-use Rattle.wm_rules.proofs.FaultLemmas.{value_fault_none, value_fault_some}
+use Rattle.wm_hb.proofs.FaultLemmas.{value_fault_none, value_fault_some}
 use Rattle.wm_rules.proofs.written_values.value_fault_at.Goals as goal
 
 pub returns-in_default : goal.returns-in_default

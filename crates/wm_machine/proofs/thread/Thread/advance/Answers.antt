@@ -1,29 +1,13 @@
 use Rattle.std.proofs.Common.{arith, ap, ◌≡◌, ◌+◌, suc, length, None, ◌∙◌, reverse}
 use Rattle.std.proofs.lemmas.List.{length-reverse}
-use Rattle.wm_machine.specs.declared.fault.AdvanceFault.TheVariants.{Stuck}
-use Rattle.wm_machine.specs.State.{State}
+use Rattle.wm_machine.specs.State.{State, Sound}
 use Rattle.wm_machine.specs.Functions.{callable, todo}
 use Rattle.wm_machine.specs.Step.{invoke}
 use Rattle.wm_machine.specs.Inside.{call_step, vars_of}
 use Rattle.wm_machine.proofs.Going.{going}
+use Rattle.wm_machine.proofs.NeverStuck.{has_step, sound_after, advances}
 use Rattle.wm_machine.proofs.Calls.{thread_within, thread_trapped, thread_stuck, thread_done, thread_back, refuses_same, thread_called, thread_exhausted, thread_uncalled, called_same}
 use Rattle.wm_machine.proofs.thread.Thread.advance.Goals as goal
-
-pub returns-in-Err-clause-stuck : goal.returns-in-Err-clause-stuck
-returns-in-Err-clause-stuck c = λ q.
-    let s = c.self.inside in
-    let cs = reverse s.callers.items in
-    let e : s.end ≡ None = ap (λ (x : State). x.ended) c.self.view_is ∙ going c.args.self.now c.args.reply c.requires in
-    let f : c.in-Err.fault ≡ Stuck = cc in
-    let h = rw f at (c.in-Err.ensures (suc (length cs))) in
-    let t = thread_stuck s.module.now c.value_read.result s.globals cs s.running c.go_on.new.running c.go_on.new.globals h in
-    rw (← c.self.view_is, e, ← c.value_read.ensures) t
-
-pub returns-in-Err-clause-err : goal.returns-in-Err-clause-err
-returns-in-Err-clause-err c =
-    let s = c.self.inside in
-    let h = refuses_same s.module.now (call_step s.module.now c.value_read.result 0 s.running s.globals) s.running s.globals c.go_on.new.running c.go_on.new.globals c.in-Err.fault (c.in-Err.ensures 0) in
-    rw (h.0, h.1) c.self.view_is
 
 pub returns-in-Ok-Within-clause-ok : goal.returns-in-Ok-Within-clause-ok
 returns-in-Ok-Within-clause-ok c =
@@ -42,12 +26,6 @@ returns-in-Ok-Trapped-clause-ok c =
     let h = rw c.in-Ok-Trapped.field-0-is at (c.in-Ok-Trapped.ensures (suc (length cs))) in
     let t = thread_trapped s.module.now c.value_read.result s.globals cs s.running c.in-Ok-Trapped.kind c.go_on.new.running c.go_on.new.globals h in
     rw (← c.self.view_is, e, ← c.value_read.ensures) t
-
-pub returns-in-Err-leave-clause-err : goal.returns-in-Err-leave-clause-err
-returns-in-Err-leave-clause-err c =
-    let h = rw c.in-Ok-Left.field-0-is at (c.in-Ok-Left.ensures 0) in
-    let n = c.in-Err-leave.ensures.err in
-    rw (n.0, h.1.0, h.1.1, n.1) c.self.view_is
 
 pub returns-in-Ok-true-clause-ok : goal.returns-in-Ok-true-clause-ok
 returns-in-Ok-true-clause-ok c =
@@ -100,8 +78,16 @@ returns-in-Ok-false-call-clause-ok c =
     let t = thread_exhausted s.module.now c.value_read.result s.globals cs s.running d k dq (invoke (callable s.module.now k) d k (vars_of s.running s.globals) s.running.levels.operands (todo s.module.now s.running.func s.running.levels.block (s.running.levels.at + 1))) c.call.new.running (reverse c.call.new.callers.items) h.0 g in
     rw (← c.self.view_is, e, ← c.value_read.ensures) t
 
-pub returns-in-Err-call-clause-stuck : goal.returns-in-Err-call-clause-stuck
-returns-in-Err-call-clause-stuck c = λ q.
+pub unreachable-requires : goal.unreachable-requires
+unreachable-requires c =
+    let s = c.self.inside in
+    let cs = reverse s.callers.items in
+    let e : s.end ≡ None = ap (λ (x : State). x.ended) c.self.view_is ∙ going c.args.self.now c.args.reply c.requires in
+    let h = rw c.in-Err-Stuck.field-0-is at (c.in-Err-Stuck.ensures (suc (length cs))) in
+    has_step s.module.now c.value_read.result s.running cs s.globals s.end e c.self.invariant (thread_stuck s.module.now c.value_read.result s.globals cs s.running c.go_on.new.running c.go_on.new.globals h)
+
+pub unreachable-requires-in-Err-Stuck-call : goal.unreachable-requires-in-Err-Stuck-call
+unreachable-requires-in-Err-Stuck-call c =
     let s = c.self.inside in
     let cs = reverse s.callers.items in
     let e : s.end ≡ None = ap (λ (x : State). x.ended) c.self.view_is ∙ going c.args.self.now c.args.reply c.requires in
@@ -109,17 +95,111 @@ returns-in-Err-call-clause-stuck c = λ q.
     let dq : d ≡ suc (length cs) = omega (arith, length-reverse s.callers.items) in
     let k = c.in-Ok-Calling.callee in
     let h = rw c.in-Ok-Calling.field-0-is at (c.in-Ok-Calling.ensures d) in
-    let f : c.in-Err-call.fault ≡ Stuck = cc in
-    let g = rw (f, h.1.0) at (c.in-Err-call.ensures s.globals) in
-    let t = thread_uncalled s.module.now c.value_read.result s.globals cs s.running d k dq (invoke (callable s.module.now k) d k (vars_of s.running s.globals) s.running.levels.operands (todo s.module.now s.running.func s.running.levels.block (s.running.levels.at + 1))) c.call.new.running (reverse c.call.new.callers.items) h.0 g in
-    rw (← c.self.view_is, e, ← c.value_read.ensures) t
+    let g = rw (c.in-Err-Stuck-call.field-0-is, h.1.0) at (c.in-Err-Stuck-call.ensures s.globals) in
+    has_step s.module.now c.value_read.result s.running cs s.globals s.end e c.self.invariant
+    (thread_uncalled s.module.now c.value_read.result s.globals cs s.running d k dq (invoke (callable s.module.now k) d k (vars_of s.running s.globals) s.running.levels.operands (todo s.module.now s.running.func s.running.levels.block (s.running.levels.at + 1))) c.call.new.running (reverse c.call.new.callers.items) h.0 g)
 
-pub returns-in-Err-call-clause-err : goal.returns-in-Err-call-clause-err
-returns-in-Err-call-clause-err c =
+within : (c : goal.In-Ok-Within) → c.self.inside.end ≡ None → Sound record { «module» = c.self.inside.module.now; ended = c.self.inside.end; running = c.go_on.new.running; callers = reverse c.self.inside.callers.items; globals = c.go_on.new.globals }
+within c e =
+    let s = c.self.inside in
+    let cs = reverse s.callers.items in
+    let h = rw c.in-Ok-Within.field-0-is at (c.in-Ok-Within.ensures (suc (length cs))) in
+    let t = thread_within s.module.now c.value_read.result s.globals cs s.running c.go_on.new.running c.go_on.new.globals h in
+    sound_after s.module.now c.value_read.result s.running cs s.globals s.end c.go_on.new.running cs c.go_on.new.globals e c.self.invariant t
+
+pub invariant_of-self-in-Ok-Within : goal.invariant_of-self-in-Ok-Within
+invariant_of-self-in-Ok-Within c = within c (ap (λ (x : State). x.ended) c.self.view_is ∙ going c.args.self.now c.args.reply c.requires)
+
+pub invariant_of-self : goal.invariant_of-self
+invariant_of-self c =
+    let s = c.self.inside in
+    let h = refuses_same s.module.now (call_step s.module.now c.value_read.result 0 s.running s.globals) s.running s.globals c.go_on.new.running c.go_on.new.globals c.in-Err-OutOfMemory.field-0 (c.in-Err-OutOfMemory.ensures 0) in
+    rw (h.0, h.1) c.self.invariant
+
+pub returns-in-Err-OutOfMemory-clause-err : goal.returns-in-Err-OutOfMemory-clause-err
+returns-in-Err-OutOfMemory-clause-err c =
+    let s = c.self.inside in
+    let h = refuses_same s.module.now (call_step s.module.now c.value_read.result 0 s.running s.globals) s.running s.globals c.go_on.new.running c.go_on.new.globals c.in-Err-OutOfMemory.field-0 (c.in-Err-OutOfMemory.ensures 0) in
+    rw (h.0, h.1) c.self.view_is
+
+pub invariant_of-self-in-Err : goal.invariant_of-self-in-Err
+invariant_of-self-in-Err c =
+    let h = rw c.in-Ok-Left.field-0-is at (c.in-Ok-Left.ensures 0) in
+    let n = c.in-Err.ensures.err in
+    rw (n.0, h.1.0, h.1.1, n.1) c.self.invariant
+
+pub returns-in-Err-clause-err : goal.returns-in-Err-clause-err
+returns-in-Err-clause-err c =
+    let h = rw c.in-Ok-Left.field-0-is at (c.in-Ok-Left.ensures 0) in
+    let n = c.in-Err.ensures.err in
+    rw (n.0, h.1.0, h.1.1, n.1) c.self.view_is
+
+pub invariant_of-self-in-Ok-true : goal.invariant_of-self-in-Ok-true
+invariant_of-self-in-Ok-true c =
+    let s = c.self.inside in
+    let cs = reverse s.callers.items in
+    let e : s.end ≡ None = ap (λ (x : State). x.ended) c.self.view_is ∙ going c.args.self.now c.args.reply c.requires in
+    let h = rw c.in-Ok-Left.field-0-is at (c.in-Ok-Left.ensures (suc (length cs))) in
+    let g = c.in-Ok-true.ensures.ok c.in-Ok-true.field-0-test in
+    let t = thread_back s.module.now c.value_read.result s.globals s.running c.in-Ok-Left.value cs c.leave.new.running (reverse c.leave.new.callers.items) g h.0 in
+    rw h.1.1 (sound_after s.module.now c.value_read.result s.running cs s.globals s.end c.leave.new.running (reverse c.leave.new.callers.items) s.globals e c.self.invariant t)
+
+pub invariant_of-self-in-Err-OutOfMemory-call : goal.invariant_of-self-in-Err-OutOfMemory-call
+invariant_of-self-in-Err-OutOfMemory-call c =
     let s = c.self.inside in
     let m = s.module.now in
     let k = c.in-Ok-Calling.callee in
     let b = c.go_on.new.running in
     let h = rw c.in-Ok-Calling.field-0-is at (c.in-Ok-Calling.ensures 0) in
-    let n = called_same m k (invoke (callable m k) (1 + length s.callers.items) k (vars_of b s.globals) b.levels.operands (todo m b.func b.levels.block (b.levels.at + 1))) b s.globals c.call.new.running (reverse s.callers.items) (reverse c.call.new.callers.items) c.in-Err-call.fault (c.in-Err-call.ensures s.globals) in
+    let n = called_same m k (invoke (callable m k) (1 + length s.callers.items) k (vars_of b s.globals) b.levels.operands (todo m b.func b.levels.block (b.levels.at + 1))) b s.globals c.call.new.running (reverse s.callers.items) (reverse c.call.new.callers.items) c.in-Err-OutOfMemory-call.field-0 (c.in-Err-OutOfMemory-call.ensures s.globals) in
+    rw (n.0, h.1.0, h.1.1, n.1) c.self.invariant
+
+pub returns-in-Err-OutOfMemory-call-clause-err : goal.returns-in-Err-OutOfMemory-call-clause-err
+returns-in-Err-OutOfMemory-call-clause-err c =
+    let s = c.self.inside in
+    let m = s.module.now in
+    let k = c.in-Ok-Calling.callee in
+    let b = c.go_on.new.running in
+    let h = rw c.in-Ok-Calling.field-0-is at (c.in-Ok-Calling.ensures 0) in
+    let n = called_same m k (invoke (callable m k) (1 + length s.callers.items) k (vars_of b s.globals) b.levels.operands (todo m b.func b.levels.block (b.levels.at + 1))) b s.globals c.call.new.running (reverse s.callers.items) (reverse c.call.new.callers.items) c.in-Err-OutOfMemory-call.field-0 (c.in-Err-OutOfMemory-call.ensures s.globals) in
     rw (n.0, h.1.0, h.1.1, n.1) c.self.view_is
+
+pub invariant_of-self-in-Ok-true-call : goal.invariant_of-self-in-Ok-true-call
+invariant_of-self-in-Ok-true-call c =
+    let s = c.self.inside in
+    let cs = reverse s.callers.items in
+    let e : s.end ≡ None = ap (λ (x : State). x.ended) c.self.view_is ∙ going c.args.self.now c.args.reply c.requires in
+    let d = 1 + length s.callers.items in
+    let dq : d ≡ suc (length cs) = omega (arith, length-reverse s.callers.items) in
+    let k = c.in-Ok-Calling.callee in
+    let h = rw c.in-Ok-Calling.field-0-is at (c.in-Ok-Calling.ensures d) in
+    let g = rw (c.in-Ok-true-call.field-0-test, h.1.0) at (c.in-Ok-true-call.ensures s.globals) in
+    let t = thread_called s.module.now c.value_read.result s.globals cs s.running d k dq (invoke (callable s.module.now k) d k (vars_of s.running s.globals) s.running.levels.operands (todo s.module.now s.running.func s.running.levels.block (s.running.levels.at + 1))) c.call.new.running (reverse c.call.new.callers.items) h.0 g in
+    rw h.1.1 (sound_after s.module.now c.value_read.result s.running cs s.globals s.end c.call.new.running (reverse c.call.new.callers.items) s.globals e c.self.invariant t)
+
+pub returns-in-Err-OutOfMemory-clause-never_stuck : goal.returns-in-Err-OutOfMemory-clause-never_stuck
+returns-in-Err-OutOfMemory-clause-never_stuck c = advances _ c.args.self.now c.args.reply c.self.invariant c.self.view_is c.requires
+
+pub returns-in-Ok-Within-clause-never_stuck : goal.returns-in-Ok-Within-clause-never_stuck
+returns-in-Ok-Within-clause-never_stuck c = advances _ c.args.self.now c.args.reply c.self.invariant c.self.view_is c.requires
+
+pub returns-in-Ok-Trapped-clause-never_stuck : goal.returns-in-Ok-Trapped-clause-never_stuck
+returns-in-Ok-Trapped-clause-never_stuck c = advances _ c.args.self.now c.args.reply c.self.invariant c.self.view_is c.requires
+
+pub returns-in-Err-clause-never_stuck : goal.returns-in-Err-clause-never_stuck
+returns-in-Err-clause-never_stuck c = advances _ c.args.self.now c.args.reply c.self.invariant c.self.view_is c.requires
+
+pub returns-in-Ok-true-clause-never_stuck : goal.returns-in-Ok-true-clause-never_stuck
+returns-in-Ok-true-clause-never_stuck c = advances _ c.args.self.now c.args.reply c.self.invariant c.self.view_is c.requires
+
+pub returns-in-Ok-false-clause-never_stuck : goal.returns-in-Ok-false-clause-never_stuck
+returns-in-Ok-false-clause-never_stuck c = advances _ c.args.self.now c.args.reply c.self.invariant c.self.view_is c.requires
+
+pub returns-in-Err-OutOfMemory-call-clause-never_stuck : goal.returns-in-Err-OutOfMemory-call-clause-never_stuck
+returns-in-Err-OutOfMemory-call-clause-never_stuck c = advances _ c.args.self.now c.args.reply c.self.invariant c.self.view_is c.requires
+
+pub returns-in-Ok-true-call-clause-never_stuck : goal.returns-in-Ok-true-call-clause-never_stuck
+returns-in-Ok-true-call-clause-never_stuck c = advances _ c.args.self.now c.args.reply c.self.invariant c.self.view_is c.requires
+
+pub returns-in-Ok-false-call-clause-never_stuck : goal.returns-in-Ok-false-call-clause-never_stuck
+returns-in-Ok-false-call-clause-never_stuck c = advances _ c.args.self.now c.args.reply c.self.invariant c.self.view_is c.requires

@@ -1,0 +1,34 @@
+-- What is in each `Ok`, place by place.
+use Rattle.std.proofs.Common.{◌≡◌, ℕ, ◌+◌, ◌*◌, ◌<◌, ◌≤◌, ◌/◌, List, [], ◌∷◌, zero, suc, length, get_or, map, Result, Ok, IfOk, arith, subst, sym, ◌∙◌}
+use Rattle.std.specs.List.{AllZip, range_with_len}
+use Rattle.std.specs.Prelude.{slice_index_or}
+use Rattle.std.proofs.lemmas.List.FromFn.{get_or-range_with_len, length-range_with_len}
+use Rattle.wm_closure.specs.Graph.{IsColumn, AreColumns}
+
+pub AllZip-oks : {A B : Type 0} (E : Type 0) (R : A → B → Type 0) (xs : List A) (ys : List B) → AllZip (λ x (r : Result B E). IfOk r (R x)) xs (map Ok ys) → AllZip R xs ys
+AllZip-oks E R [] [] h = tt
+AllZip-oks E R [] (y ∷ ys) h = absurd h
+AllZip-oks E R (x ∷ xs) [] h = absurd h
+AllZip-oks E R (x ∷ xs) (y ∷ ys) h = (h.0, AllZip-oks E R xs ys h.1)
+
+pub AllZip-length : {A B : Type 0} (R : A → B → Type 0) (xs : List A) (ys : List B) → AllZip R xs ys → length xs ≡ length ys
+AllZip-length R [] [] h = λ i. 0
+AllZip-length R [] (y ∷ ys) h = absurd h
+AllZip-length R (x ∷ xs) [] h = absurd h
+AllZip-length R (x ∷ xs) (y ∷ ys) h = let e = AllZip-length R xs ys h.1 in omega arith
+
+pub AllZip-at : {A B : Type 0} (R : A → B → Type 0) (xs : List A) (ys : List B) (i : ℕ) (d : A) (e : B) → AllZip R xs ys → i < length xs → R (get_or xs i d) (get_or ys i e)
+AllZip-at R [] [] i d e h l = absurd (omega arith)
+AllZip-at R [] (y ∷ ys) i d e h l = absurd h
+AllZip-at R (x ∷ xs) [] i d e h l = absurd h
+AllZip-at R (x ∷ xs) (y ∷ ys) zero d e h l = h.0
+AllZip-at R (x ∷ xs) (y ∷ ys) (suc i) d e h l = AllZip-at R xs ys i d e h.1 (let m : suc i < suc (length xs) = l in omega arith)
+
+pub are_columns : (graph columns : List (List ℕ)) → AllZip (λ c column. IsColumn graph (c * 64) column) (range_with_len 0 ((length graph + 63) / 64)) columns → AreColumns graph columns
+are_columns graph columns h =
+    let n = (length graph + 63) / 64 in
+    let long : length columns ≡ n = sym (AllZip-length (λ c column. IsColumn graph (c * 64) column) (range_with_len 0 n) columns h) ∙ length-range_with_len 0 n in
+    (omega arith, λ c l.
+      let inside : c < n = omega arith in
+      let at : IsColumn graph (get_or (range_with_len 0 n) c 0 * 64) (slice_index_or columns c []) = AllZip-at (λ c column. IsColumn graph (c * 64) column) (range_with_len 0 n) columns c 0 [] h (let e = length-range_with_len 0 n in omega arith) in
+      subst (λ k. IsColumn graph (k * 64) (slice_index_or columns c [])) (let e = get_or-range_with_len 0 n c 0 inside in omega arith) at)

@@ -1,0 +1,99 @@
+//! What happens before what in a candidate whose order agrees with it.
+ghost use Rattle.std.specs.Prelude.{◌≡◌, ◌↔◌, IsTrue, IfOk, MatchOption, Some, None, slice_get};
+ghost use Rattle.wm_event.specs.declared.event.EventId.TheVariants.{Init, At};
+ghost use Rattle.wm_event.specs.declared.event.EventKey.{EventKey};
+ghost use Rattle.wm_event.specs.HappensBefore.{HappensBefore as IsBefore};
+ghost use Rattle.wm_event.specs.LoggedRun.{execution};
+ghost use Rattle.wm_event.specs.Rules.{KeepsOrder};
+
+use crate::steps::{graph, place_of};
+use wm_closure::Closure;
+use std::alloc::{AllocError, Global};
+use std::marker::Model;
+use std::thread::Threads;
+use crate::ordered::Ordered;
+use wm_event::{Candidate, EventId, EventKey};
+
+/// What happens before what.
+#[derive(Drop)]
+pub struct HappensBefore<'c, 'i> {
+    candidate: &'c Candidate<'i>,
+    closure: Closure,
+}
+
+impl<'c, 'i> Model for HappensBefore<'c, 'i> {
+    ghost use Rattle.wm_event.specs.LoggedRun.{LoggedRun};
+    ghost use Rattle.wm_hb.specs.Steps.{IsHappensBefore};
+
+    ghost Value = { LoggedRun };
+
+    ghost view = { λ h. h.candidate.now };
+
+    ghost invariant = { λ h. IsHappensBefore h.candidate.now h.closure };
+}
+
+impl<'c, 'i> HappensBefore<'c, 'i> {
+    /// The closure of the steps, worked in parallel.
+    pub fn of(rt: &(impl Threads + Sync), alloc: Global, ordered: &Ordered<'c, 'i>) -> Result<Self, AllocError>
+        ensures { IfOk result (λ h. h ≡ ordered.now) }
+    {
+        let candidate = ordered.candidate();
+        let _log = candidate.log();
+        let steps = graph(alloc, candidate)?;
+        let closure = Closure::of(rt, alloc, steps)?;
+        Ok(HappensBefore { candidate, closure })
+    }
+
+    /// The candidate, whose order agrees with what happens before what.
+    pub fn candidate(&self) -> &'c Candidate<'i>
+        ensures value { result.now ≡ self.now }
+        ensures agrees { KeepsOrder (execution self.now) }
+    {
+        self.candidate
+    }
+
+    /// Whether the event at one place of the order happens before the event at another.
+    pub fn before_at(&self, from: usize, to: usize) -> bool
+        ensures { (a b : EventKey) → slice_get self.now.witness.order from ≡ Some a → slice_get self.now.witness.order to ≡ Some b
+            → IsTrue result ↔ IsBefore (execution self.now) (At a) (At b) }
+    {
+        let candidate = self.candidate;
+        let _log = candidate.log();
+        self.closure.reaches(from, to)
+    }
+
+    /// Whether there is a chain from one event to the other.
+    fn is_before(&self, from: EventKey, to: EventKey) -> bool
+        ensures { IsTrue result ↔ IsBefore (execution self.now) (At from) (At to) }
+    {
+        let candidate = self.candidate;
+        let _log = candidate.log();
+        let Some(start) = place_of(candidate, from) else {
+            return false;
+        };
+        let Some(end) = place_of(candidate, to) else {
+            return false;
+        };
+        self.closure.reaches(start, end)
+    }
+
+    /// Whether one event happens before the other, false for an id that isn't there.
+    pub fn before(&self, from: EventId, to: EventId) -> bool
+        ensures { IsTrue result ↔ IsBefore (execution self.now) from to }
+    {
+        let EventId::At(end) = to else {
+            return false;
+        };
+        match from {
+            EventId::Init => {
+                let candidate = self.candidate;
+                let _log = candidate.log();
+                match place_of(candidate, end) {
+                    Some(_) => true,
+                    None => false,
+                }
+            }
+            EventId::At(start) => self.is_before(start, end),
+        }
+    }
+}

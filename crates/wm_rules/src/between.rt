@@ -1,0 +1,57 @@
+//! The writes of a byte between two places of the order.
+ghost use Rattle.std.specs.Prelude.{◌≡◌, ◌≤◌, ◌↔◌, length, ltb, true, false, IsTrue, MatchOption, None, Some, slice_get};
+ghost use Rattle.wm_event.specs.Shape.{ListsEachOnce};
+ghost use Rattle.std.specs.List.{filter};
+ghost use Rattle.std.specs.List.Sorted.{IsNonDecreasingBy, IsPartitionPoint};
+ghost use Rattle.wm_event.specs.declared.writes.ByteWrite.{ByteWrite};
+ghost use Rattle.wm_event.specs.declared.event.EventKey.{EventKey};
+ghost use Rattle.wm_event.specs.declared.event.EventId.TheVariants.{At};
+ghost use Rattle.wm_event.specs.HappensBefore.{HappensBefore as IsBefore};
+ghost use Rattle.wm_event.specs.LoggedRun.{execution};
+ghost use Rattle.wm_rules.specs.Between.{IsPlaceOf, Rises, stands_between};
+
+use wm_event::{ByteWrite, EventId, EventKey};
+use wm_hb::HappensBefore;
+
+/// How many of the writes stand before a place.
+fn count_before(writes: &[ByteWrite], place: usize) -> usize
+    requires { IsNonDecreasingBy (λ (b : ByteWrite). b.place) writes.now }
+    ensures bound { result ≤ length writes.now }
+    ensures parted { IsPartitionPoint (λ (b : ByteWrite). ltb b.place place ≡ true) (λ (b : ByteWrite). ltb b.place place ≡ false) writes.now result }
+{
+    writes.partition_point(|write: &ByteWrite| -> bool
+        ensures { result ≡ ltb write.now.place place }
+        { write.place < place })
+}
+
+/// The writes from one place on and before another.
+pub fn part_between(writes: &[ByteWrite], start: usize, end: usize) -> &[ByteWrite]
+    requires { Rises writes.now }
+    ensures { result.now ≡ filter (stands_between start end) writes.now }
+{
+    let skipped = count_before(writes, start);
+    let rest = &writes[skipped..];
+    let count = count_before(rest, end);
+    &rest[..count]
+}
+
+/// Whether a writer happens before the event at a place of the order.
+pub fn is_after(relation: &HappensBefore, writer: EventId, start: Option<usize>, place: usize) -> bool
+    requires { IsPlaceOf relation.now.witness.order start writer }
+    ensures { (v : EventKey) → slice_get relation.now.witness.order place ≡ Some v → (IsTrue result ↔ IsBefore (execution relation.now) writer (At v)) }
+{
+    let _order = relation.candidate().witness();
+    match start {
+        None => true,
+        Some(start) => relation.before_at(start, place),
+    }
+}
+
+/// The event at a place of the order.
+pub fn key_at(relation: &HappensBefore, place: usize) -> Option<EventKey>
+    ensures value { MatchOption result (slice_get relation.now.witness.order place ≡ None) (λ v. slice_get relation.now.witness.order place ≡ Some v) }
+    ensures order { ListsEachOnce relation.now.log relation.now.witness.order }
+{
+    let order = relation.candidate().witness().order.as_slice();
+    order.get(place).copied()
+}
