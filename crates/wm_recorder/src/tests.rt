@@ -2,10 +2,11 @@
 ghost use Rattle.std.specs.Prelude.{◌<◌, ◌^◌};
 
 use super::*;
+use std::alloc::Global;
 use std::process::Abort;
 use std::test::Fail;
 use wm_access::{AccessWidth, MemoryOrder};
-use wm_event::{EventId, EventKey, EventKind, Initial, MAX_EVENTS, Op, OpFields, OpKind, Reply};
+use wm_event::{EventId, EventKey, Initial, MAX_EVENTS, Op, OpFields, OpKind, Reply};
 use wm_memory::Item;
 
 fn load(address: u32) -> Op {
@@ -35,6 +36,17 @@ fn store_word(address: u32, value: u32) -> Op {
     })
 }
 
+/// How many steps, events and writers of a thread, places of the order and waiting stores there are.
+fn counts(recorder: &Recorder, thread: u32) -> [usize; 5] {
+    [
+        recorder.history().len(),
+        recorder.events(thread).len(),
+        recorder.writers(thread).len(),
+        recorder.order().len(),
+        recorder.memory().pending(thread),
+    ]
+}
+
 /// A step that is made again where memory was refused, after a look at what was recorded.
 fn step<R: Abort>(
     rt: &R,
@@ -42,18 +54,10 @@ fn step<R: Abort>(
     thread: u32,
     op: Op,
 ) -> Result<Reply, AccessFault> {
-    let steps = recorder.history().len();
-    let events = recorder.events(thread).len();
-    let writers = recorder.writers(thread).len();
-    let order = recorder.order().len();
-    let pending = recorder.memory().pending(thread);
+    let before = counts(recorder, thread);
     match recorder.step_access(thread, op) {
         Err(AccessFault::OutOfMemory) => {
-            assert_eq!(rt; recorder.history().len(), steps);
-            assert_eq!(rt; recorder.events(thread).len(), events);
-            assert_eq!(rt; recorder.writers(thread).len(), writers);
-            assert_eq!(rt; recorder.order().len(), order);
-            assert_eq!(rt; recorder.memory().pending(thread), pending);
+            assert_eq!(rt; counts(recorder, thread).as_slice(), before.as_slice());
             recorder.step_access(thread, op)
         }
         made => made,
@@ -86,34 +90,54 @@ fn a_forced_drain_is_a_step_of_its_own(rt: HostRuntime) -> Result<(), Fail> {
     Ok(())
 }
 
-#[test]
-fn a_full_recorder_refuses_accesses_and_drains(rt: HostRuntime) -> Result<(), Fail> {
-    let initial = Initial::zeros(rt.alloc(), 1)?;
-    let mut recorder = Recorder::new(rt.alloc(), &initial, 2)?;
-    step(&rt, &mut recorder, 0, store(0, 1))?;
+/// A recorder of two threads that made as many accesses as it may, the first a store of thread 0 that waits.
+fn full<R: Abort>(rt: &R, alloc: Global) -> Result<Recorder, Fail> {
+    let initial = Initial::zeros(alloc, 1)?;
+    let mut recorder = Recorder::new(alloc, &initial, 2)?;
+    step(rt, &mut recorder, 0, store(0, 1))?;
     for _made in 1..MAX_EVENTS {
-        step(&rt, &mut recorder, 1, load(0))?;
+        step(rt, &mut recorder, 1, load(0))?;
     }
-    for (thread, address, fault) in [
-        (2, 0, AccessFault::NoThread),
-        (0, 65_536, AccessFault::OutOfBounds),
-        (0, 0, AccessFault::Full),
-    ] {
-        match step(&rt, &mut recorder, thread, load(address)) {
-            Ok(_) => panic!(rt; "an access was made"),
-            Err(found) => assert_eq!(rt; found, fault),
-        }
-        assert_eq!(rt; recorder.history().len(), MAX_EVENTS);
-        assert_eq!(rt; recorder.order().len(), MAX_EVENTS);
+    Ok(recorder)
+}
+
+/// Why an access is refused, None where it is made.
+fn fault_of(recorder: &mut Recorder, thread: u32, op: Op) -> Option<AccessFault> {
+    match recorder.step_access(thread, op) {
+        Ok(_) => None,
+        Err(fault) => Some(fault),
     }
+}
+
+#[test]
+fn a_full_recorder_refuses_accesses(rt: HostRuntime) -> Result<(), Fail> {
+    let mut recorder = full(&rt, rt.alloc())?;
+    assert_eq!(rt;
+        fault_of(&mut recorder, 2, load(0)),
+        Some(AccessFault::NoThread)
+    );
+    assert_eq!(rt;
+        fault_of(&mut recorder, 0, load(65_536)),
+        Some(AccessFault::OutOfBounds)
+    );
+    assert_eq!(rt;
+        fault_of(&mut recorder, 0, load(0)),
+        Some(AccessFault::Full)
+    );
+    assert_eq!(rt; recorder.history().len(), MAX_EVENTS);
     assert_eq!(rt;
         format!(in rt.alloc(); "{}", AccessFault::Full)?.as_str(),
         "Full"
     );
+    Ok(())
+}
+
+#[test]
+fn a_full_recorder_drains(rt: HostRuntime) -> Result<(), Fail> {
+    let mut recorder = full(&rt, rt.alloc())?;
     assert!(rt; recorder.step_drain(0)?);
     assert_eq!(rt; recorder.history().len(), MAX_EVENTS + 1);
     assert!(rt; !recorder.step_drain(0)?);
-    assert!(rt; !recorder.step_drain(2)?);
     assert_eq!(rt; recorder.history().len(), MAX_EVENTS + 1);
     Ok(())
 }
@@ -139,31 +163,40 @@ fn a_store_leaves_before_older_ones_that_it_does_not_overlap(rt: HostRuntime) ->
     Ok(())
 }
 
+/// The value that an event read.
+fn read_of(parts: &Parts, thread: usize, number: usize) -> Option<u64> {
+    Some(parts.events.get(thread)?.get(number)?.read)
+}
+
+/// The writer of the first byte that an event read.
+fn writer_of(parts: &Parts, thread: usize, number: usize) -> Option<EventId> {
+    parts.writers.get(thread)?.get(number)?.get(0).copied()
+}
+
+/// What thread 0 recorded that read a byte before and after a store of thread 1 to it was drained.
+fn two_reads<R: Abort>(rt: &R, alloc: Global) -> Result<Parts, Fail> {
+    let initial = Initial::zeros(alloc, 1)?;
+    let mut recorder = Recorder::new(alloc, &initial, 2)?;
+    step(rt, &mut recorder, 1, store(3, 9))?;
+    step(rt, &mut recorder, 0, load(3))?;
+    recorder.step_drain(1)?;
+    step(rt, &mut recorder, 0, load(3))?;
+    recorder.recorded_log_is_valid();
+    Ok(recorder.into_parts()?)
+}
+
 #[test]
 fn what_is_recorded_is_given_as_lists(rt: HostRuntime) -> Result<(), Fail> {
-    let initial = Initial::zeros(rt.alloc(), 1)?;
-    let mut recorder = Recorder::new(rt.alloc(), &initial, 2)?;
-    step(&rt, &mut recorder, 1, store(3, 9))?;
-    step(&rt, &mut recorder, 0, load(3))?;
-    assert!(rt; recorder.step_drain(1)?);
-    step(&rt, &mut recorder, 0, load(3))?;
-    recorder.recorded_log_is_valid();
-    assert_eq!(rt; recorder.events(2).len(), 0);
-    assert_eq!(rt; recorder.writers(2).len(), 0);
-    let parts = recorder.into_parts()?;
-    assert_eq!(rt; parts.history.len(), 4);
+    let parts = two_reads(&rt, rt.alloc())?;
     let key = |thread: u32, number: u32| EventKey { thread, number };
+    assert_eq!(rt; parts.history.len(), 4);
     assert_eq!(rt;
         parts.order.as_slice(),
         [key(1, 0), key(0, 0), key(0, 1)].as_slice()
     );
-    let events = parts.events.get(0).ok_or("no thread 0")?;
-    let second = events.get(1).ok_or("no event 0.1")?;
-    assert!(rt; second.kind == EventKind::Read && second.read == 9);
-    let writers = parts.writers.get(0).ok_or("no thread 0")?;
-    let first = writers.get(0).ok_or("no event 0.0")?;
-    assert_eq!(rt; first.as_slice(), [EventId::Init].as_slice());
-    let second = writers.get(1).ok_or("no event 0.1")?;
-    assert_eq!(rt; second.as_slice(), [EventId::At(key(1, 0))].as_slice());
+    assert_eq!(rt; read_of(&parts, 0, 0), Some(0));
+    assert_eq!(rt; read_of(&parts, 0, 1), Some(9));
+    assert_eq!(rt; writer_of(&parts, 0, 0), Some(EventId::Init));
+    assert_eq!(rt; writer_of(&parts, 0, 1), Some(EventId::At(key(1, 0))));
     Ok(())
 }
