@@ -139,10 +139,8 @@ fn add_steps(history: &mut Growing<Item>, drained: bool, thread: u32, op: Op)
     requires { length history.old.items + 2 ≤ history.old.capacity }
     ensures { history.new.items ≡ history.old.items ++ access_items drained thread op }
 {
-    if !drained {
-        history.push_within(Item::Access(thread, op));
-        return;
+    if drained {
+        history.push_within(Item::Drain(thread));
     }
-    history.push_within(Item::Drain(thread));
     history.push_within(Item::Access(thread, op));
 }

@@ -1,0 +1,202 @@
+//! Rows of recorded histories, with values from outside, and each call once where it succeeds.
+ghost use Rattle.std.specs.Prelude.{◌<◌, ◌^◌};
+
+use super::*;
+use std::alloc::Global;
+use std::process::Abort;
+use std::test::Fail;
+use wm_access::{AccessWidth, MemoryOrder};
+use wm_event::{EventId, EventKey, Initial, MAX_EVENTS, Op, OpFields, OpKind, Reply};
+use wm_memory::Item;
+
+fn load(address: u32) -> Op {
+    Op::new(OpFields {
+        kind: OpKind::Read,
+        address,
+        width: AccessWidth::One,
+        order: MemoryOrder::Unordered,
+    })
+}
+
+fn store(address: u32, value: u8) -> Op {
+    Op::new(OpFields {
+        kind: OpKind::Write(value as u64),
+        address,
+        width: AccessWidth::One,
+        order: MemoryOrder::Unordered,
+    })
+}
+
+fn store_word(address: u32, value: u32) -> Op {
+    Op::new(OpFields {
+        kind: OpKind::Write(value as u64),
+        address,
+        width: AccessWidth::Four,
+        order: MemoryOrder::Unordered,
+    })
+}
+
+/// How many steps, events and writers of a thread, places of the order and waiting stores there are.
+fn counts(recorder: &Recorder, thread: u32) -> [usize; 5] {
+    [
+        recorder.history().len(),
+        recorder.events(thread).len(),
+        recorder.writers(thread).len(),
+        recorder.order().len(),
+        recorder.memory().pending(thread),
+    ]
+}
+
+/// A step that is made again where memory was refused, after a look at what was recorded.
+fn step<R: Abort>(
+    rt: &R,
+    recorder: &mut Recorder,
+    thread: u32,
+    op: Op,
+) -> Result<Reply, AccessFault> {
+    let before = counts(recorder, thread);
+    match recorder.step_access(thread, op) {
+        Err(AccessFault::OutOfMemory) => {
+            assert_eq!(rt; counts(recorder, thread).as_slice(), before.as_slice());
+            recorder.step_access(thread, op)
+        }
+        made => made,
+    }
+}
+
+fn reads<R: Abort>(rt: &R, recorder: &mut Recorder, thread: u32, address: u32) -> Option<u64> {
+    match step(rt, recorder, thread, load(address)) {
+        Ok(reply) => reply.read,
+        Err(_) => None,
+    }
+}
+
+#[test]
+fn a_forced_drain_is_a_step_of_its_own(rt: HostRuntime) -> Result<(), Fail> {
+    let initial = Initial::zeros(rt.alloc(), 1)?;
+    let mut recorder = Recorder::new(rt.alloc(), &initial, 2)?;
+    assert_eq!(rt; recorder.threads(), 2);
+    assert_eq!(rt; recorder.initial().len(), 65_536);
+    for address in 0..65u32 {
+        step(&rt, &mut recorder, 0, store(address, 1))?;
+    }
+    assert_eq!(rt; recorder.history().len(), 66);
+    assert_eq!(rt; recorder.history().get(64).copied(), Some(Item::Drain(0)));
+    assert_eq!(rt;
+        recorder.history().get(65).copied(),
+        Some(Item::Access(0, store(64, 1)))
+    );
+    assert_eq!(rt; recorder.memory().pending(0), 64);
+    Ok(())
+}
+
+/// A recorder of two threads that made as many accesses as it may, the first a store of thread 0 that waits.
+fn full<R: Abort>(rt: &R, alloc: Global) -> Result<Recorder, Fail> {
+    let initial = Initial::zeros(alloc, 1)?;
+    let mut recorder = Recorder::new(alloc, &initial, 2)?;
+    step(rt, &mut recorder, 0, store(0, 1))?;
+    for _made in 1..MAX_EVENTS {
+        step(rt, &mut recorder, 1, load(0))?;
+    }
+    Ok(recorder)
+}
+
+/// Why an access is refused, None where it is made.
+fn fault_of(recorder: &mut Recorder, thread: u32, op: Op) -> Option<AccessFault> {
+    match recorder.step_access(thread, op) {
+        Ok(_) => None,
+        Err(fault) => Some(fault),
+    }
+}
+
+#[test]
+fn a_full_recorder_refuses_accesses(rt: HostRuntime) -> Result<(), Fail> {
+    let mut recorder = full(&rt, rt.alloc())?;
+    assert_eq!(rt;
+        fault_of(&mut recorder, 2, load(0)),
+        Some(AccessFault::NoThread)
+    );
+    assert_eq!(rt;
+        fault_of(&mut recorder, 0, load(65_536)),
+        Some(AccessFault::OutOfBounds)
+    );
+    assert_eq!(rt;
+        fault_of(&mut recorder, 0, load(0)),
+        Some(AccessFault::Full)
+    );
+    assert_eq!(rt; recorder.history().len(), MAX_EVENTS);
+    assert_eq!(rt;
+        format!(in rt.alloc(); "{}", AccessFault::Full)?.as_str(),
+        "Full"
+    );
+    Ok(())
+}
+
+#[test]
+fn a_full_recorder_drains(rt: HostRuntime) -> Result<(), Fail> {
+    let mut recorder = full(&rt, rt.alloc())?;
+    assert!(rt; recorder.step_drain(0)?);
+    assert_eq!(rt; recorder.history().len(), MAX_EVENTS + 1);
+    assert!(rt; !recorder.step_drain(0)?);
+    assert_eq!(rt; recorder.history().len(), MAX_EVENTS + 1);
+    Ok(())
+}
+
+#[test]
+fn a_store_leaves_before_older_ones_that_it_does_not_overlap(rt: HostRuntime) -> Result<(), Fail> {
+    let initial = Initial::zeros(rt.alloc(), 1)?;
+    let mut recorder = Recorder::new(rt.alloc(), &initial, 2)?;
+    for (address, value) in [(0, 1), (2, 2), (8, 3)] {
+        step(&rt, &mut recorder, 0, store_word(address, value))?;
+    }
+    assert!(rt; !recorder.step_drain_at(0, 1)?);
+    assert_eq!(rt; recorder.history().len(), 3);
+    assert!(rt; recorder.step_drain_at(0, 2)?);
+    assert_eq!(rt;
+        recorder.history().get(3).copied(),
+        Some(Item::DrainAt(0, 2))
+    );
+    assert_eq!(rt; recorder.memory().pending(0), 2);
+    assert_eq!(rt; reads(&rt, &mut recorder, 1, 8), Some(3));
+    assert_eq!(rt; reads(&rt, &mut recorder, 1, 0), Some(0));
+    assert!(rt; !recorder.step_drain_at(0, 2)?);
+    Ok(())
+}
+
+/// The value that an event read.
+fn read_of(parts: &Parts, thread: usize, number: usize) -> Option<u64> {
+    Some(parts.events.get(thread)?.get(number)?.read)
+}
+
+/// The writer of the first byte that an event read.
+fn writer_of(parts: &Parts, thread: usize, number: usize) -> Option<EventId> {
+    parts.writers.get(thread)?.get(number)?.get(0).copied()
+}
+
+/// What thread 0 recorded that read a byte before and after a store of thread 1 to it was drained.
+fn two_reads<R: Abort>(rt: &R, alloc: Global) -> Result<Parts, Fail> {
+    let initial = Initial::zeros(alloc, 1)?;
+    let mut recorder = Recorder::new(alloc, &initial, 2)?;
+    step(rt, &mut recorder, 1, store(3, 9))?;
+    step(rt, &mut recorder, 0, load(3))?;
+    recorder.step_drain(1)?;
+    step(rt, &mut recorder, 0, load(3))?;
+    recorder.recorded_log_is_valid();
+    Ok(recorder.into_parts()?)
+}
+
+#[test]
+fn what_is_recorded_is_given_as_lists(rt: HostRuntime) -> Result<(), Fail> {
+    let parts = two_reads(&rt, rt.alloc())?;
+    let key = |thread: u32, number: u32| EventKey { thread, number };
+    assert_eq!(rt; parts.history.len(), 4);
+    assert_eq!(rt;
+        parts.order.as_slice(),
+        [key(1, 0), key(0, 0), key(0, 1)].as_slice()
+    );
+    assert_eq!(rt; read_of(&parts, 0, 0), Some(0));
+    assert_eq!(rt; read_of(&parts, 0, 1), Some(9));
+    assert_eq!(rt; writer_of(&parts, 0, 0), Some(EventId::Init));
+    assert_eq!(rt; writer_of(&parts, 0, 1), Some(EventId::At(key(1, 0))));
+    Ok(())
+}
