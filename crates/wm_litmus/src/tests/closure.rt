@@ -1,5 +1,7 @@
 //! Happens-before in bit columns beside the plain closure of its edges, and the limit of events.
 use super::documents::{ALLOWED, BROKEN};
+use super::fakes::{NEVER, says, source_of};
+use super::reads;
 use std::alloc::{AllocError, Global};
 use std::process::Abort;
 use std::test::Fail;
@@ -116,7 +118,11 @@ fn compares<R: Abort + AllocGlobal + Threads + Sync>(
         for (to, id) in ids.iter().enumerate() {
             let start = ids.as_slice().get(from).copied().unwrap_or(EventId::Init);
             let is_before = relation.before(start, *id);
-            assert_eq!(rt; is_before, marks(row.as_slice(), to), "{start} {id} {document}");
+            assert_eq!(rt;
+                is_before,
+                marks(row.as_slice(), to),
+                "{start} {id} {document}"
+            );
         }
     }
     Ok(true)
@@ -176,13 +182,17 @@ fn generated(alloc: Global, seed: u64) -> Result<String, AllocError> {
             let ordering = if below(state, 4) == 0 { "un" } else { "sc" };
             let width = below(state >> 2, 2).wrapping_add(1);
             if below(state >> 3, 2) == 0 {
-                events.push_str(format!(in alloc; r#"{comma}["w","{ordering}",0,{width},7]"#)?.as_str())?;
+                events.push_str(format!(in alloc;
+                    r#"{comma}["w","{ordering}",0,{width},7]"#
+                )?.as_str())?;
                 writers.push_str(format!(in alloc; "{comma}[]")?.as_str())?;
             } else {
                 let place = number.wrapping_mul(threads).wrapping_add(thread);
                 let first = writer(alloc, next(state), place, threads)?;
                 let second = writer(alloc, next(next(state)), place, threads)?;
-                events.push_str(format!(in alloc; r#"{comma}["r","{ordering}",0,{width},0]"#)?.as_str())?;
+                events.push_str(format!(in alloc;
+                    r#"{comma}["r","{ordering}",0,{width},0]"#
+                )?.as_str())?;
                 let bytes = if width == 1 {
                     format!(in alloc; "{comma}[{first}]")?
                 } else {
@@ -211,5 +221,128 @@ fn columns_are_the_plain_closure_on_generated_logs(rt: HostRuntime) -> Result<()
         let document = generated(rt.alloc(), seed)?;
         assert!(&rt; compares(&rt, document.as_str(), &initial)?);
     }
+    Ok(())
+}
+
+/// The name of an event.
+fn at(thread: u32, number: u32) -> EventId {
+    EventId::At(EventKey { thread, number })
+}
+
+#[test]
+fn one_thread_of_16384_events_is_a_chain(rt: HostRuntime) -> Result<(), Fail> {
+    let initial = Initial::zeros(rt.alloc(), 1)?;
+    let document = reads(rt.alloc(), 16_384)?;
+    let Ok((log, witness)) = read_document(rt.alloc(), document.as_bytes()) else {
+        panic!(&rt; "no document")
+    };
+    let Ok(candidate) = Candidate::new(rt.alloc(), log, witness, &initial) else {
+        panic!(&rt; "no candidate")
+    };
+    let Ok(ordered) = Ordered::of(&candidate) else {
+        panic!(&rt; "another order")
+    };
+    let relation = HappensBefore::of(&rt, rt.alloc(), &ordered)?;
+    assert!(&rt; relation.before(at(0, 0), at(0, 16_383)));
+    assert!(&rt; !relation.before(at(0, 16_383), at(0, 0)));
+    assert!(&rt; relation.before(EventId::Init, at(0, 0)));
+    assert!(&rt; !relation.before(at(0, 0), at(0, 0)));
+    assert!(&rt; !relation.before(at(0, 0), at(9, 0)));
+    assert!(&rt; relation.before_at(0, 16_383));
+    Ok(())
+}
+
+/// An update of the bytes from address 0 on, and two plain writes of those from address 2 on.
+const WRITES: &str =
+    r#"["wasm-litmus-log",1,[["t",[],["cut"],0,[["x","sc",0,4,0,1],["w","un",2,4,7]]],["t",[],["cut"],0,[["w","un",2,4,8]]]],[[[[[],[],[],[]],[]],[[]]],[[1,0],[0,0],[0,1]]]]"#;
+
+#[test]
+fn a_candidate_lists_the_writes_of_a_byte(rt: HostRuntime) -> Result<(), Fail> {
+    let initial = Initial::zeros(rt.alloc(), 1)?;
+    let Ok((log, witness)) = read_document(rt.alloc(), WRITES.as_bytes()) else {
+        panic!(&rt; "no document")
+    };
+    let Ok(candidate) = Candidate::new(rt.alloc(), log, witness, &initial) else {
+        panic!(&rt; "no candidate")
+    };
+    assert_eq!(&rt; candidate.writes_to(1), [at(0, 0)].as_slice());
+    assert_eq!(&rt;
+        candidate.writes_to(3),
+        [at(1, 0), at(0, 0), at(0, 1)].as_slice()
+    );
+    assert_eq!(&rt; candidate.writes_to(5), [at(1, 0), at(0, 1)].as_slice());
+    assert_eq!(&rt; candidate.writes_to(6).len(), 0);
+    Ok(())
+}
+
+/// So many reads of one thread from Init, the last of them behind the other thread's write in the order.
+fn reads_beside_a_write(alloc: Global, count: u32, before: u32) -> Result<String, AllocError> {
+    let mut events = String::new(alloc);
+    let mut writers = String::new(alloc);
+    let mut order = String::new(alloc);
+    for number in 0..count {
+        let comma = if number == 0 { "" } else { "," };
+        events.push_str(format!(in alloc; r#"{comma}["r","sc",0,4,0]"#)?.as_str())?;
+        writers.push_str(format!(in alloc; "{comma}[[],[],[],[]]")?.as_str())?;
+        let write = if number == before { "[1,0]," } else { "" };
+        order.push_str(format!(in alloc; "{comma}{write}[0,{number}]")?.as_str())?;
+    }
+    format!(in alloc;
+        r#"["wasm-litmus-log",1,[["t",[],["cut"],0,[{events}]],["t",[],["cut"],0,[["w","sc",0,4,1]]]],[[[{writers}],[[]]],[{order}]]]"#
+    )
+}
+
+#[test]
+fn the_first_fault_is_answered_however_many_there_are(rt: HostRuntime) -> Result<(), Fail> {
+    let document = reads_beside_a_write(rt.alloc(), 16_383, 3_000)?;
+    let mut input = source_of(document.as_bytes(), NEVER);
+    let line = "broken V5 case 3 at 0.3000 byte 0 writer init other 1.0\n";
+    says(&rt, &["rules", "-"], &mut input, line, "", 1);
+    Ok(())
+}
+
+/// Three threads that each update one address, all from the initial memory, in this order.
+fn three_updates(alloc: Global, order: &str) -> Result<String, AllocError> {
+    let thread = r#"["t",[],["cut"],0,[["x","sc",0,4,0,1]]]"#;
+    let writers = "[[[],[],[],[]]]";
+    format!(in alloc;
+        r#"["wasm-litmus-log",1,[{thread},{thread},{thread}],[[{writers},{writers},{writers}],[{order}]]]"#
+    )
+}
+
+#[test]
+fn the_first_of_several_other_writes_is_answered(rt: HostRuntime) -> Result<(), Fail> {
+    let forward = three_updates(rt.alloc(), "[0,0],[1,0],[2,0]")?;
+    let mut input = source_of(forward.as_bytes(), NEVER);
+    let line = "broken V5 case 3 at 1.0 byte 0 writer init other 0.0\n";
+    says(&rt, &["rules", "-"], &mut input, line, "", 1);
+    let backward = three_updates(rt.alloc(), "[2,0],[1,0],[0,0]")?;
+    let mut input = source_of(backward.as_bytes(), NEVER);
+    let line = "broken V5 case 3 at 0.0 byte 0 writer init other 2.0\n";
+    says(&rt, &["rules", "-"], &mut input, line, "", 1);
+    Ok(())
+}
+
+/// One thread that writes a byte so many times, and then reads it from its first write.
+fn read_of_an_old_write(alloc: Global, count: u32) -> Result<String, AllocError> {
+    let mut events = String::new(alloc);
+    let mut writers = String::new(alloc);
+    let mut order = String::new(alloc);
+    for number in 0..count {
+        events.push_str(r#"["w","un",0,1,7],"#)?;
+        writers.push_str("[],")?;
+        order.push_str(format!(in alloc; "[0,{number}],")?.as_str())?;
+    }
+    format!(in alloc;
+        r#"["wasm-litmus-log",1,[["t",[],["cut"],0,[{events}["r","un",0,1,7]]]],[[[{writers}[[0,0]]]],[{order}[0,{count}]]]]"#
+    )
+}
+
+#[test]
+fn the_first_of_many_writes_between_is_answered(rt: HostRuntime) -> Result<(), Fail> {
+    let document = read_of_an_old_write(rt.alloc(), 100)?;
+    let mut input = source_of(document.as_bytes(), NEVER);
+    let line = "broken V3 case 2 at 0.100 byte 0 writer 0.0 other 0.1\n";
+    says(&rt, &["rules", "-"], &mut input, line, "", 1);
     Ok(())
 }
