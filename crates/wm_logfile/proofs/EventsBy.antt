@@ -14,7 +14,7 @@ use Rattle.wm_event.specs.declared.event.EventKind.{EventKind}
 use Rattle.wm_event.specs.declared.event.EventKind.TheVariants.{Read, Write, Update}
 use Rattle.wm_event.specs.Log.{UsesFields}
 use Rattle.wm_logfile.specs.Words.{kind_word, order_word}
-use Rattle.wm_logfile.specs.Document.{count, values, event_cells, event_writers, by_cells, event_by, WriterFits}
+use Rattle.wm_logfile.specs.Document.{count, values, event_cells, by_cells, event_by, WriterFits}
 use Rattle.wm_logfile.specs.Reading.{◌>>=◌, kind_at, u32_max, u64_max, values_len, values_by_len, is_count_by, event_from, by_from, fields_by_at, event_by_at, number_event_by_at}
 use Rattle.wm_logfile.proofs.Format.{bind_some, when_some, IsFormat, IsFormatAt, listed}
 use Rattle.wm_logfile.proofs.Leaves.{kinds}

@@ -1,11 +1,11 @@
 -- The laws of the names of events, and of lists of writers.
-use Rattle.std.proofs.Common.{◌≡◌, ℕ, List, [], ◌∷◌, map, Option, Some, ap, refl, subst, ◌∙◌, arith, ◌≤◌}
+use Rattle.std.proofs.Common.{◌≡◌, ℕ, List, [], ◌∷◌, Option, Some, ap, refl, subst, ◌∙◌, arith, ◌≤◌}
 use Rattle.std.specs.List.{All}
 use Rattle.serde_json.specs.Data.{Data}
 use Rattle.wm_event.specs.declared.event.EventId.{EventId}
 use Rattle.wm_event.specs.declared.event.EventId.TheVariants.{Init, At}
 use Rattle.wm_event.specs.declared.event.EventKey.{EventKey}
-use Rattle.wm_logfile.specs.Document.{count, list, writer_cells, writer, event_writers, thread_writers, writers, key_cells, event_key, keys, WriterFits, KeyFits}
+use Rattle.wm_logfile.specs.Document.{count, writer_cells, writer, event_writers, thread_writers, writers, key_cells, event_key, keys, WriterFits, KeyFits}
 use Rattle.wm_logfile.specs.Reading.{◌>>=◌, number_at, u32_max, writer_from, writer_at, event_writers_at, thread_writers_at, writers_at, key_from, key_at, keys_at}
 use Rattle.wm_logfile.proofs.Format.{bind_some, IsFormat, listed, all_items}
 use Rattle.wm_logfile.proofs.Leaves.{numbers}

@@ -30,7 +30,7 @@ use Rattle.wm_event.specs.declared.log.ThreadLog.{ThreadLog}
 use Rattle.wm_event.specs.declared.witness.Witness.{Witness}
 use Rattle.wm_event.specs.Event.{key_of}
 use Rattle.wm_event.specs.Witness.{writers_in}
-use Rattle.wm_logfile.specs.Document.{count, list, values, by_cells, event_by, event_writers, result_cells, end, thread_by, event_key, keys, writer, document_2, EventFits, EndFits, ThreadFits, WriterFits, KeyFits, IsWithinLimits}
+use Rattle.wm_logfile.specs.Document.{count, values, by_cells, event_by, event_writers, result_cells, end, thread_by, event_key, writer, document_2, EventFits, EndFits, ThreadFits, WriterFits, KeyFits, IsWithinLimits}
 use Rattle.wm_logfile.specs.Tokens.{tokens_of}
 
 -- ---- the outline nests as deep

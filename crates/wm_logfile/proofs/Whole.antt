@@ -21,7 +21,7 @@ use Rattle.wm_logfile.specs.declared.document.Version.{Version}
 use Rattle.wm_logfile.specs.declared.document.Version.TheVariants.{First, Second}
 use Rattle.wm_logfile.specs.declared.fault.DocFault.{DocFault}
 use Rattle.wm_logfile.specs.declared.fault.DocFault.TheVariants.{NotJson, BadShape, BadVersion, NumberRange, TooLarge, OutOfMemory, Misplaced}
-use Rattle.wm_logfile.specs.Document.{count, list, thread, thread_by, writers, event_key, keys, witness_cells, witness, document_1, document_2, IsDocument, ThreadFits, WriterFits, KeyFits, IsWithinLimits, Spells, HasTooManyThreads}
+use Rattle.wm_logfile.specs.Document.{count, list, thread, thread_by, writers, keys, witness_cells, witness, IsDocument, ThreadFits, WriterFits, KeyFits, IsWithinLimits, Spells, HasTooManyThreads}
 use Rattle.wm_logfile.specs.Document.IsDocument.{first, second}
 use Rattle.wm_logfile.specs.Faults.{DocRefuses}
 use Rattle.wm_logfile.specs.Reading.{◌>>=◌, list_at, items_in, traverse, writers_at, keys_at, witness_from, witness_at, firsts, seconds, limited_thread_at, limited_thread_by_at, few_from, few_at, name_at, version_from, version_at, parts_from, parts_at, pair_1_at, pair_2_at, pair_at, document_at}
