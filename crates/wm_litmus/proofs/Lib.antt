@@ -2,3 +2,4 @@ pub mod Answering
 pub mod Entered
 pub mod Words
 pub mod Writing
+pub mod Small

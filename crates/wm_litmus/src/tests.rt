@@ -8,6 +8,7 @@ mod migration;
 mod modules;
 mod numeric_instructions;
 mod other_instructions;
+mod recordings;
 mod runs;
 mod threads;
 
