@@ -1,6 +1,6 @@
 //! Happens-before in bit columns beside the plain closure of its edges, and the limit of events.
 use super::documents::{ALLOWED, BROKEN};
-use super::fakes::{NEVER, says, source_of};
+use super::fakes::{NEVER, fake_reader, says};
 use super::reads;
 use std::alloc::{AllocError, Global};
 use std::process::Abort;
@@ -295,7 +295,7 @@ fn reads_beside_a_write(alloc: Global, count: u32, before: u32) -> Result<String
 #[test]
 fn the_first_fault_is_answered_however_many_there_are(rt: HostRuntime) -> Result<(), Fail> {
     let document = reads_beside_a_write(rt.alloc(), 16_383, 3_000)?;
-    let mut input = source_of(document.as_bytes(), NEVER);
+    let mut input = fake_reader(document.as_bytes(), NEVER);
     let line = "broken V5 case 3 at 0.3000 byte 0 writer init other 1.0\n";
     says(&rt, &["rules", "-"], &mut input, line, "", 1);
     Ok(())
@@ -313,11 +313,11 @@ fn three_updates(alloc: Global, order: &str) -> Result<String, AllocError> {
 #[test]
 fn the_first_of_several_other_writes_is_answered(rt: HostRuntime) -> Result<(), Fail> {
     let forward = three_updates(rt.alloc(), "[0,0],[1,0],[2,0]")?;
-    let mut input = source_of(forward.as_bytes(), NEVER);
+    let mut input = fake_reader(forward.as_bytes(), NEVER);
     let line = "broken V5 case 3 at 1.0 byte 0 writer init other 0.0\n";
     says(&rt, &["rules", "-"], &mut input, line, "", 1);
     let backward = three_updates(rt.alloc(), "[2,0],[1,0],[0,0]")?;
-    let mut input = source_of(backward.as_bytes(), NEVER);
+    let mut input = fake_reader(backward.as_bytes(), NEVER);
     let line = "broken V5 case 3 at 0.0 byte 0 writer init other 2.0\n";
     says(&rt, &["rules", "-"], &mut input, line, "", 1);
     Ok(())
@@ -341,7 +341,7 @@ fn read_of_an_old_write(alloc: Global, count: u32) -> Result<String, AllocError>
 #[test]
 fn the_first_of_many_writes_between_is_answered(rt: HostRuntime) -> Result<(), Fail> {
     let document = read_of_an_old_write(rt.alloc(), 100)?;
-    let mut input = source_of(document.as_bytes(), NEVER);
+    let mut input = fake_reader(document.as_bytes(), NEVER);
     let line = "broken V3 case 2 at 0.100 byte 0 writer 0.0 other 0.1\n";
     says(&rt, &["rules", "-"], &mut input, line, "", 1);
     Ok(())

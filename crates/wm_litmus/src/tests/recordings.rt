@@ -8,7 +8,9 @@ use std::process::Abort;
 use std::test::Fail;
 use std::thread::Threads;
 use wm_access::{AccessWidth, MemoryOrder, RmwOperator};
-use wm_event::{Candidate, End, Event, Initial, Judgement, Log, Op, OpFields, OpKind, Start, ThreadLog, Witness};
+use wm_event::{
+    Candidate, End, Event, Initial, Judgement, Log, Op, OpFields, OpKind, Start, ThreadLog, Witness,
+};
 use wm_list::{List, Text};
 use wm_recorder::Recorder;
 use wm_rules::judge;
@@ -84,9 +86,18 @@ impl Random {
                 order: MemoryOrder::SeqCst,
             });
         }
-        let kind = if kind < 4 { OpKind::Read } else { OpKind::Write(value) };
+        let kind = if kind < 4 {
+            OpKind::Read
+        } else {
+            OpKind::Write(value)
+        };
         let order = self.order();
-        Op::new(OpFields { kind, address, width, order })
+        Op::new(OpFields {
+            kind,
+            address,
+            width,
+            order,
+        })
     }
 }
 
@@ -142,7 +153,11 @@ fn recorded(alloc: Global, initial: &Initial, random: &mut Random) -> Result<Rec
 }
 
 /// Records so many histories from a seed, and judges each.
-fn all_are_valid<R: Abort + AllocGlobal + Threads + Sync>(rt: &R, seed: u64, count: u32) -> Result<(), Fail> {
+fn all_are_valid<R: Abort + AllocGlobal + Threads + Sync>(
+    rt: &R,
+    seed: u64,
+    count: u32,
+) -> Result<(), Fail> {
     let mut random = Random { state: seed };
     let mut bytes = [0u8; BYTES];
     for k in 0..BYTES {
