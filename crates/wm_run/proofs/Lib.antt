@@ -1,2 +1,9 @@
 pub mod InBounds
 pub mod Accesses
+pub mod Recordings
+pub mod Turns
+pub mod Absent
+pub mod Launching
+pub mod Logging
+pub mod Runs
+pub mod Driving

@@ -3,6 +3,7 @@
 
 mod fault;
 mod launch;
+mod own;
 mod plan;
 mod run;
 mod runner;
@@ -10,6 +11,7 @@ mod script;
 mod turn;
 
 pub use fault::{PlanFault, RunFault};
+pub use own::own_runs_are_allowed;
 pub use plan::Plan;
 pub use run::{Run, write_run};
 pub use script::drive;
