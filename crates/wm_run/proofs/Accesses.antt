@@ -1,0 +1,118 @@
+-- What an access reads, and what it adds to a history.
+use Rattle.std.proofs.Common.{◌≡◌, ℕ, zero, suc, ◌+◌, ◌*◌, ◌^◌, ◌<◌, ◌==◌, List, [], ◌∷◌, ◌++◌, Bool, true, false, Option, Some, None, refl, sym, ap, subst, ◌∙◌, arith, length, reverse, cond, All}
+use Rattle.std.specs.Prelude.{if◌then◌else◌, ⊤}
+use Rattle.std.proofs.lemmas.List.{append-nil, reverse-append}
+use Rattle.wm_access.specs.declared.AccessWidth.{AccessWidth}
+use Rattle.wm_access.specs.declared.AccessWidth.TheVariants.{One, Two, Four, Eight}
+use Rattle.wm_access.specs.AccessWidth.{Fits, bytes_of}
+use Rattle.wm_event.specs.declared.event.Event.{Event}
+use Rattle.wm_event.specs.declared.event.EventKey.{EventKey}
+use Rattle.wm_event.specs.declared.event.EventKind.{EventKind}
+use Rattle.wm_event.specs.declared.event.EventKind.TheVariants as event
+use Rattle.wm_event.specs.declared.op.OpFields.{OpFields}
+use Rattle.wm_event.specs.declared.op.OpKind.{OpKind}
+use Rattle.wm_event.specs.declared.op.OpKind.TheVariants.{Read, Write, Rmw, CmpXchg}
+use Rattle.wm_event.specs.Event.{kind_reads, reads}
+use Rattle.wm_event.specs.Op.{event_made, kind_finds, made_kind, made_read}
+use Rattle.wm_machine.specs.State.{ReadAnswers, value_or_zero}
+use Rattle.wm_memory.specs.declared.item.Item.{Item}
+use Rattle.wm_memory.specs.declared.item.Item.TheVariants.{Access, Drain, DrainAt}
+use Rattle.wm_memory.specs.Memory.{drains_first, ready}
+use Rattle.wm_memory.specs.Recorded.{events_of}
+use Rattle.wm_memory.specs.Reply.{reply_after}
+use Rattle.wm_memory.specs.Visibility.{Drained, Made, Step, accesses, made_after, seen, step_of, steps, value_at, visible, writers_after}
+use Rattle.wm_memory.proofs.Digits.{value_below}
+use Rattle.wm_memory.proofs.Values.{seen_below}
+use Rattle.wm_recorder.specs.Transcript.{access_items}
+
+finds_if : (b : Bool) → kind_reads (if b then event.Update else event.Read) ≡ true
+finds_if true = refl
+finds_if false = refl
+
+-- the event of an access reads where the access does
+pub finds : (kind : OpKind) (r : ℕ) → kind_reads (made_kind kind r) ≡ kind_finds kind
+finds Read r = refl
+finds (Write v) r = refl
+finds (Rmw op v) r = refl
+finds (CmpXchg expected new) r = finds_if (r == expected)
+
+fits_zero : (w : AccessWidth) → Fits w 0
+fits_zero One = omega arith
+fits_zero Two = omega arith
+fits_zero Four = omega arith
+fits_zero Eight = omega arith
+
+read_fits : (kind : OpKind) (w : AccessWidth) (r : ℕ) → Fits w r → Fits w (made_read kind r)
+read_fits Read w r h = h
+read_fits (Write v) w r h = fits_zero w
+read_fits (Rmw op v) w r h = h
+read_fits (CmpXchg expected new) w r h = h
+
+-- what an access reads fits its width
+pub fits_after : (initial : List ℕ) (s : List Step) (t : ℕ) (op : OpFields) → All (λ b. b < 256) initial → Fits op.width (made_after initial s t op).read
+fits_after initial s t op bytes =
+    read_fits op.kind op.width _
+    (value_below (seen initial (visible s t)) (λ a. seen_below initial (visible s t) a bytes) op.address (bytes_of op.width))
+
+again : (key : EventKey) (op : OpFields) (kind : OpKind) (r : ℕ) → event_made key (record op { kind = kind }) (made_read kind r) ≡ event_made key (record op { kind = kind }) r
+again key op Read r = refl
+again key op (Write v) r = refl
+again key op (Rmw operator v) r = refl
+again key op (CmpXchg expected new) r = refl
+
+-- the value that the event reads makes it again
+pub made_again : (key : EventKey) (op : OpFields) (r : ℕ) → event_made key op (event_made key op r).read ≡ event_made key op r
+made_again key op r = again key op op.kind r
+
+answers_as : (b : Bool) (w : AccessWidth) (v : ℕ) → Fits w v → ReadAnswers b w (if b then Some v else None)
+answers_as true w v h = h
+answers_as false w v h = tt
+
+-- the reply has a value exactly where the access reads, and it fits
+pub reply_answers : (initial : List ℕ) (s : List Step) (t : ℕ) (op : OpFields) → All (λ b. b < 256) initial → ReadAnswers (kind_finds op.kind) op.width (reply_after initial s t op).read
+reply_answers initial s t op bytes =
+    let e = made_after initial s t op in
+    subst (λ b. ReadAnswers (kind_finds op.kind) op.width (if b then Some e.read else None)) (sym (finds op.kind _)) (answers_as (kind_finds op.kind) op.width e.read (fits_after initial s t op bytes))
+
+no_value : (kind : OpKind) (r : ℕ) → kind_finds kind ≡ false → made_read kind r ≡ 0
+no_value Read r e = absurd (cc e)
+no_value (Write v) r e = refl
+no_value (Rmw op v) r e = absurd (cc e)
+no_value (CmpXchg expected new) r e = absurd (cc e)
+
+value_as : (b : Bool) (v : ℕ) → (b ≡ false → v ≡ 0) → value_or_zero (if b then Some v else None) ≡ v
+value_as true v h = refl
+value_as false v h = sym (h refl)
+
+-- what the reply brings is what the event reads
+pub reply_value : (initial : List ℕ) (s : List Step) (t : ℕ) (op : OpFields) → value_or_zero (reply_after initial s t op).read ≡ (made_after initial s t op).read
+reply_value initial s t op =
+    let r = value_at (seen initial (visible s t)) op.address (bytes_of op.width) in
+    value_as (kind_reads (made_kind op.kind r)) (made_after initial s t op).read (λ e. no_value op.kind r (sym (finds op.kind r) ∙ e))
+
+-- an access that doesn't read brings 0
+pub no_read : (initial : List ℕ) (s : List Step) (t : ℕ) (op : OpFields) → kind_finds op.kind ≡ false → (made_after initial s t op).read ≡ 0
+no_read initial s t op e = no_value op.kind _ e
+
+added_by : (initial : List ℕ) (h : List Item) (t : ℕ) (op : OpFields) (b : Bool)
+    → let s = if b then Drained t 0 ∷ steps initial (reverse h) else steps initial (reverse h) in
+    steps initial (reverse (h ++ access_items b t op)) ≡ step_of initial s (Access t op) ∷ s
+added_by initial h t op true = ap (steps initial) (reverse-append h (Drain t ∷ Access t op ∷ []))
+added_by initial h t op false = ap (steps initial) (reverse-append h (Access t op ∷ []))
+
+-- what an access adds to the steps, behind the drain that a full buffer forces
+pub added : (initial : List ℕ) (h : List Item) (t : ℕ) (op : OpFields)
+    → let s = steps initial (reverse h) in
+    steps initial (reverse (h ++ access_items (drains_first s t op) t op)) ≡ step_of initial (ready s t op) (Access t op) ∷ ready s t op
+added initial h t op = added_by initial h t op (drains_first (steps initial (reverse h)) t op)
+
+pub one_added : (initial : List ℕ) (h : List Item) (item : Item) → steps initial (reverse (h ++ item ∷ [])) ≡ step_of initial (steps initial (reverse h)) item ∷ steps initial (reverse h)
+one_added initial h item = ap (steps initial) (reverse-append h (item ∷ []))
+
+ready_by : (s : List Step) (t u : ℕ) (b : Bool) → events_of (if b then Drained t 0 ∷ s else s) u ≡ events_of s u
+ready_by s t u true = refl
+ready_by s t u false = refl
+
+-- a drain makes no event
+pub ready_events : (s : List Step) (t u : ℕ) (op : OpFields) → events_of (ready s t op) u ≡ events_of s u
+ready_events s t u op = ready_by s t u (drains_first s t op)

@@ -1,0 +1,2 @@
+pub mod InBounds
+pub mod Accesses

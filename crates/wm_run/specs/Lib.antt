@@ -1,0 +1,10 @@
+pub mod Plan
+pub mod Texts
+pub mod Run
+pub mod Script
+pub mod Runner
+pub mod Scripted
+pub mod Launch
+pub mod Finish
+pub mod Own
+pub mod Refusal

@@ -1,0 +1,39 @@
+-- A log of the module's own threads over this memory, whichever way they took turns.
+use Rattle.std.specs.Prelude.{◌≡◌, ℕ, ◌<◌, ◌≤◌, List, length, All, Some, slice_get}
+use Rattle.wm_ast.specs.declared.module.Module.{Module}
+use Rattle.wm_event.specs.declared.log.ThreadLog.{ThreadLog}
+use Rattle.wm_event.specs.LoggedRun.{LoggedRun, execution}
+use Rattle.wm_event.specs.Rules.{IsValid}
+use Rattle.wm_event.specs.Shape.{IsWellShaped}
+use Rattle.wm_memory.specs.declared.item.Item.{Item}
+use Rattle.wm_memory.specs.Legal.{IsLegal}
+use Rattle.wm_memory.specs.Recorded.{Records}
+use Rattle.wm_memory.specs.Visibility.{steps}
+use Rattle.wm_replay.specs.Replay.{AreRuns}
+use Rattle.wm_valid.specs.Valid.{IsInit}
+use Rattle.wm_run.specs.Run.{Record, over}
+
+-- each thread is its run, and log and witness are what one legal history over the initial memory records
+pub record IsOwnRun (m : Module) (run : Record) : Type 0 where
+  pub initial : List ℕ
+  pub is_init : IsInit m initial
+  pub bytes : All (λ b. b < 256) initial
+  pub history : List Item
+  pub legal : IsLegal (length run.log) initial history
+  pub records : Records (length run.log) initial (steps initial history) (over initial run)
+  pub runs : AreRuns m run.log
+
+-- at most so many threads and steps as a document has
+pub record IsWithinPlan (run : Record) : Type 0 where
+  pub threads : length run.log ≤ 16
+  pub steps : (t : ℕ) (thread : ThreadLog) → slice_get run.log t ≡ Some thread → thread.steps ≤ 1000000
+
+-- over the initial memory it is a well-shaped candidate whose threads are their runs, and a valid execution
+pub record IsAllowedOver (m : Module) (initial : List ℕ) (run : Record) : Type 0 where
+  pub shape : IsWellShaped (over initial run)
+  pub runs : AreRuns m run.log
+  pub valid : IsValid (execution (over initial run))
+
+-- own logs are allowed
+abbrev pub OwnRunsAreAllowed : Type 0
+OwnRunsAreAllowed = (m : Module) (run : Record) (initial : List ℕ) → IsOwnRun m run → IsInit m initial → IsAllowedOver m initial run

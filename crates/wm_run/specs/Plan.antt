@@ -1,0 +1,42 @@
+-- What a plan keeps with the turns of its script, and what is wrong with one that doesn't.
+use Rattle.std.specs.Prelude.{◌≡◌, ℕ, ◌<◌, ◌≤◌, List, length, Some, slice_get}
+use Rattle.wm_run.specs.declared.fault.PlanFault.{PlanFault}
+use Rattle.wm_run.specs.declared.fault.PlanFault.TheVariants as fault
+use Rattle.wm_run.specs.declared.plan.Plan.{Plan}
+use Rattle.wm_run.specs.declared.turn.Turn.{Turn}
+use Rattle.wm_run.specs.declared.turn.Turn.TheVariants.{Step, Drain, DrainAt}
+
+-- the thread whose turn it is
+abbrev pub thread_of : Turn → ℕ
+thread_of (Step t) = t
+thread_of (Drain t) = t
+thread_of (DrainAt t k) = t
+
+-- it starts 1 to 16 threads
+pub record HasThreads (plan : Plan) : Type 0 where
+  pub some : 0 < length plan.starts
+  pub few : length plan.starts ≤ 16
+
+-- each turn is that of one of so many threads
+abbrev pub AreTurnsOf : ℕ → List Turn → Type 0
+AreTurnsOf threads turns = (k : ℕ) (turn : Turn) → slice_get turns k ≡ Some turn → thread_of turn < threads
+
+-- some turn is that of thread t, which isn't among so many, and t is the least of those
+pub record IsLeastAbsent (threads : ℕ) (turns : List Turn) (t : ℕ) : Type 0 where
+  pub absent : threads ≤ t
+  pub listed : (k : ℕ) × ((turn : Turn) × (slice_get turns k ≡ Some turn) × (thread_of turn ≡ t))
+  pub least : (k : ℕ) (turn : Turn) → slice_get turns k ≡ Some turn → threads ≤ thread_of turn → t ≤ thread_of turn
+
+-- a plan that can be followed through these turns
+pub record IsPlan (plan : Plan) (turns : List Turn) : Type 0 where
+  pub threads : HasThreads plan
+  pub steps : plan.steps ≤ 1000000
+  pub few : length turns ≤ 1000000
+  pub there : AreTurnsOf (length plan.starts) turns
+
+-- the first thing that is wrong with a plan and its turns
+abbrev pub IsPlanFault : Plan → List Turn → PlanFault → Type 0
+IsPlanFault plan turns fault.Threads = HasThreads plan → ⊥
+IsPlanFault plan turns fault.Steps = HasThreads plan × (1000000 < plan.steps)
+IsPlanFault plan turns fault.Turns = HasThreads plan × (plan.steps ≤ 1000000) × (1000000 < length turns)
+IsPlanFault plan turns (fault.Turn t) = HasThreads plan × (plan.steps ≤ 1000000) × (length turns ≤ 1000000) × IsLeastAbsent (length plan.starts) turns t

@@ -1,0 +1,48 @@
+-- What the threads of a script are seen as, with the memory that they share.
+use Rattle.std.specs.Prelude.{◌≡◌, ℕ, suc, ◌+◌, ◌≤◌, List, length, map, All}
+use Rattle.wm_ast.specs.declared.module.Module.{Module}
+use Rattle.wm_machine.specs.State.{State, config_of}
+use Rattle.wm_memory.specs.declared.item.Item.{Item}
+use Rattle.wm_recorder.specs.Recorder.{Adds, Recording, initial_of, threads_of}
+use Rattle.wm_valid.specs.Valid.{IsInit}
+use Rattle.wm_run.specs.declared.runner.Moved.{Moved}
+use Rattle.wm_run.specs.declared.runner.Moved.TheVariants.{Stepped, Rested}
+use Rattle.wm_run.specs.declared.runner.Runner.{Runner}
+use Rattle.wm_run.specs.Script.{Rests, Scene, Setting, Standing, StepsTo}
+
+abbrev pub standing : State → ℕ → Standing
+standing thread made = record { config = config_of thread; made = made }
+
+abbrev pub standing_of : Runner → Standing
+standing_of runner = standing runner.thread runner.made
+
+abbrev pub setting_of : Module → Recording → ℕ → Setting
+setting_of m recorder limit = record { program = m; initial = initial_of recorder; limit = limit }
+
+abbrev pub scene_of : List Runner → Recording → Scene
+scene_of runners recorder = record { threads = map standing_of runners; history = recorder.history }
+
+-- the threads are of the module, and the recorder is of as many over its initial memory
+pub record IsSet (m : Module) (runners : List Runner) (recorder : Recording) : Type 0 where
+  pub programs : All (λ (runner : Runner). runner.thread.module ≡ m) runners
+  pub count : threads_of recorder ≡ length runners
+  pub initial : IsInit m (initial_of recorder)
+
+-- a step of thread t led from the one to the other
+pub record Goes (m : Module) (t limit : ℕ) (old : Standing) (recorder : Recording) (new : Standing) (recorder' : Recording) : Type 0 where
+  pub items : List Item
+  pub steps : StepsTo (setting_of m recorder limit) recorder.history t old new items
+  pub adds : Adds items recorder recorder'
+
+-- whatever limit it is below, and however many steps it made
+abbrev pub Advances : ℕ → State → Recording → State → Recording → Moved → Type 0
+Advances t old recorder new recorder' Stepped =
+    (made limit : ℕ) → suc made ≤ limit → Goes old.module t limit (standing old made) recorder (standing new (suc made)) recorder'
+Advances t old recorder new recorder' Rested =
+    (new ≡ old) × (recorder' ≡ recorder) × ((made limit : ℕ) → Rests (setting_of old.module recorder limit) recorder.history (standing old made))
+
+-- it made a step, or rests as it was
+-- a step of thread t, or none where it rests
+pub data Moves (t limit : ℕ) (old : Runner) (recorder : Recording) (new : Runner) (recorder' : Recording) : Type 0 where
+  goes : Goes old.thread.module t limit (standing_of old) recorder (standing_of new) recorder' → Moves t limit old recorder new recorder'
+  stays : new ≡ old → recorder' ≡ recorder → Rests (setting_of old.thread.module recorder limit) recorder.history (standing_of old) → Moves t limit old recorder new recorder'

@@ -1,0 +1,49 @@
+-- The scripted run: what a module's threads do through the turns of a script.
+use Rattle.std.specs.Prelude.{◌≡◌, ℕ, List, [], length, Ok, Some, slice_get}
+use Rattle.wm_ast.specs.declared.module.Module.{Module}
+use Rattle.wm_event.specs.declared.log.Start.{Start}
+use Rattle.wm_event.specs.declared.log.ThreadLog.{ThreadLog}
+use Rattle.wm_machine.specs.Run.{end_of}
+use Rattle.wm_machine.specs.Start.{started}
+use Rattle.wm_machine.specs.Term.{Config}
+use Rattle.wm_memory.specs.Visibility.{Step}
+use Rattle.wm_memory.specs.Recorded.{by_thread, events_of, order_of, writers_of}
+use Rattle.wm_valid.specs.Valid.{IsInit}
+use Rattle.wm_run.specs.declared.plan.Plan.{Plan}
+use Rattle.wm_run.specs.declared.turn.Turn.{Turn}
+use Rattle.wm_run.specs.Run.{Record}
+use Rattle.wm_run.specs.Script.{Plays, Scene, Setting, Standing, done}
+
+-- a thread that begins with this start, before its first step
+pub record Begins (m : Module) (start : Start) (thread : Standing) : Type 0 where
+  pub config : started m start.name start.args ≡ Ok thread.config
+  pub made : thread.made ≡ 0
+
+-- each thread begins with its start, and nothing was done to memory
+pub record IsFirstScene (m : Module) (starts : List Start) (scene : Scene) : Type 0 where
+  pub count : length scene.threads ≡ length starts
+  pub each : (t : ℕ) (start : Start) (thread : Standing) → slice_get starts t ≡ Some start → slice_get scene.threads t ≡ Some thread → Begins m start thread
+  pub history : scene.history ≡ []
+
+-- what is logged of thread t: its events are those of the steps, the newest first, and it is cut where it hasn't ended
+abbrev pub thread_log : List Step → ℕ → Start → Standing → ThreadLog
+thread_log s t start thread = record { start = start; end = end_of thread.config; steps = thread.made; events = events_of s t }
+
+-- the log and the witness of the last scene
+pub record IsLogOf (starts : List Start) (threads : List Standing) (s : List Step) (run : Record) : Type 0 where
+  pub count : length run.log ≡ length starts
+  pub each : (t : ℕ) (start : Start) (thread : Standing) → slice_get starts t ≡ Some start → slice_get threads t ≡ Some thread → slice_get run.log t ≡ Some (thread_log s t start thread)
+  pub writers : run.witness.writers ≡ by_thread (writers_of s) (length starts)
+  pub order : run.witness.order ≡ order_of s
+
+-- the log and the witness are those of the scripted run of the module by this plan and these turns
+pub record IsScripted (m : Module) (plan : Plan) (turns : List Turn) (run : Record) : Type 0 where
+  pub setting : Setting
+  pub program : setting.program ≡ m
+  pub initial : IsInit m setting.initial
+  pub limit : setting.limit ≡ plan.steps
+  pub first : Scene
+  pub last : Scene
+  pub begins : IsFirstScene m plan.starts first
+  pub plays : Plays setting first turns last
+  pub logged : IsLogOf plan.starts last.threads (done setting last.history) run

@@ -1,0 +1,25 @@
+//! Runs of a module's threads over one memory, and the logs that they record.
+#![tactic(auto)]
+
+mod fault;
+mod launch;
+mod plan;
+mod run;
+mod runner;
+mod script;
+mod turn;
+
+pub use fault::{PlanFault, RunFault};
+pub use plan::Plan;
+pub use run::{Run, write_run};
+pub use script::drive;
+pub use turn::Turn;
+
+/// How many threads a run has at most.
+pub const MAX_THREADS: usize = 16;
+
+/// How many steps each thread of a run makes at most.
+pub const MAX_STEPS: u32 = 1_000_000;
+
+/// How many turns a script has at most, and the drainer of a round.
+pub const MAX_TURNS: usize = 1_000_000;

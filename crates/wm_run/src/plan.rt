@@ -1,0 +1,64 @@
+//! What a run starts, and how far it goes.
+ghost use Rattle.std.specs.Prelude.{◌≤◌, length, IfErr, IfNone, IfSome, OnOk};
+ghost use Rattle.wm_run.specs.Plan.{AreTurnsOf, HasThreads, IsLeastAbsent, IsPlan, IsPlanFault};
+
+use crate::fault::PlanFault;
+use crate::turn::Turn;
+use crate::{MAX_STEPS, MAX_THREADS, MAX_TURNS};
+use wm_event::Start;
+use wm_list::List;
+
+/// What a run starts, and how far it goes.
+#[derive(Drop)]
+pub struct Plan {
+    /// What each thread starts with, for 1 to 16 threads.
+    pub starts: List<Start>,
+    /// How many steps each thread makes at most, up to 1,000,000.
+    pub steps: u32,
+    /// How many turns the drainer of a round takes, up to 1,000,000. A script has its own drains, and doesn't look at it.
+    pub drains: u32,
+}
+
+impl Plan {
+    /// Whether the plan can be followed through the turns of a script.
+    ///
+    /// # Errors
+    ///
+    /// In this order: `Threads` where it starts none or more than 16, `Steps` where it lets a thread make more than
+    /// 1,000,000, `Turns` where there are more than 1,000,000, `Turn` where it is the turn of a thread that isn't started,
+    /// with the least of these threads.
+    pub fn follows(&self, turns: &[Turn]) -> Result<(), PlanFault>
+        ensures ok { OnOk result (IsPlan self.now turns.now) }
+        ensures fault { IfErr result (IsPlanFault self.now turns.now) }
+    {
+        let threads = self.starts.len();
+        if threads == 0 || threads > MAX_THREADS {
+            return Err(PlanFault::Threads);
+        }
+        if self.steps > MAX_STEPS {
+            return Err(PlanFault::Steps);
+        }
+        if turns.len() > MAX_TURNS {
+            return Err(PlanFault::Turns);
+        }
+        match least_absent(turns, threads) {
+            Some(thread) => Err(PlanFault::Turn(thread)),
+            None => Ok(()),
+        }
+    }
+}
+
+/// The least thread of all turns that isn't one of so many, None where each is.
+fn least_absent(turns: &[Turn], threads: usize) -> Option<u32>
+    ensures none { IfNone result (AreTurnsOf threads turns.now) }
+    ensures some { IfSome result (IsLeastAbsent threads turns.now) }
+{
+    let mut least: Option<u32> = None;
+    for turn in turns {
+        let thread = turn.thread();
+        if thread as usize >= threads && least.is_none_or(|other| thread < other) {
+            least = Some(thread);
+        }
+    }
+    least
+}

@@ -1,0 +1,70 @@
+//! What a run recorded.
+ghost use Rattle.std.specs.Prelude.{◌≡◌, ◌≤◌, IfOk, length, string_bytes};
+ghost use Rattle.serde_json.specs.Written.{compact_text};
+ghost use Rattle.wm_event.specs.Fitting.{FitsLog};
+ghost use Rattle.wm_logfile.specs.Document.{IsWithinLimits, document_2};
+ghost use Rattle.wm_logfile.specs.DocumentBytes.{IsDocumentOf};
+
+use std::alloc::{AllocError, Global};
+use std::marker::Model;
+use wm_event::{Log, Witness};
+use wm_logfile::write_document;
+
+/// The log of a run, with its witness, which has the writers of each byte read where the log has the event.
+#[derive(Drop)]
+pub struct Run {
+    log: Log,
+    witness: Witness,
+}
+
+impl Model for Run {
+    ghost use Rattle.wm_event.specs.Fitting.{FitsLog};
+    ghost use Rattle.wm_run.specs.Run.{Record};
+
+    ghost Value = { Record };
+
+    ghost view = { λ a. record { log = a.log; witness = a.witness } };
+
+    ghost invariant = { λ a. FitsLog a.log a.witness };
+}
+
+impl Run {
+    /// The run of a log with its witness.
+    pub fn new(log: Log, witness: Witness) -> Self
+        requires { FitsLog log witness }
+        ensures log { result.log ≡ log }
+        ensures witness { result.witness ≡ witness }
+    {
+        Run { log, witness }
+    }
+
+    /// What each thread did.
+    pub fn log(&self) -> &Log
+        ensures { result.now ≡ self.now.log }
+    {
+        &self.log
+    }
+
+    /// Where each byte read comes from, and in which order the events took effect.
+    pub fn witness(&self) -> &Witness
+        ensures same { result.now ≡ self.now.witness }
+        ensures fits { FitsLog self.now.log self.now.witness }
+    {
+        &self.witness
+    }
+}
+
+/// The document of a run, in version 2, with no white space.
+///
+/// # Errors
+///
+/// Only where memory was refused.
+pub fn write_run(alloc: Global, run: &Run) -> Result<String, AllocError>
+    ensures text { IfOk result (λ s. string_bytes s ≡ compact_text (document_2 run.now.log run.now.witness)) }
+
+    // Within the limits it is read as the same pair.
+    ensures again { IfOk result (λ s. length (string_bytes s) ≤ 8388608
+        → IsWithinLimits run.now.log run.now.witness → IsDocumentOf (string_bytes s) run.now.log run.now.witness) }
+{
+    write_document(alloc, run.log(), run.witness())
+}

@@ -1,0 +1,106 @@
+//! The threads of a script, with the memory that they share.
+ghost use Rattle.std.specs.Prelude.{◌≡◌, ◌<◌, ℕ, length, slice_get, slice_set, IfOk, OnOk, Some};
+ghost use Rattle.wm_machine.specs.State.{config_of};
+ghost use Rattle.wm_recorder.specs.Recorder.{initial_of, threads_of};
+ghost use Rattle.wm_valid.specs.Valid.{IsInit};
+ghost use Rattle.wm_run.specs.Plan.{thread_of};
+ghost use Rattle.wm_run.specs.Runner.{Advances, IsSet, Moves, scene_of, setting_of, standing_of};
+ghost use Rattle.wm_run.specs.Script.{Takes};
+
+use crate::turn::Turn;
+use std::alloc::AllocError;
+use wm_machine::{AdvanceFault, Need, Thread};
+use wm_recorder::{AccessFault, Recorder};
+use wm_valid::ValidModule;
+
+/// A thread of a script, and how many steps it has made.
+#[derive(Drop)]
+pub struct Runner<'m> {
+    pub thread: Thread<'m>,
+    pub made: u32,
+}
+
+/// Whether a thread made a step.
+#[derive(Clone, Copy, Debug, PartialEq, Eq)]
+pub enum Moved {
+    /// It made one.
+    Stepped,
+    /// It makes no further step.
+    Rested,
+}
+
+/// Makes the next step of a thread, where it has one: not where it has ended, nor where it stands before an access and the
+/// log is full.
+fn advance(thread: &mut Thread, number: u32, recorder: &mut Recorder) -> Result<Moved, AllocError>
+    requires there { number < threads_of recorder.old }
+    requires memory { IsInit thread.old.module (initial_of recorder.old) }
+    ensures moves { IfOk result (Advances number thread.old recorder.old thread.new recorder.new) }
+    ensures same { thread.new.module ≡ thread.old.module }
+{
+    match thread.next() {
+        Need::Ended(_) => Ok(Moved::Rested),
+        Need::Local => match thread.advance(None) {
+            Ok(()) => Ok(Moved::Stepped),
+            Err(AdvanceFault::OutOfMemory) => Err(AllocError),
+        },
+        Need::Access(op) => match recorder.step_access(number, op) {
+            Ok(reply) => match thread.advance(Some(reply)) {
+                Ok(()) => Ok(Moved::Stepped),
+                Err(AdvanceFault::OutOfMemory) => Err(AllocError),
+            },
+            Err(AccessFault::Full) => Ok(Moved::Rested),
+            Err(AccessFault::OutOfMemory) => Err(AllocError),
+            Err(AccessFault::NoThread | AccessFault::OutOfBounds) => unreachable!(),
+        },
+    }
+}
+
+/// A step of a thread that makes at most so many.
+fn step(
+    runner: &mut Runner,
+    number: u32,
+    recorder: &mut Recorder,
+    limit: u32,
+) -> Result<(), AllocError>
+    requires there { number < threads_of recorder.old }
+    requires memory { IsInit runner.old.thread.module (initial_of recorder.old) }
+    ensures moves { OnOk result (Moves number limit runner.old recorder.old runner.new recorder.new) }
+    ensures same { runner.new.thread.module ≡ runner.old.thread.module }
+{
+    if runner.made >= limit {
+        return Ok(());
+    }
+    match advance(&mut runner.thread, number, recorder)? {
+        Moved::Stepped => runner.made += 1,
+        Moved::Rested => {}
+    }
+    Ok(())
+}
+
+/// Takes a turn of a script.
+pub fn take(
+    module: &ValidModule,
+    runners: &mut Vec<Runner>,
+    recorder: &mut Recorder,
+    limit: u32,
+    turn: Turn,
+) -> Result<(), AllocError>
+    requires set { IsSet «module».now runners.old.items recorder.old }
+    requires there { thread_of turn < length runners.old.items }
+    ensures takes { OnOk result (Takes (setting_of «module».now recorder.old limit) (scene_of runners.old.items recorder.old) turn (scene_of runners.new.items recorder.new)) }
+    ensures set { OnOk result (IsSet «module».now runners.new.items recorder.new) }
+    ensures count { length runners.new.items ≡ length runners.old.items }
+    ensures initial { initial_of recorder.new ≡ initial_of recorder.old }
+{
+    match turn {
+        Turn::Step(thread) => step(&mut runners[thread as usize], thread, recorder, limit),
+        Turn::Drain(thread) => {
+            recorder.step_drain(thread)?;
+            Ok(())
+        }
+        Turn::DrainAt(thread, index) => {
+            recorder.step_drain_at(thread, index)?;
+            Ok(())
+        }
+    }
+}

@@ -1,0 +1,133 @@
+//! Scripted runs.
+ghost use Rattle.std.specs.Prelude.{◌≡◌, length, IfErr, IfOk, OnOk};
+ghost use Rattle.wm_logfile.specs.Document.{IsWithinLimits};
+ghost use Rattle.wm_machine.specs.Run.{end_of as config_end};
+ghost use Rattle.wm_machine.specs.State.{config_of};
+ghost use Rattle.wm_recorder.specs.Recorder.{initial_of, threads_of};
+ghost use Rattle.wm_run.specs.Finish.{AreLogs, IsFinished};
+ghost use Rattle.wm_run.specs.Own.{IsOwnRun};
+ghost use Rattle.wm_run.specs.Plan.{AreTurnsOf, IsPlan};
+ghost use Rattle.wm_run.specs.Refusal.{IsScriptFault};
+ghost use Rattle.wm_run.specs.Runner.{IsSet, scene_of, setting_of};
+ghost use Rattle.wm_run.specs.Script.{Plays};
+ghost use Rattle.wm_run.specs.Scripted.{IsScripted};
+
+use crate::fault::RunFault;
+use crate::launch::{copy_start, launch};
+use crate::plan::Plan;
+use crate::run::Run;
+use crate::runner::{Runner, take};
+use crate::turn::Turn;
+use std::alloc::{AllocError, Global};
+use wm_event::{End, Log, Start, ThreadLog, Witness};
+use wm_list::List;
+use wm_machine::{Need, Thread};
+use wm_recorder::Recorder;
+use wm_valid::ValidModule;
+
+/// Takes the turns of a script, one after the other.
+fn play(
+    module: &ValidModule,
+    runners: &mut Vec<Runner>,
+    recorder: &mut Recorder,
+    limit: u32,
+    turns: &[Turn],
+) -> Result<(), AllocError>
+    requires set { IsSet «module».now runners.old.items recorder.old }
+    requires there { AreTurnsOf (length runners.old.items) turns.now }
+    ensures plays { OnOk result (Plays (setting_of «module».now recorder.old limit) (scene_of runners.old.items recorder.old) turns.now (scene_of runners.new.items recorder.new)) }
+    ensures set { OnOk result (IsSet «module».now runners.new.items recorder.new) }
+    ensures count { length runners.new.items ≡ length runners.old.items }
+    ensures initial { initial_of recorder.new ≡ initial_of recorder.old }
+{
+    for turn in turns {
+        take(module, runners, recorder, limit, *turn)?;
+    }
+    Ok(())
+}
+
+/// How a thread ends that makes no further step.
+fn end_of(thread: &Thread) -> End
+    ensures { result ≡ config_end (config_of thread.now) }
+{
+    match thread.next() {
+        Need::Ended(end) => end,
+        Need::Local | Need::Access(_) => End::Cut,
+    }
+}
+
+/// What is logged of each thread.
+fn logs_of(
+    alloc: Global,
+    starts: &[Start],
+    runners: &[Runner],
+    recorder: &Recorder,
+) -> Result<List<ThreadLog>, AllocError>
+    requires { length runners.now ≡ length starts.now }
+    ensures { IfOk result (AreLogs starts.now runners.now recorder.now) }
+{
+    let mut logs = Vec::with_capacity(alloc, starts.len())?;
+    for (number, start) in starts.iter().enumerate() {
+        let runner = &runners[number];
+        let events = recorder.events(number as u32).to_vec(alloc)?;
+        logs.push(ThreadLog {
+            start: copy_start(alloc, start)?,
+            end: end_of(&runner.thread),
+            steps: runner.made,
+            events: List::from_vec(events),
+        })?;
+    }
+    Ok(List::from_vec(logs))
+}
+
+/// The run that was recorded.
+fn finish(
+    alloc: Global,
+    starts: &[Start],
+    runners: &[Runner],
+    recorder: Recorder,
+) -> Result<Run, AllocError>
+    requires runners { length runners.now ≡ length starts.now }
+    requires threads { threads_of recorder ≡ length starts.now }
+    ensures { IfOk result (IsFinished starts.now runners.now recorder) }
+{
+    let logs = logs_of(alloc, starts, runners, &recorder)?;
+    let parts = recorder.into_parts()?;
+    let witness = Witness {
+        writers: parts.writers,
+        order: parts.order,
+    };
+    Ok(Run::new(Log::new(logs), witness))
+}
+
+/// The scripted run: the threads of the plan take the turns over one memory, whose store buffers drain where the script
+/// says so. A step of a thread that has ended, has made its steps, or stands before an access where the log holds 16,384
+/// events does nothing; a drain does nothing where no such store waits, or where it would pass an older one that it
+/// overlaps. A thread that hasn't ended behind the last turn is cut.
+///
+/// # Errors
+///
+/// `Plan` with the first fault of the plan ([`Plan::follows`]); else `Start` with the first thread that doesn't start;
+/// `OutOfMemory` where memory was refused. A refused plan starts nothing.
+pub fn drive(
+    alloc: Global,
+    module: &ValidModule,
+    plan: &Plan,
+    turns: &[Turn],
+) -> Result<Run, RunFault>
+    ensures scripted { IfOk result (IsScripted «module».now plan.now turns.now) }
+    ensures own { IfOk result (IsOwnRun «module».now) }
+    ensures limits { IfOk result (λ run. IsWithinLimits run.log run.witness) }
+    ensures planned { OnOk result (IsPlan plan.now turns.now) }
+    ensures refused { IfErr result (IsScriptFault «module».now plan.now turns.now) }
+{
+    if let Err(fault) = plan.follows(turns) {
+        return Err(RunFault::Plan(fault));
+    }
+    let starts = plan.starts.as_slice();
+    let mut runners = launch(alloc, module, starts)?;
+    let mut recorder = Recorder::new(alloc, module.initial(), runners.len())?;
+    play(module, &mut runners, &mut recorder, plan.steps, turns)?;
+    let run = finish(alloc, starts, runners.as_slice(), recorder)?;
+    Ok(run)
+}
