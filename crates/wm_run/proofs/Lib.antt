@@ -1,2 +1,5 @@
 pub mod InBounds
 pub mod Accesses
+pub mod Leading
+pub mod Uncut
+pub mod Working

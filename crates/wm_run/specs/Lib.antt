@@ -8,3 +8,6 @@ pub mod Launch
 pub mod Finish
 pub mod Own
 pub mod Refusal
+pub mod Reached
+pub mod Stops
+pub mod Worker

@@ -1,19 +1,25 @@
 //! Runs of a module's threads over one memory, and the logs that they record.
 #![tactic(auto)]
 
+mod ended;
 mod fault;
+mod gate;
 mod launch;
 mod plan;
 mod run;
 mod runner;
 mod script;
 mod turn;
+mod worker;
 
+pub use ended::{Stop, ThreadEnd};
 pub use fault::{PlanFault, RunFault};
+pub use gate::{Gate, OpenGate};
 pub use plan::Plan;
 pub use run::{Run, write_run};
 pub use script::drive;
 pub use turn::Turn;
+pub use worker::work;
 
 /// How many threads a run has at most.
 pub const MAX_THREADS: usize = 16;
