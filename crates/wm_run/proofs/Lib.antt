@@ -3,3 +3,4 @@ pub mod Accesses
 pub mod Leading
 pub mod Uncut
 pub mod Working
+pub mod Strays

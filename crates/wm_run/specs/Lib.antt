@@ -11,3 +11,6 @@ pub mod Refusal
 pub mod Reached
 pub mod Stops
 pub mod Worker
+pub mod Drains
+pub mod Ends
+pub mod Gathered

@@ -1,9 +1,12 @@
 //! Runs of a module's threads over one memory, and the logs that they record.
 #![tactic(auto)]
 
+mod drains;
 mod ended;
+mod ends;
 mod fault;
 mod gate;
+mod gathering;
 mod launch;
 mod plan;
 mod run;
@@ -12,9 +15,11 @@ mod script;
 mod turn;
 mod worker;
 
+pub use drains::drainer;
 pub use ended::{Stop, ThreadEnd};
 pub use fault::{PlanFault, RunFault};
 pub use gate::{Gate, OpenGate};
+pub use gathering::gather;
 pub use plan::Plan;
 pub use run::{Run, write_run};
 pub use script::drive;
