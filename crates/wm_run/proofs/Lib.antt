@@ -4,3 +4,4 @@ pub mod Leading
 pub mod Uncut
 pub mod Working
 pub mod Strays
+pub mod OneEach

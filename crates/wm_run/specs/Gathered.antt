@@ -21,26 +21,34 @@ pub record AreLogsBy (threads : ℕ) (ends : List ThreadEnd) (logs : List Thread
   pub count : length logs ≡ threads
   pub each : (t : ℕ) (e : ThreadEnd) → t < threads → IsEndIn ends t e → slice_get logs t ≡ Some (log_by e)
 
--- the end and the recorder say the same of thread t: its events, and that a recorder which refused an access is full
-pub record Agrees (r : Recording) (t : ℕ) (e : ThreadEnd) : Type 0 where
-  pub events : unwrap_or (slice_get r.events t) [] ≡ e.events
-  pub full : e.stop ≡ Memory → IsFull r
+-- the events of the end are those that were recorded of its thread
+abbrev pub HasItsEvents : Recording → ThreadEnd → Type 0
+HasItsEvents r e = unwrap_or (slice_get r.events e.thread) [] ≡ e.events
+
+-- a recorder that stopped the thread is full
+abbrev pub StopsWhereFull : Recording → ThreadEnd → Type 0
+StopsWhereFull r e = e.stop ≡ Memory → IsFull r
+
+-- the end and the recorder say the same of the thread
+pub record Agrees (r : Recording) (e : ThreadEnd) : Type 0 where
+  pub events : HasItsEvents r e
+  pub full : StopsWhereFull r e
 
 -- they say the same of all threads
 abbrev pub AllAgree : Recording → List ThreadEnd → Type 0
-AllAgree r ends = (t : ℕ) (e : ThreadEnd) → t < threads_of r → IsEndIn ends t e → Agrees r t e
+AllAgree r ends = (t : ℕ) (e : ThreadEnd) → t < threads_of r → IsEndIn ends t e → Agrees r e
 
 -- t is the first thread of which they don't
 pub record IsFirstSplit (r : Recording) (ends : List ThreadEnd) (t : ℕ) : Type 0 where
   pub there : t < threads_of r
-  pub split : (e : ThreadEnd) × IsEndIn ends t e × (Agrees r t e → ⊥)
-  pub below : (k : ℕ) (e : ThreadEnd) → k < t → IsEndIn ends k e → Agrees r k e
+  pub split : (e : ThreadEnd) × IsEndIn ends t e × (Agrees r e → ⊥)
+  pub below : (k : ℕ) (e : ThreadEnd) → k < t → IsEndIn ends k e → Agrees r e
 
 -- the run of the module whose threads have these ends and whose accesses this recorder made
 pub record IsGathered (m : Module) (r : Recording) (ends : List ThreadEnd) (run : Record) : Type 0 where
   pub is_init : IsInit m (initial_of r)
-  pub ends : HasOneEach (threads_of r) ends
-  pub agree : AllAgree r ends
+  pub one_each : HasOneEach (threads_of r) ends
+  pub agrees : AllAgree r ends
   pub logs : AreLogsBy (threads_of r) ends run.log
   pub events : map (λ (log : ThreadLog). log.events) run.log ≡ r.events
   pub writers : run.witness.writers ≡ r.writers

@@ -2,7 +2,7 @@
 ghost use Rattle.std.specs.Prelude.{◌≡◌, ◌↔◌, ◌<◌, ◌≤◌, All, IfErr, IfNone, IfOk, IfSome, IsTrue, length};
 ghost use Rattle.wm_recorder.specs.Recorder.{threads_of};
 ghost use Rattle.wm_run.specs.Ends.{HasOneEach, ends_of};
-ghost use Rattle.wm_run.specs.Gathered.{Agrees, AllAgree, AreLogsBy, IsFirstSplit, IsGathered, IsGatherFault, log_by};
+ghost use Rattle.wm_run.specs.Gathered.{Agrees, AllAgree, AreLogsBy, HasItsEvents, IsFirstSplit, IsGathered, IsGatherFault, StopsWhereFull, log_by};
 
 use crate::ended::{Stop, ThreadEnd};
 use crate::ends::{end_of, ends_fault};
@@ -15,15 +15,25 @@ use wm_list::List;
 use wm_recorder::Recorder;
 use wm_valid::ValidModule;
 
-/// Whether a thread's end and the recorder say the same of it: its events, and that the recorder is full where it refused
-/// an access.
-fn agrees(recorder: &Recorder, thread: usize, end: &ThreadEnd) -> bool
-    requires { thread < 4294967296 }
-    ensures { IsTrue result ↔ Agrees recorder.now thread end.now }
+/// Whether the events of an end are those that were recorded of its thread.
+fn has_its_events(recorder: &Recorder, end: &ThreadEnd) -> bool
+    ensures { IsTrue result ↔ HasItsEvents recorder.now end.now }
 {
-    let held = recorder.events(thread as u32) == end.events.as_slice();
-    let filled = end.stop != Stop::Memory || recorder.order().len() >= MAX_EVENTS;
-    held && filled
+    recorder.events(end.thread) == end.events.as_slice()
+}
+
+/// Whether a recorder that stopped the thread is full.
+fn stops_where_full(recorder: &Recorder, end: &ThreadEnd) -> bool
+    ensures { IsTrue result ↔ StopsWhereFull recorder.now end.now }
+{
+    end.stop != Stop::Memory || recorder.order().len() >= MAX_EVENTS
+}
+
+/// Whether an end and the recorder say the same of its thread.
+fn agrees(recorder: &Recorder, end: &ThreadEnd) -> bool
+    ensures { IsTrue result ↔ Agrees recorder.now end.now }
+{
+    has_its_events(recorder, end) && stops_where_full(recorder, end)
 }
 
 /// The first thread of which its end and the recorder say different things.
@@ -34,7 +44,7 @@ fn first_split(recorder: &Recorder, ends: &[ThreadEnd], threads: usize) -> Optio
     ensures some { IfSome result (IsFirstSplit recorder.now ends.now) }
 {
     for thread in 0..threads {
-        if !agrees(recorder, thread, end_of(ends, thread)) {
+        if !agrees(recorder, end_of(ends, thread)) {
             return Some(thread);
         }
     }
