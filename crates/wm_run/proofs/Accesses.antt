@@ -1,26 +1,24 @@
 -- What an access reads, and what it adds to a history.
-use Rattle.std.proofs.Common.{◌≡◌, ℕ, zero, suc, ◌+◌, ◌*◌, ◌^◌, ◌<◌, ◌==◌, List, [], ◌∷◌, ◌++◌, Bool, true, false, Option, Some, None, refl, sym, ap, subst, ◌∙◌, arith, length, reverse, cond, All}
-use Rattle.std.specs.Prelude.{if◌then◌else◌, ⊤}
-use Rattle.std.proofs.lemmas.List.{append-nil, reverse-append}
+use Rattle.std.proofs.Common.{◌≡◌, ℕ, ◌<◌, ◌==◌, List, [], ◌∷◌, ◌++◌, Bool, true, false, Some, None, refl, sym, ap, subst, ◌∙◌, arith, reverse, All}
+use Rattle.std.specs.Prelude.{if◌then◌else◌}
+use Rattle.std.proofs.lemmas.List.{reverse-append}
 use Rattle.wm_access.specs.declared.AccessWidth.{AccessWidth}
 use Rattle.wm_access.specs.declared.AccessWidth.TheVariants.{One, Two, Four, Eight}
 use Rattle.wm_access.specs.AccessWidth.{Fits, bytes_of}
-use Rattle.wm_event.specs.declared.event.Event.{Event}
 use Rattle.wm_event.specs.declared.event.EventKey.{EventKey}
-use Rattle.wm_event.specs.declared.event.EventKind.{EventKind}
 use Rattle.wm_event.specs.declared.event.EventKind.TheVariants as event
 use Rattle.wm_event.specs.declared.op.OpFields.{OpFields}
 use Rattle.wm_event.specs.declared.op.OpKind.{OpKind}
 use Rattle.wm_event.specs.declared.op.OpKind.TheVariants.{Read, Write, Rmw, CmpXchg}
-use Rattle.wm_event.specs.Event.{kind_reads, reads}
+use Rattle.wm_event.specs.Event.{kind_reads}
 use Rattle.wm_event.specs.Op.{event_made, kind_finds, made_kind, made_read}
 use Rattle.wm_machine.specs.State.{ReadAnswers, value_or_zero}
 use Rattle.wm_memory.specs.declared.item.Item.{Item}
-use Rattle.wm_memory.specs.declared.item.Item.TheVariants.{Access, Drain, DrainAt}
+use Rattle.wm_memory.specs.declared.item.Item.TheVariants.{Access, Drain}
 use Rattle.wm_memory.specs.Memory.{drains_first, ready}
 use Rattle.wm_memory.specs.Recorded.{events_of}
 use Rattle.wm_memory.specs.Reply.{reply_after}
-use Rattle.wm_memory.specs.Visibility.{Drained, Made, Step, accesses, made_after, seen, step_of, steps, value_at, visible, writers_after}
+use Rattle.wm_memory.specs.Visibility.{Drained, Step, made_after, seen, step_of, steps, value_at, visible}
 use Rattle.wm_memory.proofs.Digits.{value_below}
 use Rattle.wm_memory.proofs.Values.{seen_below}
 use Rattle.wm_recorder.specs.Transcript.{access_items}

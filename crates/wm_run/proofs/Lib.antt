@@ -5,3 +5,10 @@ pub mod Uncut
 pub mod Working
 pub mod Strays
 pub mod OneEach
+pub mod Recordings
+pub mod Turns
+pub mod Absent
+pub mod Launching
+pub mod Logging
+pub mod Runs
+pub mod Driving

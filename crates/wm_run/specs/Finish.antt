@@ -4,7 +4,7 @@ use Rattle.wm_event.specs.declared.log.Start.{Start}
 use Rattle.wm_event.specs.declared.log.ThreadLog.{ThreadLog}
 use Rattle.wm_machine.specs.Run.{end_of}
 use Rattle.wm_machine.specs.State.{config_of}
-use Rattle.wm_recorder.specs.Recorder.{IsRecording, Recording, RecordsValid}
+use Rattle.wm_recorder.specs.Recorder.{IsRecording, Recording}
 use Rattle.wm_run.specs.declared.runner.Runner.{Runner}
 use Rattle.wm_run.specs.Run.{Record}
 

@@ -2,7 +2,7 @@
 use Rattle.std.specs.Prelude.{◌≡◌, ℕ, ◌<◌, ◌≤◌, List, length, All, Some, slice_get}
 use Rattle.wm_ast.specs.declared.module.Module.{Module}
 use Rattle.wm_event.specs.declared.log.ThreadLog.{ThreadLog}
-use Rattle.wm_event.specs.LoggedRun.{LoggedRun, execution}
+use Rattle.wm_event.specs.LoggedRun.{execution}
 use Rattle.wm_event.specs.Rules.{IsValid}
 use Rattle.wm_event.specs.Shape.{IsWellShaped}
 use Rattle.wm_memory.specs.declared.item.Item.{Item}

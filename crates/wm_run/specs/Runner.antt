@@ -1,14 +1,16 @@
 -- What the threads of a script are seen as, with the memory that they share.
-use Rattle.std.specs.Prelude.{◌≡◌, ℕ, suc, ◌+◌, ◌≤◌, List, length, map, All}
+use Rattle.std.specs.Prelude.{◌≡◌, ℕ, suc, ◌≤◌, List, [], ◌∷◌, length, map, All}
 use Rattle.wm_ast.specs.declared.module.Module.{Module}
 use Rattle.wm_machine.specs.State.{State, config_of}
 use Rattle.wm_memory.specs.declared.item.Item.{Item}
-use Rattle.wm_recorder.specs.Recorder.{Adds, Recording, initial_of, threads_of}
+use Rattle.wm_memory.specs.Legal.{MayFollow}
+use Rattle.wm_recorder.specs.Recorder.{Adds, Recording, initial_of, steps_of, threads_of}
 use Rattle.wm_valid.specs.Valid.{IsInit}
 use Rattle.wm_run.specs.declared.runner.Moved.{Moved}
 use Rattle.wm_run.specs.declared.runner.Moved.TheVariants.{Stepped, Rested}
 use Rattle.wm_run.specs.declared.runner.Runner.{Runner}
-use Rattle.wm_run.specs.Script.{Rests, Scene, Setting, Standing, StepsTo}
+use Rattle.wm_run.specs.declared.turn.Turn.{Turn}
+use Rattle.wm_run.specs.Script.{Plays, Rests, Scene, Setting, Standing, StepsTo, Takes}
 
 abbrev pub standing : State → ℕ → Standing
 standing thread made = record { config = config_of thread; made = made }
@@ -46,3 +48,26 @@ Advances t old recorder new recorder' Rested =
 pub data Moves (t limit : ℕ) (old : Runner) (recorder : Recording) (new : Runner) (recorder' : Recording) : Type 0 where
   goes : Goes old.thread.module t limit (standing_of old) recorder (standing_of new) recorder' → Moves t limit old recorder new recorder'
   stays : new ≡ old → recorder' ≡ recorder → Rests (setting_of old.thread.module recorder limit) recorder.history (standing_of old) → Moves t limit old recorder new recorder'
+
+-- the drain may follow what the recorder holds
+abbrev pub MayDrainFrom : Recording → Item → Type 0
+MayDrainFrom recorder drain = MayFollow (threads_of recorder) (length (initial_of recorder)) (steps_of recorder) drain
+
+-- the drain was added where it may follow, else nothing changed
+pub data DrainsBy (drain : Item) (old new : Recording) : Type 0 where
+  leaves : MayDrainFrom old drain → Adds (drain ∷ []) old new → DrainsBy drain old new
+  stays : (MayDrainFrom old drain → ⊥) → new ≡ old → DrainsBy drain old new
+
+-- the turn was taken, and as many threads go on over the same memory
+pub record TakesTurn (m : Module) (limit : ℕ) (turn : Turn) (old : List Runner) (recorder : Recording) (new : List Runner) (recorder' : Recording) : Type 0 where
+  pub takes : Takes (setting_of m recorder limit) (scene_of old recorder) turn (scene_of new recorder')
+  pub set : IsSet m new recorder'
+  pub count : length new ≡ length old
+  pub initial : initial_of recorder' ≡ initial_of recorder
+
+-- the same of turns one after the other
+pub record PlaysTurns (m : Module) (limit : ℕ) (turns : List Turn) (old : List Runner) (recorder : Recording) (new : List Runner) (recorder' : Recording) : Type 0 where
+  pub plays : Plays (setting_of m recorder limit) (scene_of old recorder) turns (scene_of new recorder')
+  pub set : IsSet m new recorder'
+  pub count : length new ≡ length old
+  pub initial : initial_of recorder' ≡ initial_of recorder

@@ -5,7 +5,6 @@ use Rattle.wm_event.specs.declared.log.Start.{Start}
 use Rattle.wm_event.specs.declared.log.ThreadLog.{ThreadLog}
 use Rattle.wm_machine.specs.Run.{end_of}
 use Rattle.wm_machine.specs.Start.{started}
-use Rattle.wm_machine.specs.Term.{Config}
 use Rattle.wm_memory.specs.Visibility.{Step}
 use Rattle.wm_memory.specs.Recorded.{by_thread, events_of, order_of, writers_of}
 use Rattle.wm_valid.specs.Valid.{IsInit}

@@ -26,7 +26,7 @@ pub fn launch<'m>(
     let mut runners = Vec::with_capacity(alloc, starts.len())?;
     for (number, start) in starts.iter().enumerate() {
         match Thread::start(alloc, module, start.name.as_str(), start.args.as_slice()) {
-            Ok(thread) => runners.push(Runner { thread, made: 0 }).map_err(AllocError::from)?,
+            Ok(thread) => runners.push_reserved(Runner { thread, made: 0 }),
             Err(StartFault::OutOfMemory) => return Err(RunFault::OutOfMemory),
             Err(fault) => return Err(RunFault::Start(number, fault)),
         }

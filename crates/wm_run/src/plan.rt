@@ -1,5 +1,5 @@
 //! What a run starts, and how far it goes.
-ghost use Rattle.std.specs.Prelude.{◌≤◌, length, IfErr, IfNone, IfSome, OnOk};
+ghost use Rattle.std.specs.Prelude.{◌≡◌, ◌≤◌, ◌⊎◌, length, IfErr, IfNone, IfSome, OnOk, Some};
 ghost use Rattle.wm_run.specs.Plan.{AreTurnsOf, HasThreads, IsLeastAbsent, IsPlan, IsPlanFault};
 
 use crate::fault::PlanFault;
@@ -56,9 +56,22 @@ fn least_absent(turns: &[Turn], threads: usize) -> Option<u32>
     let mut least: Option<u32> = None;
     for turn in turns {
         let thread = turn.thread();
-        if thread as usize >= threads && least.is_none_or(|other| thread < other) {
-            least = Some(thread);
+        if (thread as usize) < threads {
+            continue;
         }
+        least = Some(lesser(least, thread));
     }
     least
+}
+
+/// The lesser of the two threads, where there is a first one.
+fn lesser(first: Option<u32>, thread: u32) -> u32
+    ensures below { result ≤ thread }
+    ensures below_first { IfSome first (λ other. result ≤ other) }
+    ensures one { (result ≡ thread) ⊎ (first ≡ Some result) }
+{
+    match first {
+        Some(other) => other.min(thread),
+        None => thread,
+    }
 }

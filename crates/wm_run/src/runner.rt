@@ -1,14 +1,15 @@
 //! The threads of a script, with the memory that they share.
-ghost use Rattle.std.specs.Prelude.{◌≡◌, ◌<◌, ℕ, length, slice_get, slice_set, IfOk, OnOk, Some};
-ghost use Rattle.wm_machine.specs.State.{config_of};
+ghost use Rattle.std.specs.Prelude.{◌≡◌, ◌<◌, ℕ, length, IfOk, OnOk};
+ghost use Rattle.wm_machine.specs.State.{need_of};
 ghost use Rattle.wm_recorder.specs.Recorder.{initial_of, threads_of};
 ghost use Rattle.wm_valid.specs.Valid.{IsInit};
 ghost use Rattle.wm_run.specs.Plan.{thread_of};
-ghost use Rattle.wm_run.specs.Runner.{Advances, IsSet, Moves, scene_of, setting_of, standing_of};
-ghost use Rattle.wm_run.specs.Script.{Takes};
+ghost use Rattle.wm_memory.specs.declared.item.Item.TheVariants as Item;
+ghost use Rattle.wm_run.specs.Runner.{Advances, DrainsBy, IsSet, Moves, TakesTurn};
 
 use crate::turn::Turn;
 use std::alloc::AllocError;
+use wm_event::Op;
 use wm_machine::{AdvanceFault, Need, Thread};
 use wm_recorder::{AccessFault, Recorder};
 use wm_valid::ValidModule;
@@ -29,6 +30,32 @@ pub enum Moved {
     Rested,
 }
 
+/// Makes the access that a thread needs, where the log isn't full.
+fn access(
+    thread: &mut Thread,
+    number: u32,
+    recorder: &mut Recorder,
+    op: Op,
+) -> Result<Moved, AllocError>
+    requires there { number < threads_of recorder.old }
+    requires memory { IsInit thread.old.module (initial_of recorder.old) }
+    requires needed { (read : ℕ) → Need.Access op ≡ need_of read thread.old }
+    ensures moves { IfOk result (Advances number thread.old recorder.old thread.new recorder.new) }
+    ensures same { thread.new.module ≡ thread.old.module }
+{
+    recorder.recorded_log_is_valid();
+    match recorder.step_access(number, op) {
+        Ok(reply) => match thread.advance(Some(reply)) {
+            Ok(()) => Ok(Moved::Stepped),
+            Err(AdvanceFault::OutOfMemory) => Err(AllocError),
+        },
+        Err(AccessFault::Full) => Ok(Moved::Rested),
+        Err(AccessFault::OutOfMemory) => Err(AllocError),
+        Err(AccessFault::NoThread) => unreachable!(),
+        Err(AccessFault::OutOfBounds) => unreachable!(),
+    }
+}
+
 /// Makes the next step of a thread, where it has one: not where it has ended, nor where it stands before an access and the
 /// log is full.
 fn advance(thread: &mut Thread, number: u32, recorder: &mut Recorder) -> Result<Moved, AllocError>
@@ -43,15 +70,7 @@ fn advance(thread: &mut Thread, number: u32, recorder: &mut Recorder) -> Result<
             Ok(()) => Ok(Moved::Stepped),
             Err(AdvanceFault::OutOfMemory) => Err(AllocError),
         },
-        Need::Access(op) => match recorder.step_access(number, op) {
-            Ok(reply) => match thread.advance(Some(reply)) {
-                Ok(()) => Ok(Moved::Stepped),
-                Err(AdvanceFault::OutOfMemory) => Err(AllocError),
-            },
-            Err(AccessFault::Full) => Ok(Moved::Rested),
-            Err(AccessFault::OutOfMemory) => Err(AllocError),
-            Err(AccessFault::NoThread | AccessFault::OutOfBounds) => unreachable!(),
-        },
+        Need::Access(op) => access(thread, number, recorder, op),
     }
 }
 
@@ -77,6 +96,26 @@ fn step(
     Ok(())
 }
 
+/// The oldest store that waits in a thread's buffer leaves it, where there is one.
+fn drain(recorder: &mut Recorder, thread: u32) -> Result<(), AllocError>
+    ensures { OnOk result (DrainsBy (Item.Drain thread) recorder.old recorder.new) }
+{
+    recorder.recorded_log_is_valid();
+    let _drained = recorder.step_drain(thread)?;
+    recorder.recorded_log_is_valid();
+    Ok(())
+}
+
+/// The store leaves a thread's buffer that has so many older ones before it, where there is one and it may.
+fn drain_at(recorder: &mut Recorder, thread: u32, index: u32) -> Result<(), AllocError>
+    ensures { OnOk result (DrainsBy (Item.DrainAt thread index) recorder.old recorder.new) }
+{
+    recorder.recorded_log_is_valid();
+    let _drained = recorder.step_drain_at(thread, index)?;
+    recorder.recorded_log_is_valid();
+    Ok(())
+}
+
 /// Takes a turn of a script.
 pub fn take(
     module: &ValidModule,
@@ -87,20 +126,11 @@ pub fn take(
 ) -> Result<(), AllocError>
     requires set { IsSet «module».now runners.old.items recorder.old }
     requires there { thread_of turn < length runners.old.items }
-    ensures takes { OnOk result (Takes (setting_of «module».now recorder.old limit) (scene_of runners.old.items recorder.old) turn (scene_of runners.new.items recorder.new)) }
-    ensures set { OnOk result (IsSet «module».now runners.new.items recorder.new) }
-    ensures count { length runners.new.items ≡ length runners.old.items }
-    ensures initial { initial_of recorder.new ≡ initial_of recorder.old }
+    ensures { OnOk result (TakesTurn «module».now limit turn runners.old.items recorder.old runners.new.items recorder.new) }
 {
     match turn {
         Turn::Step(thread) => step(&mut runners[thread as usize], thread, recorder, limit),
-        Turn::Drain(thread) => {
-            recorder.step_drain(thread)?;
-            Ok(())
-        }
-        Turn::DrainAt(thread, index) => {
-            recorder.step_drain_at(thread, index)?;
-            Ok(())
-        }
+        Turn::Drain(thread) => drain(recorder, thread),
+        Turn::DrainAt(thread, index) => drain_at(recorder, thread, index),
     }
 }

@@ -1,15 +1,13 @@
 //! Scripted runs.
-ghost use Rattle.std.specs.Prelude.{◌≡◌, length, IfErr, IfOk, OnOk};
-ghost use Rattle.wm_logfile.specs.Document.{IsWithinLimits};
+ghost use Rattle.std.specs.Prelude.{◌≡◌, ◌≤◌, length, IfErr, IfOk, OnOk};
 ghost use Rattle.wm_machine.specs.Run.{end_of as config_end};
 ghost use Rattle.wm_machine.specs.State.{config_of};
-ghost use Rattle.wm_recorder.specs.Recorder.{initial_of, threads_of};
+ghost use Rattle.wm_recorder.specs.Recorder.{threads_of};
 ghost use Rattle.wm_run.specs.Finish.{AreLogs, IsFinished};
 ghost use Rattle.wm_run.specs.Own.{IsOwnRun};
 ghost use Rattle.wm_run.specs.Plan.{AreTurnsOf, IsPlan};
 ghost use Rattle.wm_run.specs.Refusal.{IsScriptFault};
-ghost use Rattle.wm_run.specs.Runner.{IsSet, scene_of, setting_of};
-ghost use Rattle.wm_run.specs.Script.{Plays};
+ghost use Rattle.wm_run.specs.Runner.{IsSet, PlaysTurns};
 ghost use Rattle.wm_run.specs.Scripted.{IsScripted};
 
 use crate::fault::RunFault;
@@ -35,10 +33,7 @@ fn play(
 ) -> Result<(), AllocError>
     requires set { IsSet «module».now runners.old.items recorder.old }
     requires there { AreTurnsOf (length runners.old.items) turns.now }
-    ensures plays { OnOk result (Plays (setting_of «module».now recorder.old limit) (scene_of runners.old.items recorder.old) turns.now (scene_of runners.new.items recorder.new)) }
-    ensures set { OnOk result (IsSet «module».now runners.new.items recorder.new) }
-    ensures count { length runners.new.items ≡ length runners.old.items }
-    ensures initial { initial_of recorder.new ≡ initial_of recorder.old }
+    ensures { OnOk result (PlaysTurns «module».now limit turns.now runners.old.items recorder.old runners.new.items recorder.new) }
 {
     for turn in turns {
         take(module, runners, recorder, limit, *turn)?;
@@ -63,19 +58,21 @@ fn logs_of(
     runners: &[Runner],
     recorder: &Recorder,
 ) -> Result<List<ThreadLog>, AllocError>
-    requires { length runners.now ≡ length starts.now }
+    requires runners { length runners.now ≡ length starts.now }
+    requires few { length starts.now ≤ 16 }
     ensures { IfOk result (AreLogs starts.now runners.now recorder.now) }
 {
     let mut logs = Vec::with_capacity(alloc, starts.len())?;
     for (number, start) in starts.iter().enumerate() {
         let runner = &runners[number];
         let events = recorder.events(number as u32).to_vec(alloc)?;
-        logs.push(ThreadLog {
-            start: copy_start(alloc, start)?,
+        let start = copy_start(alloc, start)?;
+        logs.push_reserved(ThreadLog {
+            start,
             end: end_of(&runner.thread),
             steps: runner.made,
             events: List::from_vec(events),
-        })?;
+        });
     }
     Ok(List::from_vec(logs))
 }
@@ -88,6 +85,7 @@ fn finish(
     recorder: Recorder,
 ) -> Result<Run, AllocError>
     requires runners { length runners.now ≡ length starts.now }
+    requires few { length starts.now ≤ 16 }
     requires threads { threads_of recorder ≡ length starts.now }
     ensures { IfOk result (IsFinished starts.now runners.now recorder) }
 {
@@ -117,7 +115,6 @@ pub fn drive(
 ) -> Result<Run, RunFault>
     ensures scripted { IfOk result (IsScripted «module».now plan.now turns.now) }
     ensures own { IfOk result (IsOwnRun «module».now) }
-    ensures limits { IfOk result (λ run. IsWithinLimits run.log run.witness) }
     ensures planned { OnOk result (IsPlan plan.now turns.now) }
     ensures refused { IfErr result (IsScriptFault «module».now plan.now turns.now) }
 {
@@ -126,7 +123,7 @@ pub fn drive(
     }
     let starts = plan.starts.as_slice();
     let mut runners = launch(alloc, module, starts)?;
-    let mut recorder = Recorder::new(alloc, module.initial(), runners.len())?;
+    let mut recorder = Recorder::new(alloc, module.initial(), starts.len())?;
     play(module, &mut runners, &mut recorder, plan.steps, turns)?;
     let run = finish(alloc, starts, runners.as_slice(), recorder)?;
     Ok(run)
