@@ -1,12 +1,11 @@
 -- What a thread is seen as.
-use Rattle.std.specs.Prelude.{ℕ, List, Bool, true, false, Option, Some, None, ⊤}
+use Rattle.std.specs.Prelude.{ℕ, List, Option, Some, None, ⊤}
 use Rattle.wm_ast.specs.declared.module.Module.{Module}
 use Rattle.wm_event.specs.declared.log.End.{End}
 use Rattle.wm_event.specs.declared.op.OpFields.{OpFields}
 use Rattle.wm_event.specs.declared.op.Reply.{Reply}
 use Rattle.wm_event.specs.Op.{kind_finds}
-use Rattle.wm_access.specs.AccessWidth.{Fits}
-use Rattle.wm_access.specs.declared.AccessWidth.{AccessWidth}
+use Rattle.wm_event.specs.Reply.{ReadAnswers}
 use Rattle.wm_machine.specs.declared.value.TypedValue.{TypedValue}
 use Rattle.wm_machine.specs.declared.activation.Activation.{Activation}
 use Rattle.wm_machine.specs.declared.thread.Need.{Need}
@@ -60,13 +59,6 @@ value_or_zero (Some value) = value
 abbrev pub read_in : Option Reply → ℕ
 read_in None = 0
 read_in (Some reply) = value_or_zero reply.read
-
--- a read exactly where one is wanted, and it fits
-abbrev pub ReadAnswers : Bool → AccessWidth → Option ℕ → Type 0
-ReadAnswers true width None = ⊥
-ReadAnswers true width (Some v) = Fits width v
-ReadAnswers false width None = ⊤
-ReadAnswers false width (Some v) = ⊥
 
 -- a reply exactly where the next step is an access, with a read exactly where that reads
 abbrev pub Answers : Need → Option Reply → Type 0

@@ -152,7 +152,8 @@ impl Memory {
 
     /// How many accesses a thread made, 0 where there is no such thread.
     pub fn accesses(&self, thread: u32) -> u32
-        ensures { (b : Buffered) → slice_get self.now.buffers thread ≡ Some b → result ≡ b.accesses }
+        ensures made { (b : Buffered) → slice_get self.now.buffers thread ≡ Some b → result ≡ b.accesses }
+        ensures none { length self.now.buffers ≤ thread → result ≡ 0 }
     {
         match self.buffers.get(thread as usize) {
             Some(buffer) => buffer.accesses(),

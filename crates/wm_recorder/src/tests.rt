@@ -1,4 +1,6 @@
 //! Rows of recorded histories, with values from outside, and each call once where it succeeds.
+mod locked;
+
 ghost use Rattle.std.specs.Prelude.{◌<◌, ◌^◌};
 
 use super::*;

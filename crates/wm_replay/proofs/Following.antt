@@ -23,7 +23,7 @@ abbrev pub so_far : Config → List Event → ℕ → Ran
 so_far c es n = record { events = take n es; config = c; reads = reads_of (drop n es) }
 
 -- a step without an access
-local_step : (m : Module) (k : ℕ) (ran : Ran) (c : Config) → step m 0 ran.config ≡ Went None c → run_on m k ran ≡ Some record { events = ran.events; config = c; reads = ran.reads }
+pub local_step : (m : Module) (k : ℕ) (ran : Ran) (c : Config) → step m 0 ran.config ≡ Went None c → run_on m k ran ≡ Some record { events = ran.events; config = c; reads = ran.reads }
 local_step m k ran c e =
     let taken : take_read (access_of (step m 0 ran.config)) ran.reads ≡ Some record { read = 0; others = ran.reads } = ap (λ s. take_read (access_of s) ran.reads) e in
     ap (ran_with m k ran) taken ∙ ap (ran_on k ran record { read = 0; others = ran.reads }) e
@@ -60,7 +60,7 @@ taken_so a false e rest fits zero = ap (λ r. Some (record { read = r; others = 
 taken_so a true e rest fits zero = ap (λ b. cond b (Some record { read = e.read; others = rest }) None) (lt-ltb e.read (2 ^ (8 * bytes_of a.width)) fits)
 
 -- a step with the access that makes the event
-access_step : (m : Module) (k : ℕ) (ran : Ran) (a : OpFields) (e : Event) (c : Config) (rest : List ℕ) → event_made (key_of e) a e.read ≡ e → Fits a.width e.read
+pub access_step : (m : Module) (k : ℕ) (ran : Ran) (a : OpFields) (e : Event) (c : Config) (rest : List ℕ) → event_made (key_of e) a e.read ≡ e → Fits a.width e.read
     → access_of (step m 0 ran.config) ≡ Some a → step m e.read ran.config ≡ Went (Some a) c → e.thread ≡ k → e.number ≡ length ran.events
     → ran.reads ≡ cond (reads e) (e.read ∷ rest) rest
     → run_on m k ran ≡ Some record { events = ran.events ++ e ∷ []; config = c; reads = rest }

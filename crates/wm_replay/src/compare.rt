@@ -1,8 +1,9 @@
 //! The replay of a log.
 ghost use Rattle.std.specs.Prelude.{◌≡◌, ℕ, Ok, true, false, IfOk, length};
 ghost use Rattle.wm_event.specs.Op.{kind_finds};
+ghost use Rattle.wm_event.specs.Reply.{ReadAnswers};
 ghost use Rattle.wm_machine.specs.Run.{end_of as config_end};
-ghost use Rattle.wm_machine.specs.State.{ReadAnswers, config_of, need_of, value_or_zero};
+ghost use Rattle.wm_machine.specs.State.{config_of, need_of, value_or_zero};
 ghost use Rattle.wm_replay.specs.Answers.{IsDifference, ComparesThread, HasPlaces, IsMade, IsNotMade, Replays, Stays, Steps, end_place};
 ghost use Rattle.wm_replay.specs.Replay.{start_of};
 

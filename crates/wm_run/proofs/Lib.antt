@@ -1,5 +1,10 @@
 pub mod InBounds
 pub mod Accesses
+pub mod Leading
+pub mod Uncut
+pub mod Working
+pub mod Strays
+pub mod OneEach
 pub mod Recordings
 pub mod Turns
 pub mod Absent

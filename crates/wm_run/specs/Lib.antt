@@ -8,3 +8,9 @@ pub mod Launch
 pub mod Finish
 pub mod Own
 pub mod Refusal
+pub mod Reached
+pub mod Stops
+pub mod Worker
+pub mod Drains
+pub mod Ends
+pub mod Gathered

@@ -1,7 +1,12 @@
 //! Runs of a module's threads over one memory, and the logs that they record.
 #![tactic(auto)]
 
+mod drains;
+mod ended;
+mod ends;
 mod fault;
+mod gate;
+mod gathering;
 mod launch;
 mod own;
 mod plan;
@@ -9,13 +14,19 @@ mod run;
 mod runner;
 mod script;
 mod turn;
+mod worker;
 
+pub use drains::drainer;
+pub use ended::{Stop, ThreadEnd};
 pub use fault::{PlanFault, RunFault};
+pub use gate::{Gate, OpenGate};
+pub use gathering::gather;
 pub use own::own_runs_are_allowed;
 pub use plan::Plan;
 pub use run::{Run, write_run};
 pub use script::drive;
 pub use turn::Turn;
+pub use worker::work;
 
 /// How many threads a run has at most.
 pub const MAX_THREADS: usize = 16;

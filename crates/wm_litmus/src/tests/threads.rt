@@ -1,7 +1,7 @@
 //! Modules from their bytes to a valid module, and its threads step by step.
 ghost use Rattle.std.specs.Prelude.{◌≡◌};
 ghost use Rattle.wm_event.specs.Op.{kind_finds};
-ghost use Rattle.wm_machine.specs.State.{ReadAnswers};
+ghost use Rattle.wm_event.specs.Reply.{ReadAnswers};
 
 use super::modules::{
     ARGUMENT, BRANCHES_AT_ONCE, CALLS_ITSELF, DATA_SEGMENT, OVERLAPPING_LOAD, SEGMENT_AT_THE_END,

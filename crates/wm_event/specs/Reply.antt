@@ -1,0 +1,11 @@
+-- What a reply brings.
+use Rattle.std.specs.Prelude.{ℕ, Bool, true, false, Option, Some, None, ⊤}
+use Rattle.wm_access.specs.AccessWidth.{Fits}
+use Rattle.wm_access.specs.declared.AccessWidth.{AccessWidth}
+
+-- a read exactly where one is wanted, and it fits
+abbrev pub ReadAnswers : Bool → AccessWidth → Option ℕ → Type 0
+ReadAnswers true width None = ⊥
+ReadAnswers true width (Some v) = Fits width v
+ReadAnswers false width None = ⊤
+ReadAnswers false width (Some v) = ⊥

@@ -1,0 +1,20 @@
+use Rattle.std.proofs.Common.{◌≡◌, ◌++◌, ◌∷◌, [], refl, sym, ap, ◌∙◌, rules, length, arith}
+use Rattle.wm_machine.specs.State.{config_of}
+use Rattle.wm_run.proofs.Leading.{before_access, leads_by_reply, or_zero}
+use Rattle.wm_run.proofs.worker.access.Goals as goal
+
+pub returns-in-Ok-advance-clause-made : goal.returns-in-Ok-advance-clause-made
+returns-in-Ok-advance-clause-made g c = λ _ first n so.
+    leads_by_reply c.args.running.now c.args.thread first (config_of c.advance.new.self) c.args.events.now.items c.push_within.new.self.items n c.args.op c.in-Ok.reply
+    c.event.result c.unwrap_or.result so c.requires.asks c.in-Ok.ensures.answers (search rules) (search rules) (search rules) c.in-Ok-advance.ensures.ok
+
+pub returns-then-not-before-clause-stopped : goal.returns-then-not-before-clause-stopped
+returns-then-not-before-clause-stopped g c = (search rules, refl, (before_access c.args.running.now c.args.op c.requires.asks, search rules))
+
+pub returns-in-Err : goal.returns-in-Err
+returns-in-Err g c = record {
+  same = refl;
+  more = search rules;
+  made = λ other. absurd (cc other);
+  stopped = (search rules, refl, before_access c.args.running.now c.args.op c.requires.asks);
+}

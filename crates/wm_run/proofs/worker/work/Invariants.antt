@@ -1,0 +1,11 @@
+use Rattle.std.proofs.Common.{◌≡◌, ◌≤◌, length}
+use Rattle.wm_machine.specs.State.{config_of}
+use Rattle.wm_run.specs.Reached.{LeadsTo}
+use Rattle.wm_run.proofs.worker.work.Given as goal
+
+abbrev pub invariant-loop-made : goal.invariant-loop-made
+invariant-loop-made g l = record {
+  program : l.running.module ≡ l.initial.running.module;
+  few : length l.events.items ≤ l.made;
+  leads : LeadsTo l.running.module l.thread (config_of l.initial.running) l.events.items l.made (config_of l.running);
+}

@@ -1,0 +1,19 @@
+-- Why a worker stopped.
+use Rattle.std.specs.Prelude.{◌≡◌, Bool, true, false}
+use Rattle.wm_ast.specs.declared.module.Module.{Module}
+use Rattle.wm_machine.specs.Reach.{HasEnded}
+use Rattle.wm_machine.specs.Term.{Config}
+use Rattle.wm_run.specs.declared.ended.Stop.{Stop}
+use Rattle.wm_run.specs.declared.ended.Stop.TheVariants.{Own, Gate, Memory}
+use Rattle.wm_run.specs.Reached.{is_before_access}
+
+abbrev pub is_own : Stop → Bool
+is_own Own = true
+is_own Gate = false
+is_own Memory = false
+
+-- why a thread that stands there makes no step under a gate that is open or not
+abbrev pub StopsFor : Bool → Module → Config → Stop → Type 0
+StopsFor is_open m c Own = HasEnded c
+StopsFor is_open m c Gate = (is_before_access m c ≡ true) × (is_open ≡ false)
+StopsFor is_open m c Memory = is_before_access m c ≡ true

@@ -1,0 +1,33 @@
+-- What a worker says of its thread.
+use Rattle.std.specs.Prelude.{◌≡◌, ℕ, ◌≤◌, Bool, false, Result, Ok, Err, ⊤}
+use Rattle.wm_ast.specs.declared.module.Module.{Module}
+use Rattle.wm_event.specs.declared.log.End.TheVariants.{Cut}
+use Rattle.wm_event.specs.declared.log.Start.{Start}
+use Rattle.wm_machine.specs.Start.{started}
+use Rattle.wm_run.specs.declared.ended.Stop.TheVariants.{Own, Gate}
+use Rattle.wm_run.specs.declared.ended.ThreadEnd.{ThreadEnd}
+use Rattle.wm_run.specs.declared.fault.RunFault.{RunFault}
+use Rattle.wm_run.specs.declared.fault.RunFault.TheVariants as run
+
+-- a run of at most so many steps of this thread and start, which is cut by itself only behind all of them, and by the
+-- gate only where that isn't open
+pub record IsEndOf (is_open : Bool) (m : Module) (thread : ℕ) (start : Start) (steps : ℕ) (e : ThreadEnd) : Type 0 where
+  pub of_module : e.program.value ≡ m
+  pub of_thread : e.thread ≡ thread
+  pub of_start : e.start ≡ start
+  pub within : e.steps ≤ steps
+  pub whole : e.stop ≡ Own → e.end ≡ Cut → e.steps ≡ steps
+  pub held : e.stop ≡ Gate → is_open ≡ false
+
+-- the fault was met: the thread doesn't start so, or memory was refused
+abbrev pub IsWorkFault : Module → ℕ → Start → RunFault → Type 0
+IsWorkFault m thread start (run.Start t fault) = (t ≡ thread) × (started m start.name start.args ≡ Err fault)
+IsWorkFault m thread start run.OutOfMemory = ⊤
+IsWorkFault m thread start (run.Plan fault) = ⊥
+IsWorkFault m thread start (run.Split t) = ⊥
+IsWorkFault m thread start (run.Ends t) = ⊥
+IsWorkFault m thread start run.Foreign = ⊥
+
+abbrev pub IsWorkOf : Bool → Module → ℕ → Start → ℕ → Result ThreadEnd RunFault → Type 0
+IsWorkOf is_open m thread start steps (Ok e) = IsEndOf is_open m thread start steps e
+IsWorkOf is_open m thread start steps (Err fault) = IsWorkFault m thread start fault

@@ -1,0 +1,49 @@
+//! The drainer of a round.
+ghost use Rattle.std.specs.Prelude.{◌≡◌, ◌≤◌};
+ghost use Rattle.wm_run.specs.Drains.{drainer_turn};
+
+use crate::gate::Gate;
+use crate::turn::Turn;
+use std::alloc::AllocError;
+use wm_recorder::Shared;
+
+/// The drainer's turn of that number, of so many threads.
+fn drainer_turn(threads: u32, number: u32) -> Turn
+    requires { 1 ≤ threads }
+    ensures { result ≡ drainer_turn threads number }
+{
+    let thread = number % threads;
+    if number / threads % 2 == 1 {
+        Turn::DrainAt(thread, 1)
+    } else {
+        Turn::Drain(thread)
+    }
+}
+
+/// Takes so many turns over the buffers of so many threads, one thread after the other: a drain of the oldest store once
+/// round, of the store behind it the next time round. It ends where the gate answers false, which is asked before each
+/// turn while no lock is held.
+///
+/// # Errors
+///
+/// Only where memory was refused.
+pub fn drainer<S: Shared, G: Gate>(
+    shared: &S,
+    threads: u32,
+    drains: u32,
+    gate: &G,
+) -> Result<(), AllocError>
+    requires { 1 ≤ threads }
+{
+    for number in 0..drains {
+        if !gate.before_drain(number) {
+            return Ok(());
+        }
+        match drainer_turn(threads, number) {
+            Turn::Drain(thread) => shared.drain(thread)?,
+            Turn::DrainAt(thread, index) => shared.drain_at(thread, index)?,
+            Turn::Step(_) => unreachable!(),
+        };
+    }
+    Ok(())
+}

@@ -1,0 +1,41 @@
+//! What a worker made of its thread.
+ghost use Rattle.std.specs.Prelude.{◌≡◌, true, ◌||◌};
+ghost use Rattle.std.proofs.Props.{props};
+ghost use Rattle.wm_replay.specs.Replay.{IsRun};
+ghost use Rattle.wm_run.specs.Reached.{stands_before_access, thread_log};
+ghost use Rattle.wm_run.specs.Stops.{is_own};
+
+use std::marker::Model;
+use std::snapshot::Snapshot;
+use wm_event::{End, Event, Start};
+use wm_list::List;
+use wm_valid::ValidModule;
+
+/// Why a worker stopped.
+#[derive(Clone, Copy, Debug, PartialEq, Eq)]
+pub enum Stop {
+    /// The thread ended, or made all steps that it may make.
+    Own,
+    /// The gate held it back before an access.
+    Gate,
+    /// The memory refused its access, for another cause than want of memory.
+    Memory,
+}
+
+/// A run of a thread of the module `program`: its events and its end are those of the steps from its start, on the values
+/// that the events read. Where the gate or the memory stopped it, it stands before an access.
+#[derive(Drop)]
+pub struct ThreadEnd {
+    /// The module, which only contracts see.
+    pub program: Snapshot<ValidModule>,
+    pub thread: u32,
+    pub start: Start,
+    pub end: End,
+    /// How many steps it made.
+    pub steps: u32,
+    /// Its accesses to memory, in the order in which it made them.
+    pub events: List<Event>,
+    pub stop: Stop,
+    pub ghost is_run: { IsRun program.value thread (thread_log start end steps events) } by { Prim.hlevel props },
+    pub ghost stopped: { (is_own stop || stands_before_access program.value thread (thread_log start end steps events)) ≡ true },
+}

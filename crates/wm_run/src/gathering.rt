@@ -1,0 +1,117 @@
+//! What the threads of a round and the recorder that they shared make together.
+ghost use Rattle.std.specs.Prelude.{◌≡◌, ◌↔◌, ◌<◌, ◌≤◌, All, IfErr, IfNone, IfOk, IfSome, IsTrue, length};
+ghost use Rattle.wm_recorder.specs.Recorder.{threads_of};
+ghost use Rattle.wm_run.specs.Ends.{HasOneEach, ends_of};
+ghost use Rattle.wm_run.specs.Gathered.{Agrees, AllAgree, AreLogsBy, HasItsEvents, IsFirstSplit, IsGathered, IsGatherFault, StopsWhereFull, log_by};
+
+use crate::ended::{Stop, ThreadEnd};
+use crate::ends::{end_of, ends_fault};
+use crate::fault::RunFault;
+use crate::launch::copy_start;
+use crate::run::Run;
+use std::alloc::{AllocError, Global};
+use wm_event::{Log, MAX_EVENTS, ThreadLog, Witness};
+use wm_list::List;
+use wm_recorder::Recorder;
+use wm_valid::ValidModule;
+
+/// Whether the events of an end are those that were recorded of its thread.
+fn has_its_events(recorder: &Recorder, end: &ThreadEnd) -> bool
+    ensures { IsTrue result ↔ HasItsEvents recorder.now end.now }
+{
+    recorder.events(end.thread) == end.events.as_slice()
+}
+
+/// Whether a recorder that stopped the thread is full.
+fn stops_where_full(recorder: &Recorder, end: &ThreadEnd) -> bool
+    ensures { IsTrue result ↔ StopsWhereFull recorder.now end.now }
+{
+    end.stop != Stop::Memory || recorder.order().len() >= MAX_EVENTS
+}
+
+/// Whether an end and the recorder say the same of its thread.
+fn agrees(recorder: &Recorder, end: &ThreadEnd) -> bool
+    ensures { IsTrue result ↔ Agrees recorder.now end.now }
+{
+    has_its_events(recorder, end) && stops_where_full(recorder, end)
+}
+
+/// The first thread of which its end and the recorder say different things.
+fn first_split(recorder: &Recorder, ends: &[ThreadEnd], threads: usize) -> Option<usize>
+    requires threads { threads ≡ threads_of recorder.now }
+    requires ends { HasOneEach threads ends.now }
+    ensures none { IfNone result (AllAgree recorder.now ends.now) }
+    ensures some { IfSome result (IsFirstSplit recorder.now ends.now) }
+{
+    for thread in 0..threads {
+        if !agrees(recorder, end_of(ends, thread)) {
+            return Some(thread);
+        }
+    }
+    None
+}
+
+/// What is logged of a thread by its end.
+fn log_by(alloc: Global, end: &ThreadEnd) -> Result<ThreadLog, AllocError>
+    ensures { IfOk result (λ log. log ≡ log_by end.now) }
+{
+    Ok(ThreadLog {
+        start: copy_start(alloc, &end.start)?,
+        end: end.end,
+        steps: end.steps,
+        events: List::from_vec(end.events.as_slice().to_vec(alloc)?),
+    })
+}
+
+/// What is logged of each thread by its end.
+fn logs_by(
+    alloc: Global,
+    ends: &[ThreadEnd],
+    threads: usize,
+) -> Result<List<ThreadLog>, AllocError>
+    requires { HasOneEach threads ends.now }
+    ensures { IfOk result (AreLogsBy threads ends.now) }
+{
+    let mut logs = Vec::with_capacity(alloc, threads)?;
+    for thread in 0..threads {
+        logs.push(log_by(alloc, end_of(ends, thread))?)?;
+    }
+    Ok(List::from_vec(logs))
+}
+
+/// The run whose threads came to these ends over this recorder. The ends are of this module, in any order.
+///
+/// # Errors
+///
+/// In this order: `Foreign` where the recorder isn't over the module's initial memory; `Ends` with the least thread of which
+/// an end is missing or there several times, else with the least that is none of the recorder; `Split` with the first thread
+/// whose events aren't those that were recorded of it, or which the memory stopped though it isn't full; `OutOfMemory` where
+/// memory was refused.
+pub fn gather(
+    alloc: Global,
+    module: &ValidModule,
+    recorder: Recorder,
+    ends: Vec<ThreadEnd>,
+) -> Result<Run, RunFault>
+    requires { All (λ e. e.program.value ≡ «module».now) ends.items }
+    ensures gathered { IfOk result (IsGathered «module».now recorder ends.items) }
+    ensures refused { IfErr result (IsGatherFault «module».now recorder ends.items) }
+{
+    if recorder.initial().as_slice() != module.initial().as_slice() {
+        return Err(RunFault::Foreign);
+    }
+    let threads = recorder.threads();
+    if let Some(thread) = ends_fault(ends.as_slice(), threads) {
+        return Err(RunFault::Ends(thread));
+    }
+    if let Some(thread) = first_split(&recorder, ends.as_slice(), threads) {
+        return Err(RunFault::Split(thread));
+    }
+    let logs = logs_by(alloc, ends.as_slice(), threads)?;
+    let parts = recorder.into_parts()?;
+    let witness = Witness {
+        writers: parts.writers,
+        order: parts.order,
+    };
+    Ok(Run::new(Log::new(logs), witness))
+}

@@ -1,0 +1,164 @@
+//! The worker of one thread.
+ghost use Rattle.std.specs.Prelude.{◌≡◌, ◌+◌, ◌<◌, ◌≤◌, ◌^◌, ◌||◌, ℕ, Ok, None, true, length, IfOk, IfSome};
+ghost use Rattle.wm_machine.specs.Run.{end_of as config_end};
+ghost use Rattle.wm_machine.specs.State.{config_of, need_of};
+ghost use Rattle.wm_machine.specs.Term.{Config};
+ghost use Rattle.wm_run.specs.Reached.{HasRun, LeadsTo, is_before_access};
+ghost use Rattle.wm_run.specs.Stops.{StopsFor, is_own};
+ghost use Rattle.wm_run.specs.Worker.{IsWorkOf};
+
+use crate::ended::{Stop, ThreadEnd};
+use crate::fault::RunFault;
+use crate::gate::Gate;
+use crate::launch::copy_start;
+use std::alloc::{AllocError, Global};
+use std::snapshot::Snapshot;
+use wm_event::{End, Event, EventKey, Op, Start};
+use wm_list::Growing;
+use wm_machine::{AdvanceFault, Need, StartFault, Thread};
+use wm_recorder::{AccessFault, Shared};
+use wm_valid::ValidModule;
+
+/// Makes one access of a thread, or says why it makes none. The gate is asked first.
+fn access<S: Shared, G: Gate>(
+    running: &mut Thread,
+    events: &mut Growing<Event>,
+    thread: u32,
+    op: Op,
+    shared: &S,
+    gate: &G,
+) -> Result<Option<Stop>, AllocError>
+    requires asks { (read : ℕ) → need_of read running.old ≡ Need.Access op }
+    requires few { length events.old.items < 2 ^ 32 }
+    ensures same { running.new.module ≡ running.old.module }
+    ensures more { length events.new.items ≤ length events.old.items + 1 }
+    ensures made { result ≡ Ok None → (first : Config) (n : ℕ) → LeadsTo running.old.module thread first events.old.items n (config_of running.old)
+        → LeadsTo running.old.module thread first events.new.items (n + 1) (config_of running.new) }
+    ensures stopped { IfOk result (λ r. IfSome r (λ stop. (events.new.items ≡ events.old.items) × (running.new ≡ running.old)
+        × StopsFor (G.is_open gate.now) running.old.module (config_of running.old) stop)) }
+{
+    events.reserve(1)?;
+    if !gate.before(thread, events.len()) {
+        return Ok(Some(Stop::Gate));
+    }
+    match shared.access(thread, op) {
+        Ok(reply) => {
+            let key = EventKey {
+                thread,
+                number: events.len() as u32,
+            };
+            events.push_within(op.event(key, reply.read.unwrap_or(0)));
+            match running.advance(Some(reply)) {
+                Ok(()) => Ok(None),
+                Err(AdvanceFault::OutOfMemory) => Err(AllocError),
+            }
+        }
+        Err(AccessFault::OutOfMemory) => Err(AllocError),
+        Err(_) => Ok(Some(Stop::Memory)),
+    }
+}
+
+/// Makes the next step of a thread, or says why it makes none.
+fn step<S: Shared, G: Gate>(
+    running: &mut Thread,
+    events: &mut Growing<Event>,
+    thread: u32,
+    shared: &S,
+    gate: &G,
+) -> Result<Option<Stop>, AllocError>
+    requires { length events.old.items < 2 ^ 32 }
+    ensures same { running.new.module ≡ running.old.module }
+    ensures more { length events.new.items ≤ length events.old.items + 1 }
+    ensures made { result ≡ Ok None → (first : Config) (n : ℕ) → LeadsTo running.old.module thread first events.old.items n (config_of running.old)
+        → LeadsTo running.old.module thread first events.new.items (n + 1) (config_of running.new) }
+    ensures stopped { IfOk result (λ r. IfSome r (λ stop. (events.new.items ≡ events.old.items) × (running.new ≡ running.old)
+        × StopsFor (G.is_open gate.now) running.old.module (config_of running.old) stop)) }
+{
+    match running.next() {
+        Need::Ended(_) => Ok(Some(Stop::Own)),
+        Need::Access(op) => access(running, events, thread, op, shared, gate),
+        Need::Local => match running.advance(None) {
+            Ok(()) => Ok(None),
+            Err(AdvanceFault::OutOfMemory) => Err(AllocError),
+        },
+    }
+}
+
+/// How a thread ends that makes no further step.
+fn end_of(running: &Thread) -> End
+    ensures { result ≡ config_end (config_of running.now) }
+{
+    match running.next() {
+        Need::Ended(end) => end,
+        Need::Local | Need::Access(_) => End::Cut,
+    }
+}
+
+/// What a thread has come to behind so many steps.
+fn finished(
+    module: &ValidModule,
+    thread: u32,
+    start: Start,
+    running: &Thread,
+    steps: u32,
+    events: Growing<Event>,
+    stop: Stop,
+) -> ThreadEnd
+    requires same { running.now.module ≡ «module».now }
+    requires run { HasRun «module».now thread start events.items steps (config_of running.now) }
+    requires stopped { (is_own stop || is_before_access «module».now (config_of running.now)) ≡ true }
+    ensures given { (result.program.value ≡ «module».now) × (result.thread ≡ thread) × (result.start ≡ start) × (result.steps ≡ steps) × (result.stop ≡ stop) }
+    ensures end { result.end ≡ config_end (config_of running.now) }
+{
+    ThreadEnd {
+        program: Snapshot::of(module),
+        thread,
+        start,
+        end: end_of(running),
+        steps,
+        events: events.into_list(),
+        stop,
+    }
+}
+
+/// Runs one thread of a module over a shared memory, until it ends, has made its steps, or is cut: where the gate answers
+/// false, or where the memory refuses its access. The gate is asked before each access, while no lock is held.
+///
+/// # Errors
+///
+/// `Start` where the thread doesn't start, `OutOfMemory` where memory was refused.
+pub fn work<S: Shared, G: Gate>(
+    alloc: Global,
+    module: &ValidModule,
+    thread: u32,
+    start: &Start,
+    steps: u32,
+    shared: &S,
+    gate: &G,
+) -> Result<ThreadEnd, RunFault>
+    requires { steps ≤ 1000000 }
+    ensures { IsWorkOf (G.is_open gate.now) «module».now thread start.now steps result }
+{
+    let own = copy_start(alloc, start)?;
+    let name = start.name.as_str();
+    let mut running = match Thread::start(alloc, module, name, start.args.as_slice()) {
+        Ok(running) => running,
+        Err(StartFault::OutOfMemory) => return Err(RunFault::OutOfMemory),
+        Err(fault) => return Err(RunFault::Start(thread as usize, fault)),
+    };
+    let mut events = Growing::new(alloc);
+    for made in 0..steps {
+        if let Some(stop) = step(&mut running, &mut events, thread, shared, gate)? {
+            return Ok(finished(module, thread, own, &running, made, events, stop));
+        }
+    }
+    Ok(finished(
+        module,
+        thread,
+        own,
+        &running,
+        steps,
+        events,
+        Stop::Own,
+    ))
+}
