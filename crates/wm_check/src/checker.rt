@@ -20,14 +20,14 @@ use wm_valid::{ValidFault, ValidModule, validate};
 
 /// Why there is no run to compare.
 #[derive(Debug, Drop)]
-pub(crate) enum Unread {
+pub enum Unread {
     Refused(Refusal),
     /// Memory was refused.
     OutOfMemory,
 }
 
 /// The module that the bytes spell, where it is valid.
-pub(crate) fn read_module(alloc: Global, bytes: &[u8]) -> Result<ValidModule, Unread>
+pub fn read_module(alloc: Global, bytes: &[u8]) -> Result<ValidModule, Unread>
     ensures read { IfOk result (IsModuleOf bytes.now) }
     ensures refused { IfErr result (IsUnreadModule bytes.now) }
 {

@@ -5,6 +5,6 @@ mod checker;
 mod completed;
 mod verdict;
 
-pub use checker::check;
+pub use checker::{Unread, check, read_module};
 pub use completed::{CompletedDocument, complete_document};
 pub use verdict::{Breach, Certificate, Refusal, Verdict};

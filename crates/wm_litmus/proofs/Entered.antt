@@ -1,5 +1,5 @@
 -- The subcommand that was met, and what its words mean.
-use Rattle.std.proofs.Common.{◌≡◌, ℕ, zero, suc, ◌<◌, ◌≤◌, true, false, List, [], ◌∷◌, length, get_or, map, slice_index, Option, None, Some, option_map, codes, refl, sym, ap, ap₂, ◌∙◌, arith, Bor}
+use Rattle.std.proofs.Common.{◌≡◌, ℕ, zero, suc, ◌+◌, ◌*◌, ◌<◌, ◌≤◌, true, false, List, [], ◌∷◌, length, get_or, map, slice_index, Option, None, Some, option_map, codes, refl, sym, ap, ap₂, ◌∙◌, arith, Bor}
 use Rattle.std.specs.Prelude.{Contains}
 use Rattle.std.specs.Str.{bytes_eq}
 use Rattle.std.proofs.lemmas.List.{length-map}
@@ -11,7 +11,7 @@ use Rattle.clap.specs.declared.parser.matches.Found.{Found}
 use Rattle.clap.proofs.WalkLemmas.{first_value-rows}
 use Rattle.wm_litmus.specs.Commands.{Means}
 use Rattle.wm_litmus.specs.declared.command.Command.{Command}
-use Rattle.wm_litmus.specs.declared.command.Command.TheVariants.{Rules, Check, Migrate, Complete}
+use Rattle.wm_litmus.specs.declared.command.Command.TheVariants.{Rules, Check, Migrate, Complete, Drive}
 
 -- the first parts of pairs
 first_parts : {X Y Z : Type 0} (f : X → Y) (g : X → Z) (o : Option X) → option_map f o ≡ option_map (λ (p : Y × Z). p.0) (option_map (λ x. (f x, g x)) o)
@@ -45,30 +45,9 @@ parts found name other rows others is also =
     let same = same_Some (name, rows) (other, others) (sym is ∙ also) in
     (ap (λ (p : Text × List Row). p.0) same, ap (λ (p : Text × List Row). p.1) same)
 
--- the names of the commands differ in a letter
-letters_at : (k : ℕ) (name other : Text) → name ≡ other → slice_index name k ≡ slice_index other k
-letters_at k name other e = ap (λ (t : Text). slice_index t k) e
-
-letters : (name other : Text) → name ≡ other → slice_index name 0 ≡ slice_index other 0
-letters = letters_at 0
-
-rules_check : codes "rules" ≡ codes "check" → ⊥
-rules_check e = let first = letters (codes "rules") (codes "check") e in absurd (omega arith)
-
-rules_migrate : codes "rules" ≡ codes "migrate" → ⊥
-rules_migrate e = let first = letters (codes "rules") (codes "migrate") e in absurd (omega arith)
-
-check_migrate : codes "check" ≡ codes "migrate" → ⊥
-check_migrate e = let first = letters (codes "check") (codes "migrate") e in absurd (omega arith)
-
-rules_complete : codes "rules" ≡ codes "complete" → ⊥
-rules_complete e = let first = letters (codes "rules") (codes "complete") e in absurd (omega arith)
-
-check_complete : codes "check" ≡ codes "complete" → ⊥
-check_complete e = let second = letters_at 1 (codes "check") (codes "complete") e in absurd (omega arith)
-
-migrate_complete : codes "migrate" ≡ codes "complete" → ⊥
-migrate_complete e = let first = letters (codes "migrate") (codes "complete") e in absurd (omega arith)
+-- a number that the names of the commands differ in: their first three letters
+letters : Text → ℕ
+letters t = slice_index t 0 * 65536 + slice_index t 1 * 256 + slice_index t 2
 
 -- a subcommand without one of its words is no command
 missing : (rows others : List Row) (id : Text) (v : Bor Text) → rows ≡ others → first_of id others ≡ None → first_of id rows ≡ Some v.now → ⊥
@@ -76,39 +55,91 @@ missing rows others id v same none some = let no : None ≡ Some v.now = sym non
 
 pub no_rules : (found : Option (Text × List Row)) (rows : List Row) → found ≡ Some (codes "rules", rows) → first_of (codes "document") rows ≡ None → (command : Command) → Means found command → ⊥
 no_rules found rows is none (Rules d) means = missing means.0 rows (codes "document") d (parts found _ _ means.0 rows means.1 is).1 none means.2
-no_rules found rows is none (Check m d) means = rules_check (parts found (codes "rules") (codes "check") rows means.0 is means.1).0
-no_rules found rows is none (Migrate d) means = rules_migrate (parts found (codes "rules") (codes "migrate") rows means.0 is means.1).0
-no_rules found rows is none (Complete m d) means = rules_complete (parts found (codes "rules") (codes "complete") rows means.0 is means.1).0
+no_rules found rows is none (Check m d) means =
+    let other = ap letters (parts found (codes "rules") (codes "check") rows means.0 is means.1).0 in absurd (omega arith)
+no_rules found rows is none (Migrate d) means =
+    let other = ap letters (parts found (codes "rules") (codes "migrate") rows means.0 is means.1).0 in absurd (omega arith)
+no_rules found rows is none (Complete m d) means =
+    let other = ap letters (parts found (codes "rules") (codes "complete") rows means.0 is means.1).0 in absurd (omega arith)
+no_rules found rows is none (Drive m t) means =
+    let other = ap letters (parts found (codes "rules") (codes "drive") rows means.0 is means.1).0 in absurd (omega arith)
 
 pub no_module : (found : Option (Text × List Row)) (rows : List Row) → found ≡ Some (codes "check", rows) → first_of (codes "module") rows ≡ None → (command : Command) → Means found command → ⊥
-no_module found rows is none (Rules d) means = rules_check (parts found (codes "rules") (codes "check") means.0 rows means.1 is).0
+no_module found rows is none (Rules d) means =
+    let other = ap letters (parts found (codes "check") (codes "rules") rows means.0 is means.1).0 in absurd (omega arith)
 no_module found rows is none (Check m d) means = missing means.0 rows (codes "module") m (parts found _ _ means.0 rows means.1 is).1 none means.2
-no_module found rows is none (Migrate d) means = check_migrate (parts found (codes "check") (codes "migrate") rows means.0 is means.1).0
-no_module found rows is none (Complete m d) means = check_complete (parts found (codes "check") (codes "complete") rows means.0 is means.1).0
+no_module found rows is none (Migrate d) means =
+    let other = ap letters (parts found (codes "check") (codes "migrate") rows means.0 is means.1).0 in absurd (omega arith)
+no_module found rows is none (Complete m d) means =
+    let other = ap letters (parts found (codes "check") (codes "complete") rows means.0 is means.1).0 in absurd (omega arith)
+no_module found rows is none (Drive m t) means =
+    let other = ap letters (parts found (codes "check") (codes "drive") rows means.0 is means.1).0 in absurd (omega arith)
 
 pub no_document : (found : Option (Text × List Row)) (rows : List Row) → found ≡ Some (codes "check", rows) → first_of (codes "document") rows ≡ None → (command : Command) → Means found command → ⊥
-no_document found rows is none (Rules d) means = rules_check (parts found (codes "rules") (codes "check") means.0 rows means.1 is).0
+no_document found rows is none (Rules d) means =
+    let other = ap letters (parts found (codes "check") (codes "rules") rows means.0 is means.1).0 in absurd (omega arith)
 no_document found rows is none (Check m d) means = missing means.0 rows (codes "document") d (parts found _ _ means.0 rows means.1 is).1 none means.3
-no_document found rows is none (Migrate d) means = check_migrate (parts found (codes "check") (codes "migrate") rows means.0 is means.1).0
-no_document found rows is none (Complete m d) means = check_complete (parts found (codes "check") (codes "complete") rows means.0 is means.1).0
+no_document found rows is none (Migrate d) means =
+    let other = ap letters (parts found (codes "check") (codes "migrate") rows means.0 is means.1).0 in absurd (omega arith)
+no_document found rows is none (Complete m d) means =
+    let other = ap letters (parts found (codes "check") (codes "complete") rows means.0 is means.1).0 in absurd (omega arith)
+no_document found rows is none (Drive m t) means =
+    let other = ap letters (parts found (codes "check") (codes "drive") rows means.0 is means.1).0 in absurd (omega arith)
 
 pub no_migrate : (found : Option (Text × List Row)) (rows : List Row) → found ≡ Some (codes "migrate", rows) → first_of (codes "document") rows ≡ None → (command : Command) → Means found command → ⊥
-no_migrate found rows is none (Rules d) means = rules_migrate (parts found (codes "rules") (codes "migrate") means.0 rows means.1 is).0
-no_migrate found rows is none (Check m d) means = check_migrate (parts found (codes "check") (codes "migrate") means.0 rows means.1 is).0
+no_migrate found rows is none (Rules d) means =
+    let other = ap letters (parts found (codes "migrate") (codes "rules") rows means.0 is means.1).0 in absurd (omega arith)
+no_migrate found rows is none (Check m d) means =
+    let other = ap letters (parts found (codes "migrate") (codes "check") rows means.0 is means.1).0 in absurd (omega arith)
 no_migrate found rows is none (Migrate d) means = missing means.0 rows (codes "document") d (parts found _ _ means.0 rows means.1 is).1 none means.2
-no_migrate found rows is none (Complete m d) means = migrate_complete (parts found (codes "migrate") (codes "complete") rows means.0 is means.1).0
+no_migrate found rows is none (Complete m d) means =
+    let other = ap letters (parts found (codes "migrate") (codes "complete") rows means.0 is means.1).0 in absurd (omega arith)
+no_migrate found rows is none (Drive m t) means =
+    let other = ap letters (parts found (codes "migrate") (codes "drive") rows means.0 is means.1).0 in absurd (omega arith)
 
 pub no_complete_module : (found : Option (Text × List Row)) (rows : List Row) → found ≡ Some (codes "complete", rows) → first_of (codes "module") rows ≡ None → (command : Command) → Means found command → ⊥
-no_complete_module found rows is none (Rules d) means = rules_complete (parts found (codes "rules") (codes "complete") means.0 rows means.1 is).0
-no_complete_module found rows is none (Check m d) means = check_complete (parts found (codes "check") (codes "complete") means.0 rows means.1 is).0
-no_complete_module found rows is none (Migrate d) means = migrate_complete (parts found (codes "migrate") (codes "complete") means.0 rows means.1 is).0
+no_complete_module found rows is none (Rules d) means =
+    let other = ap letters (parts found (codes "complete") (codes "rules") rows means.0 is means.1).0 in absurd (omega arith)
+no_complete_module found rows is none (Check m d) means =
+    let other = ap letters (parts found (codes "complete") (codes "check") rows means.0 is means.1).0 in absurd (omega arith)
+no_complete_module found rows is none (Migrate d) means =
+    let other = ap letters (parts found (codes "complete") (codes "migrate") rows means.0 is means.1).0 in absurd (omega arith)
 no_complete_module found rows is none (Complete m d) means = missing means.0 rows (codes "module") m (parts found _ _ means.0 rows means.1 is).1 none means.2
+no_complete_module found rows is none (Drive m t) means =
+    let other = ap letters (parts found (codes "complete") (codes "drive") rows means.0 is means.1).0 in absurd (omega arith)
 
 pub no_complete_document : (found : Option (Text × List Row)) (rows : List Row) → found ≡ Some (codes "complete", rows) → first_of (codes "document") rows ≡ None → (command : Command) → Means found command → ⊥
-no_complete_document found rows is none (Rules d) means = rules_complete (parts found (codes "rules") (codes "complete") means.0 rows means.1 is).0
-no_complete_document found rows is none (Check m d) means = check_complete (parts found (codes "check") (codes "complete") means.0 rows means.1 is).0
-no_complete_document found rows is none (Migrate d) means = migrate_complete (parts found (codes "migrate") (codes "complete") means.0 rows means.1 is).0
+no_complete_document found rows is none (Rules d) means =
+    let other = ap letters (parts found (codes "complete") (codes "rules") rows means.0 is means.1).0 in absurd (omega arith)
+no_complete_document found rows is none (Check m d) means =
+    let other = ap letters (parts found (codes "complete") (codes "check") rows means.0 is means.1).0 in absurd (omega arith)
+no_complete_document found rows is none (Migrate d) means =
+    let other = ap letters (parts found (codes "complete") (codes "migrate") rows means.0 is means.1).0 in absurd (omega arith)
 no_complete_document found rows is none (Complete m d) means = missing means.0 rows (codes "document") d (parts found _ _ means.0 rows means.1 is).1 none means.3
+no_complete_document found rows is none (Drive m t) means =
+    let other = ap letters (parts found (codes "complete") (codes "drive") rows means.0 is means.1).0 in absurd (omega arith)
+
+pub no_drive_module : (found : Option (Text × List Row)) (rows : List Row) → found ≡ Some (codes "drive", rows) → first_of (codes "module") rows ≡ None → (command : Command) → Means found command → ⊥
+no_drive_module found rows is none (Rules d) means =
+    let other = ap letters (parts found (codes "drive") (codes "rules") rows means.0 is means.1).0 in absurd (omega arith)
+no_drive_module found rows is none (Check m d) means =
+    let other = ap letters (parts found (codes "drive") (codes "check") rows means.0 is means.1).0 in absurd (omega arith)
+no_drive_module found rows is none (Migrate d) means =
+    let other = ap letters (parts found (codes "drive") (codes "migrate") rows means.0 is means.1).0 in absurd (omega arith)
+no_drive_module found rows is none (Complete m d) means =
+    let other = ap letters (parts found (codes "drive") (codes "complete") rows means.0 is means.1).0 in absurd (omega arith)
+no_drive_module found rows is none (Drive m t) means = missing means.0 rows (codes "module") m (parts found _ _ means.0 rows means.1 is).1 none means.2
+
+pub no_drive_turns : (found : Option (Text × List Row)) (rows : List Row) → found ≡ Some (codes "drive", rows) → first_of (codes "turns") rows ≡ None → (command : Command) → Means found command → ⊥
+no_drive_turns found rows is none (Rules d) means =
+    let other = ap letters (parts found (codes "drive") (codes "rules") rows means.0 is means.1).0 in absurd (omega arith)
+no_drive_turns found rows is none (Check m d) means =
+    let other = ap letters (parts found (codes "drive") (codes "check") rows means.0 is means.1).0 in absurd (omega arith)
+no_drive_turns found rows is none (Migrate d) means =
+    let other = ap letters (parts found (codes "drive") (codes "migrate") rows means.0 is means.1).0 in absurd (omega arith)
+no_drive_turns found rows is none (Complete m d) means =
+    let other = ap letters (parts found (codes "drive") (codes "complete") rows means.0 is means.1).0 in absurd (omega arith)
+no_drive_turns found rows is none (Drive m t) means = missing means.0 rows (codes "turns") t (parts found _ _ means.0 rows means.1 is).1 none means.3
 
 -- a word is there as a text where one of the words is that text
 word_at : (ws : List (Bor Text)) (t : Text) (k : ℕ) → k < length ws → ((d : Bor Text) → bytes_eq (get_or ws k d).now t ≡ true) → get_or (map (λ (w : Bor Text). w.now) ws) k t ≡ t

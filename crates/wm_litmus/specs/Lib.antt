@@ -1,4 +1,6 @@
 pub mod Answers
+pub mod Drive
+pub mod Outcomes
 pub mod Commands
 pub mod Failures
 pub mod Input

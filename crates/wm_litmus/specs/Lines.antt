@@ -1,5 +1,5 @@
 -- The line of each answer, and the status of a judgement.
-use Rattle.std.specs.Prelude.{ℕ, List, ◌++◌, codes}
+use Rattle.std.specs.Prelude.{ℕ, List, [], ◌++◌, codes}
 use Rattle.wm_event.specs.Texts.{rule_fault_text, shape_fault_text}
 use Rattle.wm_event.specs.declared.rule.Judgement.{Judgement}
 use Rattle.wm_event.specs.declared.rule.Judgement.TheVariants.{Valid, Broken}
@@ -17,6 +17,10 @@ use Rattle.wm_check.specs.declared.verdict.Breach.TheVariants as breach
 use Rattle.wm_check.specs.declared.verdict.Verdict.{Verdict}
 use Rattle.wm_check.specs.declared.verdict.Verdict.TheVariants.{Allowed, Refused}
 use Rattle.wm_check.specs.declared.verdict.Verdict.TheVariants as verdict
+use Rattle.wm_run.specs.declared.fault.RunFault.{RunFault}
+use Rattle.wm_run.specs.Texts.{run_fault_text}
+use Rattle.wm_litmus.specs.declared.word.WordFault.{WordFault}
+use Rattle.wm_litmus.specs.declared.word.WordFault.TheVariants.{Turns, Rounds, Start, OutOfMemory}
 use Rattle.wm_logfile.specs.Texts.{doc_fault_text}
 use Rattle.wm_logfile.specs.declared.fault.DocFault.{DocFault}
 
@@ -33,6 +37,19 @@ document_line_text fault = codes "refused document " ++ doc_fault_text fault
 
 abbrev pub shape_line_text : ShapeFault → List ℕ
 shape_line_text fault = codes "refused shape " ++ shape_fault_text fault
+
+abbrev pub run_fault_line_text : RunFault → List ℕ
+run_fault_line_text fault = codes "refused " ++ run_fault_text fault
+
+-- a word that says nothing; want of memory is no line of its own
+abbrev pub word_text : WordFault → List ℕ
+word_text Turns = codes "turns"
+word_text Rounds = codes "rounds"
+word_text Start = codes "start"
+word_text OutOfMemory = []
+
+abbrev pub word_line_text : WordFault → List ℕ
+word_line_text fault = codes "refused command " ++ word_text fault
 
 abbrev pub words_line_text : List ℕ
 words_line_text = codes "refused command words"

@@ -1,13 +1,16 @@
 //! What a command answers.
 ghost use Rattle.std.specs.Prelude.{◌≡◌, ◌≢◌, IfOk, string_bytes};
-ghost use Rattle.wm_litmus.specs.Lines.{document_line_text, judgement_status, judgement_text, shape_line_text, verdict_status, verdict_text, words_line_text};
+ghost use Rattle.wm_litmus.specs.Drive.{driven_text};
+ghost use Rattle.wm_litmus.specs.Lines.{document_line_text, judgement_status, judgement_text, run_fault_line_text, shape_line_text, verdict_status, verdict_text, word_line_text, words_line_text};
 ghost use Rattle.wm_litmus.specs.Prints.{Prints};
 
 use crate::line::{rules_line, verdict_line};
+use crate::word::WordFault;
 use std::alloc::{AllocError, Global};
 use wm_check::Verdict;
 use wm_event::{Judgement, ShapeFault};
 use wm_logfile::DocFault;
+use wm_run::RunFault;
 
 /// What a command prints, and the exit status.
 #[derive(Drop)]
@@ -90,6 +93,47 @@ impl Answer {
                 Answer::of_line(2, line)
             }
         }
+    }
+
+    /// The refusal of a plan, of its turns or of a start, such as `refused start NoExport thread 0`.
+    pub fn refused_run(alloc: Global, fault: RunFault) -> Result<Answer, AllocError>
+        ensures { IfOk result (Prints 2 (run_fault_line_text fault)) }
+    {
+        let line = format!(in alloc; "refused {fault}")?;
+        Answer::of_line(2, line)
+    }
+
+    /// The refusal of a word; want of memory is no answer.
+    pub fn refused_word(alloc: Global, fault: WordFault) -> Result<Answer, AllocError>
+        ensures { IfOk result (λ answer. (fault ≢ WordFault.OutOfMemory) × Prints 2 (word_line_text fault) answer) }
+    {
+        let word = match fault {
+            WordFault::Turns => "turns",
+            WordFault::Rounds => "rounds",
+            WordFault::Start => "start",
+            WordFault::OutOfMemory => return Err(AllocError),
+        };
+        let line = format!(in alloc; "refused command {word}")?;
+        Answer::of_line(2, line)
+    }
+
+    /// The answer that a scripted run is: its outcome, the verdict on its document, and the document, a line each.
+    pub fn driven(
+        alloc: Global,
+        outcome: &str,
+        verdict: &Verdict,
+        document: &str,
+    ) -> Result<Answer, AllocError>
+        ensures status { IfOk result (λ answer. answer.status ≡ verdict_status verdict.now) }
+        ensures text { IfOk result (λ answer.
+            string_bytes answer.text ≡ driven_text outcome.now verdict.now document.now) }
+    {
+        let line = verdict_line(alloc, verdict)?;
+        let text = format!(in alloc; "outcome {outcome}\n{line}\n{document}\n")?;
+        Ok(Answer {
+            text,
+            status: verdict_status_of(verdict),
+        })
     }
 
     /// The refusal of the words.

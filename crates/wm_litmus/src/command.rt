@@ -1,7 +1,7 @@
 //! The command line.
 ghost use Rattle.std.specs.Prelude.{◌≡◌, false, Err, IfOk, IfSome, None, map};
 ghost use Rattle.clap.specs.Words.{app_of, kind_of, rule_of, subcommand_rows_of};
-ghost use Rattle.wm_litmus.specs.Commands.{IsCommand, IsNoCommand, Means, fault_of_kind, wmlab_app, word_rule};
+ghost use Rattle.wm_litmus.specs.Commands.{IsCommand, IsNoCommand, Means, any_words_rule, fault_of_kind, wmlab_app, word_rule};
 ghost use Rattle.wm_litmus.specs.declared.command.Command.{Command};
 ghost use Rattle.wm_litmus.specs.declared.command.CommandFault.TheVariants.{OutOfMemory, Words};
 
@@ -20,6 +20,8 @@ pub enum Command<'a> {
     Migrate { document: &'a str },
     /// Prints a document with the steps and the ends that its module gives it.
     Complete { module: &'a str, document: &'a str },
+    /// Plays a script over a module; the words behind say what its threads start with.
+    Drive { module: &'a str, turns: &'a str },
 }
 
 /// Why the words are no command.
@@ -56,6 +58,14 @@ fn word<'a>(alloc: Global, name: &'a str) -> Arg<'a>
     Arg::new(alloc, name).required(true).action(ArgAction::Set)
 }
 
+/// Words of which any number may stand.
+fn any_words<'a>(alloc: Global, name: &'a str) -> Arg<'a>
+    ensures rule { rule_of result ≡ any_words_rule name.now }
+    ensures own { result.global ≡ false }
+{
+    Arg::new(alloc, name).num_args(0..).action(ArgAction::Append)
+}
+
 /// The commands and their words.
 fn parser<'a>(alloc: Global) -> Result<Parser<'a>, AllocError>
     ensures { IfOk result (λ parser. app_of parser ≡ wmlab_app) }
@@ -68,6 +78,10 @@ fn parser<'a>(alloc: Global) -> Result<Parser<'a>, AllocError>
     let complete = Parser::new(alloc, "complete")
         .arg(word(alloc, "module"))?
         .arg(word(alloc, "document"))?;
+    let drive = Parser::new(alloc, "drive")
+        .arg(word(alloc, "module"))?
+        .arg(word(alloc, "turns"))?
+        .arg(any_words(alloc, "start"))?;
     Parser::new(alloc, "wmlab")
         .disable_help_flag(true)
         .disable_version_flag(true)
@@ -77,7 +91,8 @@ fn parser<'a>(alloc: Global) -> Result<Parser<'a>, AllocError>
         .subcommand(rules)?
         .subcommand(check)?
         .subcommand(migrate)?
-        .subcommand(complete)
+        .subcommand(complete)?
+        .subcommand(drive)
 }
 
 /// The command that was named, with its words.
@@ -104,6 +119,11 @@ fn named<'a>(matches: &ArgMatches<'a>) -> Option<Command<'a>>
             let module = words.get_str("module")?;
             let document = words.get_str("document")?;
             Some(Command::Complete { module, document })
+        }
+        "drive" => {
+            let module = words.get_str("module")?;
+            let turns = words.get_str("turns")?;
+            Some(Command::Drive { module, turns })
         }
         _ => None,
     }

@@ -24,17 +24,21 @@ mod answer;
 mod check;
 mod command;
 mod completion;
+mod drive;
 mod files;
 mod input;
 mod line;
 mod migration;
+mod outcomes;
 mod output;
 mod program;
 mod rules;
+mod word;
 
 pub use files::{FileFault, Files};
 pub use input::read_limited;
 pub use line::{rules_line, verdict_line};
+pub use outcomes::outcome;
 pub use program::serve;
 
 #[cfg(test)]

@@ -9,11 +9,13 @@ use crate::answer::Answer;
 use crate::check::check_answer;
 use crate::command::{Command, CommandFault, read_command};
 use crate::completion::completion_answer;
+use crate::drive::drive_answer;
 use crate::files::{FileFault, Files};
 use crate::input::read_limited;
 use crate::migration::migrate_answer;
 use crate::output::write_text;
 use crate::rules::rules_answer;
+use crate::word::read_script;
 use std::alloc::{AllocError, Global};
 use std::io::{Read, Write};
 use std::thread::Threads;
@@ -133,6 +135,15 @@ fn answer_of<'a, R: AllocGlobal + Threads + Sync, F: Files, I: Read>(
                 module_bytes.as_slice(),
                 document_bytes.as_slice(),
             )?)
+        }
+        Ok(Command::Drive { module, turns }) => {
+            match read_script(rt.alloc(), turns, words.get(3..).unwrap_or(&[])) {
+                Ok(script) => {
+                    let module_bytes = read_file(files, module, MAX_MODULE_BYTES)?;
+                    Ok(drive_answer(rt, module_bytes.as_slice(), &script)?)
+                }
+                Err(fault) => Ok(Answer::refused_word(rt.alloc(), fault)?),
+            }
         }
         Err(CommandFault::Words) => Ok(Answer::refused_words(rt.alloc())?),
         Err(CommandFault::OutOfMemory) => Err(Failure::OutOfMemory),

@@ -1,0 +1,39 @@
+-- What the command `drive` answers.
+use Rattle.std.specs.Prelude.{◌≡◌, ◌≢◌, ℕ, List, ◌++◌, codes}
+use Rattle.serde_json.specs.Written.{compact_text}
+use Rattle.wm_ast.specs.declared.module.Module.{Module}
+use Rattle.wm_check.specs.declared.verdict.Refusal.{Refusal}
+use Rattle.wm_check.specs.declared.verdict.Verdict.{Verdict}
+use Rattle.wm_check.specs.declared.verdict.Verdict.TheVariants.{Refused}
+use Rattle.wm_check.specs.Reading.{IsModuleRefusal}
+use Rattle.wm_check.specs.Run.{IsModuleOf}
+use Rattle.wm_check.specs.Verdicts.{Says}
+use Rattle.wm_logfile.specs.Document.{document_2}
+use Rattle.wm_run.specs.declared.fault.RunFault.{RunFault}
+use Rattle.wm_run.specs.declared.fault.RunFault.TheVariants.{OutOfMemory}
+use Rattle.wm_run.specs.declared.plan.Plan.{Plan}
+use Rattle.wm_run.specs.declared.turn.Turn.{Turn}
+use Rattle.wm_run.specs.Refusal.{IsScriptFault}
+use Rattle.wm_run.specs.Run.{Record}
+use Rattle.wm_run.specs.Scripted.{IsScripted}
+use Rattle.wm_litmus.specs.Lines.{run_fault_line_text, verdict_status, verdict_text}
+use Rattle.wm_litmus.specs.Outcomes.{outcome_text}
+use Rattle.wm_litmus.specs.Prints.{ended}
+
+-- the document of a run, in version 2
+abbrev pub run_text : Record → List ℕ
+run_text run = compact_text (document_2 run.log run.witness)
+
+-- the outcome, the verdict and the document, a line each
+abbrev pub driven_text : List ℕ → Verdict → List ℕ → List ℕ
+driven_text outcome verdict document = ended (codes "outcome " ++ outcome) ++ (ended (verdict_text verdict) ++ ended document)
+
+-- the status and the text that answer a module and a script: the scripted run, with the verdict on its document
+pub data AnswersDrive (module_bytes : List ℕ) (plan : Plan) (turns : List Turn) (status : ℕ) (text : List ℕ) : Type 0 where
+  no_module : (refusal : Refusal) → IsModuleRefusal module_bytes refusal
+      → status ≡ 2 → text ≡ ended (verdict_text (Refused refusal)) → AnswersDrive module_bytes plan turns status text
+  refused : («module» : Module) (fault : RunFault) → IsModuleOf module_bytes «module» → fault ≢ OutOfMemory → IsScriptFault «module» plan turns fault
+      → status ≡ 2 → text ≡ ended (run_fault_line_text fault) → AnswersDrive module_bytes plan turns status text
+  driven : («module» : Module) (run : Record) (verdict : Verdict) → IsModuleOf module_bytes «module» → IsScripted «module» plan turns run
+      → Says module_bytes (run_text run) verdict
+      → status ≡ verdict_status verdict → text ≡ driven_text (outcome_text run.log) verdict (run_text run) → AnswersDrive module_bytes plan turns status text

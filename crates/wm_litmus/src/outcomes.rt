@@ -1,0 +1,46 @@
+//! How the threads of a run ended, as one line.
+ghost use Rattle.std.specs.Prelude.{◌≡◌, IfOk, Some, string_bytes};
+ghost use Rattle.wm_litmus.specs.Outcomes.{end_text, outcome_text};
+
+use std::alloc::{AllocError, Global};
+use std::fmt;
+use std::fmt::Write;
+use wm_event::End;
+use wm_run::Run;
+
+/// The end of a thread, as it prints.
+#[derive(Clone, Copy)]
+struct EndText(End);
+
+impl fmt::Display for EndText {
+    ghost output = { λ text. Some (end_text text.0) };
+
+    fn fmt<W: fmt::Write>(&self, f: &mut fmt::Formatter<W>) -> fmt::Result {
+        match self.0 {
+            End::Done(Some(value)) => write!(f, "{value}"),
+            End::Done(None) => f.write_str("-"),
+            End::Trap(kind) => write!(f, "trap:{kind}"),
+            End::Cut => f.write_str("cut"),
+        }
+    }
+}
+
+/// The outcome of a run: how each thread ended, in their order, with a space between them. A function's value prints in
+/// decimal, `-` where it has none; else `trap:` with the trap's name, or `cut`.
+///
+/// # Errors
+///
+/// Only where memory was refused.
+pub fn outcome(alloc: Global, run: &Run) -> Result<String, AllocError>
+    ensures { IfOk result (λ text. string_bytes text ≡ outcome_text run.now.log) }
+{
+    let mut text = String::new(alloc);
+    for (number, thread) in run.log().threads().iter().enumerate() {
+        if number > 0 {
+            text.push(' ')?;
+        }
+        let end = format!(in alloc; "{}", EndText(thread.end))?;
+        text.push_str(end.as_str())?;
+    }
+    Ok(text)
+}
