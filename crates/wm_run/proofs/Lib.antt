@@ -13,3 +13,4 @@ pub mod Logging
 pub mod Runs
 pub mod Driving
 pub mod Together
+pub mod Rounds
