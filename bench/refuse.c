@@ -3,16 +3,18 @@
 #define _GNU_SOURCE
 #include <dlfcn.h>
 #include <errno.h>
+#include <stdatomic.h>
 #include <stdlib.h>
 
-static long made;
+/* The threads of a run count together. */
+static atomic_long made;
 
 static int is_refused(void)
 {
     const char *refused = getenv("REFUSE");
     long number = refused ? atol(refused) : 0;
-    made++;
-    return number != 0 && (made == number || (made > number && getenv("REFUSE_ON") != NULL));
+    long count = atomic_fetch_add(&made, 1) + 1;
+    return number != 0 && (count == number || (count > number && getenv("REFUSE_ON") != NULL));
 }
 
 void *malloc(size_t size)

@@ -1,1 +1,2 @@
 pub mod Invalid
+pub mod CompletedFits

@@ -1,3 +1,4 @@
 pub mod Run
 pub mod Verdicts
 pub mod Reading
+pub mod Completed

@@ -20,14 +20,14 @@ use wm_valid::{ValidFault, ValidModule, validate};
 
 /// Why there is no run to compare.
 #[derive(Debug, Drop)]
-enum Unread {
+pub(crate) enum Unread {
     Refused(Refusal),
     /// Memory was refused.
     OutOfMemory,
 }
 
 /// The module that the bytes spell, where it is valid.
-fn read_module(alloc: Global, bytes: &[u8]) -> Result<ValidModule, Unread>
+pub(crate) fn read_module(alloc: Global, bytes: &[u8]) -> Result<ValidModule, Unread>
     ensures read { IfOk result (IsModuleOf bytes.now) }
     ensures refused { IfErr result (IsUnreadModule bytes.now) }
 {
@@ -44,7 +44,7 @@ fn read_module(alloc: Global, bytes: &[u8]) -> Result<ValidModule, Unread>
 }
 
 /// The log with its witness that the bytes spell.
-fn read_log(alloc: Global, bytes: &[u8]) -> Result<(Log, Witness), Unread>
+pub(crate) fn read_log(alloc: Global, bytes: &[u8]) -> Result<(Log, Witness), Unread>
     ensures read { IfOk result (λ p. IsDocumentOf bytes.now p.0 p.1) }
     ensures refused { IfErr result (IsUnreadDocument bytes.now) }
 {

@@ -2,7 +2,9 @@
 #![tactic(auto)]
 
 mod checker;
+mod completed;
 mod verdict;
 
 pub use checker::check;
+pub use completed::{CompletedDocument, complete_document};
 pub use verdict::{Breach, Certificate, Refusal, Verdict};

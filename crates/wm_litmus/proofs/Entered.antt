@@ -11,7 +11,7 @@ use Rattle.clap.specs.declared.parser.matches.Found.{Found}
 use Rattle.clap.proofs.WalkLemmas.{first_value-rows}
 use Rattle.wm_litmus.specs.Commands.{Means}
 use Rattle.wm_litmus.specs.declared.command.Command.{Command}
-use Rattle.wm_litmus.specs.declared.command.Command.TheVariants.{Rules, Check, Migrate}
+use Rattle.wm_litmus.specs.declared.command.Command.TheVariants.{Rules, Check, Migrate, Complete}
 
 -- the first parts of pairs
 first_parts : {X Y Z : Type 0} (f : X → Y) (g : X → Z) (o : Option X) → option_map f o ≡ option_map (λ (p : Y × Z). p.0) (option_map (λ x. (f x, g x)) o)
@@ -45,9 +45,12 @@ parts found name other rows others is also =
     let same = same_Some (name, rows) (other, others) (sym is ∙ also) in
     (ap (λ (p : Text × List Row). p.0) same, ap (λ (p : Text × List Row). p.1) same)
 
--- the names of the commands differ in their first letters
+-- the names of the commands differ in a letter
+letters_at : (k : ℕ) (name other : Text) → name ≡ other → slice_index name k ≡ slice_index other k
+letters_at k name other e = ap (λ (t : Text). slice_index t k) e
+
 letters : (name other : Text) → name ≡ other → slice_index name 0 ≡ slice_index other 0
-letters name other e = ap (λ (t : Text). slice_index t 0) e
+letters = letters_at 0
 
 rules_check : codes "rules" ≡ codes "check" → ⊥
 rules_check e = let first = letters (codes "rules") (codes "check") e in absurd (omega arith)
@@ -58,6 +61,15 @@ rules_migrate e = let first = letters (codes "rules") (codes "migrate") e in abs
 check_migrate : codes "check" ≡ codes "migrate" → ⊥
 check_migrate e = let first = letters (codes "check") (codes "migrate") e in absurd (omega arith)
 
+rules_complete : codes "rules" ≡ codes "complete" → ⊥
+rules_complete e = let first = letters (codes "rules") (codes "complete") e in absurd (omega arith)
+
+check_complete : codes "check" ≡ codes "complete" → ⊥
+check_complete e = let second = letters_at 1 (codes "check") (codes "complete") e in absurd (omega arith)
+
+migrate_complete : codes "migrate" ≡ codes "complete" → ⊥
+migrate_complete e = let first = letters (codes "migrate") (codes "complete") e in absurd (omega arith)
+
 -- a subcommand without one of its words is no command
 missing : (rows others : List Row) (id : Text) (v : Bor Text) → rows ≡ others → first_of id others ≡ None → first_of id rows ≡ Some v.now → ⊥
 missing rows others id v same none some = let no : None ≡ Some v.now = sym none ∙ ap (first_of id) (sym same) ∙ some in cc
@@ -66,21 +78,37 @@ pub no_rules : (found : Option (Text × List Row)) (rows : List Row) → found �
 no_rules found rows is none (Rules d) means = missing means.0 rows (codes "document") d (parts found _ _ means.0 rows means.1 is).1 none means.2
 no_rules found rows is none (Check m d) means = rules_check (parts found (codes "rules") (codes "check") rows means.0 is means.1).0
 no_rules found rows is none (Migrate d) means = rules_migrate (parts found (codes "rules") (codes "migrate") rows means.0 is means.1).0
+no_rules found rows is none (Complete m d) means = rules_complete (parts found (codes "rules") (codes "complete") rows means.0 is means.1).0
 
 pub no_module : (found : Option (Text × List Row)) (rows : List Row) → found ≡ Some (codes "check", rows) → first_of (codes "module") rows ≡ None → (command : Command) → Means found command → ⊥
 no_module found rows is none (Rules d) means = rules_check (parts found (codes "rules") (codes "check") means.0 rows means.1 is).0
 no_module found rows is none (Check m d) means = missing means.0 rows (codes "module") m (parts found _ _ means.0 rows means.1 is).1 none means.2
 no_module found rows is none (Migrate d) means = check_migrate (parts found (codes "check") (codes "migrate") rows means.0 is means.1).0
+no_module found rows is none (Complete m d) means = check_complete (parts found (codes "check") (codes "complete") rows means.0 is means.1).0
 
 pub no_document : (found : Option (Text × List Row)) (rows : List Row) → found ≡ Some (codes "check", rows) → first_of (codes "document") rows ≡ None → (command : Command) → Means found command → ⊥
 no_document found rows is none (Rules d) means = rules_check (parts found (codes "rules") (codes "check") means.0 rows means.1 is).0
 no_document found rows is none (Check m d) means = missing means.0 rows (codes "document") d (parts found _ _ means.0 rows means.1 is).1 none means.3
 no_document found rows is none (Migrate d) means = check_migrate (parts found (codes "check") (codes "migrate") rows means.0 is means.1).0
+no_document found rows is none (Complete m d) means = check_complete (parts found (codes "check") (codes "complete") rows means.0 is means.1).0
 
 pub no_migrate : (found : Option (Text × List Row)) (rows : List Row) → found ≡ Some (codes "migrate", rows) → first_of (codes "document") rows ≡ None → (command : Command) → Means found command → ⊥
 no_migrate found rows is none (Rules d) means = rules_migrate (parts found (codes "rules") (codes "migrate") means.0 rows means.1 is).0
 no_migrate found rows is none (Check m d) means = check_migrate (parts found (codes "check") (codes "migrate") means.0 rows means.1 is).0
 no_migrate found rows is none (Migrate d) means = missing means.0 rows (codes "document") d (parts found _ _ means.0 rows means.1 is).1 none means.2
+no_migrate found rows is none (Complete m d) means = migrate_complete (parts found (codes "migrate") (codes "complete") rows means.0 is means.1).0
+
+pub no_complete_module : (found : Option (Text × List Row)) (rows : List Row) → found ≡ Some (codes "complete", rows) → first_of (codes "module") rows ≡ None → (command : Command) → Means found command → ⊥
+no_complete_module found rows is none (Rules d) means = rules_complete (parts found (codes "rules") (codes "complete") means.0 rows means.1 is).0
+no_complete_module found rows is none (Check m d) means = check_complete (parts found (codes "check") (codes "complete") means.0 rows means.1 is).0
+no_complete_module found rows is none (Migrate d) means = migrate_complete (parts found (codes "migrate") (codes "complete") means.0 rows means.1 is).0
+no_complete_module found rows is none (Complete m d) means = missing means.0 rows (codes "module") m (parts found _ _ means.0 rows means.1 is).1 none means.2
+
+pub no_complete_document : (found : Option (Text × List Row)) (rows : List Row) → found ≡ Some (codes "complete", rows) → first_of (codes "document") rows ≡ None → (command : Command) → Means found command → ⊥
+no_complete_document found rows is none (Rules d) means = rules_complete (parts found (codes "rules") (codes "complete") means.0 rows means.1 is).0
+no_complete_document found rows is none (Check m d) means = check_complete (parts found (codes "check") (codes "complete") means.0 rows means.1 is).0
+no_complete_document found rows is none (Migrate d) means = migrate_complete (parts found (codes "migrate") (codes "complete") means.0 rows means.1 is).0
+no_complete_document found rows is none (Complete m d) means = missing means.0 rows (codes "document") d (parts found _ _ means.0 rows means.1 is).1 none means.3
 
 -- a word is there as a text where one of the words is that text
 word_at : (ws : List (Bor Text)) (t : Text) (k : ℕ) → k < length ws → ((d : Bor Text) → bytes_eq (get_or ws k d).now t ≡ true) → get_or (map (λ (w : Bor Text). w.now) ws) k t ≡ t

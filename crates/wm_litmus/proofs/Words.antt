@@ -31,6 +31,17 @@ migrate_is_read : read (codes "migrate" ∷ codes "-" ∷ []) ≡ Some (codes "m
 unfolding clap_on_literals read
 migrate_is_read = refl
 
+complete : List Text
+complete = codes "complete" ∷ codes "a.wasm" ∷ codes "-" ∷ []
+
+complete_is_taken : fault_of wmlab_app complete ≡ []
+unfolding clap_on_literals complete
+complete_is_taken = refl
+
+complete_is_read : read complete ≡ Some (codes "complete", Some (codes "a.wasm"), Some (codes "-"))
+unfolding clap_on_literals read complete
+complete_is_read = refl
+
 no_word_at_all : IsNoCommand []
 unfolding clap_on_literals
 no_word_at_all command is = let none = is.taken in cc

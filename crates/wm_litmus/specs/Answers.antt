@@ -3,10 +3,12 @@ use Rattle.std.specs.Prelude.{◌≡◌, ℕ, ◌*◌, List, Option, replicate}
 use Rattle.std.specs.Borrow.{Bor}
 use Rattle.std.specs.Io.KnownBytes.{Appends}
 use Rattle.wm_check.specs.declared.verdict.Breach.{Breach}
+use Rattle.wm_check.specs.declared.verdict.Breach.TheVariants.{Replay}
 use Rattle.wm_check.specs.declared.verdict.Certificate.{Certificate}
 use Rattle.wm_check.specs.declared.verdict.Refusal.{Refusal}
 use Rattle.wm_check.specs.declared.verdict.Verdict.TheVariants.{Allowed, Refused}
 use Rattle.wm_check.specs.declared.verdict.Verdict.TheVariants as verdict
+use Rattle.wm_check.specs.Completed.{HasNoRun, IsCompletedTo}
 use Rattle.wm_check.specs.Verdicts.{IsAllowed, IsBrokenBy, IsRefusedFor}
 use Rattle.wm_event.specs.declared.log.ThreadLog.{ThreadLog}
 use Rattle.wm_event.specs.declared.rule.Judgement.{Judgement}
@@ -20,8 +22,9 @@ use Rattle.wm_logfile.specs.declared.fault.DocFault.{DocFault}
 use Rattle.wm_logfile.specs.declared.fault.DocFault.TheVariants.{Misplaced}
 use Rattle.wm_logfile.specs.DocumentBytes.{IsDocumentOf, IsNoDocument}
 use Rattle.wm_logfile.specs.Migration.{IsMigrated, IsMisplaced}
+use Rattle.wm_replay.specs.declared.answer.ReplayAnswer.{ReplayAnswer}
 use Rattle.clap.specs.Words.{Text}
-use Rattle.wm_litmus.specs.declared.command.Command.TheVariants.{Rules, Check, Migrate}
+use Rattle.wm_litmus.specs.declared.command.Command.TheVariants.{Rules, Check, Migrate, Complete}
 use Rattle.wm_litmus.specs.Commands.{IsCommand, IsNoCommand}
 use Rattle.wm_litmus.specs.Input.{IsDocumentRead, IsReadOf}
 use Rattle.wm_litmus.specs.Output.{AppendsFront}
@@ -73,6 +76,17 @@ pub data AnswersMigrate (bytes : List ℕ) (status : ℕ) (text : List ℕ) : Ty
   refused : (fault : DocFault) → IsNoDocument bytes fault
       → status ≡ 2 → text ≡ ended (document_line_text fault) → AnswersMigrate bytes status text
 
+-- ---- the command `complete`
+
+-- the status and the text that answer a module and a document: the document's text in version 2 with its steps and ends
+pub data AnswersComplete (module_bytes document_bytes : List ℕ) (status : ℕ) (text : List ℕ) : Type 0 where
+  completed : (line : List ℕ) → IsCompletedTo module_bytes document_bytes line
+      → status ≡ 0 → text ≡ ended line → AnswersComplete module_bytes document_bytes status text
+  refused_for : (refusal : Refusal) → IsRefusedFor module_bytes document_bytes refusal
+      → status ≡ 2 → text ≡ ended (verdict_text (Refused refusal)) → AnswersComplete module_bytes document_bytes status text
+  without_run : (answer : ReplayAnswer) → HasNoRun module_bytes document_bytes answer
+      → status ≡ 1 → text ≡ ended (verdict_text (verdict.Broken (Replay answer))) → AnswersComplete module_bytes document_bytes status text
+
 -- ---- the program
 
 -- what the program is given: the words, and what the files and the input hold, where that is known
@@ -97,6 +111,10 @@ pub data IsAnswer (given : Given) (status : ℕ) (text : List ℕ) : Type 0 wher
   migrate_of : (document : Bor Text) (bytes : List ℕ) → IsCommand given.words (Migrate document)
       → IsDocumentRead given.files given.input 8388608 document.now bytes
       → AnswersMigrate bytes status text → IsAnswer given status text
+  complete_of : (file document : Bor Text) (module_bytes bytes : List ℕ) → IsCommand given.words (Complete file document)
+      → IsReadOf (given.files file.now) 1048576 module_bytes
+      → IsDocumentRead given.files given.input 8388608 document.now bytes
+      → AnswersComplete module_bytes bytes status text → IsAnswer given status text
 
 -- the writer gains what an answer of this status prints
 pub record WritesAnswer (given : Given) (old new : Option (List ℕ)) (status : ℕ) : Type 0 where

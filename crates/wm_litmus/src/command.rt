@@ -18,6 +18,8 @@ pub enum Command<'a> {
     Check { module: &'a str, document: &'a str },
     /// Prints a document in version 2.
     Migrate { document: &'a str },
+    /// Prints a document with the steps and the ends that its module gives it.
+    Complete { module: &'a str, document: &'a str },
 }
 
 /// Why the words are no command.
@@ -63,6 +65,9 @@ fn parser<'a>(alloc: Global) -> Result<Parser<'a>, AllocError>
         .arg(word(alloc, "module"))?
         .arg(word(alloc, "document"))?;
     let migrate = Parser::new(alloc, "migrate").arg(word(alloc, "document"))?;
+    let complete = Parser::new(alloc, "complete")
+        .arg(word(alloc, "module"))?
+        .arg(word(alloc, "document"))?;
     Parser::new(alloc, "wmlab")
         .disable_help_flag(true)
         .disable_version_flag(true)
@@ -71,7 +76,8 @@ fn parser<'a>(alloc: Global) -> Result<Parser<'a>, AllocError>
         .subcommand_required(true)
         .subcommand(rules)?
         .subcommand(check)?
-        .subcommand(migrate)
+        .subcommand(migrate)?
+        .subcommand(complete)
 }
 
 /// The command that was named, with its words.
@@ -93,6 +99,11 @@ fn named<'a>(matches: &ArgMatches<'a>) -> Option<Command<'a>>
         "migrate" => {
             let document = words.get_str("document")?;
             Some(Command::Migrate { document })
+        }
+        "complete" => {
+            let module = words.get_str("module")?;
+            let document = words.get_str("document")?;
+            Some(Command::Complete { module, document })
         }
         _ => None,
     }

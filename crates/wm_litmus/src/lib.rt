@@ -7,6 +7,7 @@
 //! | the module and the memory rules permit the run | `allowed threads=2 events=4` | 0 |
 //! | a thread's log isn't its run | `broken replay thread 0 event 0` | 1 |
 //! | the document in version 2 | `["wasm-litmus-log",2,[["a",[],["cut"],0,[]]],[]]` | 0 |
+//! | the same with its steps and ends | `["wasm-litmus-log",2,[["a",[],["done",[]],1,[]]],[]]` | 0 |
 //! | the bytes are no module | `refused decode Truncated at 42` | 2 |
 //! | the module isn't valid | `refused valid Alignment in function 0 instruction 2` | 2 |
 //! | the document is refused | `refused document BadShape at /2/0/1` | 2 |
@@ -22,6 +23,7 @@ pub const INITIAL_PAGES: usize = 16;
 mod answer;
 mod check;
 mod command;
+mod completion;
 mod files;
 mod input;
 mod line;

@@ -8,6 +8,7 @@ ghost use Rattle.wm_litmus.specs.declared.program.Failure.TheVariants.{OutOfMemo
 use crate::answer::Answer;
 use crate::check::check_answer;
 use crate::command::{Command, CommandFault, read_command};
+use crate::completion::completion_answer;
 use crate::files::{FileFault, Files};
 use crate::input::read_limited;
 use crate::migration::migrate_answer;
@@ -124,6 +125,15 @@ fn answer_of<'a, R: AllocGlobal + Threads + Sync, F: Files, I: Read>(
             let bytes = read_document_bytes(rt, files, input, document)?;
             Ok(migrate_answer(rt.alloc(), bytes.as_slice())?)
         }
+        Ok(Command::Complete { module, document }) => {
+            let module_bytes = read_file(files, module, MAX_MODULE_BYTES)?;
+            let document_bytes = read_document_bytes(rt, files, input, document)?;
+            Ok(completion_answer(
+                rt.alloc(),
+                module_bytes.as_slice(),
+                document_bytes.as_slice(),
+            )?)
+        }
         Err(CommandFault::Words) => Ok(Answer::refused_words(rt.alloc())?),
         Err(CommandFault::OutOfMemory) => Err(Failure::OutOfMemory),
     }
@@ -134,7 +144,8 @@ fn answer_of<'a, R: AllocGlobal + Threads + Sync, F: Files, I: Read>(
 /// `rules DOC` reads the document of that name among `files`, or `input` for `-`, and judges it over 16 pages of
 /// zeros; it ignores starts, ends and steps. `check MODULE DOC` reads the module of that name among `files`, and
 /// then the document, and checks its run against the module and the memory rules. `migrate DOC` reads a document
-/// and prints it in version 2.
+/// and prints it in version 2. `complete MODULE DOC` reads both as `check` does, and prints the document in version 2
+/// with the steps and the ends that the module gives its threads on the values that their events read.
 ///
 /// Each file is read to its limit and one byte more, in at most that many reads, and any failed read ends
 /// the program. The clauses speak of the words, by clap's model of the parse, of what `files` and `input` hold, where

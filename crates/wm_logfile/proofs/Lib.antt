@@ -15,3 +15,4 @@ pub mod Writings
 pub mod Plain
 pub mod Again
 pub mod Once
+pub mod Documents

@@ -42,13 +42,13 @@ impl fmt::Display for DocFault {
 
     fn fmt<W: fmt::Write>(&self, f: &mut fmt::Formatter<W>) -> fmt::Result {
         match self {
-            DocFault::NotJson => write!(f, "NotJson"),
+            DocFault::NotJson => f.write_str("NotJson"),
             DocFault::BadShape(path) => write!(f, "BadShape at {path}"),
-            DocFault::BadVersion => write!(f, "BadVersion"),
+            DocFault::BadVersion => f.write_str("BadVersion"),
             DocFault::NumberRange(path) => write!(f, "NumberRange at {path}"),
-            DocFault::TooLarge => write!(f, "TooLarge"),
-            DocFault::OutOfMemory => write!(f, "OutOfMemory"),
-            DocFault::Misplaced => write!(f, "Misplaced"),
+            DocFault::TooLarge => f.write_str("TooLarge"),
+            DocFault::OutOfMemory => f.write_str("OutOfMemory"),
+            DocFault::Misplaced => f.write_str("Misplaced"),
         }
     }
 }

@@ -80,7 +80,7 @@ impl fmt::Display for Path {
 
     fn fmt<W: fmt::Write>(&self, f: &mut fmt::Formatter<W>) -> fmt::Result {
         if self.len == 0 {
-            return write!(f, "/");
+            return f.write_str("/");
         }
         for index in self.indices() {
             write!(f, "/{index}")?;

@@ -23,7 +23,7 @@ pub record Whole (m : Module) (k : ℕ) (t : ThreadLog) (start : Config) : Type 
   pub made : ran.events ≡ t.events
   pub ended : end_of ran.config ≡ t.end
 
-whole_of : (m : Module) (k : ℕ) (t : ThreadLog) (start : Config) → start_of m t ≡ Ok start → IsRun m k t → Whole m k t start
+pub whole_of : (m : Module) (k : ℕ) (t : ThreadLog) (start : Config) → start_of m t ≡ Ok start → IsRun m k t → Whole m k t start
 whole_of m k t start is run =
     let from : run_from m k (Ok start) (reads_of t.events) t.steps ≡ Some record { events = t.events; end = t.end } =
     subst (λ r. run_from m k r (reads_of t.events) t.steps ≡ Some record { events = t.events; end = t.end }) is run in

@@ -4,3 +4,5 @@ pub mod Following
 pub mod Needs
 pub mod Comparing
 pub mod Logs
+pub mod Longest
+pub mod Completions

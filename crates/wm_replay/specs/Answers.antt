@@ -1,5 +1,5 @@
 -- What the replay answers.
-use Rattle.std.specs.Prelude.{◌≡◌, ◌≢◌, ℕ, ◌+◌, ◌<◌, ◌⊎◌, List, Option, Some, None, Err, slice_get, nat_lt, if◌then◌else◌}
+use Rattle.std.specs.Prelude.{◌≡◌, ◌≢◌, ℕ, ◌+◌, ◌<◌, ◌⊎◌, List, Option, Some, None, Err, slice_get, nat_lt, if◌then◌else◌, ⊤}
 use Rattle.wm_ast.specs.declared.module.Module.{Module}
 use Rattle.wm_event.specs.declared.event.Event.{Event}
 use Rattle.wm_event.specs.declared.log.ThreadLog.{ThreadLog}
@@ -48,6 +48,12 @@ abbrev pub Steps : Module → Config → Config → List Event → ℕ → Progr
 Steps m old new events n (progress.Made now) = ((now ≡ n) × (step m 0 old ≡ Went None new)) ⊎ ((now ≡ n + 1) × Accesses m old new events n)
 Steps m old new events n progress.Other = AccessesOther m old events n
 Steps m old new events n progress.Rests = step m 0 old ≡ NoStep
+
+-- a step that isn't made changes nothing
+abbrev pub Stays : Config → Config → Progress → Type 0
+Stays old new (progress.Made now) = ⊤
+Stays old new progress.Other = new ≡ old
+Stays old new progress.Rests = new ≡ old
 
 -- ---- a thread
 

@@ -1,2 +1,4 @@
 pub mod Replay
 pub mod Answers
+pub mod Complete
+pub mod Completing

@@ -4,7 +4,7 @@ ghost use Rattle.wm_event.specs.Op.{kind_finds};
 ghost use Rattle.wm_event.specs.Reply.{ReadAnswers};
 ghost use Rattle.wm_machine.specs.Run.{end_of as config_end};
 ghost use Rattle.wm_machine.specs.State.{config_of, need_of, value_or_zero};
-ghost use Rattle.wm_replay.specs.Answers.{IsDifference, ComparesThread, HasPlaces, IsMade, IsNotMade, Replays, Steps, end_place};
+ghost use Rattle.wm_replay.specs.Answers.{IsDifference, ComparesThread, HasPlaces, IsMade, IsNotMade, Replays, Stays, Steps, end_place};
 ghost use Rattle.wm_replay.specs.Replay.{start_of};
 
 use crate::answer::{Place, ReplayAnswer};
@@ -16,7 +16,7 @@ use wm_valid::ValidModule;
 
 /// What the next step of a thread is beside its log.
 #[derive(Clone, Copy)]
-enum Progress {
+pub(crate) enum Progress {
     /// It was made: a step without an access, or the access that is the log's next event. So many events are made now.
     Made(usize),
     /// An access that isn't the log's next event, or for which there is none. It wasn't made.
@@ -56,6 +56,7 @@ fn access_on(
 ) -> Result<Progress, AllocError>
     requires { (read : ℕ) → need_of read thread.old ≡ Need.Access op.now }
     ensures steps { IfOk result (Steps thread.old.module (config_of thread.old) (config_of thread.new) stated.now made) }
+    ensures stays { IfOk result (Stays (config_of thread.old) (config_of thread.new)) }
     ensures same { thread.new.module ≡ thread.old.module }
 {
     if made >= stated.len() {
@@ -72,8 +73,13 @@ fn access_on(
 }
 
 /// Makes the next step of a thread, where an access has to be the log's next event, behind so many that are made.
-fn step_on(thread: &mut Thread, stated: &[Event], made: usize) -> Result<Progress, AllocError>
+pub(crate) fn step_on(
+    thread: &mut Thread,
+    stated: &[Event],
+    made: usize,
+) -> Result<Progress, AllocError>
     ensures steps { IfOk result (Steps thread.old.module (config_of thread.old) (config_of thread.new) stated.now made) }
+    ensures stays { IfOk result (Stays (config_of thread.old) (config_of thread.new)) }
     ensures same { thread.new.module ≡ thread.old.module }
 {
     match thread.next() {
@@ -87,7 +93,7 @@ fn step_on(thread: &mut Thread, stated: &[Event], made: usize) -> Result<Progres
 }
 
 /// The end of a thread that makes no further step here.
-fn end_of(thread: &Thread) -> End
+pub(crate) fn end_of(thread: &Thread) -> End
     ensures { result ≡ config_end (config_of thread.now) }
 {
     match thread.next() {

@@ -1,8 +1,11 @@
-//! A log against its module: each thread is run again on the values that it read.
+//! A log against its module: each thread is run again on the values that it read, to compare the log with its runs or to
+//! complete it from them.
 #![tactic(auto)]
 
 mod answer;
 mod compare;
+mod completing;
 
 pub use answer::{Place, ReplayAnswer};
 pub use compare::replay;
+pub use completing::{Completion, MAX_STEPS, complete};

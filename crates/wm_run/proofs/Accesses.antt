@@ -12,7 +12,7 @@ use Rattle.wm_event.specs.declared.op.OpKind.{OpKind}
 use Rattle.wm_event.specs.declared.op.OpKind.TheVariants.{Read, Write, Rmw, CmpXchg}
 use Rattle.wm_event.specs.Event.{kind_reads}
 use Rattle.wm_event.specs.Op.{event_made, kind_finds, made_kind, made_read}
-use Rattle.wm_machine.specs.State.{ReadAnswers, value_or_zero}
+use Rattle.wm_machine.specs.State.{value_or_zero}
 use Rattle.wm_memory.specs.declared.item.Item.{Item}
 use Rattle.wm_memory.specs.declared.item.Item.TheVariants.{Access, Drain}
 use Rattle.wm_memory.specs.Memory.{drains_first, ready}
@@ -61,16 +61,6 @@ again key op (CmpXchg expected new) r = refl
 -- the value that the event reads makes it again
 pub made_again : (key : EventKey) (op : OpFields) (r : ℕ) → event_made key op (event_made key op r).read ≡ event_made key op r
 made_again key op r = again key op op.kind r
-
-answers_as : (b : Bool) (w : AccessWidth) (v : ℕ) → Fits w v → ReadAnswers b w (if b then Some v else None)
-answers_as true w v h = h
-answers_as false w v h = tt
-
--- the reply has a value exactly where the access reads, and it fits
-pub reply_answers : (initial : List ℕ) (s : List Step) (t : ℕ) (op : OpFields) → All (λ b. b < 256) initial → ReadAnswers (kind_finds op.kind) op.width (reply_after initial s t op).read
-reply_answers initial s t op bytes =
-    let e = made_after initial s t op in
-    subst (λ b. ReadAnswers (kind_finds op.kind) op.width (if b then Some e.read else None)) (sym (finds op.kind _)) (answers_as (kind_finds op.kind) op.width e.read (fits_after initial s t op bytes))
 
 no_value : (kind : OpKind) (r : ℕ) → kind_finds kind ≡ false → made_read kind r ≡ 0
 no_value Read r e = absurd (cc e)

@@ -1,6 +1,6 @@
 use Rattle.std.proofs.Common.{◌≡◌, ◌∙◌, ap, codes, Some}
 use Rattle.clap.specs.Words.{Text, found_of, rows_of, subcommand_rows_of}
-use Rattle.wm_litmus.proofs.Entered.{entered_is, no_document, no_migrate, no_module, no_rules, no_value, value_is}
+use Rattle.wm_litmus.proofs.Entered.{entered_is, no_complete_document, no_complete_module, no_document, no_migrate, no_module, no_rules, no_value, value_is}
 use Rattle.wm_litmus.proofs.command.named.Goals as goal
 
 pub returns-in_err-document-in-rules-clause-none : goal.returns-in_err-document-in-rules-clause-none
@@ -62,3 +62,31 @@ returns-in_ok-document-in-migrate-clause-some c =
     entered_is c.args.matches.now c.subcommand.result c.in_ok-name.name c.in_ok-name.words c.in_ok-name.was c.subcommand.ensures.name c.subcommand.ensures.rows
     ∙ ap (λ (t : Text). Some (t, rows_of f)) c.in-migrate.is in
     (rows_of f, is, value_is f (codes "document") c.get_str-in-migrate.result c.in_ok-document-in-migrate.document c.in_ok-document-in-migrate.was c.get_str-in-migrate.ensures)
+
+pub returns-in_err-module-in-complete-clause-none : goal.returns-in_err-module-in-complete-clause-none
+returns-in_err-module-in-complete-clause-none c = λ _.
+    let f = found_of c.in_ok-name.words.now in
+    let is : subcommand_rows_of c.args.matches.now ≡ Some (codes "complete", rows_of f) =
+    entered_is c.args.matches.now c.subcommand.result c.in_ok-name.name c.in_ok-name.words c.in_ok-name.was c.subcommand.ensures.name c.subcommand.ensures.rows
+    ∙ ap (λ (t : Text). Some (t, rows_of f)) c.in-complete.is in
+    no_complete_module (subcommand_rows_of c.args.matches.now) (rows_of f) is (no_value f (codes "module") c.get_str-in-complete.result c.in_err-module-in-complete.was c.get_str-in-complete.ensures)
+
+pub returns-in_err-document-in-complete-clause-none : goal.returns-in_err-document-in-complete-clause-none
+returns-in_err-document-in-complete-clause-none c = λ _.
+    let f = found_of c.in_ok-name.words.now in
+    let is : subcommand_rows_of c.args.matches.now ≡ Some (codes "complete", rows_of f) =
+    entered_is c.args.matches.now c.subcommand.result c.in_ok-name.name c.in_ok-name.words c.in_ok-name.was c.subcommand.ensures.name c.subcommand.ensures.rows
+    ∙ ap (λ (t : Text). Some (t, rows_of f)) c.in-complete.is in
+    no_complete_document (subcommand_rows_of c.args.matches.now) (rows_of f) is (no_value f (codes "document") c.get_str-in-complete-2.result c.in_err-document-in-complete.was c.get_str-in-complete-2.ensures)
+
+pub returns-in_ok-document-in-complete-clause-some : goal.returns-in_ok-document-in-complete-clause-some
+returns-in_ok-document-in-complete-clause-some c =
+    let f = found_of c.in_ok-name.words.now in
+    let is : subcommand_rows_of c.args.matches.now ≡ Some (codes "complete", rows_of f) =
+    entered_is c.args.matches.now c.subcommand.result c.in_ok-name.name c.in_ok-name.words c.in_ok-name.was c.subcommand.ensures.name c.subcommand.ensures.rows
+    ∙ ap (λ (t : Text). Some (t, rows_of f)) c.in-complete.is in (
+      rows_of f,
+      is,
+      value_is f (codes "module") c.get_str-in-complete.result c.in_ok-module-in-complete.module c.in_ok-module-in-complete.was c.get_str-in-complete.ensures,
+      value_is f (codes "document") c.get_str-in-complete-2.result c.in_ok-document-in-complete.document c.in_ok-document-in-complete.was c.get_str-in-complete-2.ensures,
+    )

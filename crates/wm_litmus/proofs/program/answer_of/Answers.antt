@@ -1,7 +1,7 @@
 use Rattle.std.proofs.Common.{◌≡◌, ℕ, List, Option, subst, string_bytes}
 use Rattle.wm_litmus.specs.Input.{IsReadOf}
-use Rattle.wm_litmus.specs.Answers.{AnswersCheck, AnswersMigrate, AnswersRules}
-use Rattle.wm_litmus.specs.Answers.IsAnswer.{check_of, migrate_of, rules_of}
+use Rattle.wm_litmus.specs.Answers.{AnswersCheck, AnswersComplete, AnswersMigrate, AnswersRules}
+use Rattle.wm_litmus.specs.Answers.IsAnswer.{check_of, complete_of, migrate_of, rules_of}
 use Rattle.wm_litmus.proofs.program.answer_of.Goals as goal
 
 pub returns-in_ok-rules_answer-in-Ok-Rules-clause-answers : goal.returns-in_ok-rules_answer-in-Ok-Rules-clause-answers
@@ -38,3 +38,22 @@ returns-in_ok-migrate_answer-in-Ok-Migrate-clause-answers g c =
     let slice : c.as_slice-in-Ok-Migrate.result.now ≡ read.bytes.items = c.as_slice-in-Ok-Migrate.ensures.value in
     migrate_of c.in-Ok-Migrate.document read.bytes.items (rw c.in-Ok-Migrate.field-0-is at c.in-Ok-Migrate.ensures.read) read.ensures.known
     (subst (λ bytes. AnswersMigrate bytes answer.status (string_bytes answer.text)) slice c.in_ok-migrate_answer-in-Ok-Migrate.ensures)
+
+pub returns-in_ok-completion_answer-in-Ok-Complete-clause-answers :
+    goal.returns-in_ok-completion_answer-in-Ok-Complete-clause-answers
+returns-in_ok-completion_answer-in-Ok-Complete-clause-answers g c =
+    let answer = c.in_ok-completion_answer-in-Ok-Complete.field-0 in
+    let read = c.in_ok-document_bytes-in-Ok-Complete in
+    let modules = c.in_ok-module_bytes-in-Ok-Complete.module_bytes in
+    let of_module : c.as_slice-in-Ok-Complete.result.now ≡ modules.items = c.as_slice-in-Ok-Complete.ensures.value in
+    let of_document : c.as_slice-in-Ok-Complete-2.result.now ≡ read.document_bytes.items = c.as_slice-in-Ok-Complete-2.ensures.value in
+    let known = read.ensures.known in
+    complete_of c.in-Ok-Complete.module c.in-Ok-Complete.document modules.items read.document_bytes.items (rw c.in-Ok-Complete.field-0-is at c.in-Ok-Complete.ensures.read)
+    c.in_ok-module_bytes-in-Ok-Complete.ensures.known
+    (record {
+      of_input = known.of_input;
+      of_file = λ other. subst (λ (all : Option (List ℕ)). IsReadOf all 8388608 read.document_bytes.items) (c.read_file.ensures.same c.in-Ok-Complete.document.now) (known.of_file other);
+    })
+    (subst (λ bytes. AnswersComplete modules.items bytes answer.status (string_bytes answer.text)) of_document
+    (subst (λ bytes. AnswersComplete bytes c.as_slice-in-Ok-Complete-2.result.now answer.status (string_bytes answer.text)) of_module
+    c.in_ok-completion_answer-in-Ok-Complete.ensures))

@@ -1,7 +1,6 @@
 use Rattle.std.proofs.Common.{◌≡◌, ℕ, ◌+◌, ◌<◌, ◌≤◌, Some, length, refl, sym, ap, subst, ◌∙◌, arith}
 use Rattle.wm_access.specs.AccessWidth.{bytes_of}
-use Rattle.wm_event.specs.Op.{kind_finds}
-use Rattle.wm_machine.specs.State.{Answers, ReadAnswers, config_of, value_or_zero}
+use Rattle.wm_machine.specs.State.{Answers, config_of, value_or_zero}
 use Rattle.wm_machine.specs.Step.{step, went}
 use Rattle.wm_ast.specs.Module.{memory_size}
 use Rattle.wm_memory.specs.Memory.{drains_first, ready}
@@ -11,20 +10,13 @@ use Rattle.wm_recorder.specs.Transcript.{access_items}
 use Rattle.wm_replay.proofs.Needs.{access_of_need, made_access}
 use Rattle.wm_run.specs.Script.{access, full, value_read}
 use Rattle.wm_run.specs.Runner.{setting_of}
-use Rattle.wm_run.proofs.Accesses.{reply_answers, reply_value}
+use Rattle.wm_run.proofs.Accesses.{reply_value}
 use Rattle.wm_run.proofs.InBounds.{in_bounds}
 use Rattle.wm_run.proofs.Recordings.{is_full, not_full}
 use Rattle.wm_run.proofs.runner.access.Goals as goal
 
 pub advance-requires : goal.advance-requires
-advance-requires c =
-    let r = c.args.recorder.now in
-    let reply = c.in-Ok.reply in
-    let op = c.args.op in
-    let answers : ReadAnswers (kind_finds op.kind) op.width reply.read =
-    subst (λ given. ReadAnswers (kind_finds op.kind) op.width given.read) (sym c.in-Ok.ensures.ok.reply)
-    (reply_answers (initial_of r) (ready (steps_of r) c.args.number op) c.args.number op c.recorded_log_is_valid.ensures.recording.bytes) in
-    subst (λ need. Answers need (Some reply)) (c.requires.needed 0) answers
+advance-requires c = subst (λ need. Answers need (Some c.in-Ok.reply)) (c.requires.needed 0) c.in-Ok.ensures.answers
 
 pub returns-in-Ok-advance-clause-moves : goal.returns-in-Ok-advance-clause-moves
 returns-in-Ok-advance-clause-moves c made limit below =

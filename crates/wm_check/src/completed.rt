@@ -1,0 +1,82 @@
+//! The completion of a document against a module.
+ghost use Rattle.std.specs.Prelude.{◌≡◌, IfOk, string_bytes};
+ghost use Rattle.wm_check.specs.Completed.{CompletesOver, CompletesLog, CompletesDocument};
+
+use crate::checker::{Unread, read_log, read_module};
+use crate::verdict::Refusal;
+use std::alloc::{AllocError, Global};
+use wm_event::{Candidate, Log, ShapeFault, Witness};
+use wm_logfile::write_document;
+use wm_replay::{Completion, ReplayAnswer, complete};
+use wm_valid::ValidModule;
+
+/// A document with the steps and the ends of its threads' runs, or why there is none.
+#[derive(Drop)]
+pub enum CompletedDocument {
+    /// Its text, in version 2.
+    Text(String),
+    /// The module or the document is refused, as by [`check`](crate::check).
+    Refused(Refusal),
+    /// The first thread whose events no number of steps makes. The answer isn't `Same`.
+    NoRun(ReplayAnswer),
+}
+
+/// The completion of a candidate.
+fn complete_candidate(
+    alloc: Global,
+    module: &ValidModule,
+    candidate: &Candidate,
+) -> Result<CompletedDocument, AllocError>
+    ensures { IfOk result (CompletesLog «module».now candidate.now) }
+{
+    match complete(alloc, module, candidate.log())? {
+        Completion::NoRun(answer) => Ok(CompletedDocument::NoRun(answer)),
+        Completion::Completed(log) => {
+            let text = write_document(alloc, &log, candidate.witness())?;
+            Ok(CompletedDocument::Text(text))
+        }
+    }
+}
+
+/// The completion of a log with a witness over the initial memory of a module.
+fn complete_over(
+    alloc: Global,
+    module: &ValidModule,
+    log: Log,
+    witness: Witness,
+) -> Result<CompletedDocument, AllocError>
+    ensures { IfOk result (CompletesOver «module».now log witness) }
+{
+    match Candidate::new(alloc, log, witness, module.initial()) {
+        Ok(candidate) => complete_candidate(alloc, module, &candidate),
+        Err(ShapeFault::OutOfMemory) => Err(AllocError),
+        Err(fault) => Ok(CompletedDocument::Refused(Refusal::Shape(fault))),
+    }
+}
+
+/// Completes the bytes of a log against the bytes of a module: each thread gets the steps and the end of the longest of
+/// its runs that make just its events, of at most 1,000,000 steps, as [`complete`] has it; the steps and the ends that
+/// the document states play no part, and all else of it stays as it is. Its parts are refused in the order decode,
+/// valid, document, shape, as by [`check`](crate::check). The memory rules play no part.
+///
+/// # Errors
+///
+/// Only where memory was refused.
+pub fn complete_document(
+    alloc: Global,
+    module_bytes: &[u8],
+    document_bytes: &[u8],
+) -> Result<CompletedDocument, AllocError>
+    ensures { IfOk result (CompletesDocument module_bytes.now document_bytes.now) }
+{
+    let module = match read_module(alloc, module_bytes) {
+        Ok(module) => module,
+        Err(Unread::Refused(refusal)) => return Ok(CompletedDocument::Refused(refusal)),
+        Err(Unread::OutOfMemory) => return Err(AllocError),
+    };
+    match read_log(alloc, document_bytes) {
+        Ok((log, witness)) => complete_over(alloc, &module, log, witness),
+        Err(Unread::Refused(refusal)) => Ok(CompletedDocument::Refused(refusal)),
+        Err(Unread::OutOfMemory) => Err(AllocError),
+    }
+}

@@ -1,0 +1,50 @@
+-- Logs with the steps and the ends of their runs.
+use Rattle.std.specs.Prelude.{◌≡◌, ℕ, ◌<◌, ◌≤◌, List, length, Some, slice_get}
+use Rattle.wm_ast.specs.declared.module.Module.{Module}
+use Rattle.wm_event.specs.declared.log.End.{End}
+use Rattle.wm_event.specs.declared.log.ThreadLog.{ThreadLog}
+use Rattle.wm_replay.specs.declared.answer.ReplayAnswer.{ReplayAnswer}
+use Rattle.wm_replay.specs.declared.answer.ReplayAnswer.TheVariants.{Same, StartRefused, Differs}
+use Rattle.wm_replay.specs.declared.completing.Completion.{Completion}
+use Rattle.wm_replay.specs.declared.completing.Completion.TheVariants.{Completed, NoRun}
+use Rattle.wm_replay.specs.Answers.{IsOther}
+use Rattle.wm_replay.specs.Replay.{AreRuns, IsRun}
+
+-- the log of a thread, with other steps and another end
+abbrev pub ending : ThreadLog → ℕ → End → ThreadLog
+ending t n end = record { start = t.start; end = end; steps = n; events = t.events }
+
+-- n steps of thread k make just its log's events, on the values that they read
+abbrev pub MakesEvents : Module → ℕ → ThreadLog → ℕ → Type 0
+MakesEvents m k t n = (end : End) × IsRun m k (ending t n end)
+
+-- the log of thread k with the steps and the end of the longest run of at most 1,000,000 steps that makes its events
+pub record IsLongestRun (m : Module) (k : ℕ) (t completed : ThreadLog) : Type 0 where
+  pub start : completed.start ≡ t.start
+  pub events : completed.events ≡ t.events
+  pub is_run : IsRun m k completed
+  pub within : completed.steps ≤ 1000000
+  pub longest : (n : ℕ) → completed.steps < n → n ≤ 1000000 → ¬ MakesEvents m k t n
+
+-- each thread of the log is completed
+pub record IsCompletion (m : Module) (log completed : List ThreadLog) : Type 0 where
+  pub count : length completed ≡ length log
+  pub threads : (k : ℕ) (t c : ThreadLog) → slice_get log k ≡ Some t → slice_get completed k ≡ Some c → IsLongestRun m k t c
+  pub are_runs : AreRuns m completed
+
+-- thread k is the first whose events no number of steps makes; a replay of 1,000,000 steps says this of it
+pub record IsFirstWithoutRun (m : Module) (log : List ThreadLog) (k : ℕ) (answer : ReplayAnswer) : Type 0 where
+  pub thread : ThreadLog
+  pub is_thread : slice_get log k ≡ Some thread
+  pub others : (i : ℕ) (t : ThreadLog) → i < k → slice_get log i ≡ Some t → (n : ℕ) × (n ≤ 1000000) × MakesEvents m i t n
+  pub none : (n : ℕ) → n ≤ 1000000 → ¬ MakesEvents m k thread n
+  pub other : IsOther m k (ending thread 1000000 thread.end) answer
+
+abbrev pub IsWithoutRun : Module → List ThreadLog → ReplayAnswer → Type 0
+IsWithoutRun m log Same = ⊥
+IsWithoutRun m log (StartRefused k fault) = IsFirstWithoutRun m log k (StartRefused k fault)
+IsWithoutRun m log (Differs k place) = IsFirstWithoutRun m log k (Differs k place)
+
+abbrev pub CompletesLog : Module → List ThreadLog → Completion → Type 0
+CompletesLog m log (Completed completed) = IsCompletion m log completed
+CompletesLog m log (NoRun answer) = IsWithoutRun m log answer

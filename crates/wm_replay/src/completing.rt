@@ -1,0 +1,136 @@
+//! Logs with the steps and the ends of their runs.
+ghost use Rattle.std.specs.Prelude.{◌≡◌, ℕ, Ok, IfOk};
+ghost use Rattle.wm_machine.specs.State.{config_of};
+ghost use Rattle.wm_replay.specs.Answers.{HasPlaces};
+ghost use Rattle.wm_replay.specs.Complete.{CompletesLog, ending};
+ghost use Rattle.wm_replay.specs.Completing.{CompletesThread, HasGone};
+ghost use Rattle.wm_replay.specs.Replay.{start_of};
+
+use crate::answer::{Place, ReplayAnswer};
+use crate::compare::{Progress, end_of, step_on};
+use std::alloc::{AllocError, Global};
+use wm_event::{End, Event, Log, Start, ThreadLog};
+use wm_list::{Growing, List, Text};
+use wm_machine::{StartFault, Thread};
+use wm_valid::ValidModule;
+
+/// How many steps a thread is run for at most.
+pub const MAX_STEPS: u32 = 1_000_000;
+
+/// A log with the steps and the ends of its runs, or why there is none.
+#[derive(Drop)]
+pub enum Completion {
+    /// The log, with each thread's steps and end from its longest run of at most [`MAX_STEPS`] steps.
+    Completed(Log),
+    /// The first thread whose events no number of steps up to [`MAX_STEPS`] makes, and why: what a replay of
+    /// [`MAX_STEPS`] steps says of it. The answer isn't `Same`.
+    NoRun(ReplayAnswer),
+}
+
+/// How far a thread has gone.
+#[derive(Clone, Copy)]
+struct Gone {
+    steps: u32,
+    /// How many of its log's events it made.
+    made: usize,
+}
+
+/// Runs a thread on the values that its log read, up to its end, an access that isn't the log's next event, or
+/// [`MAX_STEPS`].
+fn go(thread: &mut Thread, stated: &ThreadLog, number: usize) -> Result<Gone, AllocError>
+    requires start { start_of thread.old.module stated.now ≡ Ok (config_of thread.old) }
+    requires places { HasPlaces number stated.now.events }
+    ensures gone { IfOk result (HasGone thread.old.module number stated.now (config_of thread.new)) }
+{
+    let events = stated.events.as_slice();
+    let mut made = 0usize;
+    for steps in 0..MAX_STEPS {
+        match step_on(thread, events, made) {
+            Err(refused) => return Err(refused),
+            Ok(Progress::Made(now)) => made = now,
+            Ok(Progress::Other) => return Ok(Gone { steps, made }),
+            Ok(Progress::Rests) => return Ok(Gone { steps, made }),
+        }
+    }
+    Ok(Gone {
+        steps: MAX_STEPS,
+        made,
+    })
+}
+
+/// A copy of items.
+fn copied<T: Copy>(alloc: Global, items: &[T]) -> Result<List<T>, AllocError>
+    ensures { IfOk result (λ list. list ≡ items.now) }
+{
+    let mut copy = Growing::with_capacity(alloc, items.len())?;
+    copy.extend_within(items);
+    Ok(copy.into_list())
+}
+
+/// The thread's log with these steps and this end.
+fn with_end(
+    alloc: Global,
+    stated: &ThreadLog,
+    steps: u32,
+    end: End,
+) -> Result<ThreadLog, AllocError>
+    ensures { IfOk result (λ thread. thread ≡ ending stated.now steps end) }
+{
+    let name = Text::from_string(String::from_str(alloc, stated.start.name.as_str())?);
+    let args = copied(alloc, stated.start.args.as_slice())?;
+    let events = copied(alloc, stated.events.as_slice())?;
+    Ok(ThreadLog {
+        start: Start { name, args },
+        end,
+        steps,
+        events,
+    })
+}
+
+/// The log of a thread with the steps and the end of its longest run, or why there is none.
+fn complete_thread(
+    alloc: Global,
+    module: &ValidModule,
+    stated: &ThreadLog,
+    number: usize,
+) -> Result<Result<ThreadLog, ReplayAnswer>, AllocError>
+    requires { HasPlaces number stated.now.events }
+    ensures { IfOk result (CompletesThread «module».now number stated.now) }
+{
+    let name = stated.start.name.as_str();
+    let args = stated.start.args.as_slice();
+    let mut thread = match Thread::start(alloc, module, name, args) {
+        Ok(thread) => thread,
+        Err(StartFault::OutOfMemory) => return Err(AllocError),
+        Err(fault) => return Ok(Err(ReplayAnswer::StartRefused(number, fault))),
+    };
+    let gone = go(&mut thread, stated, number)?;
+    if gone.made < stated.events.len() {
+        let place = Place::Event(gone.made);
+        return Ok(Err(ReplayAnswer::Differs(number, place)));
+    }
+    let completed = with_end(alloc, stated, gone.steps, end_of(&thread))?;
+    Ok(Ok(completed))
+}
+
+/// Completes a log: each thread gets the steps and the end of the longest of its runs that make just its events, on the
+/// values that they read, of at most [`MAX_STEPS`] steps. So it goes on until its events are used up and it has ended or
+/// stands before an access that the log doesn't have, where it is cut. The steps and the ends that the log has play no
+/// part; starts and events stay as they are.
+///
+/// # Errors
+///
+/// Only where memory was refused.
+pub fn complete(alloc: Global, module: &ValidModule, log: &Log) -> Result<Completion, AllocError>
+    ensures { IfOk result (CompletesLog «module».now log.now) }
+{
+    let mut completed = List::new(alloc);
+    for (number, stated) in log.threads().iter().enumerate() {
+        match complete_thread(alloc, module, stated, number) {
+            Err(refused) => return Err(refused),
+            Ok(Err(answer)) => return Ok(Completion::NoRun(answer)),
+            Ok(Ok(thread)) => completed.push(thread)?,
+        }
+    }
+    Ok(Completion::Completed(Log::new(completed)))
+}
