@@ -9,6 +9,7 @@ mod modules;
 mod numeric_instructions;
 mod other_instructions;
 mod recordings;
+mod rounds;
 mod runs;
 mod threads;
 

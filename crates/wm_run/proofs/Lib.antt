@@ -12,3 +12,5 @@ pub mod Launching
 pub mod Logging
 pub mod Runs
 pub mod Driving
+pub mod Together
+pub mod Rounds

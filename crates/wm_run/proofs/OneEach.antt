@@ -1,7 +1,7 @@
 -- A thread with one end has no other.
 use Rattle.std.proofs.Common.{◌≡◌, ℕ, zero, suc, ◌+◌, ◌<◌, ◌≤◌, Bool, true, false, cond, List, [], ◌∷◌, length, get_or, Some, slice_get, refl, sym, ap, subst, ◌∙◌, inl, inr, arith}
 use Rattle.std.specs.Prelude.{count_by, ◌==◌}
-use Rattle.std.proofs.lemmas.Bool.{cases_Bool, eq-eqb}
+use Rattle.std.proofs.lemmas.Bool.{cases_Bool, eq-eqb, eqb-true}
 use Rattle.std.proofs.Math.Nat.{eq-or-lt_of_le}
 use Rattle.std.proofs.lemmas.List.Sums.{sum_by-cons}
 use Rattle.std.proofs.lemmas.Option.{get_or_from_slice_get, slice_get-get_or, slice_get_within}
@@ -12,7 +12,9 @@ counted : {X : Type 0} (p : X → Bool) (x : X) (xs : List X) → p x ≡ true �
 counted p x xs is = sum_by-cons (λ y. cond (p y) 1 0) x xs ∙ ap (λ (b : Bool). cond b 1 0 + count_by p xs) is
 
 uncounted : {X : Type 0} (p : X → Bool) (x : X) (xs : List X) → p x ≡ false → count_by p (x ∷ xs) ≡ count_by p xs
-uncounted p x xs is = sum_by-cons (λ y. cond (p y) 1 0) x xs ∙ ap (λ (b : Bool). cond b 1 0 + count_by p xs) is
+uncounted p x xs is =
+    let more : count_by p (x ∷ xs) ≡ 0 + count_by p xs = sum_by-cons (λ y. cond (p y) 1 0) x xs ∙ ap (λ (b : Bool). cond b 1 0 + count_by p xs) is in
+    omega (arith, more)
 
 first_is : {X : Type 0} (y : X) (ys : List X) (x : X) → slice_get (y ∷ ys) 0 ≡ Some x → y ≡ x
 first_is y ys x is = get_or_from_slice_get (y ∷ ys) 0 x x is
@@ -46,11 +48,11 @@ only_one p (z ∷ zs) (suc i) zero x y one is_x is_y passes_x passes_y =
     absurd (omega (arith, n, more, one))
 only_one p (z ∷ zs) (suc i) (suc j) x y one is_x is_y passes_x passes_y =
     elim (cases_Bool (p z)) [
-      | inl yes ↦
-          let n = counted p z zs yes in
+      | inl is ↦
+          let n = counted p z zs is in
           let more = some_counted p zs i x (among_others z zs i x is_x) passes_x in
           absurd (omega (arith, n, more, one))
-      | inr no ↦ only_one p zs i j x y (sym (uncounted p z zs no) ∙ one) (among_others z zs i x is_x) (among_others z zs j y is_y) passes_x passes_y
+      | inr is_not ↦ only_one p zs i j x y (sym (uncounted p z zs is_not) ∙ one) (among_others z zs i x is_x) (among_others z zs j y is_y) passes_x passes_y
     ]
 
 pub only_end : (ends : List ThreadEnd) (t : ℕ) (x y : ThreadEnd) → ends_of ends t ≡ 1 → IsEndIn ends t x → IsEndIn ends t y → x ≡ y
@@ -69,3 +71,27 @@ one_more_end P ends n e one is holds below t x lt in_ends =
           subst (λ k. P k x) (sym same) (subst (P n) (only_end ends n e x one is here) holds)
       | inr less ↦ below t x less in_ends
     ]
+
+-- ---- a thread that has one has it
+
+find : {X : Type 0} (p : X → Bool) (xs : List X) → 0 < count_by p xs → (x : X) × ((k : ℕ) × (slice_get xs k ≡ Some x)) × (p x ≡ true)
+find p [] some = absurd (omega (arith, some))
+find {X = X} p (x ∷ xs) some =
+    elim (cases_Bool (p x)) [
+      | inl is ↦ (x, (0, slice_get-get_or (x ∷ xs) 0 x (omega arith)), is)
+      | inr is_not ↦
+          let n = uncounted p x xs is_not in
+          let more : 0 < count_by p xs = omega (arith, n, some) in
+          let rest = find p xs more in
+          (rest.0, (suc rest.1.0, behind x xs rest.1.0 rest.0 rest.1.1), rest.2)
+    ]
+  where
+    behind : (x : X) (xs : List X) (k : ℕ) (y : X) → slice_get xs k ≡ Some y → slice_get (x ∷ xs) (suc k) ≡ Some y
+    behind x xs k y is =
+        let lt : k < length xs = slice_get_within xs k y is in
+        slice_get-get_or (x ∷ xs) (suc k) y (omega (arith, lt)) ∙ ap Some (get_or_from_slice_get xs k y y is)
+
+pub some_end : (ends : List ThreadEnd) (t : ℕ) → ends_of ends t ≡ 1 → (e : ThreadEnd) × IsEndIn ends t e
+some_end ends t one =
+    let found = find (λ e. e.thread == t) ends (omega (arith, one)) in
+    (found.0, (found.1, eqb-true found.0.thread t found.2))

@@ -14,3 +14,4 @@ pub mod Worker
 pub mod Drains
 pub mod Ends
 pub mod Gathered
+pub mod Rounds

@@ -10,16 +10,38 @@ use crate::fault::RunFault;
 use crate::launch::copy_start;
 use crate::run::Run;
 use std::alloc::{AllocError, Global};
-use wm_event::{Log, MAX_EVENTS, ThreadLog, Witness};
+use wm_event::{Event, Initial, Log, MAX_EVENTS, ThreadLog, Witness};
 use wm_list::List;
 use wm_recorder::Recorder;
 use wm_valid::ValidModule;
+
+/// Whether these are the same bytes.
+fn same_bytes(one: &Initial, other: &Initial) -> bool
+    ensures { IsTrue result ↔ (one.now ≡ other.now) }
+{
+    one.as_slice() == other.as_slice()
+}
+
+/// Whether these are the same events, in the same order.
+fn same_events(events: &[Event], others: &[Event]) -> bool
+    ensures { IsTrue result ↔ (events.now ≡ others.now) }
+{
+    if events.len() != others.len() {
+        return false;
+    }
+    for (index, event) in events.iter().enumerate() {
+        if *event != others[index] {
+            return false;
+        }
+    }
+    true
+}
 
 /// Whether the events of an end are those that were recorded of its thread.
 fn has_its_events(recorder: &Recorder, end: &ThreadEnd) -> bool
     ensures { IsTrue result ↔ HasItsEvents recorder.now end.now }
 {
-    recorder.events(end.thread) == end.events.as_slice()
+    same_events(recorder.events(end.thread), end.events.as_slice())
 }
 
 /// Whether a recorder that stopped the thread is full.
@@ -97,7 +119,7 @@ pub fn gather(
     ensures gathered { IfOk result (IsGathered «module».now recorder ends.items) }
     ensures refused { IfErr result (IsGatherFault «module».now recorder ends.items) }
 {
-    if recorder.initial().as_slice() != module.initial().as_slice() {
+    if !same_bytes(recorder.initial(), module.initial()) {
         return Err(RunFault::Foreign);
     }
     let threads = recorder.threads();

@@ -1,0 +1,72 @@
+-- The logs of the threads by their ends, beside the recorder.
+use Rattle.std.proofs.Common.{◌≡◌, ℕ, ◌+◌, ◌<◌, ◌≤◌, List, [], ◌∷◌, ◌++◌, length, get_or, map, Some, slice_get, refl, sym, ap, subst, ◌∙◌, arith}
+use Rattle.std.specs.Prelude.{option_map, unwrap_or}
+use Rattle.std.proofs.lemmas.Grind.{same_number_lists}
+use Rattle.std.proofs.lemmas.List.{length-map, same_lists}
+use Rattle.std.proofs.lemmas.Option.{get_or_from_slice_get, slice_get-get_or, slice_get-map}
+use Rattle.wm_ast.specs.declared.module.Module.{Module}
+use Rattle.wm_event.specs.declared.event.Event.{Event}
+use Rattle.wm_event.specs.declared.log.ThreadLog.{ThreadLog}
+use Rattle.wm_memory.proofs.Listed.{get-end, get-front, length-by_thread}
+use Rattle.wm_memory.specs.Recorded.{events_of}
+use Rattle.wm_recorder.specs.Recorder.{Recording, IsRecording, steps_of, threads_of}
+use Rattle.wm_valid.specs.Valid.{IsInit}
+use Rattle.wm_run.specs.declared.ended.ThreadEnd.{ThreadEnd}
+use Rattle.wm_run.specs.Ends.{HasOneEach, IsEndIn, ends_of}
+use Rattle.wm_run.specs.Gathered.{AllAgree, AreLogsBy, log_by}
+use Rattle.wm_run.proofs.OneEach.{one_more_end, some_end}
+
+pub logs_more : (ends : List ThreadEnd) (logs : List ThreadLog) (n : ℕ) (e : ThreadEnd) (new : ThreadLog) → length logs ≡ n → ends_of ends n ≡ 1 → IsEndIn ends n e → new ≡ log_by e
+    → ((t : ℕ) (x : ThreadEnd) → t < n → IsEndIn ends t x → slice_get logs t ≡ Some (log_by x))
+    → (t : ℕ) (x : ThreadEnd) → t < n + 1 → IsEndIn ends t x → slice_get (logs ++ new ∷ []) t ≡ Some (log_by x)
+logs_more ends logs n e new count one in_ends is below =
+    one_more_end (λ t x. slice_get (logs ++ new ∷ []) t ≡ Some (log_by x)) ends n e one in_ends
+    (ap (slice_get (logs ++ new ∷ [])) (sym count) ∙ (get-end logs new ∙ ap Some is))
+    (λ t x less in_ends'. get-front logs new t (λ at. omega (arith, at, count, less)) ∙ below t x less in_ends')
+
+-- the events of the logs are those of the recorder
+pub logged_events : (r : Recording) (ends : List ThreadEnd) (logs : List ThreadLog) → IsRecording r → HasOneEach (threads_of r) ends → AllAgree r ends → AreLogsBy (threads_of r) ends logs
+    → map (λ (log : ThreadLog). log.events) logs ≡ r.events
+logged_events r ends logs k one_each agrees are = same_lists (map (λ (log : ThreadLog). log.events) logs) r.events lengths items
+  where
+    by_events : length r.events ≡ threads_of r
+    by_events = ap length k.events ∙ length-by_thread (events_of (steps_of r)) (threads_of r)
+    lengths : length (map (λ (log : ThreadLog). log.events) logs) ≡ length r.events
+    lengths = length-map logs (λ (log : ThreadLog). log.events) ∙ (are.count ∙ sym by_events)
+    item : (t : ℕ) (d : List Event) (e : ThreadEnd) → t < length r.events → t < threads_of r → IsEndIn ends t e → get_or (map (λ (log : ThreadLog). log.events) logs) t d ≡ get_or r.events t d
+    item t d e lt there in_ends =
+        let here : slice_get (map (λ (log : ThreadLog). log.events) logs) t ≡ Some e.events =
+        slice_get-map (λ (log : ThreadLog). log.events) logs t ∙ ap (option_map (λ (log : ThreadLog). log.events)) (are.each t e there in_ends) in
+        let same : unwrap_or (slice_get r.events t) [] ≡ e.events = ap (λ n. unwrap_or (slice_get r.events n) []) (sym in_ends.1) ∙ (agrees t e there in_ends).events in
+        let held : slice_get r.events t ≡ Some (get_or r.events t d) = slice_get-get_or r.events t d lt in
+        get_or_from_slice_get (map (λ (log : ThreadLog). log.events) logs) t e.events d here ∙ (sym same ∙ ap (λ o. unwrap_or o []) held)
+    items : (t : ℕ) (d : List Event) → t < length (map (λ (log : ThreadLog). log.events) logs) → get_or (map (λ (log : ThreadLog). log.events) logs) t d ≡ get_or r.events t d
+    items t d lt =
+        let in_events : t < length r.events = omega (arith, lt, lengths) in
+        let there : t < threads_of r = omega (arith, in_events, by_events) in
+        let has = some_end ends t (one_each.each t there) in
+        item t d has.0 in_events there has.1
+
+-- a module has one initial memory
+pub one_init : (m : Module) (xs ys : List ℕ) → IsInit m xs → IsInit m ys → xs ≡ ys
+one_init m xs ys a b =
+    same_number_lists xs ys (a.size ∙ sym b.size)
+    (λ k lt. a.each k (omega (arith, lt, a.size)) ∙ sym (b.each k (omega (arith, lt, a.size))))
+
+-- ---- what the parts of a gathering say
+
+pub record IsWhole (r : Recording) (ends : List ThreadEnd) (logs : List ThreadLog) : Type 0 where
+  pub one_each : HasOneEach (threads_of r) ends
+  pub agrees : AllAgree r ends
+  pub logs_by : AreLogsBy (threads_of r) ends logs
+
+-- the parts speak of the ends and of the number of threads by other names
+pub whole : (r : Recording) (ends a b c : List ThreadEnd) (n : ℕ) (logs : List ThreadLog) → n ≡ threads_of r → a ≡ ends → b ≡ ends → c ≡ ends → HasOneEach n a → AllAgree r b → AreLogsBy n c logs → IsWhole r ends logs
+whole r ends a b c n logs count same_a same_b same_c one_each agrees logs_by = record {
+  one_each = subst (λ k. HasOneEach k ends) count (subst (HasOneEach n) same_a one_each);
+  agrees = subst (AllAgree r) same_b agrees;
+  logs_by = subst (λ k. AreLogsBy k ends logs) count (subst (λ x. AreLogsBy n x logs) same_c logs_by);
+}
+
+pub events_of_whole : (r : Recording) (ends : List ThreadEnd) (logs : List ThreadLog) → IsRecording r → IsWhole r ends logs → map (λ (log : ThreadLog). log.events) logs ≡ r.events
+events_of_whole r ends logs k w = logged_events r ends logs k w.one_each w.agrees w.logs_by

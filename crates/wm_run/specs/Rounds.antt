@@ -1,0 +1,64 @@
+-- What a round gives, and why it isn't made.
+use Rattle.std.specs.Prelude.{◌≡◌, ℕ, ◌<◌, ◌≤◌, ◌⊎◌, List, Bool, true, false, Result, Some, length, map, slice_get, slice_index_or, ⊤}
+use Rattle.wm_ast.specs.declared.module.Module.{Module}
+use Rattle.wm_event.specs.declared.log.End.TheVariants.{Cut}
+use Rattle.wm_event.specs.declared.log.Start.{Start}
+use Rattle.wm_event.specs.declared.log.ThreadLog.{ThreadLog}
+use Rattle.wm_valid.specs.Valid.{IsInit}
+use Rattle.wm_run.specs.declared.ended.ThreadEnd.{ThreadEnd}
+use Rattle.wm_run.specs.declared.fault.PlanFault.{PlanFault}
+use Rattle.wm_run.specs.declared.fault.PlanFault.TheVariants as fault
+use Rattle.wm_run.specs.declared.fault.RunFault.{RunFault}
+use Rattle.wm_run.specs.declared.fault.RunFault.TheVariants as run
+use Rattle.wm_run.specs.declared.plan.Plan.{Plan}
+use Rattle.wm_run.specs.Own.{IsAllowedOver, IsOwnRun}
+use Rattle.wm_run.specs.Plan.{HasThreads}
+use Rattle.wm_run.specs.Reached.{stands_before_access}
+use Rattle.wm_run.specs.Refusal.{IsFirstRefused}
+use Rattle.wm_run.specs.Run.{Record}
+use Rattle.wm_run.specs.Worker.{IsEndOf, IsWorkOf}
+
+-- each result is what a worker made of its thread
+abbrev pub AreWorkOf : Bool → Module → List Start → ℕ → List (Result ThreadEnd RunFault) → Type 0
+AreWorkOf is_open m starts steps results =
+    (length results ≡ length starts)
+    × ((i : ℕ) (d : Start) (e : Result ThreadEnd RunFault) → i < length starts → IsWorkOf is_open m i (slice_index_or starts i d) steps (slice_index_or results i e))
+
+-- each end is that of its thread and start
+abbrev pub AreEndsOf : Bool → Module → List Start → ℕ → List ThreadEnd → Type 0
+AreEndsOf is_open m starts steps ends =
+    (length ends ≡ length starts)
+    × ((i : ℕ) (d : Start) (e : ThreadEnd) → i < length starts → IsEndOf is_open m i (slice_index_or starts i d) steps (slice_index_or ends i e))
+
+-- a plan that a round can follow
+pub record IsRoundPlan (plan : Plan) : Type 0 where
+  pub threads : HasThreads plan
+  pub steps : plan.steps ≤ 1000000
+  pub drains : plan.drains ≤ 1000000
+
+-- the first thing that is wrong with another
+abbrev pub IsRoundPlanFault : Plan → PlanFault → Type 0
+IsRoundPlanFault plan fault.Threads = HasThreads plan → ⊥
+IsRoundPlanFault plan fault.Steps = HasThreads plan × (1000000 < plan.steps)
+IsRoundPlanFault plan fault.Turns = HasThreads plan × (plan.steps ≤ 1000000) × (1000000 < plan.drains)
+IsRoundPlanFault plan (fault.Turn t) = ⊥
+
+-- the thread stands before an access, and the gate isn't open or the log is full
+abbrev pub IsHeld : Bool → Module → Record → ℕ → ThreadLog → Type 0
+IsHeld is_open m run t thread = (stands_before_access m t thread ≡ true) × ((is_open ≡ false) ⊎ (16384 ≤ length run.witness.order))
+
+-- the log of a round: it has the plan's starts, each thread is its run of at most so many steps, log and witness are what one
+-- legal history over the initial memory records, and they are allowed; a thread that is cut before its last step is held
+pub record IsRound (is_open : Bool) (m : Module) (plan : Plan) (run : Record) : Type 0 where
+  pub starts : map (λ (thread : ThreadLog). thread.start) run.log ≡ plan.starts
+  pub within : (t : ℕ) (thread : ThreadLog) → slice_get run.log t ≡ Some thread → thread.steps ≤ plan.steps
+  pub own : IsOwnRun m run
+  pub allowed : (initial : List ℕ) → IsInit m initial → IsAllowedOver m initial run
+  pub early : (t : ℕ) (thread : ThreadLog) → slice_get run.log t ≡ Some thread → thread.end ≡ Cut → thread.steps < plan.steps → IsHeld is_open m run t thread
+
+-- why a round isn't made: first what is wrong with the plan, then the first thread that doesn't start. The other faults are
+-- those of gather, over what the threads did
+abbrev pub IsRoundFault : Module → Plan → RunFault → Type 0
+IsRoundFault m plan (run.Plan fault) = IsRoundPlanFault plan fault
+IsRoundFault m plan (run.Start t fault) = IsRoundPlan plan × IsFirstRefused m plan.starts t fault
+IsRoundFault m plan _ = ⊤

@@ -1,0 +1,228 @@
+//! A round: a worker for each thread, and a drainer, over one locked memory.
+ghost use Rattle.std.specs.Prelude.{◌≡◌, ◌≤◌, Ok, IfErr, IfOk, OnOk, length, map};
+ghost use Rattle.wm_recorder.specs.Recorder.{IsRecording, RecordsValid};
+ghost use Rattle.wm_run.specs.Plan.{HasThreads};
+ghost use Rattle.wm_run.specs.Rounds.{AreWorkOf, IsRound, IsRoundFault, IsRoundPlan, IsRoundPlanFault};
+ghost use Rattle.wm_run.specs.Worker.{IsWorkOf};
+
+use crate::MAX_TURNS;
+use crate::drains::drainer;
+use crate::ended::ThreadEnd;
+use crate::fault::{PlanFault, RunFault};
+use crate::gate::Gate;
+use crate::gathering::gather;
+use crate::launch::launch;
+use crate::own::own_runs_are_allowed;
+use crate::plan::Plan;
+use crate::run::Run;
+use crate::worker::work;
+use std::alloc::{AllocError, Global};
+use std::snapshot::Snapshot;
+use std::sync::Wait;
+use std::thread;
+use std::thread::{Promise, PromisedHandle, Scope, Threads};
+use wm_event::Start;
+use wm_recorder::{LockedMemory, Recorder, Shared};
+use wm_valid::ValidModule;
+
+/// What a worker promises of its result: that it is [`work`]'s of this thread.
+pub struct WorkPromise<G> {
+    program: Snapshot<ValidModule>,
+    thread: u32,
+    start: Snapshot<Start>,
+    steps: u32,
+    gate: Snapshot<G>,
+}
+
+impl<G> Drop for WorkPromise<G> {
+    fn drop(self) {
+        let Self {
+            program: _,
+            thread: _,
+            start: _,
+            steps: _,
+            gate: _,
+        } = self;
+    }
+}
+
+impl<G: Gate> Promise<Result<ThreadEnd, RunFault>> for WorkPromise<G> {
+    ghost kept_by = { λ p r. IsWorkOf (G.is_open p.gate.value) p.program.value p.thread p.start.value p.steps r };
+}
+
+/// Starts one worker.
+fn start_one<'s, E: 's, S: Shared + Sync, G: Gate + Sync>(
+    scope: &'s Scope<'s, E>,
+    alloc: Global,
+    module: &'s ValidModule,
+    thread: u32,
+    start: &'s Start,
+    steps: u32,
+    shared: &'s S,
+    gate: &'s G,
+) -> Result<PromisedHandle<Result<ThreadEnd, RunFault>, WorkPromise<G>>, AllocError>
+    requires { steps ≤ 1000000 }
+    ensures { IfOk result (λ h. (h.promise.program.value ≡ «module».now) × (h.promise.thread ≡ thread) × (h.promise.start.value ≡ start.now) × (h.promise.steps ≡ steps) × (h.promise.gate.value ≡ gate.now)) }
+{
+    let promise = WorkPromise {
+        program: Snapshot::of(module),
+        thread,
+        start: Snapshot::of(start),
+        steps,
+        gate: Snapshot::of(gate),
+    };
+    Ok(scope.spawn_with(
+        promise,
+        move || work(alloc, module, thread, start, steps, shared, gate),
+    )?)
+}
+
+/// Joins threads whose results nobody wants.
+fn join_all<R: Threads, G: Gate>(
+    rt: &R,
+    workers: Vec<PromisedHandle<Result<ThreadEnd, RunFault>, WorkPromise<G>>>,
+) {
+    for worker in workers {
+        let _ = worker.join(rt);
+    }
+}
+
+/// Starts a worker for each thread, and joins them. Where one doesn't start, those that run are joined.
+fn run_workers<'s, E: 's, R: Threads, S: Shared + Sync, G: Gate + Sync>(
+    rt: &R,
+    scope: &'s Scope<'s, E>,
+    alloc: Global,
+    module: &'s ValidModule,
+    plan: &'s Plan,
+    shared: &'s S,
+    gate: &'s G,
+) -> Result<Vec<Result<ThreadEnd, RunFault>>, AllocError>
+    requires { IsRoundPlan plan.now }
+    ensures { IfOk result (λ v. AreWorkOf (G.is_open gate.now) «module».now plan.now.starts plan.now.steps v.items) }
+{
+    let starts = plan.starts.as_slice();
+    let mut workers = Vec::with_capacity(alloc, starts.len())?;
+    for (number, start) in starts.iter().enumerate() {
+        let thread = number as u32;
+        match start_one(scope, alloc, module, thread, start, plan.steps, shared, gate) {
+            Ok(worker) => workers.push_reserved(worker),
+            Err(_) => {
+                join_all(rt, workers);
+                return Err(AllocError);
+            }
+        }
+    }
+    match thread::join_promised(rt, workers) {
+        Ok(results) => Ok(results),
+        Err(refused) => {
+            join_all(rt, refused.value);
+            Err(AllocError)
+        }
+    }
+}
+
+/// Starts the drainer and the workers, and joins them all.
+fn run_in<'s, E: 's, R: Threads, S: Shared + Sync, G: Gate + Sync>(
+    rt: &R,
+    scope: &'s Scope<'s, E>,
+    alloc: Global,
+    module: &'s ValidModule,
+    plan: &'s Plan,
+    shared: &'s S,
+    gate: &'s G,
+) -> Result<Vec<Result<ThreadEnd, RunFault>>, AllocError>
+    requires { IsRoundPlan plan.now }
+    ensures { IfOk result (λ v. AreWorkOf (G.is_open gate.now) «module».now plan.now.starts plan.now.steps v.items) }
+{
+    let threads = plan.starts.len() as u32;
+    let drains = plan.drains;
+    let drain = scope.spawn(move || drainer(shared, threads, drains, gate))?;
+    let results = run_workers(rt, scope, alloc, module, plan, shared, gate);
+    let drained = drain.join(rt);
+    let results = results?;
+    drained?;
+    Ok(results)
+}
+
+/// Runs the threads over what they share, in a scope that borrows it.
+fn run_shared<R: Threads + Wait + Sync, S: Shared + Sync, G: Gate + Sync>(
+    rt: &R,
+    alloc: Global,
+    module: &ValidModule,
+    plan: &Plan,
+    shared: &S,
+    gate: &G,
+) -> Result<Vec<Result<ThreadEnd, RunFault>>, AllocError>
+    requires { IsRoundPlan plan.now }
+    ensures { IfOk result (λ v. AreWorkOf (G.is_open gate.now) «module».now plan.now.starts plan.now.steps v.items) }
+{
+    thread::scope(
+        thread::scope_env(),
+        rt,
+        |scope| -> Result<Vec<Result<ThreadEnd, RunFault>>, AllocError>
+            requires { IsRoundPlan plan.now }
+            ensures { IfOk result (λ v. AreWorkOf (G.is_open gate.entry.now) «module».entry.now plan.entry.now.starts plan.entry.now.steps v.items) }
+        { run_in(rt, scope, alloc, module, plan, shared, gate) },
+    )
+}
+
+/// The ends of the threads. Each thread starts, so a worker's fault can only be want of memory.
+fn all_ends(
+    alloc: Global,
+    results: Vec<Result<ThreadEnd, RunFault>>,
+) -> Result<Vec<ThreadEnd>, AllocError>
+    ensures { IfOk result (λ v. results.items ≡ map Ok v.items) }
+{
+    let mut ends = Vec::with_capacity(alloc, results.len())?;
+    for done in results {
+        match done {
+            Ok(end) => ends.push_reserved(end),
+            Err(_) => return Err(AllocError),
+        }
+    }
+    Ok(ends)
+}
+
+/// Whether a round can follow the plan.
+fn check_plan(plan: &Plan) -> Result<(), PlanFault>
+    ensures ok { OnOk result (IsRoundPlan plan.now) }
+    ensures fault { IfErr result (IsRoundPlanFault plan.now) }
+{
+    plan.follows(&[])?;
+    if plan.drains as usize > MAX_TURNS {
+        return Err(PlanFault::Turns);
+    }
+    Ok(())
+}
+
+/// Runs each thread of the plan in a worker of its own over one locked memory, beside a drainer that takes the plan's
+/// drains. The gate is asked before each access and each drainer turn, while no lock is held; it may cut threads.
+///
+/// # Errors
+///
+/// `Plan` with the first fault of the plan: `Threads` where it starts none or more than 16, `Steps` where it lets a thread
+/// make more than 1,000,000, `Turns` where it has more than 1,000,000 drains; else `Start` with the first thread that
+/// doesn't start. Then no worker is started. `OutOfMemory` where memory was refused, or a thread of the system. `Foreign`,
+/// `Ends` and `Split` are those of [`gather`].
+pub fn run_round<R: Threads + Wait + Sync, G: Gate + Sync>(
+    rt: &R,
+    alloc: Global,
+    module: &ValidModule,
+    plan: &Plan,
+    gate: &G,
+) -> Result<Run, RunFault>
+    ensures round { IfOk result (IsRound (G.is_open gate.now) «module».now plan.now) }
+    ensures refused { IfErr result (IsRoundFault «module».now plan.now) }
+{
+    if let Err(fault) = check_plan(plan) {
+        return Err(RunFault::Plan(fault));
+    }
+    let runners = launch(alloc, module, plan.starts.as_slice())?;
+    let recorder = Recorder::new(alloc, module.initial(), runners.len())?;
+    let shared = LockedMemory::new(rt, recorder);
+    let results = run_shared(rt, alloc, module, plan, &shared, gate);
+    let recorder = shared.into_recorder();
+    let ends = all_ends(alloc, results?)?;
+    own_runs_are_allowed();
+    gather(alloc, module, recorder, ends)
+}
