@@ -99,6 +99,27 @@ fn read_document_bytes<'a, R: AllocGlobal, F: Files, I: Read>(
     }
 }
 
+/// The bytes of the module and of the document of these names, the module's first, each to its limit and one more.
+fn read_run<'a, R: AllocGlobal, F: Files, I: Read>(
+    rt: &R,
+    files: &mut F,
+    input: &mut I,
+    module: &'a str,
+    document: &'a str,
+) -> Result<(Vec<u8>, Vec<u8>), Failure<'a>>
+    requires { F.failures_of files.old + 1 < 2 ^ 64 }
+    ensures modules { IfOk result (λ read.
+        IsReadOf (F.content_of files.old «module».now) 1048576 read.0.items) }
+    ensures documents { IfOk result (λ read.
+        IsDocumentRead (F.content_of files.old) (I.remaining input.old) 8388608 document.now read.1.items) }
+    ensures unread { IfErr result (λ stop. IsUnreadFile stop
+        → F.failures_of files.old < F.failures_of files.new) }
+{
+    let module_bytes = read_file(files, module, MAX_MODULE_BYTES)?;
+    let document_bytes = read_document_bytes(rt, files, input, document)?;
+    Ok((module_bytes, document_bytes))
+}
+
 /// The answer to the words.
 fn answer_of<'a, R: AllocGlobal + Threads + Sync, F: Files, I: Read>(
     rt: &R,
@@ -119,22 +140,16 @@ fn answer_of<'a, R: AllocGlobal + Threads + Sync, F: Files, I: Read>(
             Ok(rules_answer(rt, bytes.as_slice())?)
         }
         Ok(Command::Check { module, document }) => {
-            let module_bytes = read_file(files, module, MAX_MODULE_BYTES)?;
-            let document_bytes = read_document_bytes(rt, files, input, document)?;
-            Ok(check_answer(rt, module_bytes.as_slice(), document_bytes.as_slice())?)
+            let read = read_run(rt, files, input, module, document)?;
+            Ok(check_answer(rt, read.0.as_slice(), read.1.as_slice())?)
         }
         Ok(Command::Migrate { document }) => {
             let bytes = read_document_bytes(rt, files, input, document)?;
             Ok(migrate_answer(rt.alloc(), bytes.as_slice())?)
         }
         Ok(Command::Complete { module, document }) => {
-            let module_bytes = read_file(files, module, MAX_MODULE_BYTES)?;
-            let document_bytes = read_document_bytes(rt, files, input, document)?;
-            Ok(completion_answer(
-                rt.alloc(),
-                module_bytes.as_slice(),
-                document_bytes.as_slice(),
-            )?)
+            let read = read_run(rt, files, input, module, document)?;
+            Ok(completion_answer(rt.alloc(), read.0.as_slice(), read.1.as_slice())?)
         }
         Ok(Command::Drive { module, turns }) => {
             match read_script(rt.alloc(), turns, words.get(3..).unwrap_or(&[])) {

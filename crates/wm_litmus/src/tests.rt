@@ -2,6 +2,7 @@
 mod candidates;
 mod check;
 mod closure;
+mod completion;
 mod documents;
 mod fakes;
 mod migration;

@@ -15,18 +15,12 @@ pub returns-in_ok-check_answer-in-Ok-Check-clause-answers :
     goal.returns-in_ok-check_answer-in-Ok-Check-clause-answers
 returns-in_ok-check_answer-in-Ok-Check-clause-answers g c =
     let answer = c.in_ok-check_answer-in-Ok-Check.field-0 in
-    let read = c.in_ok-document_bytes-in-Ok-Check in
-    let modules = c.in_ok-module_bytes-in-Ok-Check.module_bytes in
-    let of_module : c.as_slice-in-Ok-Check.result.now ≡ modules.items = c.as_slice-in-Ok-Check.ensures.value in
-    let of_document : c.as_slice-in-Ok-Check-2.result.now ≡ read.document_bytes.items = c.as_slice-in-Ok-Check-2.ensures.value in
-    let known = read.ensures.known in
-    check_of c.in-Ok-Check.module c.in-Ok-Check.document modules.items read.document_bytes.items (rw c.in-Ok-Check.field-0-is at c.in-Ok-Check.ensures.read)
-    c.in_ok-module_bytes-in-Ok-Check.ensures.known
-    (record {
-      of_input = known.of_input;
-      of_file = λ other. subst (λ (all : Option (List ℕ)). IsReadOf all 8388608 read.document_bytes.items) (c.read_file.ensures.same c.in-Ok-Check.document.now) (known.of_file other);
-    })
-    (subst (λ bytes. AnswersCheck modules.items bytes answer.status (string_bytes answer.text)) of_document
+    let read = c.in_ok-read-in-Ok-Check in
+    let of_module : c.as_slice-in-Ok-Check.result.now ≡ read.read.0.items = c.as_slice-in-Ok-Check.ensures.value in
+    let of_document : c.as_slice-in-Ok-Check-2.result.now ≡ read.read.1.items = c.as_slice-in-Ok-Check-2.ensures.value in
+    check_of c.in-Ok-Check.module c.in-Ok-Check.document read.read.0.items read.read.1.items (rw c.in-Ok-Check.field-0-is at c.in-Ok-Check.ensures.read)
+    read.ensures.modules read.ensures.documents
+    (subst (λ bytes. AnswersCheck read.read.0.items bytes answer.status (string_bytes answer.text)) of_document
     (subst (λ bytes. AnswersCheck bytes c.as_slice-in-Ok-Check-2.result.now answer.status (string_bytes answer.text)) of_module
     c.in_ok-check_answer-in-Ok-Check.ensures))
 
@@ -43,17 +37,11 @@ pub returns-in_ok-completion_answer-in-Ok-Complete-clause-answers :
     goal.returns-in_ok-completion_answer-in-Ok-Complete-clause-answers
 returns-in_ok-completion_answer-in-Ok-Complete-clause-answers g c =
     let answer = c.in_ok-completion_answer-in-Ok-Complete.field-0 in
-    let read = c.in_ok-document_bytes-in-Ok-Complete in
-    let modules = c.in_ok-module_bytes-in-Ok-Complete.module_bytes in
-    let of_module : c.as_slice-in-Ok-Complete.result.now ≡ modules.items = c.as_slice-in-Ok-Complete.ensures.value in
-    let of_document : c.as_slice-in-Ok-Complete-2.result.now ≡ read.document_bytes.items = c.as_slice-in-Ok-Complete-2.ensures.value in
-    let known = read.ensures.known in
-    complete_of c.in-Ok-Complete.module c.in-Ok-Complete.document modules.items read.document_bytes.items (rw c.in-Ok-Complete.field-0-is at c.in-Ok-Complete.ensures.read)
-    c.in_ok-module_bytes-in-Ok-Complete.ensures.known
-    (record {
-      of_input = known.of_input;
-      of_file = λ other. subst (λ (all : Option (List ℕ)). IsReadOf all 8388608 read.document_bytes.items) (c.read_file.ensures.same c.in-Ok-Complete.document.now) (known.of_file other);
-    })
-    (subst (λ bytes. AnswersComplete modules.items bytes answer.status (string_bytes answer.text)) of_document
+    let read = c.in_ok-read-in-Ok-Complete in
+    let of_module : c.as_slice-in-Ok-Complete.result.now ≡ read.read.0.items = c.as_slice-in-Ok-Complete.ensures.value in
+    let of_document : c.as_slice-in-Ok-Complete-2.result.now ≡ read.read.1.items = c.as_slice-in-Ok-Complete-2.ensures.value in
+    complete_of c.in-Ok-Complete.module c.in-Ok-Complete.document read.read.0.items read.read.1.items (rw c.in-Ok-Complete.field-0-is at c.in-Ok-Complete.ensures.read)
+    read.ensures.modules read.ensures.documents
+    (subst (λ bytes. AnswersComplete read.read.0.items bytes answer.status (string_bytes answer.text)) of_document
     (subst (λ bytes. AnswersComplete bytes c.as_slice-in-Ok-Complete-2.result.now answer.status (string_bytes answer.text)) of_module
     c.in_ok-completion_answer-in-Ok-Complete.ensures))

@@ -1,0 +1,26 @@
+/** The log document, version 2: JSON of arrays, texts and whole numbers of any size. */
+
+/** JSON of a value in which numbers may be BigInts. */
+export function json(value) {
+  if (Array.isArray(value)) return `[${value.map(json).join(',')}]`;
+  return typeof value === 'string' ? JSON.stringify(value) : String(value);
+}
+
+/** A value of JSON, with each whole number as a BigInt: a number of 64 bits doesn't fit a JavaScript number. */
+export function parse(text) {
+  const tagged = text.replace(/"(?:[^"\\]|\\.)*"|-?\d+/g, (token) => (token[0] === '"' ? token : `{"n":"${token}"}`));
+  return JSON.parse(tagged, (_, value) => (typeof value?.n === 'string' ? BigInt(value.n) : value));
+}
+
+/**
+ * The document of a round. `wmlab complete` fills in steps and ends, so that they stay open here: 0 steps, and cut.
+ * Each thread has its start, and its events with the writers of the bytes that each reads.
+ */
+export function documentOf(threads, order) {
+  const events = (thread) => thread.events.map(({ event, writers }) => (event[0] === 'w' ? event : [...event, writers]));
+  const rows = threads.map((thread) => [thread.start.name, thread.start.args, ['cut'], 0, events(thread)]);
+  return json(['wasm-litmus-log', 2, rows, order]);
+}
+
+/** The ends of a document's threads, as texts. */
+export const endsOf = (text) => parse(text)[2].map((thread) => json(thread[2]));

@@ -1,0 +1,16 @@
+;; Accesses of every width in a few bytes, signed loads, updates that are cut, and an atomic exchange of 8 bytes.
+(module
+  (memory 1 1 shared)
+  (data (i32.const 0) "\01\82\03\84\05\86\07\88")
+  (func (export "narrow") (result i64)
+    (i32.store8 (i32.const 1) (i32.const 0x1ff))
+    (i32.store16 offset=2 (i32.const 1) (i32.const 0xabcd))
+    (drop (i32.atomic.rmw8.add_u (i32.const 5) (i32.const 0x1fe)))
+    (drop (i64.atomic.rmw32.xor_u (i32.const 4) (i64.const -1)))
+    (i64.add (i64.load8_s (i32.const 1)) (i64.load32_s (i32.const 4))))
+  (func (export "wide") (result i64)
+    (i64.store (i32.const 0) (i64.const -2))
+    (drop (i64.atomic.rmw16.sub_u (i32.const 2) (i64.const 3)))
+    (drop (i64.atomic.rmw.cmpxchg (i32.const 0) (i64.const -2) (i64.const 77)))
+    (drop (i64.atomic.rmw8.xchg_u (i32.const 6) (i64.const 300)))
+    (i64.sub (i64.load align=1 (i32.const 3)) (i64.load16_s (i32.const 5)))))
