@@ -10,34 +10,7 @@ use wm_list::List;
 use wm_num::Width;
 
 mod cases;
-
-// Two threads that each store and then load.
-const STORE_BUFFERING: &str =
-    "0061736d010000000105016000017f030302000005040103010107090201610000016200010a1f020e004100410136020041042802000b0e004104410136020041002802000b";
-// The same with atomic accesses.
-const ATOMIC: &str =
-    "0061736d010000000105016000017f030302000005040103010107090201610000016200010a2302100041004101fe1702004104fe1002000b100041044101fe1702004100fe1002000b";
-
-const UNALIGNED: &str =
-    "0061736d010000000105016000017f030403000000050401030101070d030161000001620001016300020a1f0308004102fe1002000b090041feff032802000b0a0041feff03fe1002000b";
-
-const MIXED_WIDTHS: &str =
-    "0061736d010000000105016000017f03020100050401030101070501016100000a1801160041004281848ca0d0c0c1830837030041022802000b";
-
-const WITH_PARAMETER: &str =
-    "0061736d0100000001060160017f017f03020100050401030101070501016600000a10010e002000410736020020002802000b";
-
-const SPINNING: &str =
-    "0061736d0100000001040160000003020100050401030101070501016100000a10010e0003404100fe100200450d000b0b";
-
-const WITH_CUSTOM: &str =
-    "0061736d010000000105016000017f030302000005040103010107090201610000016200010a1f020e004100410136020041042802000b0e004104410136020041002802000b0005046e616d65";
-
-const WITH_PADDED_SIZE: &str =
-    "0061736d010000000105016000017f030302000005040103010107090201610000016200010a9f80808000020e004100410136020041042802000b0e004104410136020041002802000b";
-
-const WITH_DATA: &str =
-    "0061736d010000000105016000017f030302000005040103010107090201610000016200010c01010a1f020e004100410136020041042802000b0e004104410136020041002802000b0b07010041040b0109";
+mod modules;
 
 // The bytes of hexadecimal digits.
 fn bytes_of(alloc: Global, text: &str) -> Result<Vec<u8>, AllocError> {
@@ -163,7 +136,7 @@ fn opcodes_6(rt: HostRuntime) -> Result<(), Fail> {
 
 #[test]
 fn each_cut(rt: HostRuntime) -> Result<(), Fail> {
-    let bytes = bytes_of(rt.alloc(), STORE_BUFFERING)?;
+    let bytes = bytes_of(rt.alloc(), modules::STORE_BUFFERING)?;
     assert_eq!(rt; bytes.len(), 70);
     for n in 0..70usize {
         let wanted = match n {
@@ -401,18 +374,18 @@ fn decodes(alloc: Global, text: &str, wanted: &Module, names: &[&str]) -> Result
 fn plain_modules(rt: HostRuntime) -> Result<(), Fail> {
     let alloc = rt.alloc();
     let plain = store_buffering(alloc, STORE, LOAD)?;
-    assert!(rt; decodes(alloc, STORE_BUFFERING, &plain, &["a", "b"])?);
-    assert!(rt; decodes(alloc, WITH_CUSTOM, &plain, &["a", "b"])?);
-    assert!(rt; decodes(alloc, WITH_PADDED_SIZE, &plain, &["a", "b"])?);
-    assert!(rt; !decodes(alloc, ATOMIC, &plain, &["a", "b"])?);
-    assert!(rt; !decodes(alloc, WITH_DATA, &plain, &["a", "b"])?);
+    assert!(rt; decodes(alloc, modules::STORE_BUFFERING, &plain, &["a", "b"])?);
+    assert!(rt; decodes(alloc, modules::WITH_CUSTOM, &plain, &["a", "b"])?);
+    assert!(rt; decodes(alloc, modules::WITH_PADDED_SIZE, &plain, &["a", "b"])?);
+    assert!(rt; !decodes(alloc, modules::ATOMIC, &plain, &["a", "b"])?);
+    assert!(rt; !decodes(alloc, modules::WITH_DATA, &plain, &["a", "b"])?);
     Ok(())
 }
 
 #[test]
 fn atomic_module(rt: HostRuntime) -> Result<(), Fail> {
     let atomic = store_buffering(rt.alloc(), ATOMIC_STORE, ATOMIC_LOAD)?;
-    assert!(rt; decodes(rt.alloc(), ATOMIC, &atomic, &["a", "b"])?);
+    assert!(rt; decodes(rt.alloc(), modules::ATOMIC, &atomic, &["a", "b"])?);
     Ok(())
 }
 
@@ -426,7 +399,7 @@ fn one_byte_at_four(alloc: Global) -> Result<List<DataSegment>, AllocError> {
 fn module_with_data(rt: HostRuntime) -> Result<(), Fail> {
     let mut module = store_buffering(rt.alloc(), STORE, LOAD)?;
     module.data = one_byte_at_four(rt.alloc())?;
-    assert!(rt; decodes(rt.alloc(), WITH_DATA, &module, &["a", "b"])?);
+    assert!(rt; decodes(rt.alloc(), modules::WITH_DATA, &module, &["a", "b"])?);
     Ok(())
 }
 
@@ -449,7 +422,7 @@ fn unaligned_module(rt: HostRuntime) -> Result<(), Fail> {
         three_loads(alloc)?,
         &names,
     )?;
-    assert!(rt; decodes(alloc, UNALIGNED, &module, &names)?);
+    assert!(rt; decodes(alloc, modules::UNALIGNED, &module, &names)?);
     Ok(())
 }
 
@@ -474,7 +447,7 @@ fn mixed_module(rt: HostRuntime) -> Result<(), Fail> {
     let alloc = rt.alloc();
     let funcs = one_func(alloc, mixed_widths(alloc)?)?;
     let module = one_page(alloc, Vec::new(alloc), Some(ValType::I32), funcs, &["a"])?;
-    assert!(rt; decodes(alloc, MIXED_WIDTHS, &module, &["a"])?);
+    assert!(rt; decodes(alloc, modules::MIXED_WIDTHS, &module, &["a"])?);
     Ok(())
 }
 
@@ -494,7 +467,7 @@ fn module_with_parameter(rt: HostRuntime) -> Result<(), Fail> {
     let funcs = one_func(alloc, use_of_parameter(alloc)?)?;
     let params = vec![in alloc; ValType::I32]?;
     let module = one_page(alloc, params, Some(ValType::I32), funcs, &["f"])?;
-    assert!(rt; decodes(alloc, WITH_PARAMETER, &module, &["f"])?);
+    assert!(rt; decodes(alloc, modules::WITH_PARAMETER, &module, &["f"])?);
     Ok(())
 }
 
@@ -517,6 +490,6 @@ fn spinning(alloc: Global) -> Result<Vec<Func>, AllocError> {
 fn spinning_module(rt: HostRuntime) -> Result<(), Fail> {
     let alloc = rt.alloc();
     let module = one_page(alloc, Vec::new(alloc), None, spinning(alloc)?, &["a"])?;
-    assert!(rt; decodes(alloc, SPINNING, &module, &["a"])?);
+    assert!(rt; decodes(alloc, modules::SPINNING, &module, &["a"])?);
     Ok(())
 }

@@ -1,6 +1,7 @@
 -- A step of the innermost call, seen from the calls round it.
 use Rattle.std.proofs.Common.{◌≡◌, ℕ, zero, suc, ◌+◌, List, [], ◌∷◌, ◌++◌, length, Option, Some, None, refl, sym, ap, ◌∙◌}
-use Rattle.std.specs.Prelude.{drop, true, false, Ok, Err}
+use Rattle.std.specs.Prelude.{drop, Ok, Err}
+use Rattle.wm_machine.specs.declared.activation.Invocation.TheVariants.{Entered, TooDeep}
 use Rattle.wm_ast.specs.declared.module.Module.{Module}
 use Rattle.wm_ast.specs.declared.types.FuncType.{FuncType}
 use Rattle.wm_ast.specs.declared.types.ValType.{ValType}
@@ -154,7 +155,7 @@ module _ (m : Module) (read : ℕ) (globals : List TypedValue) (cs : List Activa
   abbrev pub Calls : Reduced → Type 0
   Calls r = call_step m read d a globals ≡ out_of_labels m a.func (vars_of a globals) a.levels.outer r
 
-  pub thread_called : (r : Reduced) (new : Activation) (cs' : List Activation) → Calls r → Called m callee r a globals cs new cs' (Ok true) → went (step m read (running_in m globals cs a)) ≡ Some (running_in m globals cs' new)
+  pub thread_called : (r : Reduced) (new : Activation) (cs' : List Activation) → Calls r → Called m callee r a globals cs new cs' (Ok Entered) → went (step m read (running_in m globals cs a)) ≡ Some (running_in m globals cs' new)
   thread_called r new cs' h g =
       let k = param_count (callable m callee) in
       let t = Frame (drop k a.levels.operands) (todo m a.func a.levels.block (a.levels.at + 1)) new.func new.locals (left_of m new.func new.levels) in
@@ -163,7 +164,7 @@ module _ (m : Module) (read : ℕ) (globals : List TypedValue) (cs : List Activa
       ∙ ap went (calls_next m globals cs a.func (vars_of a globals) None (around m a.func a.levels.outer t))
       ∙ ap (λ (xs : List Activation). Some (running_in m globals xs new)) (sym g.0)
 
-  pub thread_exhausted : (r : Reduced) (new : Activation) (cs' : List Activation) → Calls r → Called m callee r a globals cs new cs' (Ok false) → went (step m read (running_in m globals cs a)) ≡ Some (Over (Trap Exhausted))
+  pub thread_exhausted : (r : Reduced) (new : Activation) (cs' : List Activation) → Calls r → Called m callee r a globals cs new cs' (Ok TooDeep) → went (step m read (running_in m globals cs a)) ≡ Some (Over (Trap Exhausted))
   thread_exhausted r new cs' h g =
       let e1 = h ∙ ap (out_of_labels m a.func (vars_of a globals) a.levels.outer) g.0 ∙ labels_traps m 0 a.func (vars_of a globals) Exhausted a.levels.outer in
       at_depth ∙ ap (λ (x : Reduced). went (out_of_calls m globals cs a.func x)) e1 ∙ ap went (calls_traps m globals cs a.func Exhausted)

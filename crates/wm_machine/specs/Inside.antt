@@ -1,10 +1,12 @@
 -- A step inside one call, whatever the calls round it are.
-use Rattle.std.specs.Prelude.{ℕ, zero, suc, ◌+◌, ◌<◌, ◌^◌, ◌≡◌, List, [], ◌∷◌, ◌++◌, Bool, true, false, Option, Some, None, Result, Ok, Err, length, drop}
+use Rattle.std.specs.Prelude.{ℕ, zero, suc, ◌+◌, ◌<◌, ◌^◌, ◌≡◌, List, [], ◌∷◌, ◌++◌, Option, Some, None, Result, Ok, Err, length, drop}
 use Rattle.wm_ast.specs.declared.module.Module.{Module}
 use Rattle.wm_event.specs.declared.op.OpFields.{OpFields}
 use Rattle.wm_event.specs.declared.log.TrapKind.TheVariants.{Exhausted}
 use Rattle.wm_machine.specs.declared.value.TypedValue.{TypedValue}
 use Rattle.wm_machine.specs.declared.activation.Activation.{Activation}
+use Rattle.wm_machine.specs.declared.activation.Invocation.{Invocation}
+use Rattle.wm_machine.specs.declared.activation.Invocation.TheVariants.{Entered, TooDeep}
 use Rattle.wm_machine.specs.declared.activation.Reached.{Reached}
 use Rattle.wm_machine.specs.declared.activation.Reached.TheVariants.{Within, Trapped, Left, Calling}
 use Rattle.wm_machine.specs.declared.fault.StepFault.{StepFault}
@@ -96,11 +98,11 @@ abbrev pub without_arguments : ℕ → Activation → Activation
 without_arguments count a = record a { levels = record a.levels { operands = drop count a.levels.operands; at = a.levels.at + 1 } }
 
 -- from r, what a call makes of the caller's place, to the calls after it
-abbrev pub Called : Module → ℕ → Reduced → Activation → List TypedValue → List Activation → Activation → List Activation → Result Bool StepFault → Type 0
-Called m callee r old globals callers new callers' (Ok true) =
+abbrev pub Called : Module → ℕ → Reduced → Activation → List TypedValue → List Activation → Activation → List Activation → Result Invocation StepFault → Type 0
+Called m callee r old globals callers new callers' (Ok Entered) =
     (callers' ≡ without_arguments (param_count (callable m callee)) old ∷ callers)
     × (r ≡ Next None (vars_of old globals) (Frame (drop (param_count (callable m callee)) old.levels.operands) (todo m old.func old.levels.block (old.levels.at + 1)) new.func new.locals (left_of m new.func new.levels)))
-Called m callee r old globals callers new callers' (Ok false) = (r ≡ Traps Exhausted) × (new ≡ old) × (callers' ≡ callers)
+Called m callee r old globals callers new callers' (Ok TooDeep) = (r ≡ Traps Exhausted) × (new ≡ old) × (callers' ≡ callers)
 Called m callee r old globals callers new callers' (Err StuckFault) = (r ≡ Stuck) × (new ≡ old) × (callers' ≡ callers)
 Called m callee r old globals callers new callers' (Err OutOfMemory) = (new ≡ old) × (callers' ≡ callers)
 

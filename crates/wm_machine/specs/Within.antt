@@ -1,9 +1,10 @@
 -- What the parts of a step do within a call, whatever the calls round it are.
-use Rattle.std.specs.Prelude.{ℕ, ◌+◌, ◌≡◌, List, ◌∷◌, Bool, Result, drop}
+use Rattle.std.specs.Prelude.{ℕ, ◌+◌, ◌≡◌, List, ◌∷◌, Result, drop}
 use Rattle.wm_ast.specs.declared.instr.Instr.{Instr}
 use Rattle.wm_ast.specs.declared.module.Module.{Module}
 use Rattle.wm_machine.specs.declared.action.Action.{Action}
 use Rattle.wm_machine.specs.declared.activation.Activation.{Activation}
+use Rattle.wm_machine.specs.declared.activation.Invocation.{Invocation}
 use Rattle.wm_machine.specs.declared.activation.Reached.{Reached}
 use Rattle.wm_machine.specs.declared.fault.StepFault.{StepFault}
 use Rattle.wm_machine.specs.declared.value.TypedValue.{TypedValue}
@@ -29,7 +30,7 @@ Branches m label popped old new result =
     → Goes m depth (out_of_labels m old.func (vars_of old globals) old.levels.outer (Leaves label (drop popped old.levels.operands))) old globals new globals result
 
 -- a call of a function where so many calls are active
-abbrev pub Calls : Module → ℕ → Activation → List Activation → Activation → List Activation → ℕ → Result Bool StepFault → Type 0
+abbrev pub Calls : Module → ℕ → Activation → List Activation → Activation → List Activation → ℕ → Result Invocation StepFault → Type 0
 Calls m callee old callers new callers' depth result =
     (globals : List TypedValue)
     → Called m callee

@@ -20,10 +20,10 @@ pub enum Action {
     SetGlobal(u32, TypedValue),
     /// An access, the instruction that it is of, and how many operands this takes.
     Access(Op, AccessKind, usize),
-    /// Enters a block, with the operands that this takes.
-    Enter(usize, usize),
-    /// Branches out of blocks, with the operands that this takes.
-    Branch(u32, usize),
+    /// Enters a block, and takes so many operands first.
+    Enter { block: usize, popped: usize },
+    /// Branches out of blocks, and takes so many operands first.
+    Branch { label: u32, popped: usize },
     Return,
     Call(u32),
 }

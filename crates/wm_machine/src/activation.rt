@@ -13,6 +13,22 @@ pub struct Activation {
     pub levels: Levels,
 }
 
+/// Where a function that is left goes back to.
+#[derive(Clone, Copy)]
+pub enum ReturnTo {
+    Caller,
+    /// No function called it: the thread has ended.
+    Outside,
+}
+
+/// What became of a call.
+#[derive(Clone, Copy)]
+pub enum Invocation {
+    Entered,
+    /// So many calls are active that it traps.
+    TooDeep,
+}
+
 /// How far a step within a call has come.
 #[derive(Clone, Copy)]
 pub enum Reached {

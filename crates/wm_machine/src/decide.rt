@@ -24,8 +24,14 @@ fn entered(levels: &Levels, ty: BlockType, first: usize, second: usize, other: E
     ensures sets { SetsNothing result }
 {
     match number(levels, 0, Width::W32) {
-        Some(0) => Action::Enter(second, 1),
-        Some(_) => Action::Enter(first, 1),
+        Some(0) => Action::Enter {
+            block: second,
+            popped: 1,
+        },
+        Some(_) => Action::Enter {
+            block: first,
+            popped: 1,
+        },
         None => Action::Stuck,
     }
 }
@@ -38,7 +44,7 @@ fn branch_if(levels: &Levels, label: u32) -> Action
 {
     match number(levels, 0, Width::W32) {
         Some(0) => Action::Replace(1, None),
-        Some(_) => Action::Branch(label, 1),
+        Some(_) => Action::Branch { label, popped: 1 },
         None => Action::Stuck,
     }
 }
@@ -51,8 +57,14 @@ fn branch_by_table(levels: &Levels, labels: &List<u32>, default: u32) -> Action
 {
     match number(levels, 0, Width::W32) {
         Some(index) => match labels.get(index as usize) {
-            Some(label) => Action::Branch(*label, 1),
-            None => Action::Branch(default, 1),
+            Some(label) => Action::Branch {
+                label: *label,
+                popped: 1,
+            },
+            None => Action::Branch {
+                label: default,
+                popped: 1,
+            },
         },
         None => Action::Stuck,
     }
@@ -141,9 +153,15 @@ pub fn decide(
     match instr {
         Instr::Unreachable => Action::Trap(TrapKind::Unreachable),
         Instr::Nop => Action::Replace(0, None),
-        Instr::Block(_, block) | Instr::Loop(_, block) => Action::Enter(*block, 0),
+        Instr::Block(_, block) | Instr::Loop(_, block) => Action::Enter {
+            block: *block,
+            popped: 0,
+        },
         Instr::If(ty, first, second, other) => entered(levels, *ty, *first, *second, *other),
-        Instr::Br(label) => Action::Branch(*label, 0),
+        Instr::Br(label) => Action::Branch {
+            label: *label,
+            popped: 0,
+        },
         Instr::BrIf(label) => branch_if(levels, *label),
         Instr::BrTable(labels, default) => branch_by_table(levels, labels, *default),
         Instr::Return => Action::Return,

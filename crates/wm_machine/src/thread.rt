@@ -8,7 +8,7 @@ ghost use Rattle.wm_machine.specs.Start.{started, started_in};
 ghost use Rattle.wm_machine.specs.Functions.{callable as callable_in};
 ghost use Rattle.wm_machine.specs.Inside.{as_list};
 
-use crate::activation::{Activation, Reached};
+use crate::activation::{Activation, Invocation, Reached, ReturnTo};
 use crate::call::{call, leave};
 use crate::fault::{AdvanceFault, StartFault, StepFault};
 use crate::functions::callable;
@@ -162,8 +162,8 @@ impl<'m> Thread<'m> {
             }
             Ok(Reached::Left(value)) => match leave(&mut self.running, &mut self.callers, value) {
                 Err(_) => Err(AdvanceFault::OutOfMemory),
-                Ok(true) => Ok(()),
-                Ok(false) => {
+                Ok(ReturnTo::Caller) => Ok(()),
+                Ok(ReturnTo::Outside) => {
                     self.end = Some(End::Done(bits(value)));
                     Ok(())
                 }
@@ -178,8 +178,8 @@ impl<'m> Thread<'m> {
                 ) {
                     Err(StepFault::Stuck) => unreachable!(),
                     Err(StepFault::OutOfMemory) => Err(AdvanceFault::OutOfMemory),
-                    Ok(true) => Ok(()),
-                    Ok(false) => {
+                    Ok(Invocation::Entered) => Ok(()),
+                    Ok(Invocation::TooDeep) => {
                         self.end = Some(End::Trap(TrapKind::Exhausted));
                         Ok(())
                     }

@@ -1,5 +1,5 @@
 -- From a body to its function, and from a function to its module.
-use Rattle.std.proofs.Common.{◌≡◌, ℕ, [], ◌∷◌, Some, Result, Ok, Err, sym, ap, subst, ◌∙◌, slice_get}
+use Rattle.std.proofs.Common.{◌≡◌, ℕ, [], ◌∷◌, Some, Result, Ok, Err, inl, sym, ap, subst, ◌∙◌, slice_get}
 use Rattle.wm_ast.specs.declared.module.Module.{Module}
 use Rattle.wm_ast.specs.declared.module.Func.{Func}
 use Rattle.wm_ast.specs.declared.types.FuncType.{FuncType}
@@ -21,7 +21,7 @@ judged_body (Err (refusal.Breaks kind)) m f ty n there h counted = record {
   untyped = λ (t : TypedFunc m f).
       let same-is : t.type ≡ ty = some_is t.type ty (sym t.is_type ∙ there) in
       h (subst (λ (u : FuncType). TypedBlock (context m f u) 0 (u.result ∷ []) u.result) same-is t.body);
-  place = λ other. let r = counted other in record { type = ty; is_type = there; body = r.0; is_body = r.1; broken = r.2 };
+  place = inl (record { type = ty; is_type = there; body = counted.0; is_body = counted.1; faulty = counted.2 });
 }
 
 pub func_breaks : (e : ValidFault) (m : Module) (f : Func) (number : ℕ) → slice_get m.funcs number ≡ Some f → RefusesFunc m f number e → Breaks m e

@@ -6,3 +6,4 @@ pub mod LoopLaws
 pub mod Laid
 pub mod FuncLaws
 pub mod SectionFacts
+pub mod LabelLaws

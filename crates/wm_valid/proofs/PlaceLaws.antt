@@ -1,5 +1,5 @@
 -- The number of an instruction, from its block's outwards.
-use Rattle.std.proofs.Common.{◌≡◌, ℕ, ◌+◌, ◌-◌, ◌^◌, ◌≤◌, min, List, [], ◌∷◌, ◌++◌, Option, Some, refl, sym, subst, slice_get, Result, Ok, Err, arith}
+use Rattle.std.proofs.Common.{◌≡◌, ℕ, ◌+◌, ◌-◌, ◌^◌, ◌≤◌, min, List, [], ◌∷◌, ◌++◌, Option, Some, refl, sym, subst, slice_get, Result, Ok, Err, inl, inr, ◌∙◌, arith}
 use Rattle.std.specs.Prelude.{IfErr}
 use Rattle.wm_ast.specs.declared.types.ValType.{ValType}
 use Rattle.wm_ast.specs.declared.instr.Else.{Else}
@@ -7,19 +7,12 @@ use Rattle.wm_ast.specs.declared.instr.Else.TheVariants.{Present, Absent}
 use Rattle.wm_ast.specs.declared.instr.Instr.{Instr}
 use Rattle.wm_ast.specs.declared.instr.Instr.TheVariants.{Block, Loop, If}
 use Rattle.wm_valid.specs.InstrTypes.{Context, Labels}
-use Rattle.wm_valid.specs.Places.{Part, parts, Opcodes, none, instr, part, At, here, behind, in_part, past_part, number_of, BrokenAt}
-use Rattle.wm_valid.specs.Answers.{IsUntyped, BrokenBy, Counted, Located, Counts, CountedBlock, LocatedBlock, CountsBlock, CountedElse, LocatedElse}
+use Rattle.wm_valid.specs.Places.{Part, parts, Opcodes, none, instr, part, At, here, behind, in_part, past_part, IsEnd, last, end_behind, end_in_part, end_past_part, number_of, BreaksRule, KeepsOthers, FaultyAt}
+use Rattle.wm_valid.specs.Answers.{IsUntyped, BrokenBy, Counted, Located, Counts, CountedBlock, LocatedBlock, CountsBlock, StopsAt, LocatedNested, CountedElse, LocatedElse}
 use Rattle.wm_valid.specs.declared.fault.FaultKind.{FaultKind}
 use Rattle.wm_valid.specs.declared.fault.InstrFault.{InstrFault}
 use Rattle.wm_valid.specs.declared.fault.InstrFault.TheVariants.{Breaks, OutOfMemory}
 use Rattle.wm_valid.proofs.BodyLaws.{IsPlain}
-
--- more instructions behind
-more_behind : {blocks : List (List Instr)} {labels under : Labels} {ps : List Part} {is : List Instr} {k : ℕ} {i : Instr} (more : List Instr) → At blocks labels ps is k i under → At blocks labels ps (is ++ more) k i under
-more_behind more here = here
-more_behind more (behind a) = behind (more_behind more a)
-more_behind more (in_part body there a) = in_part body there a
-more_behind more (past_part body there ops a) = past_part body there ops (more_behind more a)
 
 zero_plus : (l : ℕ) → l ≡ 0 + l
 zero_plus l = omega arith
@@ -38,6 +31,20 @@ past {blocks} labels under rest l i (instr {i = first} {rest = is} {k = k} ops) 
     subst (λ (n : ℕ). At blocks labels [] (first ∷ is ++ rest) n i under) (one_plus k l) (behind (past labels under rest l i ops a))
 past {blocks} labels under rest l i (part {p = p} {ps = ps} {rest = is} {j = j} {k = k} body there inner ops) a =
     subst (λ (n : ℕ). At blocks labels (p ∷ ps) (is ++ rest) n i under) (regroup j k l) (past_part body there inner (past labels under rest l i ops a))
+
+-- an `else` or an `end` behind others
+end_past : {blocks : List (List Instr)} {ps : List Part} {is : List Instr} {k : ℕ} (rest : List Instr) (l : ℕ) → Opcodes blocks ps is k → IsEnd blocks [] rest l → IsEnd blocks ps (is ++ rest) (k + l)
+end_past {blocks} rest l none a = subst (λ (n : ℕ). IsEnd blocks [] rest n) (zero_plus l) a
+end_past {blocks} rest l (instr {i = first} {rest = is} {k = k} ops) a =
+    subst (λ (n : ℕ). IsEnd blocks [] (first ∷ is ++ rest) n) (one_plus k l) (end_behind (end_past rest l ops a))
+end_past {blocks} rest l (part {p = p} {ps = ps} {rest = is} {j = j} {k = k} body there inner ops) a =
+    subst (λ (n : ℕ). IsEnd blocks (p ∷ ps) (is ++ rest) n) (regroup j k l) (end_past_part body there inner (end_past rest l ops a))
+
+-- the `end` behind all that was counted
+end_of : {blocks : List (List Instr)} {ps : List Part} {is : List Instr} {k : ℕ} → Opcodes blocks ps is k → IsEnd blocks ps is k
+end_of none = last
+end_of (instr ops) = end_behind (end_of ops)
+end_of (part body there inner ops) = end_past_part body there inner (end_of ops)
 
 count_past : {blocks : List (List Instr)} {ps : List Part} {is : List Instr} {k : ℕ} (rest : List Instr) (l : ℕ) → Opcodes blocks ps is k → Opcodes blocks [] rest l → Opcodes blocks ps (is ++ rest) (k + l)
 count_past {blocks} rest l none a = subst (λ (n : ℕ). Opcodes blocks [] rest n) (zero_plus l) a
@@ -62,40 +69,43 @@ counted_more blocks before i first mid next a b = record {
   is_next = number_more (2 ^ 64 - 1) first a.opcodes b.opcodes mid next a.is_next b.is_next;
 }
 
-broken_more : (C : Context) (labels : Labels) (before after : List Instr) (i : Instr) (kind : FaultKind) (first mid n : ℕ) → Counted C.blocks before first mid → BrokenAt C labels (i ∷ []) kind mid n
-    → BrokenAt C labels (before ++ i ∷ after) kind first n
-broken_more C labels before after i kind first mid n a b = record {
+faulty_more : (C : Context) (labels : Labels) (before rest : List Instr) (kind : FaultKind) (first mid n : ℕ) → Counted C.blocks before first mid → FaultyAt C labels rest kind mid n → FaultyAt C labels (before ++ rest) kind first n
+faulty_more C labels before rest kind first mid n a (inl b) = inl (record {
   number = a.opcodes + b.number;
   instr = b.instr;
   under = b.under;
-  at = past labels b.under (i ∷ after) b.number b.instr a.are_opcodes (more_behind after b.at);
+  at = past labels b.under rest b.number b.instr a.are_opcodes b.at;
   breaks = b.breaks;
   is_number = number_more (2 ^ 64 - 1) first a.opcodes b.number mid n a.is_next b.is_number;
-}
+})
+faulty_more C labels before rest kind first mid n a (inr b) = inr (
+  b.0,
+  record {
+    number = a.opcodes + b.1.number;
+    end = end_past rest b.1.number a.are_opcodes b.1.end;
+    is_number = number_more (2 ^ 64 - 1) first a.opcodes b.1.number mid n a.is_next b.1.is_number;
+  },
+)
 
 -- a fault in a block's body is one of the block
 pub located_block : (e : InstrFault) (C : Context) (labels : Labels) (block : ℕ) (before after : List Instr) (i : Instr) (first mid n : ℕ) → slice_get C.blocks block ≡ Some (before ++ i ∷ after) → Counted C.blocks before first mid
     → Located C labels (i ∷ []) mid n e → LocatedBlock C labels block first n e
 located_block OutOfMemory C labels block before after i first mid n there a h = tt
-located_block (Breaks kind) C labels block before after i first mid n there a h = λ other. (before ++ i ∷ after, there, broken_more C labels before after i kind first mid n a (h other))
+located_block (Breaks kind) C labels block before after i first mid n there a h = (before ++ i ∷ after, there, faulty_more C labels before (i ∷ after) kind first mid n a (h after))
 
--- faults of types need no place
-pub untyped_located : (e : InstrFault) (C : Context) (labels : Labels) (is : List Instr) (first n : ℕ) → IsUntyped e → Located C labels is first n e
-untyped_located OutOfMemory C labels is first n h = tt
-untyped_located (Breaks kind) C labels is first n h = λ other. absurd (other h)
-
-pub untyped_block : (e : InstrFault) (C : Context) (labels : Labels) (block first n : ℕ) → IsUntyped e → LocatedBlock C labels block first n e
-untyped_block OutOfMemory C labels block first n h = tt
-untyped_block (Breaks kind) C labels block first n h = λ other. absurd (other h)
-
--- what was counted stays so, or the refusal needs no place
-pub counts : {X : Type 0} (r : Result X InstrFault) (C : Context) (labels : Labels) (is : List Instr) (first n : ℕ) → IfErr r IsUntyped → Counted C.blocks is first n → Counts r C labels is first n
+-- what was counted stays so where the refusal is for want of memory
+pub counts : {X : Type 0} (r : Result X InstrFault) (C : Context) (labels : Labels) (is : List Instr) (first n : ℕ) → IfErr r (λ e. e ≡ OutOfMemory) → Counted C.blocks is first n → Counts r C labels is first n
 counts (Ok x) C labels is first n kind h = h
-counts (Err e) C labels is first n kind h = untyped_located e C labels is first n kind
+counts (Err e) C labels is first n kind h = subst (Located C labels is first n) (sym kind) tt
+
+-- the operands of a block are wrong at its end
+at_end : (e : InstrFault) (C : Context) (labels : Labels) (block first n : ℕ) → IsUntyped e → CountedBlock C block first n → LocatedBlock C labels block first n e
+at_end OutOfMemory C labels block first n kind h = tt
+at_end (Breaks other) C labels block first n kind h = (h.0, h.1, inr (kind, record { number = h.2.opcodes; end = end_of h.2.are_opcodes; is_number = h.2.is_next }))
 
 pub counts_block : {X : Type 0} (r : Result X InstrFault) (C : Context) (labels : Labels) (block first n : ℕ) → IfErr r IsUntyped → CountedBlock C block first n → CountsBlock r C labels block first n
 counts_block (Ok x) C labels block first n kind h = h
-counts_block (Err e) C labels block first n kind h = untyped_block e C labels block first n kind
+counts_block (Err e) C labels block first n kind h = at_end e C labels block first n kind h
 
 plain_parts : (i : Instr) → IsPlain i → parts i ≡ []
 plain_parts (Block t b) h = absurd h
@@ -112,7 +122,7 @@ plain_counted blocks i first next h e = record {
 
 pub plain_located : (e : InstrFault) (C : Context) (labels : Labels) (i : Instr) (first : ℕ) → first ≤ 2 ^ 64 - 1 → BrokenBy C labels i e → Located C labels (i ∷ []) first first e
 plain_located OutOfMemory C labels i first fits h = tt
-plain_located (Breaks kind) C labels i first fits h = λ other. record { number = 0; instr = i; under = labels; at = here; breaks = h; is_number = fitting first (2 ^ 64 - 1) fits }
+plain_located (Breaks kind) C labels i first fits h = λ after. inl (record { number = 0; instr = i; under = labels; at = here; breaks = h; is_number = fitting first (2 ^ 64 - 1) fits })
   where
     fitting : (first m : ℕ) → first ≤ m → first ≡ min (first + 0) m
     fitting first m h = omega arith
@@ -132,25 +142,44 @@ one_part C i t b first p mid next is e h f = record {
 number_first : (m first p k n : ℕ) → p ≡ min (first + 1) m → n ≡ min (p + k) m → n ≡ min (first + (1 + k)) m
 number_first m first p k n e f = omega arith
 
--- a fault in an instruction's first block
-pub first_located : (e : InstrFault) (C : Context) (labels : Labels) (i : Instr) (t : Option ValType) (b : ℕ) (ps : List Part) (first p n : ℕ) → parts i ≡ record { label = t; block = b } ∷ ps → p ≡ number_of (first + 1)
-    → LocatedBlock C (t ∷ labels) b p n e → Located C labels (i ∷ []) first n e
-first_located OutOfMemory C labels i t b ps first p n is at h = tt
-first_located (Breaks kind) C labels i t b ps first p n is at h = λ other.
-    let r = h other in
-    record {
-      number = 1 + r.2.number;
-      instr = r.2.instr;
-      under = r.2.under;
-      at = behind (subst (λ (qs : List Part). At C.blocks labels qs [] r.2.number r.2.instr r.2.under) (sym is) (in_part r.0 r.1 r.2.at));
-      breaks = r.2.breaks;
-      is_number = number_first (2 ^ 64 - 1) first p r.2.number n at r.2.is_number;
-    }
+-- an instruction that keeps the rules but that of types, at which the refusal stops
+pub stops_located : (e : InstrFault) (C : Context) (labels : Labels) (i : Instr) (first n : ℕ) → first ≤ 2 ^ 64 - 1 → KeepsOthers C labels i → StopsAt e first n → Located C labels (i ∷ []) first n e
+stops_located OutOfMemory C labels i first n fits keeps h = tt
+stops_located (Breaks kind) C labels i first n fits keeps h =
+    let broken : BrokenBy C labels i (Breaks kind) = subst (BreaksRule C labels i) (sym h.0) keeps in
+    subst (λ (k : ℕ). Located C labels (i ∷ []) first k (Breaks kind)) (sym h.1) (plain_located (Breaks kind) C labels i first fits broken)
 
-pub if_first_located : (e : InstrFault) (C : Context) (labels : Labels) (t : Option ValType) (one other : ℕ) (part : Else) (first p n : ℕ) → p ≡ number_of (first + 1) → LocatedBlock C (t ∷ labels) one p n e
+-- a fault in an instruction's first block
+inside_first : (C : Context) (labels : Labels) (i : Instr) (t : Option ValType) (b : ℕ) (ps : List Part) (kind : FaultKind) (first n : ℕ) (body after : List Instr) → parts i ≡ record { label = t; block = b } ∷ ps
+    → slice_get C.blocks b ≡ Some body → FaultyAt C (t ∷ labels) body kind (number_of (first + 1)) n → FaultyAt C labels (i ∷ after) kind first n
+inside_first C labels i t b ps kind first n body after is there (inl r) = inl (record {
+  number = 1 + r.number;
+  instr = r.instr;
+  under = r.under;
+  at = behind (subst (λ (qs : List Part). At C.blocks labels qs after r.number r.instr r.under) (sym is) (in_part body there r.at));
+  breaks = r.breaks;
+  is_number = number_first (2 ^ 64 - 1) first (number_of (first + 1)) r.number n refl r.is_number;
+})
+inside_first C labels i t b ps kind first n body after is there (inr r) = inr (
+  r.0,
+  record {
+    number = 1 + r.1.number;
+    end = end_behind (subst (λ (qs : List Part). IsEnd C.blocks qs after r.1.number) (sym is) (end_in_part body there r.1.end));
+    is_number = number_first (2 ^ 64 - 1) first (number_of (first + 1)) r.1.number n refl r.1.is_number;
+  },
+)
+
+pub first_located : (e : InstrFault) (C : Context) (labels : Labels) (i : Instr) (t : Option ValType) (b : ℕ) (ps : List Part) (first n : ℕ) → first ≤ 2 ^ 64 - 1 → parts i ≡ record { label = t; block = b } ∷ ps → KeepsOthers C labels i
+    → LocatedNested C (t ∷ labels) b first n e → Located C labels (i ∷ []) first n e
+first_located e C labels i t b ps first n fits is keeps (inl stop) = stops_located e C labels i first n fits keeps stop
+first_located OutOfMemory C labels i t b ps first n fits is keeps (inr h) = tt
+first_located (Breaks kind) C labels i t b ps first n fits is keeps (inr h) = λ after. inside_first C labels i t b ps kind first n h.0 after is h.1 h.2
+
+pub if_first_located : (e : InstrFault) (C : Context) (labels : Labels) (t : Option ValType) (one other : ℕ) (part : Else) (first n : ℕ) → first ≤ 2 ^ 64 - 1 → LocatedNested C (t ∷ labels) one first n e
     → Located C labels (If t one other part ∷ []) first n e
-if_first_located e C labels t one other Present first p n at h = first_located e C labels (If t one other Present) t one (record { label = t; block = other } ∷ []) first p n refl at h
-if_first_located e C labels t one other Absent first p n at h = first_located e C labels (If t one other Absent) t one [] first p n refl at h
+if_first_located e C labels t one other Present first n fits h =
+    first_located e C labels (If t one other Present) t one (record { label = t; block = other } ∷ []) first n fits refl ((λ z. z), (λ z. z), (λ z. z), (λ p z. z)) h
+if_first_located e C labels t one other Absent first n fits h = first_located e C labels (If t one other Absent) t one [] first n fits refl ((λ z. z), (λ z. z), (λ z. z), (λ p z. z)) h
 
 number_two : (m first p j mid k mid2 next : ℕ) → p ≡ min (first + 1) m → mid ≡ min (p + j) m → mid2 ≡ min (min (mid + 1) m + k) m → next ≡ min (mid2 + 1) m → next ≡ min (first + (1 + (j + 1 + (k + 1 + 0)))) m
 number_two m first p j mid k mid2 next e f g h = omega arith
@@ -165,21 +194,49 @@ if_counted C t one other Present first p mid mid2 next e h g f = record {
 if_counted C t one other Absent first p mid mid2 next e h g f =
     one_part C (If t one other Absent) t one first p mid next refl e h (subst (λ (q : ℕ). next ≡ number_of (q + 1)) g f)
 
-number_second : (m first p j mid k n : ℕ) → p ≡ min (first + 1) m → mid ≡ min (p + j) m → n ≡ min (min (mid + 1) m + k) m → n ≡ min (first + (1 + (j + 1 + k))) m
-number_second m first p j mid k n e f g = omega arith
+number_second : (m first j mid k n : ℕ) → mid ≡ min (min (first + 1) m + j) m → n ≡ min (min (mid + 1) m + k) m → n ≡ min (first + (1 + (j + 1 + k))) m
+number_second m first j mid k n e f = omega arith
+
+number_between : (m first j mid : ℕ) → mid ≡ min (min (first + 1) m + j) m → mid ≡ min (first + (1 + j)) m
+number_between m first j mid e = omega arith
+
+-- a fault in the second block of an `if`
+inside_second : (C : Context) (labels : Labels) (t : Option ValType) (one other : ℕ) (kind : FaultKind) (first mid n : ℕ) (body after : List Instr) → CountedBlock C one (number_of (first + 1)) mid → slice_get C.blocks other ≡ Some body
+    → FaultyAt C (t ∷ labels) body kind (number_of (mid + 1)) n → FaultyAt C labels (If t one other Present ∷ after) kind first n
+inside_second C labels t one other kind first mid n body after h there (inl r) = inl (record {
+  number = 1 + (h.2.opcodes + 1 + r.number);
+  instr = r.instr;
+  under = r.under;
+  at = behind (past_part h.0 h.1 h.2.are_opcodes (in_part body there r.at));
+  breaks = r.breaks;
+  is_number = number_second (2 ^ 64 - 1) first h.2.opcodes mid r.number n h.2.is_next r.is_number;
+})
+inside_second C labels t one other kind first mid n body after h there (inr r) = inr (
+  r.0,
+  record {
+    number = 1 + (h.2.opcodes + 1 + r.1.number);
+    end = end_behind (end_past_part h.0 h.1 h.2.are_opcodes (end_in_part body there r.1.end));
+    is_number = number_second (2 ^ 64 - 1) first h.2.opcodes mid r.1.number n h.2.is_next r.1.is_number;
+  },
+)
+
+-- a fault at the opcode behind an instruction's first block
+stops_behind : (e : InstrFault) (C : Context) (labels : Labels) (i : Instr) (t : Option ValType) (b : ℕ) (ps : List Part) (first mid n : ℕ) → parts i ≡ record { label = t; block = b } ∷ ps
+    → CountedBlock C b (number_of (first + 1)) mid → StopsAt e mid n → Located C labels (i ∷ []) first n e
+stops_behind OutOfMemory C labels i t b ps first mid n is h stop = tt
+stops_behind (Breaks kind) C labels i t b ps first mid n is h stop = λ after. inr (
+  stop.0,
+  record {
+    number = 1 + h.2.opcodes;
+    end = end_behind (subst (λ (qs : List Part). IsEnd C.blocks qs after h.2.opcodes) (sym is) (end_in_part h.0 h.1 (end_of h.2.are_opcodes)));
+    is_number = stop.1 ∙ number_between (2 ^ 64 - 1) first h.2.opcodes mid h.2.is_next;
+  },
+)
 
 -- a fault in the else part of an `if`
-pub if_else_located : (e : InstrFault) (C : Context) (labels : Labels) (t : Option ValType) (one other : ℕ) (part : Else) (first p mid n : ℕ) → p ≡ number_of (first + 1) → CountedBlock C one p mid → LocatedElse C labels other t part mid n e
+pub if_else_located : (e : InstrFault) (C : Context) (labels : Labels) (t : Option ValType) (one other : ℕ) (part : Else) (first mid n : ℕ) → CountedBlock C one (number_of (first + 1)) mid → LocatedElse C labels other t part mid n e
     → Located C labels (If t one other part ∷ []) first n e
-if_else_located OutOfMemory C labels t one other kind first p mid n at h g = tt
-if_else_located (Breaks kind) C labels t one other Absent first p mid n at h g = λ not. absurd (not g)
-if_else_located (Breaks kind) C labels t one other Present first p mid n at h g = λ not.
-    let r = g not in
-    record {
-      number = 1 + (h.2.opcodes + 1 + r.2.number);
-      instr = r.2.instr;
-      under = r.2.under;
-      at = behind (past_part h.0 h.1 h.2.are_opcodes (in_part r.0 r.1 r.2.at));
-      breaks = r.2.breaks;
-      is_number = number_second (2 ^ 64 - 1) first p h.2.opcodes mid r.2.number n at h.2.is_next r.2.is_number;
-    }
+if_else_located e C labels t one other Absent first mid n h g = stops_behind e C labels (If t one other Absent) t one [] first mid n refl h g
+if_else_located e C labels t one other Present first mid n h (inl g) = stops_behind e C labels (If t one other Present) t one (record { label = t; block = other } ∷ []) first mid n refl h g
+if_else_located OutOfMemory C labels t one other Present first mid n h (inr g) = tt
+if_else_located (Breaks kind) C labels t one other Present first mid n h (inr g) = λ after. inside_second C labels t one other kind first mid n g.0 after h g.1 g.2

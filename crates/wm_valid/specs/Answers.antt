@@ -1,5 +1,5 @@
 -- What a function answers, seen by what it had to find.
-use Rattle.std.specs.Prelude.{◌≡◌, ◌≢◌, ℕ, ◌+◌, List, [], ◌∷◌, Option, Some, None, Result, Ok, Err, slice_get}
+use Rattle.std.specs.Prelude.{◌≡◌, ◌⊎◌, ℕ, ◌+◌, List, [], ◌∷◌, ◌++◌, Option, Some, None, Result, Ok, Err, slice_get}
 use Rattle.wm_ast.specs.declared.types.ValType.{ValType}
 use Rattle.wm_ast.specs.declared.instr.Instr.{Instr}
 use Rattle.wm_ast.specs.declared.instr.Else.{Else}
@@ -7,7 +7,7 @@ use Rattle.wm_ast.specs.declared.instr.Else.TheVariants.{Present, Absent}
 use Rattle.wm_valid.specs.InstrTypes.{Context, Labels}
 use Rattle.wm_valid.specs.Typing.{Typed}
 use Rattle.wm_valid.specs.Stacks.{Stack, Matches}
-use Rattle.wm_valid.specs.Places.{Opcodes, BreaksRule, BrokenAt, NoSuchLabelIn, number_of}
+use Rattle.wm_valid.specs.Places.{Opcodes, BreaksRule, FaultyAt, NoSuchLabelIn, number_of}
 use Rattle.wm_valid.specs.declared.fault.FaultKind.TheVariants.{BadType, Index, Label}
 use Rattle.wm_valid.specs.declared.fault.InstrFault.{InstrFault}
 use Rattle.wm_valid.specs.declared.fault.InstrFault.TheVariants.{Breaks, OutOfMemory}
@@ -54,10 +54,14 @@ abbrev pub IsUntyped : InstrFault → Type 0
 IsUntyped OutOfMemory = Unit {0}
 IsUntyped (Breaks kind) = kind ≡ BadType
 
--- some label of a table isn't there, or they have no one type
+-- label k is there
+abbrev pub IsLabel : Labels → ℕ → Type 0
+IsLabel labels k = slice_get labels k ≡ None → ⊥
+
+-- some label of a table isn't there, or all are and have no one type
 abbrev pub TableFault : Labels → List ℕ → ℕ → InstrFault → Type 0
 TableFault labels ks l OutOfMemory = Unit {0}
-TableFault labels ks l (Breaks BadType) = Unit {0}
+TableFault labels ks l (Breaks BadType) = NoSuchLabelIn labels ks l → ⊥
 TableFault labels ks l (Breaks Label) = NoSuchLabelIn labels ks l
 TableFault labels ks l _ = ⊥
 
@@ -67,10 +71,10 @@ pub record Counted (blocks : List (List Instr)) (instrs : List Instr) (first nex
   pub are_opcodes : Opcodes blocks [] instrs opcodes
   pub is_next : next ≡ number_of (first + opcodes)
 
--- the refusal is for want of memory or for types, or this instruction breaks the rule
+-- the refusal is for want of memory, or this opcode is at fault, whatever stands behind the instructions
 abbrev pub Located : Context → Labels → List Instr → ℕ → ℕ → InstrFault → Type 0
 Located C labels instrs first n OutOfMemory = Unit {0}
-Located C labels instrs first n (Breaks kind) = kind ≢ BadType → BrokenAt C labels instrs kind first n
+Located C labels instrs first n (Breaks kind) = (after : List Instr) → FaultyAt C labels (instrs ++ after) kind first n
 
 -- the instructions have been counted up to their end, or up to one that breaks the rule
 abbrev pub Counts : {X : Type 0} → Result X InstrFault → Context → Labels → List Instr → ℕ → ℕ → Type 0
@@ -83,7 +87,7 @@ CountedBlock C block first n = (body : List Instr) × (slice_get C.blocks block 
 
 abbrev pub LocatedBlock : Context → Labels → ℕ → ℕ → ℕ → InstrFault → Type 0
 LocatedBlock C labels block first n OutOfMemory = Unit {0}
-LocatedBlock C labels block first n (Breaks kind) = kind ≢ BadType → (body : List Instr) × (slice_get C.blocks block ≡ Some body) × BrokenAt C labels body kind first n
+LocatedBlock C labels block first n (Breaks kind) = (body : List Instr) × (slice_get C.blocks block ≡ Some body) × FaultyAt C labels body kind first n
 
 abbrev pub CountsBlock : {X : Type 0} → Result X InstrFault → Context → Labels → ℕ → ℕ → ℕ → Type 0
 CountsBlock (Ok x) C labels block first n = CountedBlock C block first n
@@ -95,14 +99,26 @@ IsLabelFault e = e ≡ Breaks Label
 abbrev pub IsIndexFault : InstrFault → Type 0
 IsIndexFault e = e ≡ Breaks Index
 
+-- the refusal is for want of memory, or for types at this number
+abbrev pub StopsAt : InstrFault → ℕ → ℕ → Type 0
+StopsAt e first n = IsUntyped e × (n ≡ first)
+
+-- the same of a block and of the opcode in front of it, which is at fault where there is no such block behind it
+abbrev pub LocatedNested : Context → Labels → ℕ → ℕ → ℕ → InstrFault → Type 0
+LocatedNested C labels block first n e = StopsAt e first n ⊎ LocatedBlock C labels block (number_of (first + 1)) n e
+
+abbrev pub CountsNested : {X : Type 0} → Result X InstrFault → Context → Labels → ℕ → ℕ → ℕ → Type 0
+CountsNested (Ok x) C labels block first n = CountedBlock C block (number_of (first + 1)) n
+CountsNested (Err e) C labels block first n = LocatedNested C labels block first n e
+
 -- the same of the else part of an `if`, whose opcodes begin at its `else`; an absent one has none
 abbrev pub CountedElse : Context → ℕ → Else → ℕ → ℕ → Type 0
 CountedElse C block Present first n = CountedBlock C block (number_of (first + 1)) n
 CountedElse C block Absent first n = n ≡ first
 
 abbrev pub LocatedElse : Context → Labels → ℕ → Option ValType → Else → ℕ → ℕ → InstrFault → Type 0
-LocatedElse C labels block t Present first n e = LocatedBlock C (t ∷ labels) block (number_of (first + 1)) n e
-LocatedElse C labels block t Absent first n e = IsUntyped e
+LocatedElse C labels block t Present first n e = LocatedNested C (t ∷ labels) block first n e
+LocatedElse C labels block t Absent first n e = StopsAt e first n
 
 abbrev pub CountsElse : {X : Type 0} → Result X InstrFault → Context → Labels → ℕ → Option ValType → Else → ℕ → ℕ → Type 0
 CountsElse (Ok x) C labels block t part first n = CountedElse C block part first n

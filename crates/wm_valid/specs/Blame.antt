@@ -1,5 +1,5 @@
 -- What a refusal says of the module.
-use Rattle.std.specs.Prelude.{ℕ, ◌≡◌, ◌≢◌, ◌+◌, ◌<◌, ◌⊎◌, List, [], ◌∷◌, Some, None, Result, Ok, Err, length, slice_get, All}
+use Rattle.std.specs.Prelude.{ℕ, ◌≡◌, ◌+◌, ◌<◌, ◌⊎◌, List, [], ◌∷◌, Some, None, Result, Ok, Err, length, slice_get, All}
 use Rattle.wm_ast.specs.declared.types.FuncType.{FuncType}
 use Rattle.wm_ast.specs.declared.types.ValType.TheVariants as value
 use Rattle.wm_ast.specs.declared.instr.Instr.{Instr}
@@ -10,7 +10,7 @@ use Rattle.wm_valid.specs.Typing.{TypedFunc, context}
 use Rattle.wm_ast.specs.Module.{memory_size}
 use Rattle.wm_valid.specs.Memory.{start}
 use Rattle.wm_valid.specs.Valid.{GoodLimits, GoodGlobal, GoodExport, GoodData, HasMemory, IsConstant}
-use Rattle.wm_valid.specs.Places.{BrokenAt}
+use Rattle.wm_valid.specs.Places.{FaultyAt}
 use Rattle.wm_valid.specs.declared.fault.FaultKind.{FaultKind}
 use Rattle.wm_valid.specs.declared.fault.FaultKind.TheVariants.{BadType, Index, Label, Alignment, DataOutOfRange, MemoryAbsent, MemoryLimits}
 use Rattle.wm_valid.specs.declared.fault.Location.{Location}
@@ -43,13 +43,13 @@ pub record GoodSections (m : Module) : Type 0 where
   pub exports : All (GoodExport m) m.exports
   pub segments : All (GoodData m) m.data
 
--- instruction n of the function breaks this rule
+-- opcode n of the function is an instruction that breaks this rule and, where the rule is that of types, no other; or an `else` or an `end`, where the rule is that of types
 pub record BreaksIn (m : Module) (f : Func) (kind : FaultKind) (n : ℕ) : Type 0 where
   pub type : FuncType
   pub is_type : slice_get m.types f.type_index ≡ Some type
   pub body : List Instr
   pub is_body : slice_get f.blocks 0 ≡ Some body
-  pub broken : BrokenAt (context m f type) (type.result ∷ []) body kind 0 n
+  pub faulty : FaultyAt (context m f type) (type.result ∷ []) body kind 0 n
 
 -- the data segment, at an i32, ends past the memory as it is at first
 pub record IsOutOfRange (m : Module) (d : DataSegment) : Type 0 where
@@ -74,10 +74,10 @@ BreaksData m d DataOutOfRange = IsOutOfRange m d
 BreaksData m d MemoryAbsent = m.memory ≡ None
 BreaksData m d _ = ⊥
 
--- the function isn't typed, and where the rule isn't that of types, its instruction n breaks it
+-- the function isn't typed, and its opcode n is at fault; a function without a body breaks the rule of types
 pub record BreaksFunc (m : Module) (f : Func) (kind : FaultKind) (n : ℕ) : Type 0 where
   pub untyped : TypedFunc m f → ⊥
-  pub place : kind ≢ BadType → BreaksIn m f kind n
+  pub place : BreaksIn m f kind n ⊎ ((kind ≡ BadType) × (slice_get f.blocks 0 ≡ None))
 
 -- the module breaks the rule at the place
 abbrev pub BreaksAt : Module → FaultKind → Location → Type 0

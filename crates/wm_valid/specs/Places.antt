@@ -1,5 +1,5 @@
 -- The numbers of a function's instructions, and which rule an instruction breaks where it stands.
-use Rattle.std.specs.Prelude.{ℕ, ◌≡◌, ◌+◌, ◌-◌, ◌^◌, min, List, [], ◌∷◌, Option, Some, None, slice_get, Contains, false}
+use Rattle.std.specs.Prelude.{ℕ, ◌≡◌, ◌+◌, ◌-◌, ◌^◌, ◌⊎◌, min, List, [], ◌∷◌, Option, Some, None, slice_get, Contains, false}
 use Rattle.wm_ast.specs.declared.types.ValType.{ValType}
 use Rattle.wm_ast.specs.declared.instr.Else.TheVariants.{Present, Absent}
 use Rattle.wm_ast.specs.declared.instr.Instr.{Instr}
@@ -39,6 +39,14 @@ pub data At (blocks : List (List Instr)) : Labels → List Part → List Instr �
   past_part : {labels under : Labels} {i : Instr} {p : Part} {ps : List Part} {rest : List Instr} {j k : ℕ} (body : List Instr) → slice_get blocks p.block ≡ Some body
       → Opcodes blocks [] body j → At blocks labels ps rest k i under → At blocks labels (p ∷ ps) rest (j + 1 + k) i under
 
+-- in these blocks and then these instructions, opcode k is an `else` or an `end`, of a block or behind them all
+pub data IsEnd (blocks : List (List Instr)) : List Part → List Instr → ℕ → Type 0 where
+  last : IsEnd blocks [] [] 0
+  end_behind : {first : Instr} {rest : List Instr} {k : ℕ} → IsEnd blocks (parts first) rest k → IsEnd blocks [] (first ∷ rest) (1 + k)
+  end_in_part : {p : Part} {ps : List Part} {rest : List Instr} {k : ℕ} (body : List Instr) → slice_get blocks p.block ≡ Some body → IsEnd blocks [] body k → IsEnd blocks (p ∷ ps) rest k
+  end_past_part : {p : Part} {ps : List Part} {rest : List Instr} {j k : ℕ} (body : List Instr) → slice_get blocks p.block ≡ Some body → Opcodes blocks [] body j → IsEnd blocks ps rest k
+      → IsEnd blocks (p ∷ ps) rest (j + 1 + k)
+
 -- an opcode's number as it is given: from 2 to the power 64 on, 1 less than that
 abbrev pub number_of : ℕ → ℕ
 number_of k = min k (2 ^ 64 - 1)
@@ -71,9 +79,13 @@ NeedsMemory (Access kind operands) = Unit {0}
 NeedsMemory MemorySize = Unit {0}
 NeedsMemory _ = ⊥
 
--- the instruction breaks this rule where it stands. What BadType says is of its function
+-- the instruction keeps the rules but that of types where it stands
+abbrev pub KeepsOthers : Context → Labels → Instr → Type 0
+KeepsOthers C labels i = (NoSuchIndex C i → ⊥) × (NoSuchLabel labels i → ⊥) × (IsMisaligned i → ⊥) × (C.module.memory ≡ None → NeedsMemory i → ⊥)
+
+-- the instruction breaks this rule where it stands. BadType says that it breaks no other; that there is no typing is said of its function
 abbrev pub BreaksRule : Context → Labels → Instr → FaultKind → Type 0
-BreaksRule C labels i BadType = Unit {0}
+BreaksRule C labels i BadType = KeepsOthers C labels i
 BreaksRule C labels i Index = NoSuchIndex C i
 BreaksRule C labels i Label = NoSuchLabel labels i
 BreaksRule C labels i Alignment = IsMisaligned i
@@ -89,3 +101,13 @@ pub record BrokenAt (C : Context) (labels : Labels) (instrs : List Instr) (kind 
   pub at : At C.blocks labels [] instrs number instr under
   pub breaks : BreaksRule C under instr kind
   pub is_number : n ≡ number_of (first + number)
+
+-- opcode n of these, counted from `first`, is an `else` or an `end`
+pub record EndsAt (C : Context) (instrs : List Instr) (first n : ℕ) : Type 0 where
+  pub number : ℕ
+  pub end : IsEnd C.blocks [] instrs number
+  pub is_number : n ≡ number_of (first + number)
+
+-- opcode n of these, counted from `first`, is an instruction that breaks this rule, or an `else` or an `end`, where the rule is that of types
+abbrev pub FaultyAt : Context → Labels → List Instr → FaultKind → ℕ → ℕ → Type 0
+FaultyAt C labels instrs kind first n = BrokenAt C labels instrs kind first n ⊎ ((kind ≡ BadType) × EndsAt C instrs first n)

@@ -1,6 +1,6 @@
 //! The instructions of a function, block by block.
-ghost use Rattle.std.specs.Prelude.{◌≡◌, ◌+◌, ◌∷◌, [], OnOk, IfErr};
-ghost use Rattle.wm_valid.specs.Answers.{Checked, Decides, Counts, CountsBlock, CountsElse, IsUntyped};
+ghost use Rattle.std.specs.Prelude.{◌≡◌, ◌+◌, ◌<◌, ◌∷◌, [], OnOk, IfErr, length};
+ghost use Rattle.wm_valid.specs.Answers.{Checked, Decides, Counts, CountsBlock, CountsElse, CountsNested, IsUntyped};
 ghost use Rattle.wm_valid.specs.Typing.{TypedBlock, Nested, ElsePart, AbsentElse};
 ghost use Rattle.wm_valid.specs.Places.{number_of};
 
@@ -49,23 +49,21 @@ impl Checker<'_> {
         ensures same { OnOk result (labels.new ≡ labels.old) }
         ensures place { Counts result self.now labels.old (instr.now ∷ []) position.old position.new }
     {
-        let next = next_number(*position);
+        // Reading it tells the proof its range.
+        let _first = *position;
         match instr {
             Instr::Block(t, block) => {
-                *position = next;
                 self.nested(alloc, number, *block, labels, position, *t, *t)?;
                 *position = next_number(*position);
                 stack.give(*t)
             }
             Instr::Loop(t, block) => {
-                *position = next;
                 self.nested(alloc, number, *block, labels, position, None, *t)?;
                 *position = next_number(*position);
                 stack.give(*t)
             }
             Instr::If(t, first, second, part) => {
                 stack.take(ValType::I32)?;
-                *position = next;
                 self.nested(alloc, number, *first, labels, position, *t, *t)?;
                 self.else_part(alloc, number, *second, labels, position, *t, *part)?;
                 *position = next_number(*position);
@@ -73,7 +71,7 @@ impl Checker<'_> {
             }
             _ => {
                 self.plain(labels, stack, instr)?;
-                *position = next;
+                *position = next_number(*position);
                 Ok(())
             }
         }
@@ -96,23 +94,20 @@ impl Checker<'_> {
         ensures place { CountsElse result self.now labels.old block result_type part position.old position.new }
     {
         match part {
-            Else::Present => {
-                *position = next_number(*position);
-                self.nested(
-                    alloc,
-                    number,
-                    block,
-                    labels,
-                    position,
-                    result_type,
-                    result_type,
-                )
-            }
+            Else::Present => self.nested(
+                alloc,
+                number,
+                block,
+                labels,
+                position,
+                result_type,
+                result_type,
+            ),
             Else::Absent => self.absent_else(block, result_type),
         }
     }
 
-    /// A block that block `number` names, from its first opcode to its end.
+    /// A block that block `number` names, from the opcode in front of it to its end.
     #[cycle(body)]
     fn nested(
         &self,
@@ -126,18 +121,20 @@ impl Checker<'_> {
     ) -> Result<(), InstrFault>
         ensures decides { Decides result (Nested self.now number block (label ∷ labels.old) result_type) }
         ensures same { OnOk result (labels.new ≡ labels.old) }
-        ensures place { CountsBlock result self.now (label ∷ labels.old) block position.old position.new }
+        ensures place { CountsNested result self.now (label ∷ labels.old) block position.old position.new }
     {
         if block <= number || block >= self.blocks.len() {
             return Err(InstrFault::Breaks(FaultKind::BadType));
         }
+        *position = next_number(*position);
         labels.push(label)?;
         self.block(alloc, block, labels, position, result_type)?;
         labels.pop();
         Ok(())
     }
 
-    /// A block, from nothing to its result. `position` is the number of its first opcode, and then that of its end.
+    /// A block that is there, from nothing to its result. `position` is the number of its first opcode, and then that of
+    /// its end.
     #[cycle(body)]
     pub(crate) fn block(
         &self,
@@ -147,12 +144,13 @@ impl Checker<'_> {
         position: &mut usize,
         result_type: BlockType,
     ) -> Result<(), InstrFault>
+        requires there { number < length self.now.blocks }
         ensures decides { Decides result (TypedBlock self.now number labels.old result_type) }
         ensures same { OnOk result (labels.new ≡ labels.old) }
         ensures place { CountsBlock result self.now labels.old number position.old position.new }
     {
         let Some(body) = self.blocks.get(number) else {
-            return Err(InstrFault::Breaks(FaultKind::BadType));
+            unreachable!();
         };
         let mut stack = Stack::new(alloc);
         // Reading it tells the proof its range.

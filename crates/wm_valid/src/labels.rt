@@ -1,8 +1,9 @@
 //! The labels around an instruction.
 
-ghost use Rattle.std.specs.Prelude.{◌≡◌, IfErr, ◌∷◌, [], OnOk, slice_get, List, Option};
-ghost use Rattle.wm_valid.specs.Answers.{Answers, TableFault, IsLabelFault};
+ghost use Rattle.std.specs.Prelude.{ℕ, ◌≡◌, All, IfErr, ◌∷◌, [], OnOk, slice_get, List, Option};
+ghost use Rattle.wm_valid.specs.Answers.{Answers, IsLabel, TableFault, IsLabelFault, Unless};
 ghost use Rattle.wm_valid.specs.InstrTypes.{all_same, table_type, same};
+ghost use Rattle.wm_valid.specs.Places.{NoSuchLabelIn};
 
 use crate::fault::{FaultKind, InstrFault};
 use std::alloc::{AllocFailed, Global};
@@ -61,12 +62,26 @@ impl Labels {
         }
     }
 
-    /// The type of all these labels.
+    /// Whether all these labels are there.
+    fn check(&self, labels: &[u32]) -> Result<(), InstrFault>
+        ensures there { OnOk result (All (IsLabel self.now) labels.now) }
+        ensures found { (last : ℕ) → IfErr result (λ e. Unless e (table_type self.now labels.now last ≡ None)) }
+        ensures kind { (last : ℕ) → IfErr result (TableFault self.now labels.now last) }
+    {
+        for label in labels {
+            self.get(*label)?;
+        }
+        Ok(())
+    }
+
+    /// The type of all these labels, each of which has to be there.
     pub(crate) fn table(&self, labels: &[u32], last: u32) -> Result<BlockType, InstrFault>
         ensures found { Answers (λ t. t) result (table_type self.now labels.now last) }
-        ensures kind { IfErr result (λ e. TableFault self.now labels.now last e) }
+        ensures there { OnOk result (NoSuchLabelIn self.now labels.now last → ⊥) }
+        ensures kind { IfErr result (TableFault self.now labels.now last) }
     {
         let found = self.get(last)?;
+        self.check(labels)?;
         for label in labels {
             let other = self.get(*label)?;
             if !is_same(other, found) {

@@ -5,6 +5,7 @@ ghost use Rattle.wm_valid.specs.Stacks.{pop, push, empty, opened, take_one, take
 ghost use Rattle.wm_valid.specs.InstrTypes.{listed, turns, drops, leaves};
 ghost use Rattle.wm_valid.specs.Answers.{Turns, IsUntyped};
 ghost use Rattle.wm_ast.specs.declared.types.ValType.TheVariants.{I32};
+ghost use Rattle.wm_valid.specs.declared.fault.InstrFault.TheVariants.{OutOfMemory};
 
 use crate::fault::{FaultKind, InstrFault};
 use std::alloc::{AllocFailed, Global};
@@ -72,6 +73,7 @@ impl Stack {
     pub(crate) fn give(&mut self, result_type: BlockType) -> Result<(), InstrFault>
         ensures turns { Turns result (Some (give_all (listed result_type) self.old)) self.new }
         ensures kind { IfErr result IsUntyped }
+        ensures want { IfErr result (λ e. e ≡ OutOfMemory) }
     {
         match result_type {
             Some(t) => Ok(self.push(Some(t))?),

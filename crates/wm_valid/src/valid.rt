@@ -7,7 +7,7 @@ ghost use Rattle.wm_valid.specs.Valid.{IsInit, Valid};
 ghost use Rattle.wm_valid.specs.Blame.{Breaks, HasType, JudgesFunc, JudgesBody};
 
 use crate::checker::Checker;
-use crate::fault::{InstrFault, Location, ValidFault};
+use crate::fault::{FaultKind, InstrFault, Location, ValidFault};
 use crate::image::image;
 use crate::labels::Labels;
 use crate::sections::sections;
@@ -98,6 +98,9 @@ fn body(
     requires start { position.old ≡ 0 }
     ensures { JudgesBody result «module».now func.now position.new }
 {
+    if func.blocks.is_empty() {
+        return Err(InstrFault::Breaks(FaultKind::BadType));
+    }
     let locals = all_locals(alloc, ty.params.as_slice(), func.locals.as_slice())?;
     let checker = Checker {
         module,
@@ -143,7 +146,8 @@ fn funcs(alloc: Global, module: &Module) -> Result<(), ValidFault>
 /// in a circle: such a module has no typing.
 ///
 /// A refusal says which rule is broken and where, or that memory was refused; which of several faults is named is
-/// open. At an instruction, its function has no typing, and where the rule isn't that of types, the instruction breaks it.
+/// open. At an instruction, its function has no typing, and the instruction breaks the rule; where this is that of types,
+/// it breaks no other, or the opcode is an `else` or an `end`.
 /// A function whose type isn't there and an export of what isn't there are `Index` in the module. The module is given up
 /// on a refusal.
 pub fn validate(alloc: Global, module: Module) -> Result<ValidModule, ValidFault>

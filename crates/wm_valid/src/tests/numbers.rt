@@ -39,10 +39,10 @@ fn blocks_that_name_one_another_are_refused(rt: HostRuntime) -> Result<(), Fail>
     let module = module_of_blocks(rt.alloc(), blocks)?;
     assert_eq!(rt;
         validate(rt.alloc(), module).err(),
-        at(FaultKind::BadType, 2)
+        at(FaultKind::BadType, 1)
     );
     let body = vec![in rt.alloc(); Instr::Block(None, 0)]?;
-    assert_eq!(rt; fault_of(rt.alloc(), body)?, at(FaultKind::BadType, 1));
+    assert_eq!(rt; fault_of(rt.alloc(), body)?, at(FaultKind::BadType, 0));
     Ok(())
 }
 

@@ -27,23 +27,23 @@ returns-in-Ok-Trapped-clause-ok c =
     let t = thread_trapped s.module.now c.value_read.result s.globals cs s.running c.in-Ok-Trapped.kind c.go_on.new.running c.go_on.new.globals h in
     rw (← c.self.view_is, e, ← c.value_read.ensures) t
 
-pub returns-in-Ok-true-clause-ok : goal.returns-in-Ok-true-clause-ok
-returns-in-Ok-true-clause-ok c =
+pub returns-in-Ok-Caller-clause-ok : goal.returns-in-Ok-Caller-clause-ok
+returns-in-Ok-Caller-clause-ok c =
     let s = c.self.inside in
     let cs = reverse s.callers.items in
     let e : s.end ≡ None = ap (λ (x : State). x.ended) c.self.view_is ∙ going c.args.self.now c.args.reply c.requires in
     let h = rw c.in-Ok-Left.field-0-is at (c.in-Ok-Left.ensures (suc (length cs))) in
-    let g = c.in-Ok-true.ensures.ok c.in-Ok-true.field-0-test in
+    let g = c.in-Ok-Caller.ensures.ok c.in-Ok-Caller.field-0-is in
     let t = thread_back s.module.now c.value_read.result s.globals s.running c.in-Ok-Left.value cs c.leave.new.running (reverse c.leave.new.callers.items) g h.0 in
     rw (← c.self.view_is, e, ← c.value_read.ensures, h.1.1) t
 
-pub returns-in-Ok-false-clause-ok : goal.returns-in-Ok-false-clause-ok
-returns-in-Ok-false-clause-ok c =
+pub returns-in-Ok-Outside-clause-ok : goal.returns-in-Ok-Outside-clause-ok
+returns-in-Ok-Outside-clause-ok c =
     let s = c.self.inside in
     let cs = reverse s.callers.items in
     let e : s.end ≡ None = ap (λ (x : State). x.ended) c.self.view_is ∙ going c.args.self.now c.args.reply c.requires in
     let h = rw c.in-Ok-Left.field-0-is at (c.in-Ok-Left.ensures (suc (length cs))) in
-    let n = c.in-Ok-false.ensures.none c.in-Ok-false.field-0-test in
+    let n = c.in-Ok-Outside.ensures.none c.in-Ok-Outside.field-0-is in
     let t = thread_done s.module.now c.value_read.result s.globals s.running c.in-Ok-Left.value cs (ap reverse n.0) h.0 in
     rw (← c.self.view_is, e, ← c.value_read.ensures, c.bits.ensures) t
 
@@ -52,8 +52,8 @@ call-requires c =
     let h = rw c.in-Ok-Calling.field-0-is at (c.in-Ok-Calling.ensures 0) in
     rw h.1.0 h.2
 
-pub returns-in-Ok-true-call-clause-ok : goal.returns-in-Ok-true-call-clause-ok
-returns-in-Ok-true-call-clause-ok c =
+pub returns-in-Ok-Entered-clause-ok : goal.returns-in-Ok-Entered-clause-ok
+returns-in-Ok-Entered-clause-ok c =
     let s = c.self.inside in
     let cs = reverse s.callers.items in
     let e : s.end ≡ None = ap (λ (x : State). x.ended) c.self.view_is ∙ going c.args.self.now c.args.reply c.requires in
@@ -61,12 +61,12 @@ returns-in-Ok-true-call-clause-ok c =
     let dq : d ≡ suc (length cs) = omega (arith, length-reverse s.callers.items) in
     let k = c.in-Ok-Calling.callee in
     let h = rw c.in-Ok-Calling.field-0-is at (c.in-Ok-Calling.ensures d) in
-    let g = rw (c.in-Ok-true-call.field-0-test, h.1.0) at (c.in-Ok-true-call.ensures s.globals) in
+    let g = rw (c.in-Ok-Entered.field-0-is, h.1.0) at (c.in-Ok-Entered.ensures s.globals) in
     let t = thread_called s.module.now c.value_read.result s.globals cs s.running d k dq (invoke (callable s.module.now k) d k (vars_of s.running s.globals) s.running.levels.operands (todo s.module.now s.running.func s.running.levels.block (s.running.levels.at + 1))) c.call.new.running (reverse c.call.new.callers.items) h.0 g in
     rw (← c.self.view_is, e, ← c.value_read.ensures, h.1.1) t
 
-pub returns-in-Ok-false-call-clause-ok : goal.returns-in-Ok-false-call-clause-ok
-returns-in-Ok-false-call-clause-ok c =
+pub returns-in-Ok-TooDeep-clause-ok : goal.returns-in-Ok-TooDeep-clause-ok
+returns-in-Ok-TooDeep-clause-ok c =
     let s = c.self.inside in
     let cs = reverse s.callers.items in
     let e : s.end ≡ None = ap (λ (x : State). x.ended) c.self.view_is ∙ going c.args.self.now c.args.reply c.requires in
@@ -74,7 +74,7 @@ returns-in-Ok-false-call-clause-ok c =
     let dq : d ≡ suc (length cs) = omega (arith, length-reverse s.callers.items) in
     let k = c.in-Ok-Calling.callee in
     let h = rw c.in-Ok-Calling.field-0-is at (c.in-Ok-Calling.ensures d) in
-    let g = rw (c.in-Ok-false-call.field-0-test, h.1.0) at (c.in-Ok-false-call.ensures s.globals) in
+    let g = rw (c.in-Ok-TooDeep.field-0-is, h.1.0) at (c.in-Ok-TooDeep.ensures s.globals) in
     let t = thread_exhausted s.module.now c.value_read.result s.globals cs s.running d k dq (invoke (callable s.module.now k) d k (vars_of s.running s.globals) s.running.levels.operands (todo s.module.now s.running.func s.running.levels.block (s.running.levels.at + 1))) c.call.new.running (reverse c.call.new.callers.items) h.0 g in
     rw (← c.self.view_is, e, ← c.value_read.ensures) t
 
@@ -134,13 +134,13 @@ returns-in-Err-clause-err c =
     let n = c.in-Err.ensures.err in
     rw (n.0, h.1.0, h.1.1, n.1) c.self.view_is
 
-pub invariant_of-self-in-Ok-true : goal.invariant_of-self-in-Ok-true
-invariant_of-self-in-Ok-true c =
+pub invariant_of-self-in-Ok-Caller : goal.invariant_of-self-in-Ok-Caller
+invariant_of-self-in-Ok-Caller c =
     let s = c.self.inside in
     let cs = reverse s.callers.items in
     let e : s.end ≡ None = ap (λ (x : State). x.ended) c.self.view_is ∙ going c.args.self.now c.args.reply c.requires in
     let h = rw c.in-Ok-Left.field-0-is at (c.in-Ok-Left.ensures (suc (length cs))) in
-    let g = c.in-Ok-true.ensures.ok c.in-Ok-true.field-0-test in
+    let g = c.in-Ok-Caller.ensures.ok c.in-Ok-Caller.field-0-is in
     let t = thread_back s.module.now c.value_read.result s.globals s.running c.in-Ok-Left.value cs c.leave.new.running (reverse c.leave.new.callers.items) g h.0 in
     rw h.1.1 (sound_after s.module.now c.value_read.result s.running cs s.globals s.end c.leave.new.running (reverse c.leave.new.callers.items) s.globals e c.self.invariant t)
 
@@ -164,8 +164,8 @@ returns-in-Err-OutOfMemory-call-clause-err c =
     let n = called_same m k (invoke (callable m k) (1 + length s.callers.items) k (vars_of b s.globals) b.levels.operands (todo m b.func b.levels.block (b.levels.at + 1))) b s.globals c.call.new.running (reverse s.callers.items) (reverse c.call.new.callers.items) c.in-Err-OutOfMemory-call.field-0 (c.in-Err-OutOfMemory-call.ensures s.globals) in
     rw (n.0, h.1.0, h.1.1, n.1) c.self.view_is
 
-pub invariant_of-self-in-Ok-true-call : goal.invariant_of-self-in-Ok-true-call
-invariant_of-self-in-Ok-true-call c =
+pub invariant_of-self-in-Ok-Entered : goal.invariant_of-self-in-Ok-Entered
+invariant_of-self-in-Ok-Entered c =
     let s = c.self.inside in
     let cs = reverse s.callers.items in
     let e : s.end ≡ None = ap (λ (x : State). x.ended) c.self.view_is ∙ going c.args.self.now c.args.reply c.requires in
@@ -173,7 +173,7 @@ invariant_of-self-in-Ok-true-call c =
     let dq : d ≡ suc (length cs) = omega (arith, length-reverse s.callers.items) in
     let k = c.in-Ok-Calling.callee in
     let h = rw c.in-Ok-Calling.field-0-is at (c.in-Ok-Calling.ensures d) in
-    let g = rw (c.in-Ok-true-call.field-0-test, h.1.0) at (c.in-Ok-true-call.ensures s.globals) in
+    let g = rw (c.in-Ok-Entered.field-0-is, h.1.0) at (c.in-Ok-Entered.ensures s.globals) in
     let t = thread_called s.module.now c.value_read.result s.globals cs s.running d k dq (invoke (callable s.module.now k) d k (vars_of s.running s.globals) s.running.levels.operands (todo s.module.now s.running.func s.running.levels.block (s.running.levels.at + 1))) c.call.new.running (reverse c.call.new.callers.items) h.0 g in
     rw h.1.1 (sound_after s.module.now c.value_read.result s.running cs s.globals s.end c.call.new.running (reverse c.call.new.callers.items) s.globals e c.self.invariant t)
 
@@ -189,17 +189,17 @@ returns-in-Ok-Trapped-clause-never_stuck c = advances _ c.args.self.now c.args.r
 pub returns-in-Err-clause-never_stuck : goal.returns-in-Err-clause-never_stuck
 returns-in-Err-clause-never_stuck c = advances _ c.args.self.now c.args.reply c.self.invariant c.self.view_is c.requires
 
-pub returns-in-Ok-true-clause-never_stuck : goal.returns-in-Ok-true-clause-never_stuck
-returns-in-Ok-true-clause-never_stuck c = advances _ c.args.self.now c.args.reply c.self.invariant c.self.view_is c.requires
+pub returns-in-Ok-Caller-clause-never_stuck : goal.returns-in-Ok-Caller-clause-never_stuck
+returns-in-Ok-Caller-clause-never_stuck c = advances _ c.args.self.now c.args.reply c.self.invariant c.self.view_is c.requires
 
-pub returns-in-Ok-false-clause-never_stuck : goal.returns-in-Ok-false-clause-never_stuck
-returns-in-Ok-false-clause-never_stuck c = advances _ c.args.self.now c.args.reply c.self.invariant c.self.view_is c.requires
+pub returns-in-Ok-Outside-clause-never_stuck : goal.returns-in-Ok-Outside-clause-never_stuck
+returns-in-Ok-Outside-clause-never_stuck c = advances _ c.args.self.now c.args.reply c.self.invariant c.self.view_is c.requires
 
 pub returns-in-Err-OutOfMemory-call-clause-never_stuck : goal.returns-in-Err-OutOfMemory-call-clause-never_stuck
 returns-in-Err-OutOfMemory-call-clause-never_stuck c = advances _ c.args.self.now c.args.reply c.self.invariant c.self.view_is c.requires
 
-pub returns-in-Ok-true-call-clause-never_stuck : goal.returns-in-Ok-true-call-clause-never_stuck
-returns-in-Ok-true-call-clause-never_stuck c = advances _ c.args.self.now c.args.reply c.self.invariant c.self.view_is c.requires
+pub returns-in-Ok-Entered-clause-never_stuck : goal.returns-in-Ok-Entered-clause-never_stuck
+returns-in-Ok-Entered-clause-never_stuck c = advances _ c.args.self.now c.args.reply c.self.invariant c.self.view_is c.requires
 
-pub returns-in-Ok-false-call-clause-never_stuck : goal.returns-in-Ok-false-call-clause-never_stuck
-returns-in-Ok-false-call-clause-never_stuck c = advances _ c.args.self.now c.args.reply c.self.invariant c.self.view_is c.requires
+pub returns-in-Ok-TooDeep-clause-never_stuck : goal.returns-in-Ok-TooDeep-clause-never_stuck
+returns-in-Ok-TooDeep-clause-never_stuck c = advances _ c.args.self.now c.args.reply c.self.invariant c.self.view_is c.requires

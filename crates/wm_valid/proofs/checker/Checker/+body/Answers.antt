@@ -1,4 +1,4 @@
-use Rattle.std.proofs.Common.{◌≡◌, ap, sym, refl, ◌∙◌, ◌∷◌, [], Some, None, drop, slice_get, subst, arith}
+use Rattle.std.proofs.Common.{◌≡◌, ◌+◌, ap, sym, refl, ◌∙◌, ◌∷◌, [], Some, None, drop, slice_get, subst, arith}
 use Rattle.std.proofs.lemmas.List.{drop_all}
 use Rattle.std.proofs.lemmas.Result.{err_from_is_err_and}
 use Rattle.wm_ast.specs.declared.instr.Instr.TheVariants.{Block, Loop, If}
@@ -6,9 +6,10 @@ use Rattle.wm_valid.specs.InstrTypes.{Context, Labels, listed}
 use Rattle.wm_valid.specs.Typing.{ElsePart}
 use Rattle.wm_valid.specs.Stacks.{Stack, give_all}
 use Rattle.wm_valid.specs.Answers.{LocatedElse}
+use Rattle.wm_valid.specs.Places.{number_of}
 use Rattle.wm_valid.proofs.ParamLaws.{unless_then}
 use Rattle.wm_valid.proofs.BodyLaws.{given_checked, plain_refused, plain_turned, end_decides, is_plain, block_turned, loop_turned, if_turned, if_first_refused, if_other_refused, starts, SoFar}
-use Rattle.wm_valid.proofs.PlaceLaws.{counted_none, counts, counts_block, plain_counted, plain_located, one_part, first_located, if_first_located, if_counted, if_else_located}
+use Rattle.wm_valid.proofs.PlaceLaws.{counted_none, counts, counts_block, plain_counted, plain_located, one_part, stops_located, first_located, if_first_located, if_counted, if_else_located}
 use Rattle.wm_valid.proofs.LoopLaws.{stepped, counted_item, located_item, counted_whole}
 use Rattle.wm_valid.proofs.checker.Checker.+body.Goals as goal
 
@@ -52,12 +53,17 @@ block-returns-clause-place t c =
 pub instr-returns-in_err-nested-in-Block-clause-place : goal.instr-returns-in_err-nested-in-Block-clause-place
 instr-returns-in_err-nested-in-Block-clause-place t c =
     let p = err_from_is_err_and c.from_residual.result c.from_residual.ensures.1 in
-    rw (p.1, p.2, c.in-Block.is) (first_located c.in_err-nested-in-Block.field-0.0 c.args.self.now c.args.labels.now (Block c.in-Block.t c.in-Block.block) c.in-Block.t c.in-Block.block [] c.args.position.now c.next_number-next.result c.nested.new.position refl c.next_number-next.ensures c.in_err-nested-in-Block.ensures.place)
+    rw (p.1, p.2, c.in-Block.is) (first_located c.in_err-nested-in-Block.field-0.0 c.args.self.now c.args.labels.now (Block c.in-Block.t c.in-Block.block) c.in-Block.t c.in-Block.block [] c.args.position.now c.nested.new.position (omega arith) refl ((λ z. z), (λ z. z), (λ z. z), (λ p z. z)) c.in_err-nested-in-Block.ensures.place)
 
 pub instr-returns-in_err-nested-in-Loop-clause-place : goal.instr-returns-in_err-nested-in-Loop-clause-place
 instr-returns-in_err-nested-in-Loop-clause-place t c =
     let p = err_from_is_err_and c.from_residual-in_err-nested-in-Loop.result c.from_residual-in_err-nested-in-Loop.ensures.1 in
-    rw (p.1, p.2, c.in-Loop.is) (first_located c.in_err-nested-in-Loop.field-0.0 c.args.self.now c.args.labels.now (Loop c.in-Loop.t c.in-Loop.block) None c.in-Loop.block [] c.args.position.now c.next_number-next.result c.nested-in-Loop.new.position refl c.next_number-next.ensures c.in_err-nested-in-Loop.ensures.place)
+    rw (p.1, p.2, c.in-Loop.is) (first_located c.in_err-nested-in-Loop.field-0.0 c.args.self.now c.args.labels.now (Loop c.in-Loop.t c.in-Loop.block) None c.in-Loop.block [] c.args.position.now c.nested-in-Loop.new.position (omega arith) refl ((λ z. z), (λ z. z), (λ z. z), (λ p z. z)) c.in_err-nested-in-Loop.ensures.place)
+
+pub instr-returns-in_err-take-in-If-clause-place : goal.instr-returns-in_err-take-in-If-clause-place
+instr-returns-in_err-take-in-If-clause-place t c =
+    let p = err_from_is_err_and c.from_residual-in_err-take-in-If.result c.from_residual-in_err-take-in-If.ensures.1 in
+    rw (p.1, p.2, c.in-If.is) (stops_located c.in_err-take-in-If.field-0.0 c.args.self.now c.args.labels.now (If c.in-If.t c.in-If.first c.in-If.second c.in-If.part) c.args.position.now c.args.position.now (omega arith) ((λ z. z), (λ z. z), (λ z. z), (λ p z. z)) (c.in_err-take-in-If.ensures.kind, refl))
 
 pub instr-returns-in_err-nested-in-If-clause-checked : goal.instr-returns-in_err-nested-in-If-clause-checked
 instr-returns-in_err-nested-in-If-clause-checked t c =
@@ -68,7 +74,7 @@ instr-returns-in_err-nested-in-If-clause-checked t c =
 pub instr-returns-in_err-nested-in-If-clause-place : goal.instr-returns-in_err-nested-in-If-clause-place
 instr-returns-in_err-nested-in-If-clause-place t c =
     let p = err_from_is_err_and c.from_residual-in_err-nested-in-If.result c.from_residual-in_err-nested-in-If.ensures.1 in
-    rw (p.1, p.2, c.in-If.is) (if_first_located c.in_err-nested-in-If.field-0.0 c.args.self.now c.args.labels.now c.in-If.t c.in-If.first c.in-If.second c.in-If.part c.args.position.now c.next_number-next.result c.nested-in-If.new.position c.next_number-next.ensures c.in_err-nested-in-If.ensures.place)
+    rw (p.1, p.2, c.in-If.is) (if_first_located c.in_err-nested-in-If.field-0.0 c.args.self.now c.args.labels.now c.in-If.t c.in-If.first c.in-If.second c.in-If.part c.args.position.now c.nested-in-If.new.position (omega arith) c.in_err-nested-in-If.ensures.place)
 
 pub instr-returns-in_err-else_part-in-If-clause-checked : goal.instr-returns-in_err-else_part-in-If-clause-checked
 instr-returns-in_err-else_part-in-If-clause-checked t c =
@@ -82,8 +88,7 @@ instr-returns-in_err-else_part-in-If-clause-checked t c =
 pub instr-returns-in_err-else_part-in-If-clause-place : goal.instr-returns-in_err-else_part-in-If-clause-place
 instr-returns-in_err-else_part-in-If-clause-place t c =
     let p = err_from_is_err_and c.from_residual-in_err-else_part-in-If.result c.from_residual-in_err-else_part-in-If.ensures.1 in
-    rw (p.1, p.2, c.in-If.is) (if_else_located c.in_err-else_part-in-If.field-0.0 c.args.self.now c.args.labels.now c.in-If.t c.in-If.first c.in-If.second c.in-If.part c.args.position.now c.next_number-next.result c.nested-in-If.new.position c.else_part.new.position
-    c.next_number-next.ensures c.in_ok-nested-in-If.ensures.place
+    rw (p.1, p.2, c.in-If.is) (if_else_located c.in_err-else_part-in-If.field-0.0 c.args.self.now c.args.labels.now c.in-If.t c.in-If.first c.in-If.second c.in-If.part c.args.position.now c.nested-in-If.new.position c.else_part.new.position c.in_ok-nested-in-If.ensures.place
     (subst (λ (l : Labels). LocatedElse c.args.self.now l c.in-If.second c.in-If.t c.in-If.part c.nested-in-If.new.position c.else_part.new.position c.in_err-else_part-in-If.field-0.0) c.in_ok-nested-in-If.ensures.same c.in_err-else_part-in-If.ensures.place))
 
 pub instr-returns-in_err-plain-in_default-clause-checked : goal.instr-returns-in_err-plain-in_default-clause-checked
@@ -103,7 +108,7 @@ instr-returns-in_ok-plain-in_default-clause-checked t c =
 
 pub instr-returns-in_ok-plain-in_default-clause-place : goal.instr-returns-in_ok-plain-in_default-clause-place
 instr-returns-in_ok-plain-in_default-clause-place t c =
-    plain_counted c.args.self.now.blocks c.args.instr.now c.args.position.now c.next_number-next.result (is_plain c.args.instr.now c.in_default.not-Block c.in_default.not-Loop c.in_default.not-If) c.next_number-next.ensures
+    plain_counted c.args.self.now.blocks c.args.instr.now c.args.position.now c.next_number-in_default.result (is_plain c.args.instr.now c.in_default.not-Block c.in_default.not-Loop c.in_default.not-If) c.next_number-in_default.ensures
 
 pub instr-returns-in_ok-nested-in-Block-clause-checked : goal.instr-returns-in_ok-nested-in-Block-clause-checked
 instr-returns-in_ok-nested-in-Block-clause-checked t c =
@@ -112,8 +117,8 @@ instr-returns-in_ok-nested-in-Block-clause-checked t c =
 
 pub instr-returns-in_ok-nested-in-Block-clause-place : goal.instr-returns-in_ok-nested-in-Block-clause-place
 instr-returns-in_ok-nested-in-Block-clause-place t c =
-    rw c.in-Block.is (counts c.give.result c.args.self.now c.args.labels.now (Block c.in-Block.t c.in-Block.block ∷ []) c.args.position.now c.next_number.result c.give.ensures.kind
-    (one_part c.args.self.now (Block c.in-Block.t c.in-Block.block) c.in-Block.t c.in-Block.block c.args.position.now c.next_number-next.result c.nested.new.position c.next_number.result refl c.next_number-next.ensures c.in_ok-nested-in-Block.ensures.place c.next_number.ensures))
+    rw c.in-Block.is (counts c.give.result c.args.self.now c.args.labels.now (Block c.in-Block.t c.in-Block.block ∷ []) c.args.position.now c.next_number.result c.give.ensures.want
+    (one_part c.args.self.now (Block c.in-Block.t c.in-Block.block) c.in-Block.t c.in-Block.block c.args.position.now (number_of (c.args.position.now + 1)) c.nested.new.position c.next_number.result refl refl c.in_ok-nested-in-Block.ensures.place c.next_number.ensures))
 
 pub instr-returns-in_ok-nested-in-Loop-clause-checked : goal.instr-returns-in_ok-nested-in-Loop-clause-checked
 instr-returns-in_ok-nested-in-Loop-clause-checked t c =
@@ -122,8 +127,8 @@ instr-returns-in_ok-nested-in-Loop-clause-checked t c =
 
 pub instr-returns-in_ok-nested-in-Loop-clause-place : goal.instr-returns-in_ok-nested-in-Loop-clause-place
 instr-returns-in_ok-nested-in-Loop-clause-place t c =
-    rw c.in-Loop.is (counts c.give-in-Loop.result c.args.self.now c.args.labels.now (Loop c.in-Loop.t c.in-Loop.block ∷ []) c.args.position.now c.next_number-in-Loop.result c.give-in-Loop.ensures.kind
-    (one_part c.args.self.now (Loop c.in-Loop.t c.in-Loop.block) None c.in-Loop.block c.args.position.now c.next_number-next.result c.nested-in-Loop.new.position c.next_number-in-Loop.result refl c.next_number-next.ensures c.in_ok-nested-in-Loop.ensures.place c.next_number-in-Loop.ensures))
+    rw c.in-Loop.is (counts c.give-in-Loop.result c.args.self.now c.args.labels.now (Loop c.in-Loop.t c.in-Loop.block ∷ []) c.args.position.now c.next_number-in-Loop.result c.give-in-Loop.ensures.want
+    (one_part c.args.self.now (Loop c.in-Loop.t c.in-Loop.block) None c.in-Loop.block c.args.position.now (number_of (c.args.position.now + 1)) c.nested-in-Loop.new.position c.next_number-in-Loop.result refl refl c.in_ok-nested-in-Loop.ensures.place c.next_number-in-Loop.ensures))
 
 pub instr-returns-in_ok-else_part-in-If-clause-checked : goal.instr-returns-in_ok-else_part-in-If-clause-checked
 instr-returns-in_ok-else_part-in-If-clause-checked t c =
@@ -133,6 +138,6 @@ instr-returns-in_ok-else_part-in-If-clause-checked t c =
 
 pub instr-returns-in_ok-else_part-in-If-clause-place : goal.instr-returns-in_ok-else_part-in-If-clause-place
 instr-returns-in_ok-else_part-in-If-clause-place t c =
-    rw c.in-If.is (counts c.give-in-If.result c.args.self.now c.args.labels.now (If c.in-If.t c.in-If.first c.in-If.second c.in-If.part ∷ []) c.args.position.now c.next_number-in-If.result c.give-in-If.ensures.kind
-    (if_counted c.args.self.now c.in-If.t c.in-If.first c.in-If.second c.in-If.part c.args.position.now c.next_number-next.result c.nested-in-If.new.position c.else_part.new.position c.next_number-in-If.result
-    c.next_number-next.ensures c.in_ok-nested-in-If.ensures.place c.in_ok-else_part-in-If.ensures.place c.next_number-in-If.ensures))
+    rw c.in-If.is (counts c.give-in-If.result c.args.self.now c.args.labels.now (If c.in-If.t c.in-If.first c.in-If.second c.in-If.part ∷ []) c.args.position.now c.next_number-in-If.result c.give-in-If.ensures.want
+    (if_counted c.args.self.now c.in-If.t c.in-If.first c.in-If.second c.in-If.part c.args.position.now (number_of (c.args.position.now + 1)) c.nested-in-If.new.position c.else_part.new.position c.next_number-in-If.result
+    refl c.in_ok-nested-in-If.ensures.place c.in_ok-else_part-in-If.ensures.place c.next_number-in-If.ensures))
