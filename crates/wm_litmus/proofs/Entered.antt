@@ -11,7 +11,7 @@ use Rattle.clap.specs.declared.parser.matches.Found.{Found}
 use Rattle.clap.proofs.WalkLemmas.{first_value-rows}
 use Rattle.wm_litmus.specs.Commands.{Means}
 use Rattle.wm_litmus.specs.declared.command.Command.{Command}
-use Rattle.wm_litmus.specs.declared.command.Command.TheVariants.{Rules, Check, Migrate, Complete, Drive}
+use Rattle.wm_litmus.specs.declared.command.Command.TheVariants.{Rules, Check, Migrate, Complete, Drive, Run}
 
 -- the first parts of pairs
 first_parts : {X Y Z : Type 0} (f : X → Y) (g : X → Z) (o : Option X) → option_map f o ≡ option_map (λ (p : Y × Z). p.0) (option_map (λ x. (f x, g x)) o)
@@ -46,7 +46,7 @@ parts found name other rows others is also =
     (ap (λ (p : Text × List Row). p.0) same, ap (λ (p : Text × List Row). p.1) same)
 
 -- a number that the names of the commands differ in: their first three letters
-letters : Text → ℕ
+abbrev letters : Text → ℕ
 letters t = slice_index t 0 * 65536 + slice_index t 1 * 256 + slice_index t 2
 
 -- a subcommand without one of its words is no command
@@ -63,6 +63,8 @@ no_rules found rows is none (Complete m d) means =
     let other = ap letters (parts found (codes "rules") (codes "complete") rows means.0 is means.1).0 in absurd (omega arith)
 no_rules found rows is none (Drive m t) means =
     let other = ap letters (parts found (codes "rules") (codes "drive") rows means.0 is means.1).0 in absurd (omega arith)
+no_rules found rows is none (Run m r) means =
+    let other = ap letters (parts found (codes "rules") (codes "run") rows means.0 is means.1).0 in absurd (omega arith)
 
 pub no_module : (found : Option (Text × List Row)) (rows : List Row) → found ≡ Some (codes "check", rows) → first_of (codes "module") rows ≡ None → (command : Command) → Means found command → ⊥
 no_module found rows is none (Rules d) means =
@@ -74,6 +76,8 @@ no_module found rows is none (Complete m d) means =
     let other = ap letters (parts found (codes "check") (codes "complete") rows means.0 is means.1).0 in absurd (omega arith)
 no_module found rows is none (Drive m t) means =
     let other = ap letters (parts found (codes "check") (codes "drive") rows means.0 is means.1).0 in absurd (omega arith)
+no_module found rows is none (Run m r) means =
+    let other = ap letters (parts found (codes "check") (codes "run") rows means.0 is means.1).0 in absurd (omega arith)
 
 pub no_document : (found : Option (Text × List Row)) (rows : List Row) → found ≡ Some (codes "check", rows) → first_of (codes "document") rows ≡ None → (command : Command) → Means found command → ⊥
 no_document found rows is none (Rules d) means =
@@ -85,6 +89,8 @@ no_document found rows is none (Complete m d) means =
     let other = ap letters (parts found (codes "check") (codes "complete") rows means.0 is means.1).0 in absurd (omega arith)
 no_document found rows is none (Drive m t) means =
     let other = ap letters (parts found (codes "check") (codes "drive") rows means.0 is means.1).0 in absurd (omega arith)
+no_document found rows is none (Run m r) means =
+    let other = ap letters (parts found (codes "check") (codes "run") rows means.0 is means.1).0 in absurd (omega arith)
 
 pub no_migrate : (found : Option (Text × List Row)) (rows : List Row) → found ≡ Some (codes "migrate", rows) → first_of (codes "document") rows ≡ None → (command : Command) → Means found command → ⊥
 no_migrate found rows is none (Rules d) means =
@@ -96,6 +102,8 @@ no_migrate found rows is none (Complete m d) means =
     let other = ap letters (parts found (codes "migrate") (codes "complete") rows means.0 is means.1).0 in absurd (omega arith)
 no_migrate found rows is none (Drive m t) means =
     let other = ap letters (parts found (codes "migrate") (codes "drive") rows means.0 is means.1).0 in absurd (omega arith)
+no_migrate found rows is none (Run m r) means =
+    let other = ap letters (parts found (codes "migrate") (codes "run") rows means.0 is means.1).0 in absurd (omega arith)
 
 pub no_complete_module : (found : Option (Text × List Row)) (rows : List Row) → found ≡ Some (codes "complete", rows) → first_of (codes "module") rows ≡ None → (command : Command) → Means found command → ⊥
 no_complete_module found rows is none (Rules d) means =
@@ -107,6 +115,8 @@ no_complete_module found rows is none (Migrate d) means =
 no_complete_module found rows is none (Complete m d) means = missing means.0 rows (codes "module") m (parts found _ _ means.0 rows means.1 is).1 none means.2
 no_complete_module found rows is none (Drive m t) means =
     let other = ap letters (parts found (codes "complete") (codes "drive") rows means.0 is means.1).0 in absurd (omega arith)
+no_complete_module found rows is none (Run m r) means =
+    let other = ap letters (parts found (codes "complete") (codes "run") rows means.0 is means.1).0 in absurd (omega arith)
 
 pub no_complete_document : (found : Option (Text × List Row)) (rows : List Row) → found ≡ Some (codes "complete", rows) → first_of (codes "document") rows ≡ None → (command : Command) → Means found command → ⊥
 no_complete_document found rows is none (Rules d) means =
@@ -118,6 +128,8 @@ no_complete_document found rows is none (Migrate d) means =
 no_complete_document found rows is none (Complete m d) means = missing means.0 rows (codes "document") d (parts found _ _ means.0 rows means.1 is).1 none means.3
 no_complete_document found rows is none (Drive m t) means =
     let other = ap letters (parts found (codes "complete") (codes "drive") rows means.0 is means.1).0 in absurd (omega arith)
+no_complete_document found rows is none (Run m r) means =
+    let other = ap letters (parts found (codes "complete") (codes "run") rows means.0 is means.1).0 in absurd (omega arith)
 
 pub no_drive_module : (found : Option (Text × List Row)) (rows : List Row) → found ≡ Some (codes "drive", rows) → first_of (codes "module") rows ≡ None → (command : Command) → Means found command → ⊥
 no_drive_module found rows is none (Rules d) means =
@@ -129,6 +141,8 @@ no_drive_module found rows is none (Migrate d) means =
 no_drive_module found rows is none (Complete m d) means =
     let other = ap letters (parts found (codes "drive") (codes "complete") rows means.0 is means.1).0 in absurd (omega arith)
 no_drive_module found rows is none (Drive m t) means = missing means.0 rows (codes "module") m (parts found _ _ means.0 rows means.1 is).1 none means.2
+no_drive_module found rows is none (Run m r) means =
+    let other = ap letters (parts found (codes "drive") (codes "run") rows means.0 is means.1).0 in absurd (omega arith)
 
 pub no_drive_turns : (found : Option (Text × List Row)) (rows : List Row) → found ≡ Some (codes "drive", rows) → first_of (codes "turns") rows ≡ None → (command : Command) → Means found command → ⊥
 no_drive_turns found rows is none (Rules d) means =
@@ -140,6 +154,34 @@ no_drive_turns found rows is none (Migrate d) means =
 no_drive_turns found rows is none (Complete m d) means =
     let other = ap letters (parts found (codes "drive") (codes "complete") rows means.0 is means.1).0 in absurd (omega arith)
 no_drive_turns found rows is none (Drive m t) means = missing means.0 rows (codes "turns") t (parts found _ _ means.0 rows means.1 is).1 none means.3
+no_drive_turns found rows is none (Run m r) means =
+    let other = ap letters (parts found (codes "drive") (codes "run") rows means.0 is means.1).0 in absurd (omega arith)
+
+pub no_run_module : (found : Option (Text × List Row)) (rows : List Row) → found ≡ Some (codes "run", rows) → first_of (codes "module") rows ≡ None → (command : Command) → Means found command → ⊥
+no_run_module found rows is none (Rules d) means =
+    let other = ap letters (parts found (codes "run") (codes "rules") rows means.0 is means.1).0 in absurd (omega arith)
+no_run_module found rows is none (Check m d) means =
+    let other = ap letters (parts found (codes "run") (codes "check") rows means.0 is means.1).0 in absurd (omega arith)
+no_run_module found rows is none (Migrate d) means =
+    let other = ap letters (parts found (codes "run") (codes "migrate") rows means.0 is means.1).0 in absurd (omega arith)
+no_run_module found rows is none (Complete m d) means =
+    let other = ap letters (parts found (codes "run") (codes "complete") rows means.0 is means.1).0 in absurd (omega arith)
+no_run_module found rows is none (Drive m t) means =
+    let other = ap letters (parts found (codes "run") (codes "drive") rows means.0 is means.1).0 in absurd (omega arith)
+no_run_module found rows is none (Run m r) means = missing means.0 rows (codes "module") m (parts found _ _ means.0 rows means.1 is).1 none means.2
+
+pub no_run_rounds : (found : Option (Text × List Row)) (rows : List Row) → found ≡ Some (codes "run", rows) → first_of (codes "rounds") rows ≡ None → (command : Command) → Means found command → ⊥
+no_run_rounds found rows is none (Rules d) means =
+    let other = ap letters (parts found (codes "run") (codes "rules") rows means.0 is means.1).0 in absurd (omega arith)
+no_run_rounds found rows is none (Check m d) means =
+    let other = ap letters (parts found (codes "run") (codes "check") rows means.0 is means.1).0 in absurd (omega arith)
+no_run_rounds found rows is none (Migrate d) means =
+    let other = ap letters (parts found (codes "run") (codes "migrate") rows means.0 is means.1).0 in absurd (omega arith)
+no_run_rounds found rows is none (Complete m d) means =
+    let other = ap letters (parts found (codes "run") (codes "complete") rows means.0 is means.1).0 in absurd (omega arith)
+no_run_rounds found rows is none (Drive m t) means =
+    let other = ap letters (parts found (codes "run") (codes "drive") rows means.0 is means.1).0 in absurd (omega arith)
+no_run_rounds found rows is none (Run m r) means = missing means.0 rows (codes "rounds") r (parts found _ _ means.0 rows means.1 is).1 none means.3
 
 -- a word is there as a text where one of the words is that text
 word_at : (ws : List (Bor Text)) (t : Text) (k : ℕ) → k < length ws → ((d : Bor Text) → bytes_eq (get_or ws k d).now t ≡ true) → get_or (map (λ (w : Bor Text). w.now) ws) k t ≡ t

@@ -3,3 +3,4 @@ pub mod Entered
 pub mod Words
 pub mod Writing
 pub mod Small
+pub mod Pieces

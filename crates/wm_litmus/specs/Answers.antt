@@ -1,5 +1,5 @@
 -- What the program answers: what it prints, and the exit status.
-use Rattle.std.specs.Prelude.{◌≡◌, ◌≢◌, ℕ, ◌*◌, List, Option, replicate}
+use Rattle.std.specs.Prelude.{◌≡◌, ℕ, ◌*◌, List, Option, replicate}
 use Rattle.std.specs.Borrow.{Bor}
 use Rattle.std.specs.Io.KnownBytes.{Appends}
 use Rattle.wm_check.specs.declared.verdict.Breach.{Breach}
@@ -24,17 +24,14 @@ use Rattle.wm_logfile.specs.DocumentBytes.{IsDocumentOf, IsNoDocument}
 use Rattle.wm_logfile.specs.Migration.{IsMigrated, IsMisplaced}
 use Rattle.wm_replay.specs.declared.answer.ReplayAnswer.{ReplayAnswer}
 use Rattle.clap.specs.Words.{Text}
-use Rattle.wm_litmus.specs.declared.command.Command.TheVariants.{Rules, Check, Migrate, Complete, Drive}
-use Rattle.wm_run.specs.declared.plan.Plan.{Plan}
-use Rattle.wm_run.specs.declared.turn.Turn.{Turn}
-use Rattle.wm_litmus.specs.declared.word.WordFault.{WordFault}
-use Rattle.wm_litmus.specs.declared.word.WordFault.TheVariants.{OutOfMemory}
+use Rattle.wm_litmus.specs.declared.command.Command.TheVariants.{Rules, Check, Migrate, Complete, Drive, Run}
 use Rattle.wm_litmus.specs.Commands.{IsCommand, IsNoCommand}
-use Rattle.wm_litmus.specs.Drive.{AnswersDrive}
+use Rattle.wm_litmus.specs.Drive.{IsScriptAnswer}
+use Rattle.wm_litmus.specs.Rounds.{IsRoundsAnswer}
 use Rattle.wm_litmus.specs.Input.{IsDocumentRead, IsReadOf}
 use Rattle.wm_litmus.specs.Output.{AppendsFront}
 use Rattle.wm_litmus.specs.Prints.{ended}
-use Rattle.wm_litmus.specs.Lines.{document_line_text, judgement_status, judgement_text, shape_line_text, verdict_text, word_line_text, words_line_text}
+use Rattle.wm_litmus.specs.Lines.{document_line_text, judgement_status, judgement_text, shape_line_text, verdict_text, words_line_text}
 
 -- ---- the command `rules`
 
@@ -120,12 +117,8 @@ pub data IsAnswer (given : Given) (status : ℕ) (text : List ℕ) : Type 0 wher
       → IsReadOf (given.files file.now) 1048576 module_bytes
       → IsDocumentRead given.files given.input 8388608 document.now bytes
       → AnswersComplete module_bytes bytes status text → IsAnswer given status text
-
-  drive_of : (file turns_word : Bor Text) (plan : Plan) (turns : List Turn) (module_bytes : List ℕ) → IsCommand given.words (Drive file turns_word)
-      → plan.steps ≡ 1000000 → IsReadOf (given.files file.now) 1048576 module_bytes
-      → AnswersDrive module_bytes plan turns status text → IsAnswer given status text
-  no_script : (file turns_word : Bor Text) (fault : WordFault) → IsCommand given.words (Drive file turns_word) → fault ≢ OutOfMemory
-      → status ≡ 2 → text ≡ ended (word_line_text fault) → IsAnswer given status text
+  drive_of : (file turns : Bor Text) → IsCommand given.words (Drive file turns) → IsScriptAnswer (given.files file.now) status text → IsAnswer given status text
+  run_of : (file rounds : Bor Text) → IsCommand given.words (Run file rounds) → IsRoundsAnswer (given.files file.now) status text → IsAnswer given status text
 
 -- the writer gains what an answer of this status prints
 pub record WritesAnswer (given : Given) (old new : Option (List ℕ)) (status : ℕ) : Type 0 where

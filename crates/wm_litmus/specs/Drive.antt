@@ -1,5 +1,5 @@
 -- What the command `drive` answers.
-use Rattle.std.specs.Prelude.{◌≡◌, ◌≢◌, ℕ, List, ◌++◌, codes}
+use Rattle.std.specs.Prelude.{◌≡◌, ◌≢◌, ℕ, List, Option, ◌++◌, codes}
 use Rattle.serde_json.specs.Written.{compact_text}
 use Rattle.wm_ast.specs.declared.module.Module.{Module}
 use Rattle.wm_check.specs.declared.verdict.Refusal.{Refusal}
@@ -16,7 +16,10 @@ use Rattle.wm_run.specs.declared.turn.Turn.{Turn}
 use Rattle.wm_run.specs.Refusal.{IsScriptFault}
 use Rattle.wm_run.specs.Run.{Record}
 use Rattle.wm_run.specs.Scripted.{IsScripted}
-use Rattle.wm_litmus.specs.Lines.{run_fault_line_text, verdict_status, verdict_text}
+use Rattle.wm_litmus.specs.declared.word.WordFault.{WordFault}
+use Rattle.wm_litmus.specs.declared.word.WordFault.TheVariants as word
+use Rattle.wm_litmus.specs.Input.{IsReadOf}
+use Rattle.wm_litmus.specs.Lines.{run_fault_line_text, verdict_status, verdict_text, word_line_text}
 use Rattle.wm_litmus.specs.Outcomes.{outcome_text}
 use Rattle.wm_litmus.specs.Prints.{ended}
 
@@ -37,3 +40,10 @@ pub data AnswersDrive (module_bytes : List ℕ) (plan : Plan) (turns : List Turn
   driven : («module» : Module) (run : Record) (verdict : Verdict) → IsModuleOf module_bytes «module» → IsScripted «module» plan turns run
       → Says module_bytes (run_text run) verdict
       → status ≡ verdict_status verdict → text ≡ driven_text (outcome_text run.log) verdict (run_text run) → AnswersDrive module_bytes plan turns status text
+
+-- the status and the text that answer a script over the module of a file, whose bytes may be known
+pub data IsScriptAnswer (known : Option (List ℕ)) (status : ℕ) (text : List ℕ) : Type 0 where
+  played : (plan : Plan) (turns : List Turn) (module_bytes : List ℕ) → plan.steps ≡ 1000000 → IsReadOf known 1048576 module_bytes
+      → AnswersDrive module_bytes plan turns status text → IsScriptAnswer known status text
+  no_script : (fault : WordFault) → fault ≢ word.OutOfMemory
+      → status ≡ 2 → text ≡ ended (word_line_text fault) → IsScriptAnswer known status text

@@ -1,5 +1,6 @@
 pub mod Answers
 pub mod Drive
+pub mod Rounds
 pub mod Outcomes
 pub mod Commands
 pub mod Failures

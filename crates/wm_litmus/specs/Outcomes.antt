@@ -1,5 +1,5 @@
 -- How the threads of a run ended, as text.
-use Rattle.std.specs.Prelude.{ℕ, List, [], ◌∷◌, ◌++◌, Some, None, codes, flat_map}
+use Rattle.std.specs.Prelude.{ℕ, zero, suc, List, [], ◌∷◌, ◌++◌, Some, None, codes, flat_map}
 use Rattle.std.specs.Fmt.{decimal}
 use Rattle.wm_event.specs.declared.log.End.{End}
 use Rattle.wm_event.specs.declared.log.End.TheVariants.{Done, Trap, Cut}
@@ -12,6 +12,11 @@ end_text (Done (Some value)) = decimal value
 end_text (Done None) = codes "-"
 end_text (Trap kind) = codes "trap:" ++ trap_text kind
 end_text Cut = codes "cut"
+
+-- what stands before the end of a thread
+abbrev pub separator_text : ℕ → List ℕ
+separator_text zero = []
+separator_text (suc number) = codes " "
 
 -- each thread's end, with a space between them
 abbrev pub outcome_text : List ThreadLog → List ℕ

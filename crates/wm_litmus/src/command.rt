@@ -22,6 +22,8 @@ pub enum Command<'a> {
     Complete { module: &'a str, document: &'a str },
     /// Plays a script over a module; the words behind say what its threads start with.
     Drive { module: &'a str, turns: &'a str },
+    /// Makes so many rounds of a module's threads; the words behind say what these start with.
+    Run { module: &'a str, rounds: &'a str },
 }
 
 /// Why the words are no command.
@@ -63,7 +65,9 @@ fn any_words<'a>(alloc: Global, name: &'a str) -> Arg<'a>
     ensures rule { rule_of result ≡ any_words_rule name.now }
     ensures own { result.global ≡ false }
 {
-    Arg::new(alloc, name).num_args(0..).action(ArgAction::Append)
+    Arg::new(alloc, name)
+        .num_args(0..)
+        .action(ArgAction::Append)
 }
 
 /// The commands and their words.
@@ -82,6 +86,10 @@ fn parser<'a>(alloc: Global) -> Result<Parser<'a>, AllocError>
         .arg(word(alloc, "module"))?
         .arg(word(alloc, "turns"))?
         .arg(any_words(alloc, "start"))?;
+    let run = Parser::new(alloc, "run")
+        .arg(word(alloc, "module"))?
+        .arg(word(alloc, "rounds"))?
+        .arg(any_words(alloc, "start"))?;
     Parser::new(alloc, "wmlab")
         .disable_help_flag(true)
         .disable_version_flag(true)
@@ -92,7 +100,8 @@ fn parser<'a>(alloc: Global) -> Result<Parser<'a>, AllocError>
         .subcommand(check)?
         .subcommand(migrate)?
         .subcommand(complete)?
-        .subcommand(drive)
+        .subcommand(drive)?
+        .subcommand(run)
 }
 
 /// The command that was named, with its words.
@@ -124,6 +133,11 @@ fn named<'a>(matches: &ArgMatches<'a>) -> Option<Command<'a>>
             let module = words.get_str("module")?;
             let turns = words.get_str("turns")?;
             Some(Command::Drive { module, turns })
+        }
+        "run" => {
+            let module = words.get_str("module")?;
+            let rounds = words.get_str("rounds")?;
+            Some(Command::Run { module, rounds })
         }
         _ => None,
     }

@@ -32,7 +32,9 @@ mod migration;
 mod outcomes;
 mod output;
 mod program;
+mod rounds;
 mod rules;
+mod table;
 mod word;
 
 pub use files::{FileFault, Files};
@@ -40,6 +42,7 @@ pub use input::read_limited;
 pub use line::{rules_line, verdict_line};
 pub use outcomes::outcome;
 pub use program::serve;
+pub use table::report;
 
 #[cfg(test)]
 mod tests;

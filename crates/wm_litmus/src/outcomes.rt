@@ -1,10 +1,9 @@
 //! How the threads of a run ended, as one line.
 ghost use Rattle.std.specs.Prelude.{◌≡◌, IfOk, Some, string_bytes};
-ghost use Rattle.wm_litmus.specs.Outcomes.{end_text, outcome_text};
+ghost use Rattle.wm_litmus.specs.Outcomes.{end_text, outcome_text, separator_text};
 
 use std::alloc::{AllocError, Global};
 use std::fmt;
-use std::fmt::Write;
 use wm_event::End;
 use wm_run::Run;
 
@@ -25,6 +24,16 @@ impl fmt::Display for EndText {
     }
 }
 
+/// What stands before the end of a thread.
+fn separator(number: usize) -> &'static str
+    ensures { result.now ≡ separator_text number }
+{
+    if number == 0 {
+        return "";
+    }
+    " "
+}
+
 /// The outcome of a run: how each thread ended, in their order, with a space between them. A function's value prints in
 /// decimal, `-` where it has none; else `trap:` with the trap's name, or `cut`.
 ///
@@ -34,13 +43,13 @@ impl fmt::Display for EndText {
 pub fn outcome(alloc: Global, run: &Run) -> Result<String, AllocError>
     ensures { IfOk result (λ text. string_bytes text ≡ outcome_text run.now.log) }
 {
+    let threads = run.log().threads();
     let mut text = String::new(alloc);
-    for (number, thread) in run.log().threads().iter().enumerate() {
-        if number > 0 {
-            text.push(' ')?;
-        }
-        let end = format!(in alloc; "{}", EndText(thread.end))?;
-        text.push_str(end.as_str())?;
+    for (number, thread) in threads.iter().enumerate() {
+        let end = EndText(thread.end);
+        text.push_str(separator(number))?;
+        let piece = format!(in alloc; "{end}")?;
+        text.push_str(piece.as_str())?;
     }
     Ok(text)
 }

@@ -1,8 +1,10 @@
 //! The whole program.
 ghost use Rattle.std.specs.Prelude.{◌≡◌, ◌+◌, ◌^◌, ◌≤◌, ◌<◌, IfErr, IfOk, OnOk, List, ℕ, map, string_bytes};
 ghost use Rattle.wm_litmus.specs.Answers.{IsAnswer, WritesAnswer, WritesFront, given};
+ghost use Rattle.wm_litmus.specs.Drive.{IsScriptAnswer};
 ghost use Rattle.wm_litmus.specs.Failures.{IsUnreadFile};
 ghost use Rattle.wm_litmus.specs.Input.{IsDocumentRead, IsReadOf};
+ghost use Rattle.wm_litmus.specs.Rounds.{IsRoundsAnswer};
 ghost use Rattle.wm_litmus.specs.declared.program.Failure.TheVariants.{OutOfMemory};
 
 use crate::answer::Answer;
@@ -14,10 +16,12 @@ use crate::files::{FileFault, Files};
 use crate::input::read_limited;
 use crate::migration::migrate_answer;
 use crate::output::write_text;
+use crate::rounds::rounds_answer;
 use crate::rules::rules_answer;
-use crate::word::read_script;
+use crate::word::{read_rounds_of, read_script};
 use std::alloc::{AllocError, Global};
 use std::io::{Read, Write};
+use std::sync::Wait;
 use std::thread::Threads;
 use wm_decode::MAX_MODULE_BYTES;
 use wm_logfile::MAX_DOCUMENT_BYTES;
@@ -120,8 +124,67 @@ fn read_run<'a, R: AllocGlobal, F: Files, I: Read>(
     Ok((module_bytes, document_bytes))
 }
 
+/// The words that say what threads start with: those behind the command, the module, and the turns or rounds.
+fn starts_of<'a>(words: &'a [&'a str]) -> &'a [&'a str] {
+    words.get(3..).unwrap_or(&[])
+}
+
+/// The answer to a script over the module `name`.
+fn script_of<'a, R: AllocGlobal + Threads + Sync, F: Files>(
+    rt: &R,
+    files: &mut F,
+    name: &'a str,
+    turns: &str,
+    starts: &[&str],
+) -> Result<Answer, Failure<'a>>
+    requires { F.failures_of files.old + 1 < 2 ^ 64 }
+    ensures answers { IfOk result (λ answer.
+        IsScriptAnswer (F.content_of files.old name.now) answer.status (string_bytes answer.text)) }
+    ensures unread { IfErr result (λ stop. IsUnreadFile stop
+        → F.failures_of files.old < F.failures_of files.new) }
+{
+    match read_script(rt.alloc(), turns, starts) {
+        Ok(script) => {
+            let bytes = read_file(files, name, MAX_MODULE_BYTES)?;
+            let answer = drive_answer(rt, bytes.as_slice(), &script)?;
+            Ok(answer)
+        }
+        Err(fault) => {
+            let answer = Answer::refused_word(rt.alloc(), fault)?;
+            Ok(answer)
+        }
+    }
+}
+
+/// The answer to rounds of the module `name`. It may wait for their threads.
+fn rounds_of<'a, R: AllocGlobal + Threads + Wait + Sync, F: Files>(
+    rt: &R,
+    files: &mut F,
+    name: &'a str,
+    rounds: &str,
+    starts: &[&str],
+) -> Result<Answer, Failure<'a>>
+    requires { F.failures_of files.old + 1 < 2 ^ 64 }
+    ensures answers { IfOk result (λ answer.
+        IsRoundsAnswer (F.content_of files.old name.now) answer.status (string_bytes answer.text)) }
+    ensures unread { IfErr result (λ stop. IsUnreadFile stop
+        → F.failures_of files.old < F.failures_of files.new) }
+{
+    match read_rounds_of(rt.alloc(), rounds, starts) {
+        Ok(rounds) => {
+            let bytes = read_file(files, name, MAX_MODULE_BYTES)?;
+            let answer = rounds_answer(rt, bytes.as_slice(), &rounds.plan, rounds.count)?;
+            Ok(answer)
+        }
+        Err(fault) => {
+            let answer = Answer::refused_word(rt.alloc(), fault)?;
+            Ok(answer)
+        }
+    }
+}
+
 /// The answer to the words.
-fn answer_of<'a, R: AllocGlobal + Threads + Sync, F: Files, I: Read>(
+fn answer_of<'a, R: AllocGlobal + Threads + Wait + Sync, F: Files, I: Read>(
     rt: &R,
     words: &'a [&'a str],
     files: &mut F,
@@ -151,15 +214,20 @@ fn answer_of<'a, R: AllocGlobal + Threads + Sync, F: Files, I: Read>(
             let read = read_run(rt, files, input, module, document)?;
             Ok(completion_answer(rt.alloc(), read.0.as_slice(), read.1.as_slice())?)
         }
-        Ok(Command::Drive { module, turns }) => {
-            match read_script(rt.alloc(), turns, words.get(3..).unwrap_or(&[])) {
-                Ok(script) => {
-                    let module_bytes = read_file(files, module, MAX_MODULE_BYTES)?;
-                    Ok(drive_answer(rt, module_bytes.as_slice(), &script)?)
-                }
-                Err(fault) => Ok(Answer::refused_word(rt.alloc(), fault)?),
-            }
-        }
+        Ok(Command::Drive { module, turns }) => script_of(
+            rt,
+            files,
+            module,
+            turns,
+            starts_of(words),
+        ),
+        Ok(Command::Run { module, rounds }) => rounds_of(
+            rt,
+            files,
+            module,
+            rounds,
+            starts_of(words),
+        ),
         Err(CommandFault::Words) => Ok(Answer::refused_words(rt.alloc())?),
         Err(CommandFault::OutOfMemory) => Err(Failure::OutOfMemory),
     }
@@ -172,6 +240,13 @@ fn answer_of<'a, R: AllocGlobal + Threads + Sync, F: Files, I: Read>(
 /// then the document, and checks its run against the module and the memory rules. `migrate DOC` reads a document
 /// and prints it in version 2. `complete MODULE DOC` reads both as `check` does, and prints the document in version 2
 /// with the steps and the ends that the module gives its threads on the values that their events read.
+/// `drive MODULE TURNS START..` plays a script over a module, and prints the outcome, the verdict on what was logged, and
+/// its document. `run MODULE ROUNDS START..` lets the threads run at the same time, so many times over, checks each log,
+/// and prints how often each outcome came; it is the one command that may wait for other threads.
+///
+/// TURNS has items that commas join: `N` is a step of thread N, `dN` lets its oldest store leave its buffer, `dN/I` the
+/// one with I older ones, and `*K` behind an item repeats it. START is the name of an exported function, with its
+/// arguments behind colons; ROUNDS is 1 to 10,000.
 ///
 /// Each file is read to its limit and one byte more, in at most that many reads, and any failed read ends
 /// the program. The clauses speak of the words, by clap's model of the parse, of what `files` and `input` hold, where
@@ -182,7 +257,7 @@ fn answer_of<'a, R: AllocGlobal + Threads + Sync, F: Files, I: Read>(
 /// Status 3, with one line on `err` and no answer: `out of memory` where memory was refused, `cannot read NAME`
 /// where `files` or a read of `input` failed, `cannot write` where a write to `out` failed, which has then gained a
 /// front of the answer at most. That a write to `err` failed changes no status.
-pub fn serve<R: AllocGlobal + Threads + Sync, F: Files, I: Read, O: Write, E: Write>(
+pub fn serve<R: AllocGlobal + Threads + Wait + Sync, F: Files, I: Read, O: Write, E: Write>(
     rt: &R,
     words: &[&str],
     files: &mut F,

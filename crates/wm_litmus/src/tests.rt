@@ -4,6 +4,7 @@ mod check;
 mod closure;
 mod completion;
 mod documents;
+mod driving;
 mod fakes;
 mod migration;
 mod modules;
@@ -19,10 +20,11 @@ use documents::{ALLOWED, BROKEN, REFUSED, Row};
 use fakes::{EndlessReader, NEVER, fake_files, fake_reader, fake_writer, holding_writer, says};
 use std::alloc::{AllocError, Global};
 use std::process::Abort;
+use std::sync::Wait;
 use std::test::Fail;
 use std::thread::Threads;
 
-fn answers<R: Abort + AllocGlobal + Threads + Sync>(rt: &R, rows: &[Row]) {
+fn answers<R: Abort + AllocGlobal + Threads + Wait + Sync>(rt: &R, rows: &[Row]) {
     for row in rows {
         let mut files = fake_files(rt.alloc(), None, Some(row.document.as_bytes()));
         let mut input = fake_reader(b"", NEVER);
@@ -154,7 +156,7 @@ fn an_endless_input_is_too_large(rt: HostRuntime) {
 }
 
 /// Runs the program where a write to `out` and a write to `err` fail, and says how often `out` was written.
-fn writes<R: Abort + AllocGlobal + Threads + Sync>(
+fn writes<R: Abort + AllocGlobal + Threads + Wait + Sync>(
     rt: &R,
     out_fails: u64,
     err_fails: u64,

@@ -86,7 +86,7 @@ fn item_of(item: &str) -> Option<(Turn, u32)> {
 
 /// The turns of a script, whose items commas join. The whole word is judged; of the turns no more are kept than one past
 /// the limit of a script.
-pub(crate) fn read_turns(alloc: Global, word: &str) -> Result<List<Turn>, WordFault> {
+fn read_turns(alloc: Global, word: &str) -> Result<List<Turn>, WordFault> {
     let mut turns = Vec::new(alloc);
     for item in word.split(',') {
         let Some((turn, times)) = item_of(item) else {
@@ -103,7 +103,7 @@ pub(crate) fn read_turns(alloc: Global, word: &str) -> Result<List<Turn>, WordFa
 }
 
 /// How many rounds a word says: 1 to 10,000.
-pub(crate) fn read_rounds(word: &str) -> Result<u32, WordFault> {
+fn read_rounds(word: &str) -> Result<u32, WordFault> {
     match small_decimal(word) {
         Some(rounds) if 1 <= rounds && rounds <= 10_000 => Ok(rounds),
         _ => Err(WordFault::Rounds),
@@ -132,7 +132,7 @@ fn read_start(alloc: Global, word: &str) -> Result<Start, WordFault> {
 }
 
 /// The plan of threads that start with these words, each of at most 1,000,000 steps, with so many drains.
-pub(crate) fn read_plan(alloc: Global, words: &[&str], drains: u32) -> Result<Plan, WordFault>
+fn read_plan(alloc: Global, words: &[&str], drains: u32) -> Result<Plan, WordFault>
     ensures steps { IfOk result (λ plan. plan.steps ≡ 1000000) }
     ensures drains { IfOk result (λ plan. plan.drains ≡ drains) }
 {
@@ -145,6 +145,30 @@ pub(crate) fn read_plan(alloc: Global, words: &[&str], drains: u32) -> Result<Pl
         steps: MAX_STEPS,
         drains,
     })
+}
+
+/// How many drains the drainer of a round takes.
+const DRAINS: u32 = 256;
+
+/// Rounds: what their threads start with, and how many there are.
+#[derive(Drop)]
+pub(crate) struct Rounds {
+    pub plan: Plan,
+    pub count: u32,
+}
+
+/// The rounds of these words.
+pub(crate) fn read_rounds_of(
+    alloc: Global,
+    rounds: &str,
+    starts: &[&str],
+) -> Result<Rounds, WordFault>
+    ensures steps { IfOk result (λ rounds. rounds.plan.steps ≡ 1000000) }
+    ensures drains { IfOk result (λ rounds. rounds.plan.drains ≡ 256) }
+{
+    let count = read_rounds(rounds)?;
+    let plan = read_plan(alloc, starts, DRAINS)?;
+    Ok(Rounds { plan, count })
 }
 
 /// The script of these words.

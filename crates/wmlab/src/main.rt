@@ -10,6 +10,7 @@ use std::env::Env;
 use std::fs::Files as FileSystem;
 use std::io::{ErrorKind, Read, Write};
 use std::process::ExitCode;
+use std::sync::Wait;
 use std::thread::Threads;
 use wm_litmus::serve;
 
@@ -29,7 +30,7 @@ fn words_of<'a>(alloc: Global, texts: &'a [String]) -> Result<Vec<&'a str>, Allo
 
 /// Answers the arguments over the system's files and these streams, and returns the exit status: 3, and
 /// `out of memory` on `err`, where memory was refused for them.
-fn run<R: FileSystem + AllocGlobal + Threads + Sync, I: Read, O: Write, E: Write>(
+fn run<R: FileSystem + AllocGlobal + Threads + Wait + Sync, I: Read, O: Write, E: Write>(
     rt: &R,
     arguments: Result<Vec<String>, AllocError>,
     input: &mut I,

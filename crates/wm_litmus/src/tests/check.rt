@@ -7,10 +7,11 @@ use super::other_instructions::{CONTROL, MEMORY};
 use super::runs::{ALLOWED, BROKEN, LOG, REFUSED_BYTES, REFUSED_MODULES, REFUSED_SHAPES, Row};
 use crate::serve;
 use std::process::Abort;
+use std::sync::Wait;
 use std::thread::Threads;
 
 /// Runs `check` over the files of each row, and looks at its line and its status.
-fn checks<R: Abort + AllocGlobal + Threads + Sync>(rt: &R, rows: &[Row], status: u8) {
+fn checks<R: Abort + AllocGlobal + Threads + Wait + Sync>(rt: &R, rows: &[Row], status: u8) {
     for row in rows {
         let document = row.document.as_bytes();
         let mut files = fake_files(rt.alloc(), Some(row.module), Some(document));
@@ -58,7 +59,7 @@ fn a_misshapen_run_has_its_line(rt: HostRuntime) {
 }
 
 /// Runs `check` over one module and the input, and looks at its lines and its status.
-fn checks_input<R: Abort + AllocGlobal + Threads + Sync>(
+fn checks_input<R: Abort + AllocGlobal + Threads + Wait + Sync>(
     rt: &R,
     words: &[&str],
     fails_at: u64,

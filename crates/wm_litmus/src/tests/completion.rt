@@ -7,10 +7,11 @@ use super::modules::{
 use super::runs::{ALLOWED, REFUSED_BYTES, REFUSED_MODULES, REFUSED_SHAPES, Row};
 use crate::serve;
 use std::process::Abort;
+use std::sync::Wait;
 use std::thread::Threads;
 
 /// What the program prints over a module and a document, and the status.
-fn run<R: Abort + AllocGlobal + Threads + Sync>(
+fn run<R: Abort + AllocGlobal + Threads + Wait + Sync>(
     rt: &R,
     command: &str,
     module: &[u8],
@@ -27,7 +28,7 @@ fn run<R: Abort + AllocGlobal + Threads + Sync>(
 }
 
 /// Completes the document of each row, and looks at the line and the status.
-fn completes<R: Abort + AllocGlobal + Threads + Sync>(rt: &R, rows: &[Row], status: u8) {
+fn completes<R: Abort + AllocGlobal + Threads + Wait + Sync>(rt: &R, rows: &[Row], status: u8) {
     for row in rows {
         let (out, got) = run(rt, "complete", row.module, row.document.as_bytes());
         assert_eq!(rt; out.bytes.as_slice(), row.line.as_bytes(), "{}", row.shows);

@@ -6,6 +6,7 @@ use std::alloc::Global;
 use std::io;
 use std::io::{ErrorKind, Read, Write};
 use std::process::Abort;
+use std::sync::Wait;
 use std::thread::Threads;
 
 /// No read or write fails.
@@ -178,7 +179,7 @@ pub(super) fn fake_writer(alloc: Global, fails_at: u64) -> FakeWriter {
 }
 
 /// Runs the program over one file, `log.json`, and this input, and looks at its lines and its status.
-pub(super) fn says<R: Abort + AllocGlobal + Threads + Sync, I: Read>(
+pub(super) fn says<R: Abort + AllocGlobal + Threads + Wait + Sync, I: Read>(
     rt: &R,
     words: &[&str],
     input: &mut I,

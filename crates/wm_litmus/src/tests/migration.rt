@@ -6,6 +6,7 @@ use super::modules::OVERLAPPING_LOAD;
 use super::runs;
 use crate::serve;
 use std::process::Abort;
+use std::sync::Wait;
 use std::thread::Threads;
 
 /// An 8-byte store and a load of 4 bytes out of its middle.
@@ -18,7 +19,7 @@ const OVERLAP_MIGRATED: &str =
 "#;
 
 /// What the program prints over a module and a document, and the status.
-fn run<R: Abort + AllocGlobal + Threads + Sync>(
+fn run<R: Abort + AllocGlobal + Threads + Wait + Sync>(
     rt: &R,
     words: &[&str],
     module: &[u8],
@@ -63,7 +64,7 @@ fn a_document_is_migrated(rt: HostRuntime) {
 }
 
 /// A migrated document gets the line that the document gets, and is migrated to itself.
-fn keeps_its_line<R: Abort + AllocGlobal + Threads + Sync>(
+fn keeps_its_line<R: Abort + AllocGlobal + Threads + Wait + Sync>(
     rt: &R,
     words: &[&str],
     module: &[u8],

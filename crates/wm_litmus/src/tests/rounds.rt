@@ -176,16 +176,28 @@ fn a_worker_reads_back_what_it_stored(rt: HostRuntime) -> Result<(), Fail> {
 fn a_round_refuses_its_plan_first(rt: HostRuntime) -> Result<(), Fail> {
     let module = module(&rt, rt.alloc(), &STORE_BUFFERING);
     let mut plan = plan(rt.alloc(), 1_000_001)?;
-    assert_eq!(rt; fault(&rt, rt.alloc(), &module, &plan)?.as_str(), "plan Turns");
+    assert_eq!(rt;
+        fault(&rt, rt.alloc(), &module, &plan)?.as_str(),
+        "plan Turns"
+    );
     plan.steps = 1_000_001;
-    assert_eq!(rt; fault(&rt, rt.alloc(), &module, &plan)?.as_str(), "plan Steps");
+    assert_eq!(rt;
+        fault(&rt, rt.alloc(), &module, &plan)?.as_str(),
+        "plan Steps"
+    );
     plan.starts = List::new(rt.alloc());
-    assert_eq!(rt; fault(&rt, rt.alloc(), &module, &plan)?.as_str(), "plan Threads");
+    assert_eq!(rt;
+        fault(&rt, rt.alloc(), &module, &plan)?.as_str(),
+        "plan Threads"
+    );
     plan.starts.push(start(rt.alloc(), "a", &[])?)?;
     plan.starts.push(start(rt.alloc(), "b", &[1])?)?;
     plan.steps = 6;
     plan.drains = 0;
-    assert_eq!(rt; fault(&rt, rt.alloc(), &module, &plan)?.as_str(), "start ArgCount thread 1");
+    assert_eq!(rt;
+        fault(&rt, rt.alloc(), &module, &plan)?.as_str(),
+        "start ArgCount thread 1"
+    );
     Ok(())
 }
 
@@ -294,7 +306,10 @@ fn the_drainer_passes_the_oldest_store(rt: HostRuntime) -> Result<(), Fail> {
     }
     drainer(&shared, 2, 3, &OpenGate)?;
     for (address, value) in [(0, 1), (4, 0), (8, 1)] {
-        assert_eq!(rt; shared.access(1, word(OpKind::Read, address))?.read, Some(value));
+        assert_eq!(rt;
+            shared.access(1, word(OpKind::Read, address))?.read,
+            Some(value)
+        );
     }
     Ok(())
 }

@@ -1,6 +1,6 @@
 use Rattle.std.proofs.Common.{◌≡◌, ◌∙◌, ap, codes, Some}
 use Rattle.clap.specs.Words.{Text, found_of, rows_of, subcommand_rows_of}
-use Rattle.wm_litmus.proofs.Entered.{entered_is, no_complete_document, no_complete_module, no_document, no_drive_module, no_drive_turns, no_migrate, no_module, no_rules, no_value, value_is}
+use Rattle.wm_litmus.proofs.Entered.{entered_is, no_complete_document, no_complete_module, no_document, no_drive_module, no_drive_turns, no_migrate, no_module, no_rules, no_run_module, no_run_rounds, no_value, value_is}
 use Rattle.wm_litmus.proofs.command.named.Goals as goal
 
 pub returns-in_err-document-in-rules-clause-none : goal.returns-in_err-document-in-rules-clause-none
@@ -99,16 +99,16 @@ returns-in_err-module-in-drive-clause-none c = λ _.
     ∙ ap (λ (t : Text). Some (t, rows_of f)) c.in-drive.is in
     no_drive_module (subcommand_rows_of c.args.matches.now) (rows_of f) is (no_value f (codes "module") c.get_str-in-drive.result c.in_err-module-in-drive.was c.get_str-in-drive.ensures)
 
-pub returns-in_err-turns-clause-none : goal.returns-in_err-turns-clause-none
-returns-in_err-turns-clause-none c = λ _.
+pub returns-in_err-turns-in-drive-clause-none : goal.returns-in_err-turns-in-drive-clause-none
+returns-in_err-turns-in-drive-clause-none c = λ _.
     let f = found_of c.in_ok-name.words.now in
     let is : subcommand_rows_of c.args.matches.now ≡ Some (codes "drive", rows_of f) =
     entered_is c.args.matches.now c.subcommand.result c.in_ok-name.name c.in_ok-name.words c.in_ok-name.was c.subcommand.ensures.name c.subcommand.ensures.rows
     ∙ ap (λ (t : Text). Some (t, rows_of f)) c.in-drive.is in
-    no_drive_turns (subcommand_rows_of c.args.matches.now) (rows_of f) is (no_value f (codes "turns") c.get_str-turns.result c.in_err-turns.was c.get_str-turns.ensures)
+    no_drive_turns (subcommand_rows_of c.args.matches.now) (rows_of f) is (no_value f (codes "turns") c.get_str-in-drive-2.result c.in_err-turns-in-drive.was c.get_str-in-drive-2.ensures)
 
-pub returns-in_ok-turns-clause-some : goal.returns-in_ok-turns-clause-some
-returns-in_ok-turns-clause-some c =
+pub returns-in_ok-turns-in-drive-clause-some : goal.returns-in_ok-turns-in-drive-clause-some
+returns-in_ok-turns-in-drive-clause-some c =
     let f = found_of c.in_ok-name.words.now in
     let is : subcommand_rows_of c.args.matches.now ≡ Some (codes "drive", rows_of f) =
     entered_is c.args.matches.now c.subcommand.result c.in_ok-name.name c.in_ok-name.words c.in_ok-name.was c.subcommand.ensures.name c.subcommand.ensures.rows
@@ -116,5 +116,33 @@ returns-in_ok-turns-clause-some c =
       rows_of f,
       is,
       value_is f (codes "module") c.get_str-in-drive.result c.in_ok-module-in-drive.module c.in_ok-module-in-drive.was c.get_str-in-drive.ensures,
-      value_is f (codes "turns") c.get_str-turns.result c.in_ok-turns.turns c.in_ok-turns.was c.get_str-turns.ensures,
+      value_is f (codes "turns") c.get_str-in-drive-2.result c.in_ok-turns-in-drive.turns c.in_ok-turns-in-drive.was c.get_str-in-drive-2.ensures,
+    )
+
+pub returns-in_err-module-in-run-clause-none : goal.returns-in_err-module-in-run-clause-none
+returns-in_err-module-in-run-clause-none c = λ _.
+    let f = found_of c.in_ok-name.words.now in
+    let is : subcommand_rows_of c.args.matches.now ≡ Some (codes "run", rows_of f) =
+    entered_is c.args.matches.now c.subcommand.result c.in_ok-name.name c.in_ok-name.words c.in_ok-name.was c.subcommand.ensures.name c.subcommand.ensures.rows
+    ∙ ap (λ (t : Text). Some (t, rows_of f)) c.in-run.is in
+    no_run_module (subcommand_rows_of c.args.matches.now) (rows_of f) is (no_value f (codes "module") c.get_str-in-run.result c.in_err-module-in-run.was c.get_str-in-run.ensures)
+
+pub returns-in_err-rounds-in-run-clause-none : goal.returns-in_err-rounds-in-run-clause-none
+returns-in_err-rounds-in-run-clause-none c = λ _.
+    let f = found_of c.in_ok-name.words.now in
+    let is : subcommand_rows_of c.args.matches.now ≡ Some (codes "run", rows_of f) =
+    entered_is c.args.matches.now c.subcommand.result c.in_ok-name.name c.in_ok-name.words c.in_ok-name.was c.subcommand.ensures.name c.subcommand.ensures.rows
+    ∙ ap (λ (t : Text). Some (t, rows_of f)) c.in-run.is in
+    no_run_rounds (subcommand_rows_of c.args.matches.now) (rows_of f) is (no_value f (codes "rounds") c.get_str-in-run-2.result c.in_err-rounds-in-run.was c.get_str-in-run-2.ensures)
+
+pub returns-in_ok-rounds-in-run-clause-some : goal.returns-in_ok-rounds-in-run-clause-some
+returns-in_ok-rounds-in-run-clause-some c =
+    let f = found_of c.in_ok-name.words.now in
+    let is : subcommand_rows_of c.args.matches.now ≡ Some (codes "run", rows_of f) =
+    entered_is c.args.matches.now c.subcommand.result c.in_ok-name.name c.in_ok-name.words c.in_ok-name.was c.subcommand.ensures.name c.subcommand.ensures.rows
+    ∙ ap (λ (t : Text). Some (t, rows_of f)) c.in-run.is in (
+      rows_of f,
+      is,
+      value_is f (codes "module") c.get_str-in-run.result c.in_ok-module-in-run.module c.in_ok-module-in-run.was c.get_str-in-run.ensures,
+      value_is f (codes "rounds") c.get_str-in-run-2.result c.in_ok-rounds-in-run.rounds c.in_ok-rounds-in-run.was c.get_str-in-run-2.ensures,
     )
