@@ -26,12 +26,14 @@ use Rattle.wm_logfile.specs.Words.{kind_word, order_word}
 use Rattle.wm_logfile.specs.Document.{list, count, values, event_cells, event, result_cells, end_cells, end, thread_cells, thread, thread_by, writer_cells, writer, event_writers, thread_writers, writers, by_cells, key_cells, event_key, keys, witness, document_cells, document_1, document_2, IsDocument}
 use Rattle.wm_logfile.specs.Document.IsDocument.{first, second}
 use Rattle.wm_logfile.specs.Reading.{list_at, width_at, kind_from, order_from, trap_from, firsts, seconds}
+use Rattle.wm_logfile.proofs.Events.{made}
 use Rattle.wm_logfile.proofs.EventsBy.{ReadsBy, spell}
 use Rattle.wm_logfile.proofs.ThreadsBy.{With, ThreadWith, Reads, IsLong, zipped, spell_thread, firsts_zip, seconds_zip}
 use Rattle.wm_logfile.proofs.Pairing.{paired}
 use Rattle.wm_logfile.proofs.Lists.{list_again}
 use Rattle.wm_logfile.proofs.Format.{AllFrom}
 use Rattle.wm_logfile.proofs.Leaves.{widths, kind_again, order_again, trap_again}
+use Rattle.wm_logfile.proofs.Whole.{witness_of}
 
 list_once : (xs ys : List Data) → list xs ≡ list ys → xs ≡ ys
 list_once xs ys e = same_Some xs ys (sym (list_again xs) ∙ ap list_at e ∙ list_again ys)
@@ -87,10 +89,6 @@ values_once Update o p r w s x h i e = (cc, cc)
 width_once : (v w : AccessWidth) → count (bytes_of v) ≡ count (bytes_of w) → v ≡ w
 width_once v w e = same_Some v w (sym (widths.again v tt) ∙ ap width_at e ∙ widths.again w tt)
 
--- kept closed, so that equal parts give equal events
-made : ℕ → ℕ → EventKind → MemoryOrder → ℕ → AccessWidth → ℕ → ℕ → Event
-made t n k o a w r v = record { thread = t; number = n; kind = k; order = o; address = a; width = w; read = r; written = v }
-
 made_once : (t n : ℕ) (k : EventKind) (o : MemoryOrder) (a : ℕ) (w : AccessWidth) (r v t' n' : ℕ) (k' : EventKind) (o' : MemoryOrder) (a' : ℕ) (w' : AccessWidth) (r' v' : ℕ) → t ≡ t' → n ≡ n' → k ≡ k' → o ≡ o' → a ≡ a' → w ≡ w' → r ≡ r' → v ≡ v' → made t n k o a w r v ≡ made t' n' k' o' a' w' r' v'
 made_once t n k o a w r v t' n' k' o' a' w' r' v' e1 e2 e3 e4 e5 e6 e7 e8 = cc
 
@@ -98,7 +96,6 @@ made_once t n k o a w r v t' n' k' o' a' w' r' v' e1 e2 e3 e4 e5 e6 e7 e8 = cc
 fields_once : (t n : ℕ) (e f : Event) (ds es : List Data) → IsEvent t n e → IsEvent t n f
     → ((k : EventKind) → values k e.read e.written ++ ds ≡ values k f.read f.written ++ es → e.kind ≡ k → f.kind ≡ k → values k e.read e.written ≡ values k f.read f.written)
     → event_cells e ++ ds ≡ event_cells f ++ es → e ≡ f
-unfolding made
 fields_once t n e f ds es p q apart c0 =
     let c1 = cells_once (string (kind_word e.kind)) (string (kind_word f.kind)) _ _ c0 in
     let c2 = cells_once (string (order_word e.order)) (string (order_word f.order)) _ _ c1.1 in
@@ -214,14 +211,10 @@ writer_cells_once (At j) (At k) h = ap (λ (x : EventKey). At x) (key_cells_once
 writer_once : (v w : EventId) → writer v ≡ writer w → v ≡ w
 writer_once v w h = writer_cells_once v w (list_once (writer_cells v) (writer_cells w) h)
 
-witness_of : List (List (List EventId)) → List EventKey → Witness
-witness_of ws o = record { writers = ws; order = o }
-
 witness_of_once : (ws vs : List (List (List EventId))) (o p : List EventKey) → ws ≡ vs → o ≡ p → witness_of ws o ≡ witness_of vs p
 witness_of_once ws vs o p e1 e2 = cc
 
 witness_once : (v w : Witness) → witness v ≡ witness w → v ≡ w
-unfolding witness_of
 witness_once v w h =
     let c0 = list_once (writers v.writers ∷ list (map event_key v.order) ∷ []) (writers w.writers ∷ list (map event_key w.order) ∷ []) h in
     let c1 = cells_once (writers v.writers) (writers w.writers) _ _ c0 in
@@ -322,7 +315,6 @@ first_once l m v w p q h =
     (map_once thread (λ n x. AreEvents n 0 x.events) thread_once 0 l m (threads_from 0 l p) (threads_from 0 m q) c.1, witness_once v w c.2)
 
 second_once : (l m : List ThreadLog) (v w : Witness) → IsLog l → IsLog m → FitsLog l v → FitsLog m w → document_2 l v ≡ document_2 m w → (l ≡ m) × (v ≡ w)
-unfolding witness_of
 second_once l m v w p q f g h =
     let c = cells_apart 2 2 (map (thread_by v) l) (map (thread_by w) m) (keys v.order) (keys w.order) h in
     let a = paired l v p f in

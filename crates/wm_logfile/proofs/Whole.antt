@@ -37,20 +37,20 @@ record WitnessFits (w : Witness) : Type 0 where
   writers : All (All (All WriterFits)) w.writers
   order : All KeyFits w.order
 
-abbrev made : List (List (List EventId)) → List EventKey → Witness
-made ws o = record { writers = ws; order = o }
+abbrev pub witness_of : List (List (List EventId)) → List EventKey → Witness
+witness_of ws o = record { writers = ws; order = o }
 
 witness_takes : (ds : List Data) (w : Witness) → witness_from ds ≡ Some w → (ds ≡ witness_cells w) × WitnessFits w
 unfolding witness_from
 witness_takes [] w h = absurd cc
 witness_takes (a ∷ []) w h = absurd cc
 witness_takes (a ∷ b ∷ []) w h =
-    let ws = bind_some (writers_at a) (λ ws. keys_at b >>= λ o. Some (made ws o)) w h in
-    let o = bind_some (keys_at b) (λ o. Some (made ws.0 o)) w ws.2 in
+    let ws = bind_some (writers_at a) (λ ws. keys_at b >>= λ o. Some (witness_of ws o)) w h in
+    let o = bind_some (keys_at b) (λ o. Some (witness_of ws.0 o)) w ws.2 in
     let ws-are = all_writers.takes a ws.0 ws.1 in
     let o-is = all_keys.takes b o.0 o.1 in
     let P : Witness → Type 0 = λ x. (a ∷ b ∷ [] ≡ witness_cells x) × WitnessFits x in
-    let same : made ws.0 o.0 ≡ w = cc in
+    let same : witness_of ws.0 o.0 ≡ w = cc in
     subst P same (ap (λ (x : Data). x ∷ b ∷ []) ws-are.0 ∙ ap (λ (x : Data). writers ws.0 ∷ x ∷ []) o-is.0, record { writers = ws-are.1; order = o-is.1 })
 witness_takes (a ∷ b ∷ c ∷ ds) w h = absurd cc
 
@@ -173,7 +173,7 @@ abbrev all_withs : IsFormat (few_at limited_thread_by_at) (λ ps. list (map spel
 all_withs = few limited_thread_by_at spell_thread (IsLimited ThreadByFits) threads_by
 
 abbrev of_pairs : List ThreadWith → List EventKey → Pair
-of_pairs ps o = (firsts ps, made (seconds ps) o)
+of_pairs ps o = (firsts ps, witness_of (seconds ps) o)
 
 record IsPair2 (ts last : Data) (x : Pair) : Type 0 where
   threads : ts ≡ list (map (thread_by x.1) x.0)
@@ -188,7 +188,7 @@ pair_2_takes ts last x h =
     let threads-are = all_withs.takes ts ps.0 ps.1 in
     let apart = withs_apart 0 ps.0 threads-are.1.0 in
     let order-is = all_keys.takes last o.0 o.1 in
-    let fit = unpaired (made (seconds ps.0) o.0) ps.0 refl apart.placed apart.long apart.none in
+    let fit = unpaired (witness_of (seconds ps.0) o.0) ps.0 refl apart.placed apart.long apart.none in
     let same : of_pairs ps.0 o.0 ≡ x = cc in
     subst (IsPair2 ts last) same (record {
       threads = threads-are.0 ∙ ap list (sym fit.spelled);
@@ -212,8 +212,8 @@ pair_2_again x fits_log fits =
     ap (λ (ds : List Data). pair_2_at (list ds) (keys x.1.order)) p.spelled
     ∙ ap (λ (o : Option (List ThreadWith)). o >>= λ ps. keys_at (keys x.1.order) >>= λ o. Some (of_pairs ps o)) (all_withs.again ps (withs_together 0 ps (omega (arith, len)) apart, len))
     ∙ ap (λ (o : Option (List EventKey)). o >>= λ o. Some (of_pairs ps o)) (all_keys.again x.1.order fits.order)
-    ∙ ap (λ (ls : List ThreadLog). Some (ls, made (seconds ps) x.1.order)) p.threads
-    ∙ ap (λ (wss : List (List (List EventId))). Some (x.0, made wss x.1.order)) p.writers
+    ∙ ap (λ (ls : List ThreadLog). Some (ls, witness_of (seconds ps) x.1.order)) p.threads
+    ∙ ap (λ (wss : List (List (List EventId))). Some (x.0, witness_of wss x.1.order)) p.writers
 
 -- ---- the whole
 
