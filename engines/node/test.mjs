@@ -13,12 +13,11 @@ import { fileURLToPath } from 'node:url';
 import { parseArgs } from 'node:util';
 import { record } from './record.mjs';
 import { parse } from './document.mjs';
-import { parseStart } from './recorder.mjs';
+import { MODES, parseStart } from './recorder.mjs';
 import { programsOf } from './programs.mjs';
 
 const TOP = new URL('../../', import.meta.url);
 const EXAMPLES = fileURLToPath(new URL('examples', TOP));
-const MODES = ['locked', 'buffered', 'free'];
 
 const { values } = parseArgs({
   options: {
