@@ -5,7 +5,7 @@
  *
  *     engines/node/test.mjs [--wmlab PROGRAM] [--rounds N] [--wrong N]
  *
- * `--rounds` is for each program and mode (4), `--wrong` for each run of the wrong engine (60). The last line is
+ * `--rounds` is for each program and mode (4), `--wrong` for each run of the wrong engine (100). The last line is
  * `N passed, N failed`.
  */
 
@@ -23,7 +23,7 @@ const { values } = parseArgs({
   options: {
     wmlab: { type: 'string', default: fileURLToPath(new URL('crates/wmlab/out/wmlab', TOP)) },
     rounds: { type: 'string', default: '4' },
-    wrong: { type: 'string', default: '60' },
+    wrong: { type: 'string', default: '100' },
   },
 });
 
