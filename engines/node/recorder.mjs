@@ -12,6 +12,8 @@ export function parseStart(word) {
   return { name, args: args.map(BigInt) };
 }
 
+export const MODES = ['locked', 'buffered', 'free'];
+
 /** How a round can fail to have a log. */
 export class NoLog extends Error {}
 
@@ -26,6 +28,8 @@ export class Recorder {
     this.options = { ...DEFAULTS, ...options };
     this.starts = starts;
     const { mode, wrong } = this.options;
+    if (!MODES.includes(mode)) throw Error(`the modes are ${MODES.join(', ')}`);
+    if (wrong && mode === 'locked') throw Error('a wrong engine is played in the modes buffered and free');
     const made = rewrite(moduleBytes, mode === 'free' ? 'noted' : 'hooked', { wrong: wrong && mode === 'free' });
     this.importedAs = made.memory;
     this.memory = new WebAssembly.Memory({ initial: made.memory.initial, maximum: made.memory.maximum, shared: true });

@@ -5,7 +5,7 @@
  *
  *     engines/node/test.mjs [--wmlab PROGRAM] [--rounds N] [--wrong N]
  *
- * `--rounds` is for each program and mode (4), `--wrong` for each run of the wrong engine (60). The last line is
+ * `--rounds` is for each program and mode (4), `--wrong` for each run of the wrong engine (100). The last line is
  * `N passed, N failed`.
  */
 
@@ -13,18 +13,17 @@ import { fileURLToPath } from 'node:url';
 import { parseArgs } from 'node:util';
 import { record } from './record.mjs';
 import { parse } from './document.mjs';
-import { parseStart } from './recorder.mjs';
+import { MODES, parseStart } from './recorder.mjs';
 import { programsOf } from './programs.mjs';
 
 const TOP = new URL('../../', import.meta.url);
 const EXAMPLES = fileURLToPath(new URL('examples', TOP));
-const MODES = ['locked', 'buffered', 'free'];
 
 const { values } = parseArgs({
   options: {
     wmlab: { type: 'string', default: fileURLToPath(new URL('crates/wmlab/out/wmlab', TOP)) },
     rounds: { type: 'string', default: '4' },
-    wrong: { type: 'string', default: '60' },
+    wrong: { type: 'string', default: '100' },
   },
 });
 
