@@ -154,8 +154,10 @@ starts_from is_open m starts limit run are = same_lists (map (λ (log : ThreadLo
   where
     lengths : length (map (λ (log : ThreadLog). log.start) run.log) ≡ length starts
     lengths = length-map run.log (λ (log : ThreadLog). log.start) ∙ are.count
+
     no_log : ThreadLog
     no_log = record { start = no_start; end = Cut; steps = 0; events = [] }
+
     items : (t : ℕ) (d : Start) → t < length (map (λ (log : ThreadLog). log.start) run.log) → get_or (map (λ (log : ThreadLog). log.start) run.log) t d ≡ get_or starts t d
     items t d lt =
         let within : t < length run.log = omega (arith, lt, length-map run.log (λ (log : ThreadLog). log.start)) in

@@ -31,8 +31,10 @@ logged_events r ends logs k one_each agrees are = same_lists (map (λ (log : Thr
   where
     by_events : length r.events ≡ threads_of r
     by_events = ap length k.events ∙ length-by_thread (events_of (steps_of r)) (threads_of r)
+
     lengths : length (map (λ (log : ThreadLog). log.events) logs) ≡ length r.events
     lengths = length-map logs (λ (log : ThreadLog). log.events) ∙ (are.count ∙ sym by_events)
+
     item : (t : ℕ) (d : List Event) (e : ThreadEnd) → t < length r.events → t < threads_of r → IsEndIn ends t e → get_or (map (λ (log : ThreadLog). log.events) logs) t d ≡ get_or r.events t d
     item t d e lt there in_ends =
         let here : slice_get (map (λ (log : ThreadLog). log.events) logs) t ≡ Some e.events =
@@ -40,6 +42,7 @@ logged_events r ends logs k one_each agrees are = same_lists (map (λ (log : Thr
         let same : unwrap_or (slice_get r.events t) [] ≡ e.events = ap (λ n. unwrap_or (slice_get r.events n) []) (sym in_ends.1) ∙ (agrees t e there in_ends).events in
         let held : slice_get r.events t ≡ Some (get_or r.events t d) = slice_get-get_or r.events t d lt in
         get_or_from_slice_get (map (λ (log : ThreadLog). log.events) logs) t e.events d here ∙ (sym same ∙ ap (λ o. unwrap_or o []) held)
+
     items : (t : ℕ) (d : List Event) → t < length (map (λ (log : ThreadLog). log.events) logs) → get_or (map (λ (log : ThreadLog). log.events) logs) t d ≡ get_or r.events t d
     items t d lt =
         let in_events : t < length r.events = omega (arith, lt, lengths) in

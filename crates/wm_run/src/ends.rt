@@ -8,7 +8,9 @@ use crate::ended::ThreadEnd;
 fn count_of(ends: &[ThreadEnd], thread: usize) -> usize
     ensures { result ≡ ends_of ends.now thread }
 {
-    ends.iter().filter(|end| end.thread as usize == thread).count()
+    ends.iter()
+        .filter(|end| end.thread as usize == thread)
+        .count()
 }
 
 /// The lesser of two numbers, the first of which may be missing.

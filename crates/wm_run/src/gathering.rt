@@ -86,11 +86,7 @@ fn log_by(alloc: Global, end: &ThreadEnd) -> Result<ThreadLog, AllocError>
 }
 
 /// What is logged of each thread by its end.
-fn logs_by(
-    alloc: Global,
-    ends: &[ThreadEnd],
-    threads: usize,
-) -> Result<List<ThreadLog>, AllocError>
+fn logs_by(alloc: Global, ends: &[ThreadEnd], threads: usize) -> Result<List<ThreadLog>, AllocError>
     requires { HasOneEach threads ends.now }
     ensures { IfOk result (AreLogsBy threads ends.now) }
 {

@@ -104,7 +104,9 @@ fn run_workers<'s, E: 's, R: Threads, S: Shared + Sync, G: Gate + Sync>(
     let mut workers = Vec::with_capacity(alloc, starts.len())?;
     for (number, start) in starts.iter().enumerate() {
         let thread = number as u32;
-        match start_one(scope, alloc, module, thread, start, plan.steps, shared, gate) {
+        match start_one(
+            scope, alloc, module, thread, start, plan.steps, shared, gate,
+        ) {
             Ok(worker) => workers.push_reserved(worker),
             Err(_) => {
                 join_all(rt, workers);

@@ -152,13 +152,5 @@ pub fn work<S: Shared, G: Gate>(
             return Ok(finished(module, thread, own, &running, made, events, stop));
         }
     }
-    Ok(finished(
-        module,
-        thread,
-        own,
-        &running,
-        steps,
-        events,
-        Stop::Own,
-    ))
+    Ok(finished(module, thread, own, &running, steps, events, Stop::Own))
 }

@@ -9,7 +9,7 @@ loop-end-preserved c =
     let at = slice_get_read ends (length ends) c.loop-end.end-index c.end-item.result refl c.loop-end-test.true c.end-item.is in
     record {
       strays = one_stray c.args.threads ends c.loop-end.end-index c.lesser.result c.end-item.result c.loop-end.least at c.if-thread-threads.false c.loop-end.invariant.strays
-      c.lesser.ensures.at_most c.lesser.ensures.or_less c.lesser.ensures.one;
+          c.lesser.ensures.at_most c.lesser.ensures.or_less c.lesser.ensures.one;
     }
 
 pub returns-clause-none : goal.returns-clause-none
