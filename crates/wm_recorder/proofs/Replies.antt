@@ -1,5 +1,5 @@
 -- A reply reads exactly where its access does, and what it reads fits.
-use Rattle.std.proofs.Common.{◌≡◌, ℕ, Bool, true, false, cond, Some, None, All, rules, subst, sym}
+use Rattle.std.proofs.Common.{ℕ, Bool, true, false, cond, Some, None, subst, sym}
 use Rattle.std.specs.Prelude.{◌==◌}
 use Rattle.wm_access.specs.declared.AccessWidth.{AccessWidth}
 use Rattle.wm_access.specs.AccessWidth.{bytes_of, Fits}

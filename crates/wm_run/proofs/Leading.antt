@@ -1,10 +1,9 @@
 -- A worker's thread goes on: the events so far are those of its steps.
-use Rattle.std.proofs.Common.{◌≡◌, ℕ, suc, ◌+◌, ◌<◌, ◌≤◌, Bool, true, false, cond, List, [], ◌∷◌, ◌++◌, length, Option, Some, None, unwrap_or, refl, sym, ap, subst, ◌∙◌, arith}
+use Rattle.std.proofs.Common.{◌≡◌, ℕ, suc, ◌+◌, Bool, true, false, cond, List, [], ◌∷◌, ◌++◌, length, Option, Some, None, unwrap_or, refl, sym, ap, subst, ◌∙◌, arith}
 use Rattle.std.specs.Prelude.{Result, Ok, Err}
 use Rattle.std.proofs.lemmas.List.{append-nil}
 use Rattle.wm_access.specs.declared.AccessWidth.{AccessWidth}
 use Rattle.wm_access.specs.declared.AccessWidth.TheVariants.{One, Two, Four, Eight}
-use Rattle.wm_access.specs.declared.MemoryOrder.{MemoryOrder}
 use Rattle.wm_access.specs.AccessWidth.{Fits}
 use Rattle.wm_ast.specs.declared.module.Module.{Module}
 use Rattle.wm_event.specs.declared.event.Event.{Event}

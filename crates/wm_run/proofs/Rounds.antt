@@ -1,30 +1,28 @@
 -- What the workers promised and what was gathered make a round.
-use Rattle.std.proofs.Common.{◌≡◌, ◌≢◌, ℕ, ◌+◌, ◌<◌, ◌≤◌, ◌⊎◌, inl, inr, Bool, true, false, ◌||◌, List, [], length, reverse, get_or, map, Some, Ok, Err, slice_get, slice_index_or, All, refl, sym, ap, subst, ◌∙◌, arith}
+use Rattle.std.proofs.Common.{◌≡◌, ℕ, ◌<◌, ◌≤◌, ◌⊎◌, inl, inr, Bool, true, false, ◌||◌, List, [], length, reverse, get_or, map, Some, Ok, slice_get, slice_index_or, All, refl, sym, ap, subst, ◌∙◌, arith}
 use Rattle.std.specs.Prelude.{Result, option_map}
 use Rattle.std.proofs.lemmas.List.{get_or-map, length-map, same_lists}
 use Rattle.std.proofs.lemmas.Option.{get_or_from_slice_get, same_Some, slice_get-get_or, slice_get-map, slice_get_within}
 use Rattle.std.proofs.lemmas.Bool.{cases_lt}
 use Rattle.wm_ast.specs.declared.module.Module.{Module}
-use Rattle.wm_event.specs.declared.log.End.{End}
 use Rattle.wm_event.specs.declared.log.End.TheVariants.{Cut}
 use Rattle.wm_event.specs.declared.log.Start.{Start}
 use Rattle.wm_event.specs.declared.log.ThreadLog.{ThreadLog}
 use Rattle.wm_memory.specs.Legal.{IsLegal}
-use Rattle.wm_memory.specs.Recorded.{Records, by_thread, events_of, order_of, writers_of}
-use Rattle.wm_memory.specs.Visibility.{steps}
-use Rattle.wm_recorder.specs.Recorder.{IsFull, Recording, IsRecording, initial_of, steps_of, threads_of}
-use Rattle.wm_replay.specs.Replay.{AreRuns, IsRun}
+use Rattle.wm_memory.specs.Recorded.{by_thread, events_of, writers_of}
+use Rattle.wm_recorder.specs.Recorder.{Recording, IsRecording, initial_of, steps_of, threads_of}
+use Rattle.wm_replay.specs.Replay.{IsRun}
 use Rattle.wm_run.specs.declared.ended.Stop.{Stop}
 use Rattle.wm_run.specs.declared.ended.Stop.TheVariants.{Own, Gate, Memory}
 use Rattle.wm_run.specs.declared.ended.ThreadEnd.{ThreadEnd}
 use Rattle.wm_run.specs.declared.fault.RunFault.{RunFault}
 use Rattle.wm_run.specs.declared.plan.Plan.{Plan}
 use Rattle.wm_run.specs.Ends.{IsEndIn}
-use Rattle.wm_run.specs.Gathered.{Agrees, IsGathered, log_by}
+use Rattle.wm_run.specs.Gathered.{IsGathered, log_by}
 use Rattle.wm_run.specs.Own.{IsOwnRun, OwnRunsAreAllowed}
 use Rattle.wm_run.specs.Reached.{stands_before_access}
 use Rattle.wm_run.specs.Rounds.{AreEndsOf, AreWorkOf, IsHeld, IsRound}
-use Rattle.wm_run.specs.Run.{Record, over}
+use Rattle.wm_run.specs.Run.{Record}
 use Rattle.wm_run.specs.Stops.{is_own}
 use Rattle.wm_run.specs.Worker.{IsEndOf, IsWorkOf}
 use Rattle.wm_run.proofs.Logging.{get_some}

@@ -1,21 +1,19 @@
 -- A thread that has ended isn't cut.
-use Rattle.std.proofs.Common.{◌≡◌, ◌≢◌, ℕ, zero, suc, Bool, true, false, cond, List, [], Option, Some, None, refl, sym, ap, subst, ◌∙◌}
-use Rattle.std.specs.Prelude.{Result, Ok, Err, ⊤}
+use Rattle.std.proofs.Common.{◌≡◌, ◌≢◌, ℕ, zero, suc, Bool, true, false, cond, List, [], Option, Some, None, refl, ap, subst}
+use Rattle.std.specs.Prelude.{Ok, Err, ⊤}
 use Rattle.std.proofs.lemmas.Option.{none-some, same_Some}
 use Rattle.wm_ast.specs.declared.exports.Export.{Export}
 use Rattle.wm_ast.specs.declared.module.Module.{Module}
 use Rattle.wm_ast.specs.Exports.{export_at}
-use Rattle.wm_event.specs.declared.log.End.{End}
 use Rattle.wm_event.specs.declared.log.End.TheVariants.{Cut}
 use Rattle.wm_event.specs.declared.log.Start.{Start}
 use Rattle.wm_event.specs.declared.event.Event.{Event}
-use Rattle.wm_machine.specs.declared.fault.StartFault.{StartFault}
 use Rattle.wm_machine.specs.declared.fault.StartFault.TheVariants.{ArgCount, ArgRange}
 use Rattle.wm_machine.specs.declared.value.TypedValue.{TypedValue}
 use Rattle.wm_machine.specs.Functions.{Callable, callable}
 use Rattle.wm_machine.specs.Reach.{HasEnded}
-use Rattle.wm_machine.specs.Run.{Ran, Taken, end_of, ran_on, ran_with, run_on, steps, take_read}
-use Rattle.wm_machine.specs.Start.{any_past, func_of, started, started_at, started_by, started_in, started_with}
+use Rattle.wm_machine.specs.Run.{Ran, Taken, end_of, ran_on, ran_with, steps, take_read}
+use Rattle.wm_machine.specs.Start.{any_past, func_of, started_at, started_by, started_in, started_with}
 use Rattle.wm_machine.specs.Step.{access_of, ended, out_of_thread, reduce, returned, step, went}
 use Rattle.wm_machine.specs.Term.{Config, Going, Over, Reduced, Next, Ends, Leaves, Returns, Traps, Stuck, Step, Went, NoStep}
 use Rattle.wm_replay.proofs.Runs.{and_some}

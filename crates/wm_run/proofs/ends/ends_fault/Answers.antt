@@ -1,4 +1,4 @@
-use Rattle.std.proofs.Common.{◌≡◌, ◌<◌, ◌≤◌, ℕ, sym, ◌∙◌, inl, arith, below_more}
+use Rattle.std.proofs.Common.{◌≡◌, ◌<◌, sym, ◌∙◌, inl, arith, below_more}
 use Rattle.wm_run.specs.Ends.{ends_of}
 use Rattle.wm_run.proofs.Strays.{one_each, stray_fault}
 use Rattle.wm_run.proofs.ends.ends_fault.Goals as goal

@@ -1,5 +1,4 @@
-use Rattle.std.proofs.Common.{◌≡◌, ◌<◌, refl, arith}
-use Rattle.wm_recorder.specs.Recorder.{threads_of}
+use Rattle.std.proofs.Common.{◌<◌, refl, arith}
 use Rattle.wm_run.specs.Gathered.{Agrees}
 use Rattle.wm_run.proofs.OneEach.{one_more_end}
 use Rattle.wm_run.proofs.gathering.first_split.Goals as goal

@@ -1,4 +1,4 @@
-use Rattle.std.proofs.Common.{◌≡◌, ◌++◌, ◌∷◌, [], rules, length, ◌∙◌, arith}
+use Rattle.std.proofs.Common.{◌≡◌, ◌++◌, ◌∷◌, [], rules, ◌∙◌, arith}
 use Rattle.wm_run.proofs.Together.{logs_more}
 use Rattle.wm_run.proofs.gathering.logs_by.Goals as goal
 

@@ -1,4 +1,4 @@
-use Rattle.std.proofs.Common.{◌≡◌, ℕ, ◌<◌, get_or, length}
+use Rattle.std.proofs.Common.{◌≡◌, ℕ, ◌<◌, get_or}
 use Rattle.wm_event.specs.declared.event.Event.{Event}
 use Rattle.wm_run.proofs.gathering.same_events.Given as goal
 

@@ -1,4 +1,4 @@
-use Rattle.std.proofs.Common.{◌≡◌, ◌+◌, ◌<◌, ◌≤◌, ℕ, List, [], get_or, vec_len, vec_items, vec_capacity, length}
+use Rattle.std.proofs.Common.{◌≡◌, ◌<◌, ◌≤◌, ℕ, get_or, vec_len, vec_items, vec_capacity, length}
 use Rattle.wm_event.specs.declared.log.Start.{Start}
 use Rattle.wm_run.proofs.round.run_workers.Given as goal
 

@@ -1,6 +1,6 @@
-use Rattle.std.proofs.Common.{◌≡◌, ◌++◌, ◌∷◌, [], refl, sym, ap, ◌∙◌, rules, length, arith}
+use Rattle.std.proofs.Common.{refl, rules}
 use Rattle.wm_machine.specs.State.{config_of}
-use Rattle.wm_run.proofs.Leading.{before_access, leads_by_reply, or_zero}
+use Rattle.wm_run.proofs.Leading.{before_access, leads_by_reply}
 use Rattle.wm_run.proofs.worker.access.Goals as goal
 
 pub returns-in-Ok-advance-clause-made : goal.returns-in-Ok-advance-clause-made

@@ -1,4 +1,4 @@
-use Rattle.std.proofs.Common.{◌≡◌, ◌≤◌, refl, sym, ap, ◌∙◌, arith, rules}
+use Rattle.std.proofs.Common.{◌≡◌, refl, ap, ◌∙◌, arith}
 use Rattle.wm_machine.specs.State.{config_of}
 use Rattle.wm_run.proofs.Leading.{run_so_far}
 use Rattle.wm_run.proofs.Working.{stopped_early}
