@@ -4,7 +4,7 @@ use Rattle.std.specs.Prelude.{Ok}
 use Rattle.std.specs.declared.alloc.AllocError.{AllocError}
 use Rattle.wm_check.specs.declared.verdict.Verdict.{Verdict}
 use Rattle.wm_check.specs.declared.verdict.Verdict.TheVariants.{Allowed, Refused, Broken}
-use Rattle.wm_check.specs.Verdicts.{IfAllowed, IfBroken, IfRefused, IsAllowed, IsBrokenBy, IsRefusedFor}
+use Rattle.wm_check.specs.Verdicts.{IfAllowed, IfBroken, IfRefused, IsAllowed, IsBrokenBy, IsRefusedFor, Says}
 use Rattle.wm_logfile.specs.declared.fault.DocFault.{DocFault}
 use Rattle.wm_logfile.specs.declared.fault.DocFault.TheVariants.{NotJson, BadShape, BadVersion, NumberRange, TooLarge, OutOfMemory, Misplaced}
 use Rattle.wm_logfile.specs.DocumentBytes.{IsNoDocument}
@@ -35,3 +35,10 @@ module _ (bytes : List ℕ) (status : ℕ) (text : List ℕ) where
   answers_fault TooLarge memory place none s t = refused TooLarge (none memory (λ e. absurd cc)) s t
   answers_fault OutOfMemory memory place none s t = absurd (memory refl)
   answers_fault Misplaced memory place none s t = misplaced (place refl) s t
+
+-- what a verdict on bytes says, by each of its parts
+pub says : (module_bytes document_bytes : List ℕ) (v : Verdict) → IfAllowed {E = AllocError} (Ok v) (IsAllowed module_bytes document_bytes)
+    → IfRefused {E = AllocError} (Ok v) (IsRefusedFor module_bytes document_bytes) → IfBroken {E = AllocError} (Ok v) (IsBrokenBy module_bytes document_bytes) → Says module_bytes document_bytes v
+says mb db (Allowed certificate) is_allowed is_refused is_broken = is_allowed
+says mb db (Refused refusal) is_allowed is_refused is_broken = is_refused
+says mb db (Broken breach) is_allowed is_refused is_broken = is_broken

@@ -1,5 +1,5 @@
 -- What the command `drive` answers.
-use Rattle.std.specs.Prelude.{◌≡◌, ◌≢◌, ℕ, List, Option, ◌++◌, codes}
+use Rattle.std.specs.Prelude.{◌≡◌, ◌≢◌, ℕ, List, Option, ◌++◌, codes, string_bytes}
 use Rattle.serde_json.specs.Written.{compact_text}
 use Rattle.wm_ast.specs.declared.module.Module.{Module}
 use Rattle.wm_check.specs.declared.verdict.Refusal.{Refusal}
@@ -18,6 +18,7 @@ use Rattle.wm_run.specs.Run.{Record}
 use Rattle.wm_run.specs.Scripted.{IsScripted}
 use Rattle.wm_litmus.specs.declared.word.WordFault.{WordFault}
 use Rattle.wm_litmus.specs.declared.word.WordFault.TheVariants as word
+use Rattle.wm_litmus.specs.declared.answer.Answer.{Answer}
 use Rattle.wm_litmus.specs.Input.{IsReadOf}
 use Rattle.wm_litmus.specs.Lines.{run_fault_line_text, verdict_status, verdict_text, word_line_text}
 use Rattle.wm_litmus.specs.Outcomes.{outcome_text}
@@ -30,6 +31,17 @@ run_text run = compact_text (document_2 run.log run.witness)
 -- the outcome, the verdict and the document, a line each
 abbrev pub driven_text : List ℕ → Verdict → List ℕ → List ℕ
 driven_text outcome verdict document = ended (codes "outcome " ++ outcome) ++ (ended (verdict_text verdict) ++ ended document)
+
+-- an answer prints these, with the status of the verdict
+pub record PrintsRun (outcome : List ℕ) (verdict : Verdict) (document : List ℕ) (answer : Answer) : Type 0 where
+  pub status_is : answer.status ≡ verdict_status verdict
+  pub text_is : string_bytes answer.text ≡ driven_text outcome verdict document
+
+-- the answer is the outcome of the run, its document, and a verdict on that
+pub record IsDriven (module_bytes : List ℕ) (run : Record) (answer : Answer) : Type 0 where
+  pub verdict : Verdict
+  pub says : Says module_bytes (run_text run) verdict
+  pub prints : PrintsRun (outcome_text run.log) verdict (run_text run) answer
 
 -- the status and the text that answer a module and a script: the scripted run, with the verdict on its document
 pub data AnswersDrive (module_bytes : List ℕ) (plan : Plan) (turns : List Turn) (status : ℕ) (text : List ℕ) : Type 0 where

@@ -10,7 +10,7 @@ use Rattle.wm_check.specs.Verdicts.{Says}
 use Rattle.wm_run.specs.declared.fault.RunFault.{RunFault}
 use Rattle.wm_run.specs.declared.fault.RunFault.TheVariants.{OutOfMemory}
 use Rattle.wm_run.specs.declared.plan.Plan.{Plan}
-use Rattle.wm_run.specs.Round.{IsRound, IsRoundFault}
+use Rattle.wm_run.specs.Rounds.{IsRound, IsRoundFault}
 use Rattle.wm_run.specs.Run.{Record}
 use Rattle.wm_litmus.specs.Drive.{run_text}
 use Rattle.wm_litmus.specs.declared.word.WordFault.{WordFault}

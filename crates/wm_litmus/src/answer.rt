@@ -1,6 +1,6 @@
 //! What a command answers.
 ghost use Rattle.std.specs.Prelude.{◌≡◌, ◌≢◌, IfOk, string_bytes};
-ghost use Rattle.wm_litmus.specs.Drive.{driven_text};
+ghost use Rattle.wm_litmus.specs.Drive.{PrintsRun};
 ghost use Rattle.wm_litmus.specs.Lines.{document_line_text, judgement_status, judgement_text, run_fault_line_text, shape_line_text, verdict_status, verdict_text, word_line_text, words_line_text};
 ghost use Rattle.wm_litmus.specs.Prints.{Prints};
 
@@ -124,9 +124,7 @@ impl Answer {
         verdict: &Verdict,
         document: &str,
     ) -> Result<Answer, AllocError>
-        ensures status { IfOk result (λ answer. answer.status ≡ verdict_status verdict.now) }
-        ensures text { IfOk result (λ answer.
-            string_bytes answer.text ≡ driven_text outcome.now verdict.now document.now) }
+        ensures { IfOk result (PrintsRun outcome.now verdict.now document.now) }
     {
         let line = verdict_line(alloc, verdict)?;
         let text = format!(in alloc; "outcome {outcome}\n{line}\n{document}\n")?;

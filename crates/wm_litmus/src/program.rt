@@ -173,7 +173,7 @@ fn rounds_of<'a, R: AllocGlobal + Threads + Wait + Sync, F: Files>(
     match read_rounds_of(rt.alloc(), rounds, starts) {
         Ok(rounds) => {
             let bytes = read_file(files, name, MAX_MODULE_BYTES)?;
-            let answer = rounds_answer(rt, bytes.as_slice(), &rounds.plan, rounds.count)?;
+            let answer = rounds_answer(rt, bytes.as_slice(), &rounds)?;
             Ok(answer)
         }
         Err(fault) => {

@@ -1,7 +1,8 @@
 use Rattle.std.proofs.Common.{◌≡◌, ℕ, List, Option, subst, string_bytes}
+use Rattle.std.proofs.lemmas.Result.{IfOk-weaker}
 use Rattle.wm_litmus.specs.Input.{IsReadOf}
 use Rattle.wm_litmus.specs.Answers.{AnswersCheck, AnswersComplete, AnswersMigrate, AnswersRules}
-use Rattle.wm_litmus.specs.Answers.IsAnswer.{check_of, complete_of, migrate_of, rules_of}
+use Rattle.wm_litmus.specs.Answers.IsAnswer.{check_of, complete_of, drive_of, migrate_of, rules_of, run_of}
 use Rattle.wm_litmus.proofs.program.answer_of.Goals as goal
 
 pub returns-in_ok-rules_answer-in-Ok-Rules-clause-answers : goal.returns-in_ok-rules_answer-in-Ok-Rules-clause-answers
@@ -45,3 +46,13 @@ returns-in_ok-completion_answer-in-Ok-Complete-clause-answers g c =
     (subst (λ bytes. AnswersComplete read.read.0.items bytes answer.status (string_bytes answer.text)) of_document
     (subst (λ bytes. AnswersComplete bytes c.as_slice-in-Ok-Complete-2.result.now answer.status (string_bytes answer.text)) of_module
     c.in_ok-completion_answer-in-Ok-Complete.ensures))
+
+pub returns-in-Ok-Drive-clause-answers : goal.returns-in-Ok-Drive-clause-answers
+returns-in-Ok-Drive-clause-answers g c =
+    let read = rw c.in-Ok-Drive.field-0-is at c.in-Ok-Drive.ensures.read in
+    IfOk-weaker c.script_of.result _ _ (λ answer is. drive_of c.in-Ok-Drive.module c.in-Ok-Drive.turns read is) c.script_of.ensures.answers
+
+pub returns-in-Ok-Run-clause-answers : goal.returns-in-Ok-Run-clause-answers
+returns-in-Ok-Run-clause-answers g c =
+    let read = rw c.in-Ok-Run.field-0-is at c.in-Ok-Run.ensures.read in
+    IfOk-weaker c.rounds_of.result _ _ (λ answer is. run_of c.in-Ok-Run.module c.in-Ok-Run.rounds read is) c.rounds_of.ensures.answers
