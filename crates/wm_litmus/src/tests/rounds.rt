@@ -1,5 +1,5 @@
 //! Rounds of store buffering, and what is gathered of workers, with gates that hold threads back.
-ghost use Rattle.std.specs.Prelude.{◌≡◌, All, IfOk, false, length};
+ghost use Rattle.std.specs.Prelude.{◌≡◌, ◌≤◌, All, IfOk, false, length};
 
 use super::modules::{ARGUMENT, STORE_BUFFERING};
 use std::alloc::{AllocError, Global};
@@ -266,13 +266,24 @@ fn what_does_not_belong_together_is_not_gathered(rt: HostRuntime) -> Result<(), 
     Ok(())
 }
 
-fn word(kind: OpKind, address: u32) -> Op
-    requires { IsOp (record { kind = kind; address = address; width = AccessWidth.Four; order = MemoryOrder.Unordered }) }
-{
+/// A plain load of a word.
+fn load(address: u32) -> Op {
     Op::new(OpFields {
-        kind,
+        kind: OpKind::Read,
         address,
         width: AccessWidth::Four,
+        order: MemoryOrder::Unordered,
+    })
+}
+
+/// A plain store of a word.
+#[tactic(auto, using(crate::proofs::Small::small_fits))]
+fn store(address: u32, value: u8) -> Op {
+    let width = AccessWidth::Four;
+    Op::new(OpFields {
+        kind: OpKind::Write(value as u64),
+        address,
+        width,
         order: MemoryOrder::Unordered,
     })
 }
@@ -282,15 +293,15 @@ fn the_drainer_takes_turns(rt: HostRuntime) -> Result<(), Fail> {
     let initial = Initial::zeros(rt.alloc(), 1)?;
     let recorder = Recorder::new(rt.alloc(), &initial, 2)?;
     let shared = LockedMemory::new(&rt, recorder);
-    shared.access(0, word(OpKind::Write(1), 0))?;
-    shared.access(0, word(OpKind::Write(2), 8))?;
-    shared.access(1, word(OpKind::Write(3), 4))?;
+    shared.access(0, store(0, 1))?;
+    shared.access(0, store(8, 2))?;
+    shared.access(1, store(4, 3))?;
     assert!(rt; shared.drain(0)?);
-    assert_eq!(rt; shared.access(1, word(OpKind::Read, 0))?.read, Some(1));
-    assert_eq!(rt; shared.access(1, word(OpKind::Read, 8))?.read, Some(0));
+    assert_eq!(rt; shared.access(1, load(0))?.read, Some(1));
+    assert_eq!(rt; shared.access(1, load(8))?.read, Some(0));
     drainer(&shared, 2, 2, &OpenGate)?;
-    assert_eq!(rt; shared.access(1, word(OpKind::Read, 8))?.read, Some(2));
-    assert_eq!(rt; shared.access(0, word(OpKind::Read, 4))?.read, Some(3));
+    assert_eq!(rt; shared.access(1, load(8))?.read, Some(2));
+    assert_eq!(rt; shared.access(0, load(4))?.read, Some(3));
     assert!(rt; !shared.drain(0)?);
     Ok(())
 }
@@ -302,14 +313,11 @@ fn the_drainer_passes_the_oldest_store(rt: HostRuntime) -> Result<(), Fail> {
     let recorder = Recorder::new(rt.alloc(), &initial, 2)?;
     let shared = LockedMemory::new(&rt, recorder);
     for address in [0, 4, 8] {
-        shared.access(0, word(OpKind::Write(1), address))?;
+        shared.access(0, store(address, 1))?;
     }
     drainer(&shared, 2, 3, &OpenGate)?;
     for (address, value) in [(0, 1), (4, 0), (8, 1)] {
-        assert_eq!(rt;
-            shared.access(1, word(OpKind::Read, address))?.read,
-            Some(value)
-        );
+        assert_eq!(rt; shared.access(1, load(address))?.read, Some(value));
     }
     Ok(())
 }
