@@ -177,27 +177,45 @@ impl Random {
     }
 }
 
-fn round(pages: u32, random: &mut Random) -> u64 {
+fn round(pages: u32, steps: u32, bytes: u32, random: &mut Random) -> u64 {
     let initial = vec![0; pages as usize * 65_536];
     let mut recorder = Recorder::new(&initial, 4);
     let mut sum = 0u64;
-    for _ in 0..STEPS {
+    for _ in 0..steps {
         let thread = random.below(4);
         if random.below(4) == 0 {
             recorder.drain_at(thread, random.below(3));
-        } else if let Some(read) = recorder.access(thread, random.op(pages * 65_536 + 1)) {
+        } else if let Some(read) = recorder.access(thread, random.op(bytes)) {
             sum = sum.wrapping_add(read.unwrap_or(0));
         }
     }
     sum.wrapping_add(recorder.order.len() as u64)
 }
 
+/// Fills so many pages with zeros and copies them, so many times, in memory that is kept.
+fn copy(pages: u32, rounds: u32) {
+    let mut initial = vec![1u8; pages as usize * 65_536];
+    let mut copied = initial.clone();
+    for _ in 0..rounds {
+        std::hint::black_box(&mut initial).fill(0);
+        copied.copy_from_slice(std::hint::black_box(&initial));
+        std::hint::black_box(&mut copied);
+    }
+}
+
+/// `PAGES ROUNDS [STEPS BYTES]` as the recorder's program, or `PAGES ROUNDS copy`.
 fn main() {
-    let numbers: Vec<u32> = std::env::args().skip(1).map(|word| word.parse().unwrap()).collect();
+    let words: Vec<String> = std::env::args().skip(1).collect();
+    let number = |at: usize, other: u32| words.get(at).map_or(other, |word| word.parse().unwrap());
+    let (pages, rounds) = (number(0, 1), number(1, 1));
+    if words.get(2).is_some_and(|word| word == "copy") {
+        return copy(pages, rounds);
+    }
     let mut random = Random { state: 7 };
     let mut sum = 0u64;
-    for _ in 0..numbers[1] {
-        sum = sum.wrapping_add(round(numbers[0], &mut random));
+    for _ in 0..rounds {
+        let bytes = number(3, u32::MAX).min(pages * 65_536) + 1;
+        sum = sum.wrapping_add(round(pages, number(2, STEPS), bytes, &mut random));
     }
     println!("{sum}");
 }

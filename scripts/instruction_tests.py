@@ -9,7 +9,7 @@ The steps are counted here: one for each instruction, and one for leaving the fu
     ../../../../scripts/instruction_tests.py
 It needs wat2wasm (Debian's wabt) and node 20.
 """
-import json, re, subprocess, tempfile
+import json, re, subprocess, tempfile, textwrap
 
 # ---- the functions: what they take and give, their text, and the arguments of the call
 
@@ -255,22 +255,24 @@ def clause(word, types):
 
 def module_text(functions, data, has_global, exports_memory):
     lines = []
-    for signature, *_ in functions:
+    for number, (signature, text, arguments, local, *_) in enumerate(functions):
         takes, gives = parts(signature)
-        lines.append(f"(type (func{clause('param', takes)}{clause('result', gives)}))")
-    for number, (_, text, _, local, *_) in enumerate(functions):
-        lines.append(f"(func (type {number}){clause('local', local.split())} {text})")
+        fields = [f"(type (func{clause('param', takes)}{clause('result', gives)}))"]
+        fields.append(f"(func (type {number}){clause('local', local.split())} {text})")
+        if arguments is not None:
+            fields.append(f'(export "f{number}" (func {number}))')
+        lines.append(" ".join(fields))
     lines.append("(memory 1 1 shared)")
     if has_global:
         lines.append("(global (mut i64) (i64.const 41))")
-    for number, (_, _, arguments, *_) in enumerate(functions):
-        if arguments is not None:
-            lines.append(f'(export "f{number}" (func {number}))')
     if exports_memory:
         lines.append('(export "memory" (memory 0))')
     if data:
-        lines.append('(data (i32.const 0) "' + "".join(f"\\{byte:02x}" for byte in data) + '")')
-    return "(module " + "\n".join(lines) + ")"
+        lines.append("(data (i32.const 0)")
+        for start in range(0, len(data), 25):
+            lines.append('  "' + "".join(f"\\{byte:02x}" for byte in data[start : start + 25]) + '"')
+        lines[-1] += ")"
+    return "(module\n" + "\n".join(f"  {line}" for line in lines) + ")"
 
 
 def assembled(text):
@@ -385,11 +387,12 @@ def array(wasm, indent):
 
 
 def row(shows, functions, data, has_global, indent):
-    wasm = assembled(module_text(functions, data, has_global, False))
+    text = module_text(functions, data, has_global, False)
     document, line = document_of(functions, data, has_global)
     pad = " " * indent
     return (
-        f'{pad}shows: "{shows}",\n{pad}module: &[\n{array(wasm, indent + 4)}{pad}],\n'
+        f'{pad}shows: "{shows}",\n{textwrap.indent(text, pad + "// ")}\n'
+        f'{pad}module: &[\n{array(assembled(text), indent + 4)}{pad}],\n'
         f'{pad}document: r#"{document}"#,\n{pad}line: "{line}",\n'
     )
 

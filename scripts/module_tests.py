@@ -189,7 +189,8 @@ def decoded(name, text, said="", *changes):
 
 def run(shows, name, text, *changes):
     wasm = module_of(text, changes)
-    return f"\n/// {shows}\npub(super) const {name}: [u8; {len(wasm)}] = {array(wasm)};\n"
+    comment = textwrap.indent(text.strip() + ("\nbut for the bytes that the script changes" if changes else ""), "// ")
+    return f"\n{comment}\n/// {shows}\npub(super) const {name}: [u8; {len(wasm)}] = {array(wasm)};\n"
 
 
 def write(name, head, items):
@@ -202,4 +203,4 @@ write(
     "//! Modules in hexadecimal digits, each behind its text, as `scripts/module_tests.py` assembles them.\n",
     [decoded(*each) for each in DECODED],
 )
-write("crates/wm_litmus/src/tests/modules.rt", "//! Modules, as an assembler writes them.\n", [run(*each) for each in RUN])
+write("crates/wm_litmus/src/tests/modules.rt", "//! Modules, each behind its text, as `scripts/module_tests.py` assembles them.\n", [run(*each) for each in RUN])

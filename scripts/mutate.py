@@ -53,15 +53,16 @@ def case(number):
     """Whether one mutation is answered as it must be, and what was given and got where it isn't."""
     chance = random.Random(SEED * 1_000_003 + number)
     module, document = chance.choice(MODULES), chance.choice(DOCUMENTS)
-    command = chance.choice(["check", "check", "rules", "migrate"])
-    if command == "check" and chance.randrange(2):
+    command = chance.choice(["check", "check", "rules", "migrate", "complete"])
+    over_module = command in ("check", "complete")
+    if over_module and chance.randrange(2):
         module = mutated(module, MODULES, chance)
     else:
         document = mutated(document, DOCUMENTS, chance)
     with tempfile.NamedTemporaryFile() as file:
         file.write(module)
         file.flush()
-        words = ["check", file.name, "-"] if command == "check" else [command, "-"]
+        words = [command, file.name, "-"] if over_module else [command, "-"]
         ran = subprocess.run([WMLAB, *words], input=document, capture_output=True, timeout=60)
     lines = ran.stdout.count(b"\n")
     well = 0 <= ran.returncode < 3 and lines == 1 and ran.stdout.endswith(b"\n") and not ran.stderr

@@ -35,7 +35,12 @@ pub enum Instr {
     /// A loop, whose label is before its first instruction.
     Loop(BlockType, usize),
     /// An `if` with its two blocks. An absent else part is an empty block of its own.
-    If(BlockType, usize, usize, Else),
+    If {
+        result: BlockType,
+        then_block: usize,
+        else_block: usize,
+        else_part: Else,
+    },
     Br(u32),
     BrIf(u32),
     /// The labels of the indices from 0 on, and the one of all other indices.

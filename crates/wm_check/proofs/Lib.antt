@@ -1,2 +1,3 @@
 pub mod Invalid
+pub mod Alone
 pub mod CompletedFits

@@ -3,8 +3,10 @@
 
 mod checker;
 mod completed;
+mod law;
 mod verdict;
 
 pub use checker::{Unread, check, read_module};
 pub use completed::{CompletedDocument, complete_document};
+pub use law::one_verdict;
 pub use verdict::{Breach, Certificate, Refusal, Verdict};

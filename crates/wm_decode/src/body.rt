@@ -275,10 +275,22 @@ fn instr<'a>(
             if closer == END {
                 let second = blocks.len();
                 blocks.push(List::new(alloc))?;
-                return Ok((Instr::If(ty, first, second, Else::Absent), rest));
+                let instr = Instr::If {
+                    result: ty,
+                    then_block: first,
+                    else_block: second,
+                    else_part: Else::Absent,
+                };
+                return Ok((instr, rest));
             }
             let (second, rest) = closed(alloc, room - 1, blocks, rest)?;
-            Ok((Instr::If(ty, first, second, Else::Present), rest))
+            let instr = Instr::If {
+                result: ty,
+                then_block: first,
+                else_block: second,
+                else_part: Else::Present,
+            };
+            Ok((instr, rest))
         }
         _ => plain(alloc, op, bytes),
     }

@@ -11,7 +11,7 @@ use Rattle.clap.specs.declared.parser.matches.Found.{Found}
 use Rattle.clap.proofs.WalkLemmas.{first_value-rows}
 use Rattle.wm_litmus.specs.Commands.{Means}
 use Rattle.wm_litmus.specs.declared.command.Command.{Command}
-use Rattle.wm_litmus.specs.declared.command.Command.TheVariants.{Rules, Check, Migrate, Complete, Drive, Run}
+use Rattle.wm_litmus.specs.declared.command.Command.TheVariants.{Rules, Check, Migrate, Complete, Drive, Run, Explain, Graph}
 
 -- the first parts of pairs
 first_parts : {X Y Z : Type 0} (f : X → Y) (g : X → Z) (o : Option X) → option_map f o ≡ option_map (λ (p : Y × Z). p.0) (option_map (λ x. (f x, g x)) o)
@@ -65,6 +65,10 @@ no_rules found rows is none (Drive m t) means =
     let other = ap letters (parts found (codes "rules") (codes "drive") rows means.0 is means.1).0 in absurd (omega arith)
 no_rules found rows is none (Run m r) means =
     let other = ap letters (parts found (codes "rules") (codes "run") rows means.0 is means.1).0 in absurd (omega arith)
+no_rules found rows is none (Explain m d) means =
+    let other = ap letters (parts found (codes "rules") (codes "explain") rows means.0 is means.1).0 in absurd (omega arith)
+no_rules found rows is none (Graph m d) means =
+    let other = ap letters (parts found (codes "rules") (codes "graph") rows means.0 is means.1).0 in absurd (omega arith)
 
 pub no_module : (found : Option (Text × List Row)) (rows : List Row) → found ≡ Some (codes "check", rows) → first_of (codes "module") rows ≡ None → (command : Command) → Means found command → ⊥
 no_module found rows is none (Rules d) means =
@@ -78,6 +82,10 @@ no_module found rows is none (Drive m t) means =
     let other = ap letters (parts found (codes "check") (codes "drive") rows means.0 is means.1).0 in absurd (omega arith)
 no_module found rows is none (Run m r) means =
     let other = ap letters (parts found (codes "check") (codes "run") rows means.0 is means.1).0 in absurd (omega arith)
+no_module found rows is none (Explain m d) means =
+    let other = ap letters (parts found (codes "check") (codes "explain") rows means.0 is means.1).0 in absurd (omega arith)
+no_module found rows is none (Graph m d) means =
+    let other = ap letters (parts found (codes "check") (codes "graph") rows means.0 is means.1).0 in absurd (omega arith)
 
 pub no_document : (found : Option (Text × List Row)) (rows : List Row) → found ≡ Some (codes "check", rows) → first_of (codes "document") rows ≡ None → (command : Command) → Means found command → ⊥
 no_document found rows is none (Rules d) means =
@@ -91,6 +99,10 @@ no_document found rows is none (Drive m t) means =
     let other = ap letters (parts found (codes "check") (codes "drive") rows means.0 is means.1).0 in absurd (omega arith)
 no_document found rows is none (Run m r) means =
     let other = ap letters (parts found (codes "check") (codes "run") rows means.0 is means.1).0 in absurd (omega arith)
+no_document found rows is none (Explain m d) means =
+    let other = ap letters (parts found (codes "check") (codes "explain") rows means.0 is means.1).0 in absurd (omega arith)
+no_document found rows is none (Graph m d) means =
+    let other = ap letters (parts found (codes "check") (codes "graph") rows means.0 is means.1).0 in absurd (omega arith)
 
 pub no_migrate : (found : Option (Text × List Row)) (rows : List Row) → found ≡ Some (codes "migrate", rows) → first_of (codes "document") rows ≡ None → (command : Command) → Means found command → ⊥
 no_migrate found rows is none (Rules d) means =
@@ -104,6 +116,10 @@ no_migrate found rows is none (Drive m t) means =
     let other = ap letters (parts found (codes "migrate") (codes "drive") rows means.0 is means.1).0 in absurd (omega arith)
 no_migrate found rows is none (Run m r) means =
     let other = ap letters (parts found (codes "migrate") (codes "run") rows means.0 is means.1).0 in absurd (omega arith)
+no_migrate found rows is none (Explain m d) means =
+    let other = ap letters (parts found (codes "migrate") (codes "explain") rows means.0 is means.1).0 in absurd (omega arith)
+no_migrate found rows is none (Graph m d) means =
+    let other = ap letters (parts found (codes "migrate") (codes "graph") rows means.0 is means.1).0 in absurd (omega arith)
 
 pub no_complete_module : (found : Option (Text × List Row)) (rows : List Row) → found ≡ Some (codes "complete", rows) → first_of (codes "module") rows ≡ None → (command : Command) → Means found command → ⊥
 no_complete_module found rows is none (Rules d) means =
@@ -117,6 +133,10 @@ no_complete_module found rows is none (Drive m t) means =
     let other = ap letters (parts found (codes "complete") (codes "drive") rows means.0 is means.1).0 in absurd (omega arith)
 no_complete_module found rows is none (Run m r) means =
     let other = ap letters (parts found (codes "complete") (codes "run") rows means.0 is means.1).0 in absurd (omega arith)
+no_complete_module found rows is none (Explain m d) means =
+    let other = ap letters (parts found (codes "complete") (codes "explain") rows means.0 is means.1).0 in absurd (omega arith)
+no_complete_module found rows is none (Graph m d) means =
+    let other = ap letters (parts found (codes "complete") (codes "graph") rows means.0 is means.1).0 in absurd (omega arith)
 
 pub no_complete_document : (found : Option (Text × List Row)) (rows : List Row) → found ≡ Some (codes "complete", rows) → first_of (codes "document") rows ≡ None → (command : Command) → Means found command → ⊥
 no_complete_document found rows is none (Rules d) means =
@@ -130,6 +150,10 @@ no_complete_document found rows is none (Drive m t) means =
     let other = ap letters (parts found (codes "complete") (codes "drive") rows means.0 is means.1).0 in absurd (omega arith)
 no_complete_document found rows is none (Run m r) means =
     let other = ap letters (parts found (codes "complete") (codes "run") rows means.0 is means.1).0 in absurd (omega arith)
+no_complete_document found rows is none (Explain m d) means =
+    let other = ap letters (parts found (codes "complete") (codes "explain") rows means.0 is means.1).0 in absurd (omega arith)
+no_complete_document found rows is none (Graph m d) means =
+    let other = ap letters (parts found (codes "complete") (codes "graph") rows means.0 is means.1).0 in absurd (omega arith)
 
 pub no_drive_module : (found : Option (Text × List Row)) (rows : List Row) → found ≡ Some (codes "drive", rows) → first_of (codes "module") rows ≡ None → (command : Command) → Means found command → ⊥
 no_drive_module found rows is none (Rules d) means =
@@ -143,6 +167,10 @@ no_drive_module found rows is none (Complete m d) means =
 no_drive_module found rows is none (Drive m t) means = missing means.0 rows (codes "module") m (parts found _ _ means.0 rows means.1 is).1 none means.2
 no_drive_module found rows is none (Run m r) means =
     let other = ap letters (parts found (codes "drive") (codes "run") rows means.0 is means.1).0 in absurd (omega arith)
+no_drive_module found rows is none (Explain m d) means =
+    let other = ap letters (parts found (codes "drive") (codes "explain") rows means.0 is means.1).0 in absurd (omega arith)
+no_drive_module found rows is none (Graph m d) means =
+    let other = ap letters (parts found (codes "drive") (codes "graph") rows means.0 is means.1).0 in absurd (omega arith)
 
 pub no_drive_turns : (found : Option (Text × List Row)) (rows : List Row) → found ≡ Some (codes "drive", rows) → first_of (codes "turns") rows ≡ None → (command : Command) → Means found command → ⊥
 no_drive_turns found rows is none (Rules d) means =
@@ -156,6 +184,10 @@ no_drive_turns found rows is none (Complete m d) means =
 no_drive_turns found rows is none (Drive m t) means = missing means.0 rows (codes "turns") t (parts found _ _ means.0 rows means.1 is).1 none means.3
 no_drive_turns found rows is none (Run m r) means =
     let other = ap letters (parts found (codes "drive") (codes "run") rows means.0 is means.1).0 in absurd (omega arith)
+no_drive_turns found rows is none (Explain m d) means =
+    let other = ap letters (parts found (codes "drive") (codes "explain") rows means.0 is means.1).0 in absurd (omega arith)
+no_drive_turns found rows is none (Graph m d) means =
+    let other = ap letters (parts found (codes "drive") (codes "graph") rows means.0 is means.1).0 in absurd (omega arith)
 
 pub no_run_module : (found : Option (Text × List Row)) (rows : List Row) → found ≡ Some (codes "run", rows) → first_of (codes "module") rows ≡ None → (command : Command) → Means found command → ⊥
 no_run_module found rows is none (Rules d) means =
@@ -169,6 +201,10 @@ no_run_module found rows is none (Complete m d) means =
 no_run_module found rows is none (Drive m t) means =
     let other = ap letters (parts found (codes "run") (codes "drive") rows means.0 is means.1).0 in absurd (omega arith)
 no_run_module found rows is none (Run m r) means = missing means.0 rows (codes "module") m (parts found _ _ means.0 rows means.1 is).1 none means.2
+no_run_module found rows is none (Explain m d) means =
+    let other = ap letters (parts found (codes "run") (codes "explain") rows means.0 is means.1).0 in absurd (omega arith)
+no_run_module found rows is none (Graph m d) means =
+    let other = ap letters (parts found (codes "run") (codes "graph") rows means.0 is means.1).0 in absurd (omega arith)
 
 pub no_run_rounds : (found : Option (Text × List Row)) (rows : List Row) → found ≡ Some (codes "run", rows) → first_of (codes "rounds") rows ≡ None → (command : Command) → Means found command → ⊥
 no_run_rounds found rows is none (Rules d) means =
@@ -182,6 +218,78 @@ no_run_rounds found rows is none (Complete m d) means =
 no_run_rounds found rows is none (Drive m t) means =
     let other = ap letters (parts found (codes "run") (codes "drive") rows means.0 is means.1).0 in absurd (omega arith)
 no_run_rounds found rows is none (Run m r) means = missing means.0 rows (codes "rounds") r (parts found _ _ means.0 rows means.1 is).1 none means.3
+no_run_rounds found rows is none (Explain m d) means =
+    let other = ap letters (parts found (codes "run") (codes "explain") rows means.0 is means.1).0 in absurd (omega arith)
+no_run_rounds found rows is none (Graph m d) means =
+    let other = ap letters (parts found (codes "run") (codes "graph") rows means.0 is means.1).0 in absurd (omega arith)
+
+pub no_explain_module : (found : Option (Text × List Row)) (rows : List Row) → found ≡ Some (codes "explain", rows) → first_of (codes "module") rows ≡ None → (command : Command) → Means found command → ⊥
+no_explain_module found rows is none (Rules d) means =
+    let other = ap letters (parts found (codes "explain") (codes "rules") rows means.0 is means.1).0 in absurd (omega arith)
+no_explain_module found rows is none (Check m d) means =
+    let other = ap letters (parts found (codes "explain") (codes "check") rows means.0 is means.1).0 in absurd (omega arith)
+no_explain_module found rows is none (Migrate d) means =
+    let other = ap letters (parts found (codes "explain") (codes "migrate") rows means.0 is means.1).0 in absurd (omega arith)
+no_explain_module found rows is none (Complete m d) means =
+    let other = ap letters (parts found (codes "explain") (codes "complete") rows means.0 is means.1).0 in absurd (omega arith)
+no_explain_module found rows is none (Drive m t) means =
+    let other = ap letters (parts found (codes "explain") (codes "drive") rows means.0 is means.1).0 in absurd (omega arith)
+no_explain_module found rows is none (Run m r) means =
+    let other = ap letters (parts found (codes "explain") (codes "run") rows means.0 is means.1).0 in absurd (omega arith)
+no_explain_module found rows is none (Explain m d) means = missing means.0 rows (codes "module") m (parts found _ _ means.0 rows means.1 is).1 none means.2
+no_explain_module found rows is none (Graph m d) means =
+    let other = ap letters (parts found (codes "explain") (codes "graph") rows means.0 is means.1).0 in absurd (omega arith)
+
+pub no_explain_document : (found : Option (Text × List Row)) (rows : List Row) → found ≡ Some (codes "explain", rows) → first_of (codes "document") rows ≡ None → (command : Command) → Means found command → ⊥
+no_explain_document found rows is none (Rules d) means =
+    let other = ap letters (parts found (codes "explain") (codes "rules") rows means.0 is means.1).0 in absurd (omega arith)
+no_explain_document found rows is none (Check m d) means =
+    let other = ap letters (parts found (codes "explain") (codes "check") rows means.0 is means.1).0 in absurd (omega arith)
+no_explain_document found rows is none (Migrate d) means =
+    let other = ap letters (parts found (codes "explain") (codes "migrate") rows means.0 is means.1).0 in absurd (omega arith)
+no_explain_document found rows is none (Complete m d) means =
+    let other = ap letters (parts found (codes "explain") (codes "complete") rows means.0 is means.1).0 in absurd (omega arith)
+no_explain_document found rows is none (Drive m t) means =
+    let other = ap letters (parts found (codes "explain") (codes "drive") rows means.0 is means.1).0 in absurd (omega arith)
+no_explain_document found rows is none (Run m r) means =
+    let other = ap letters (parts found (codes "explain") (codes "run") rows means.0 is means.1).0 in absurd (omega arith)
+no_explain_document found rows is none (Explain m d) means = missing means.0 rows (codes "document") d (parts found _ _ means.0 rows means.1 is).1 none means.3
+no_explain_document found rows is none (Graph m d) means =
+    let other = ap letters (parts found (codes "explain") (codes "graph") rows means.0 is means.1).0 in absurd (omega arith)
+
+pub no_graph_module : (found : Option (Text × List Row)) (rows : List Row) → found ≡ Some (codes "graph", rows) → first_of (codes "module") rows ≡ None → (command : Command) → Means found command → ⊥
+no_graph_module found rows is none (Rules d) means =
+    let other = ap letters (parts found (codes "graph") (codes "rules") rows means.0 is means.1).0 in absurd (omega arith)
+no_graph_module found rows is none (Check m d) means =
+    let other = ap letters (parts found (codes "graph") (codes "check") rows means.0 is means.1).0 in absurd (omega arith)
+no_graph_module found rows is none (Migrate d) means =
+    let other = ap letters (parts found (codes "graph") (codes "migrate") rows means.0 is means.1).0 in absurd (omega arith)
+no_graph_module found rows is none (Complete m d) means =
+    let other = ap letters (parts found (codes "graph") (codes "complete") rows means.0 is means.1).0 in absurd (omega arith)
+no_graph_module found rows is none (Drive m t) means =
+    let other = ap letters (parts found (codes "graph") (codes "drive") rows means.0 is means.1).0 in absurd (omega arith)
+no_graph_module found rows is none (Run m r) means =
+    let other = ap letters (parts found (codes "graph") (codes "run") rows means.0 is means.1).0 in absurd (omega arith)
+no_graph_module found rows is none (Explain m d) means =
+    let other = ap letters (parts found (codes "graph") (codes "explain") rows means.0 is means.1).0 in absurd (omega arith)
+no_graph_module found rows is none (Graph m d) means = missing means.0 rows (codes "module") m (parts found _ _ means.0 rows means.1 is).1 none means.2
+
+pub no_graph_document : (found : Option (Text × List Row)) (rows : List Row) → found ≡ Some (codes "graph", rows) → first_of (codes "document") rows ≡ None → (command : Command) → Means found command → ⊥
+no_graph_document found rows is none (Rules d) means =
+    let other = ap letters (parts found (codes "graph") (codes "rules") rows means.0 is means.1).0 in absurd (omega arith)
+no_graph_document found rows is none (Check m d) means =
+    let other = ap letters (parts found (codes "graph") (codes "check") rows means.0 is means.1).0 in absurd (omega arith)
+no_graph_document found rows is none (Migrate d) means =
+    let other = ap letters (parts found (codes "graph") (codes "migrate") rows means.0 is means.1).0 in absurd (omega arith)
+no_graph_document found rows is none (Complete m d) means =
+    let other = ap letters (parts found (codes "graph") (codes "complete") rows means.0 is means.1).0 in absurd (omega arith)
+no_graph_document found rows is none (Drive m t) means =
+    let other = ap letters (parts found (codes "graph") (codes "drive") rows means.0 is means.1).0 in absurd (omega arith)
+no_graph_document found rows is none (Run m r) means =
+    let other = ap letters (parts found (codes "graph") (codes "run") rows means.0 is means.1).0 in absurd (omega arith)
+no_graph_document found rows is none (Explain m d) means =
+    let other = ap letters (parts found (codes "graph") (codes "explain") rows means.0 is means.1).0 in absurd (omega arith)
+no_graph_document found rows is none (Graph m d) means = missing means.0 rows (codes "document") d (parts found _ _ means.0 rows means.1 is).1 none means.3
 
 -- a word is there as a text where one of the words is that text
 word_at : (ws : List (Bor Text)) (t : Text) (k : ℕ) → k < length ws → ((d : Bor Text) → bytes_eq (get_or ws k d).now t ≡ true) → get_or (map (λ (w : Bor Text). w.now) ws) k t ≡ t

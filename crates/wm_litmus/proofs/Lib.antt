@@ -4,3 +4,8 @@ pub mod Words
 pub mod Writing
 pub mod Small
 pub mod Pieces
+pub mod OwnVerdicts
+pub mod Counting
+pub mod Gathering
+pub mod Tabling
+pub mod Padding

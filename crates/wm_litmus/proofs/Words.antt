@@ -42,6 +42,21 @@ complete_is_read : read complete ≡ Some (codes "complete", Some (codes "a.wasm
 unfolding clap_on_literals read complete
 complete_is_read = refl
 
+explain : List Text
+explain = codes "explain" ∷ codes "a.wasm" ∷ codes "-" ∷ []
+
+explain_is_taken : fault_of wmlab_app explain ≡ []
+unfolding clap_on_literals explain
+explain_is_taken = refl
+
+explain_is_read : read explain ≡ Some (codes "explain", Some (codes "a.wasm"), Some (codes "-"))
+unfolding clap_on_literals read explain
+explain_is_read = refl
+
+graph_is_taken : fault_of wmlab_app (codes "graph" ∷ codes "a.wasm" ∷ codes "-" ∷ []) ≡ []
+unfolding clap_on_literals
+graph_is_taken = refl
+
 no_word_at_all : IsNoCommand []
 unfolding clap_on_literals
 no_word_at_all command is = let none = is.taken in cc

@@ -1,5 +1,5 @@
 -- What the program answers: what it prints, and the exit status.
-use Rattle.std.specs.Prelude.{◌≡◌, ℕ, ◌*◌, List, Option, replicate}
+use Rattle.std.specs.Prelude.{◌≡◌, ℕ, ◌*◌, List, Option, drop, replicate}
 use Rattle.std.specs.Borrow.{Bor}
 use Rattle.std.specs.Io.KnownBytes.{Appends}
 use Rattle.wm_check.specs.declared.verdict.Breach.{Breach}
@@ -24,9 +24,10 @@ use Rattle.wm_logfile.specs.DocumentBytes.{IsDocumentOf, IsNoDocument}
 use Rattle.wm_logfile.specs.Migration.{IsMigrated, IsMisplaced}
 use Rattle.wm_replay.specs.declared.answer.ReplayAnswer.{ReplayAnswer}
 use Rattle.clap.specs.Words.{Text}
-use Rattle.wm_litmus.specs.declared.command.Command.TheVariants.{Rules, Check, Migrate, Complete, Drive, Run}
+use Rattle.wm_litmus.specs.declared.command.Command.TheVariants.{Rules, Check, Migrate, Complete, Drive, Run, Explain, Graph}
 use Rattle.wm_litmus.specs.Commands.{IsCommand, IsNoCommand}
 use Rattle.wm_litmus.specs.Drive.{IsScriptAnswer}
+use Rattle.wm_litmus.specs.Explanation.{AnswersExplain, AnswersGraph}
 use Rattle.wm_litmus.specs.Rounds.{IsRoundsAnswer}
 use Rattle.wm_litmus.specs.Input.{IsDocumentRead, IsReadOf}
 use Rattle.wm_litmus.specs.Output.{AppendsFront}
@@ -117,8 +118,18 @@ pub data IsAnswer (given : Given) (status : ℕ) (text : List ℕ) : Type 0 wher
       → IsReadOf (given.files file.now) 1048576 module_bytes
       → IsDocumentRead given.files given.input 8388608 document.now bytes
       → AnswersComplete module_bytes bytes status text → IsAnswer given status text
-  drive_of : (file turns : Bor Text) → IsCommand given.words (Drive file turns) → IsScriptAnswer (given.files file.now) status text → IsAnswer given status text
-  run_of : (file rounds : Bor Text) → IsCommand given.words (Run file rounds) → IsRoundsAnswer (given.files file.now) status text → IsAnswer given status text
+  drive_of : (file turns : Bor Text) → IsCommand given.words (Drive file turns)
+      → IsScriptAnswer (given.files file.now) turns.now (drop 3 given.words) status text → IsAnswer given status text
+  run_of : (file rounds : Bor Text) → IsCommand given.words (Run file rounds)
+      → IsRoundsAnswer (given.files file.now) rounds.now (drop 3 given.words) status text → IsAnswer given status text
+  explain_of : (file document : Bor Text) (module_bytes bytes : List ℕ) → IsCommand given.words (Explain file document)
+      → IsReadOf (given.files file.now) 1048576 module_bytes
+      → IsDocumentRead given.files given.input 8388608 document.now bytes
+      → AnswersExplain module_bytes bytes status text → IsAnswer given status text
+  graph_of : (file document : Bor Text) (module_bytes bytes : List ℕ) → IsCommand given.words (Graph file document)
+      → IsReadOf (given.files file.now) 1048576 module_bytes
+      → IsDocumentRead given.files given.input 8388608 document.now bytes
+      → AnswersGraph module_bytes bytes status text → IsAnswer given status text
 
 -- the writer gains what an answer of this status prints
 pub record WritesAnswer (given : Given) (old new : Option (List ℕ)) (status : ℕ) : Type 0 where

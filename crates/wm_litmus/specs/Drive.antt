@@ -1,6 +1,5 @@
 -- What the command `drive` answers.
 use Rattle.std.specs.Prelude.{◌≡◌, ◌≢◌, ℕ, List, Option, ◌++◌, codes, string_bytes}
-use Rattle.serde_json.specs.Written.{compact_text}
 use Rattle.wm_ast.specs.declared.module.Module.{Module}
 use Rattle.wm_check.specs.declared.verdict.Refusal.{Refusal}
 use Rattle.wm_check.specs.declared.verdict.Verdict.{Verdict}
@@ -8,7 +7,6 @@ use Rattle.wm_check.specs.declared.verdict.Verdict.TheVariants.{Refused}
 use Rattle.wm_check.specs.Reading.{IsModuleRefusal}
 use Rattle.wm_check.specs.Run.{IsModuleOf}
 use Rattle.wm_check.specs.Verdicts.{Says}
-use Rattle.wm_logfile.specs.Document.{document_2}
 use Rattle.wm_run.specs.declared.fault.RunFault.{RunFault}
 use Rattle.wm_run.specs.declared.fault.RunFault.TheVariants.{OutOfMemory}
 use Rattle.wm_run.specs.declared.plan.Plan.{Plan}
@@ -16,17 +14,16 @@ use Rattle.wm_run.specs.declared.turn.Turn.{Turn}
 use Rattle.wm_run.specs.Refusal.{IsScriptFault}
 use Rattle.wm_run.specs.Run.{Record}
 use Rattle.wm_run.specs.Scripted.{IsScripted}
-use Rattle.wm_litmus.specs.declared.word.WordFault.{WordFault}
-use Rattle.wm_litmus.specs.declared.word.WordFault.TheVariants as word
 use Rattle.wm_litmus.specs.declared.answer.Answer.{Answer}
 use Rattle.wm_litmus.specs.Input.{IsReadOf}
 use Rattle.wm_litmus.specs.Lines.{run_fault_line_text, verdict_status, verdict_text, word_line_text}
 use Rattle.wm_litmus.specs.Outcomes.{outcome_text}
+use Rattle.wm_litmus.specs.Own.{IsOwnVerdict, run_text}
 use Rattle.wm_litmus.specs.Prints.{ended}
-
--- the document of a run, in version 2
-abbrev pub run_text : Record → List ℕ
-run_text run = compact_text (document_2 run.log run.witness)
+use Rattle.wm_words.specs.declared.fault.WordFault.{WordFault}
+use Rattle.wm_words.specs.declared.fault.WordFault.TheVariants as word
+use Rattle.wm_words.specs.declared.words.Script.{Script}
+use Rattle.wm_words.specs.Words.{IsScriptOf, SpellNoScript}
 
 -- the outcome, the verdict and the document, a line each
 abbrev pub driven_text : List ℕ → Verdict → List ℕ → List ℕ
@@ -37,10 +34,11 @@ pub record PrintsRun (outcome : List ℕ) (verdict : Verdict) (document : List �
   pub status_is : answer.status ≡ verdict_status verdict
   pub text_is : string_bytes answer.text ≡ driven_text outcome verdict document
 
--- the answer is the outcome of the run, its document, and a verdict on that
+-- the answer is the outcome of the run, its document, and the verdict on that
 pub record IsDriven (module_bytes : List ℕ) (run : Record) (answer : Answer) : Type 0 where
   pub verdict : Verdict
   pub says : Says module_bytes (run_text run) verdict
+  pub own : IsOwnVerdict run verdict
   pub prints : PrintsRun (outcome_text run.log) verdict (run_text run) answer
 
 -- the status and the text that answer a module and a script: the scripted run, with the verdict on its document
@@ -50,12 +48,13 @@ pub data AnswersDrive (module_bytes : List ℕ) (plan : Plan) (turns : List Turn
   refused : («module» : Module) (fault : RunFault) → IsModuleOf module_bytes «module» → fault ≢ OutOfMemory → IsScriptFault «module» plan turns fault
       → status ≡ 2 → text ≡ ended (run_fault_line_text fault) → AnswersDrive module_bytes plan turns status text
   driven : («module» : Module) (run : Record) (verdict : Verdict) → IsModuleOf module_bytes «module» → IsScripted «module» plan turns run
-      → Says module_bytes (run_text run) verdict
+      → Says module_bytes (run_text run) verdict → IsOwnVerdict run verdict
       → status ≡ verdict_status verdict → text ≡ driven_text (outcome_text run.log) verdict (run_text run) → AnswersDrive module_bytes plan turns status text
 
--- the status and the text that answer a script over the module of a file, whose bytes may be known
-pub data IsScriptAnswer (known : Option (List ℕ)) (status : ℕ) (text : List ℕ) : Type 0 where
-  played : (plan : Plan) (turns : List Turn) (module_bytes : List ℕ) → plan.steps ≡ 1000000 → IsReadOf known 1048576 module_bytes
-      → AnswersDrive module_bytes plan turns status text → IsScriptAnswer known status text
-  no_script : (fault : WordFault) → fault ≢ word.OutOfMemory
-      → status ≡ 2 → text ≡ ended (word_line_text fault) → IsScriptAnswer known status text
+-- the status and the text that answer the words of a script over the module of a file, whose bytes may be known: those of the
+-- script that a word of turns and the words of the starts spell, or a refusal of the first of them that spells nothing
+pub data IsScriptAnswer (known : Option (List ℕ)) (turns : List ℕ) (starts : List (List ℕ)) (status : ℕ) (text : List ℕ) : Type 0 where
+  played : (script : Script) (module_bytes : List ℕ) → IsScriptOf turns starts script → IsReadOf known 1048576 module_bytes
+      → AnswersDrive module_bytes script.plan script.turns status text → IsScriptAnswer known turns starts status text
+  no_script : (fault : WordFault) → fault ≢ word.OutOfMemory → SpellNoScript turns starts fault
+      → status ≡ 2 → text ≡ ended (word_line_text fault) → IsScriptAnswer known turns starts status text

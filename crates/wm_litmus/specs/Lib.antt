@@ -1,10 +1,14 @@
 pub mod Answers
 pub mod Drive
+pub mod Explanation
 pub mod Rounds
 pub mod Outcomes
+pub mod Own
 pub mod Commands
+pub mod Counts
 pub mod Failures
 pub mod Input
 pub mod Lines
 pub mod Output
 pub mod Prints
+pub mod Table

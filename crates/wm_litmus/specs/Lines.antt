@@ -19,8 +19,8 @@ use Rattle.wm_check.specs.declared.verdict.Verdict.TheVariants.{Allowed, Refused
 use Rattle.wm_check.specs.declared.verdict.Verdict.TheVariants as verdict
 use Rattle.wm_run.specs.declared.fault.RunFault.{RunFault}
 use Rattle.wm_run.specs.Texts.{run_fault_text}
-use Rattle.wm_litmus.specs.declared.word.WordFault.{WordFault}
-use Rattle.wm_litmus.specs.declared.word.WordFault.TheVariants.{Turns, Rounds, Start, OutOfMemory}
+use Rattle.wm_words.specs.declared.fault.WordFault.{WordFault}
+use Rattle.wm_words.specs.declared.fault.WordFault.TheVariants.{Turns, Rounds, Start, OutOfMemory}
 use Rattle.wm_logfile.specs.Texts.{doc_fault_text}
 use Rattle.wm_logfile.specs.declared.fault.DocFault.{DocFault}
 

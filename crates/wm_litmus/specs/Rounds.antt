@@ -1,39 +1,79 @@
 -- What the command `run` answers.
-use Rattle.std.specs.Prelude.{◌≡◌, ◌≢◌, ℕ, List, Option, true}
+use Rattle.std.specs.Prelude.{◌≡◌, ◌≢◌, ◌+◌, ◌<◌, ◌^◌, ℕ, List, [], ◌∷◌, ◌++◌, Option, String, true, codes, length, map, string_bytes}
+use Rattle.std.specs.BTreeMap.{BTreeMap}
+use Rattle.std.specs.declared.alloc.Global.{Global}
+use Rattle.std.specs.Fmt.{decimal}
+use Rattle.std.specs.List.{All}
 use Rattle.wm_ast.specs.declared.module.Module.{Module}
+use Rattle.wm_check.specs.declared.verdict.Certificate.{Certificate}
 use Rattle.wm_check.specs.declared.verdict.Refusal.{Refusal}
-use Rattle.wm_check.specs.declared.verdict.Verdict.{Verdict}
-use Rattle.wm_check.specs.declared.verdict.Verdict.TheVariants.{Refused}
+use Rattle.wm_check.specs.declared.verdict.Refusal.TheVariants as refusal
+use Rattle.wm_check.specs.declared.verdict.Verdict.TheVariants.{Allowed, Refused}
 use Rattle.wm_check.specs.Reading.{IsModuleRefusal}
 use Rattle.wm_check.specs.Run.{IsModuleOf}
 use Rattle.wm_check.specs.Verdicts.{Says}
+use Rattle.wm_logfile.specs.declared.fault.DocFault.TheVariants.{TooLarge}
 use Rattle.wm_run.specs.declared.fault.RunFault.{RunFault}
 use Rattle.wm_run.specs.declared.fault.RunFault.TheVariants.{OutOfMemory}
 use Rattle.wm_run.specs.declared.plan.Plan.{Plan}
 use Rattle.wm_run.specs.Rounds.{IsRound, IsRoundFault}
 use Rattle.wm_run.specs.Run.{Record}
-use Rattle.wm_litmus.specs.Drive.{run_text}
-use Rattle.wm_litmus.specs.declared.word.WordFault.{WordFault}
-use Rattle.wm_litmus.specs.declared.word.WordFault.TheVariants as word
+use Rattle.wm_litmus.specs.declared.answer.Answer.{Answer}
+use Rattle.wm_litmus.specs.Counts.{Counts}
+use Rattle.wm_litmus.specs.Own.{run_text}
 use Rattle.wm_litmus.specs.Input.{IsReadOf}
-use Rattle.wm_litmus.specs.Lines.{run_fault_line_text, verdict_status, verdict_text, word_line_text}
+use Rattle.wm_litmus.specs.Lines.{run_fault_line_text, verdict_text, word_line_text}
+use Rattle.wm_litmus.specs.Outcomes.{outcome_text}
 use Rattle.wm_litmus.specs.Prints.{ended}
+use Rattle.wm_litmus.specs.Table.{IsTableText}
+use Rattle.wm_words.specs.declared.fault.WordFault.{WordFault}
+use Rattle.wm_words.specs.declared.fault.WordFault.TheVariants as word
+use Rattle.wm_words.specs.declared.words.Rounds.{Rounds}
+use Rattle.wm_words.specs.Words.{IsRoundsOf, SpellNoRounds}
 
--- the status and the text that answer a module and a plan. The table of the outcomes is shown by tests alone
-pub data AnswersRounds (module_bytes : List ℕ) (plan : Plan) (status : ℕ) (text : List ℕ) : Type 0 where
+-- a round of the plan whose document's verdict is allowed
+pub record IsAllowedRound (module_bytes : List ℕ) («module» : Module) (plan : Plan) (run : Record) : Type 0 where
+  pub round : IsRound true «module» plan run
+  pub certificate : Certificate
+  pub says : Says module_bytes (run_text run) (Allowed certificate)
+
+-- the outcome of each run
+abbrev pub outcomes : List Record → List (List ℕ)
+outcomes runs = map (λ (run : Record). outcome_text run.log) runs
+
+-- a round was made, is allowed, and was counted
+pub record CountsRound (module_bytes : List ℕ) («module» : Module) (plan : Plan) (old new : BTreeMap (String Global) ℕ) : Type 0 where
+  pub run : Record
+  pub allowed : IsAllowedRound module_bytes «module» plan run
+  pub counted : (came : List (List ℕ)) → Counts came old → length came + 1 < 2 ^ 64 → Counts (came ++ outcome_text run.log ∷ []) new
+
+-- a table, and how many rounds there were
+abbrev pub rounds_text : List ℕ → ℕ → List ℕ
+rounds_text table count = table ++ ended (codes "allowed rounds=" ++ decimal count)
+
+-- an answer prints these
+pub record PrintsRounds (table : List ℕ) (count : ℕ) (answer : Answer) : Type 0 where
+  pub status_is : answer.status ≡ 0
+  pub text_is : string_bytes answer.text ≡ rounds_text table count
+
+-- the status and the text that answer a module, a plan and how many rounds there are
+pub data AnswersRounds (module_bytes : List ℕ) (plan : Plan) (count : ℕ) (status : ℕ) (text : List ℕ) : Type 0 where
   no_module : (refusal : Refusal) → IsModuleRefusal module_bytes refusal
-      → status ≡ 2 → text ≡ ended (verdict_text (Refused refusal)) → AnswersRounds module_bytes plan status text
+      → status ≡ 2 → text ≡ ended (verdict_text (Refused refusal)) → AnswersRounds module_bytes plan count status text
   refused : («module» : Module) (fault : RunFault) → IsModuleOf module_bytes «module» → fault ≢ OutOfMemory → IsRoundFault «module» plan fault
-      → status ≡ 2 → text ≡ ended (run_fault_line_text fault) → AnswersRounds module_bytes plan status text
-  -- the verdict on a round's document
-  not_allowed : («module» : Module) (run : Record) (verdict : Verdict) → IsModuleOf module_bytes «module» → IsRound true «module» plan run
-      → Says module_bytes (run_text run) verdict
-      → status ≡ verdict_status verdict → text ≡ ended (verdict_text verdict) → AnswersRounds module_bytes plan status text
-  made : («module» : Module) → IsModuleOf module_bytes «module» → status ≡ 0 → AnswersRounds module_bytes plan status text
+      → status ≡ 2 → text ≡ ended (run_fault_line_text fault) → AnswersRounds module_bytes plan count status text
+  -- the document of a round is past the limit of bytes
+  too_large : («module» : Module) (run : Record) → IsModuleOf module_bytes «module» → IsRound true «module» plan run → 8388608 < length (run_text run)
+      → status ≡ 2 → text ≡ ended (verdict_text (Refused (refusal.Document TooLarge))) → AnswersRounds module_bytes plan count status text
+  -- so many rounds, each of them allowed, and the table of their outcomes
+  made : («module» : Module) (runs : List Record) (table : List ℕ) → IsModuleOf module_bytes «module»
+      → length runs ≡ count → All (IsAllowedRound module_bytes «module» plan) runs → IsTableText (outcomes runs) table
+      → status ≡ 0 → text ≡ rounds_text table count → AnswersRounds module_bytes plan count status text
 
--- the status and the text that answer rounds of the module of a file, whose bytes may be known
-pub data IsRoundsAnswer (known : Option (List ℕ)) (status : ℕ) (text : List ℕ) : Type 0 where
-  ran : (plan : Plan) (module_bytes : List ℕ) → plan.steps ≡ 1000000 → plan.drains ≡ 256 → IsReadOf known 1048576 module_bytes
-      → AnswersRounds module_bytes plan status text → IsRoundsAnswer known status text
-  no_rounds : (fault : WordFault) → fault ≢ word.OutOfMemory
-      → status ≡ 2 → text ≡ ended (word_line_text fault) → IsRoundsAnswer known status text
+-- the status and the text that answer the words of rounds of the module of a file, whose bytes may be known: those of the rounds
+-- that a word of their number and the words of the starts spell, or a refusal of the first of them that spells nothing
+pub data IsRoundsAnswer (known : Option (List ℕ)) (count : List ℕ) (starts : List (List ℕ)) (status : ℕ) (text : List ℕ) : Type 0 where
+  ran : (rounds : Rounds) (module_bytes : List ℕ) → IsRoundsOf count starts rounds → IsReadOf known 1048576 module_bytes
+      → AnswersRounds module_bytes rounds.plan rounds.count status text → IsRoundsAnswer known count starts status text
+  no_rounds : (fault : WordFault) → fault ≢ word.OutOfMemory → SpellNoRounds count starts fault
+      → status ≡ 2 → text ≡ ended (word_line_text fault) → IsRoundsAnswer known count starts status text

@@ -1,16 +1,18 @@
 //! What a command answers.
 ghost use Rattle.std.specs.Prelude.{◌≡◌, ◌≢◌, IfOk, string_bytes};
 ghost use Rattle.wm_litmus.specs.Drive.{PrintsRun};
+ghost use Rattle.wm_litmus.specs.Explanation.{PrintsReasons};
 ghost use Rattle.wm_litmus.specs.Lines.{document_line_text, judgement_status, judgement_text, run_fault_line_text, shape_line_text, verdict_status, verdict_text, word_line_text, words_line_text};
 ghost use Rattle.wm_litmus.specs.Prints.{Prints};
+ghost use Rattle.wm_litmus.specs.Rounds.{PrintsRounds};
 
 use crate::line::{rules_line, verdict_line};
-use crate::word::WordFault;
 use std::alloc::{AllocError, Global};
 use wm_check::Verdict;
 use wm_event::{Judgement, ShapeFault};
 use wm_logfile::DocFault;
 use wm_run::RunFault;
+use wm_words::WordFault;
 
 /// What a command prints, and the exit status.
 #[derive(Drop)]
@@ -132,6 +134,32 @@ impl Answer {
             text,
             status: verdict_status_of(verdict),
         })
+    }
+
+    /// The answer that rounds are, each of which is allowed: the table of their outcomes, and how many there were.
+    pub fn rounds(alloc: Global, table: &str, count: u32) -> Result<Answer, AllocError>
+        ensures { IfOk result (PrintsRounds table.now count) }
+    {
+        let text = format!(in alloc; "{table}allowed rounds={count}\n")?;
+        Ok(Answer { text, status: 0 })
+    }
+
+    /// The line of a verdict, and the sentences that say what stands behind it.
+    pub fn explained(alloc: Global, verdict: &Verdict, reasons: &str) -> Result<Answer, AllocError>
+        ensures { IfOk result (PrintsReasons verdict.now reasons.now) }
+    {
+        let line = verdict_line(alloc, verdict)?;
+        let text = format!(in alloc; "{line}\n{reasons}")?;
+        let status = verdict_status_of(verdict);
+        Ok(Answer { text, status })
+    }
+
+    /// A picture, with the status of a verdict.
+    pub fn pictured(verdict: &Verdict, text: String) -> Answer
+        ensures { result.status ≡ verdict_status verdict.now }
+    {
+        let status = verdict_status_of(verdict);
+        Answer { text, status }
     }
 
     /// The refusal of the words.

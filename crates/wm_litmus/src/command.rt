@@ -1,7 +1,7 @@
 //! The command line.
 ghost use Rattle.std.specs.Prelude.{◌≡◌, false, Err, IfOk, IfSome, None, map};
 ghost use Rattle.clap.specs.Words.{app_of, kind_of, rule_of, subcommand_rows_of};
-ghost use Rattle.wm_litmus.specs.Commands.{IsCommand, IsNoCommand, Means, any_words_rule, fault_of_kind, wmlab_app, word_rule};
+ghost use Rattle.wm_litmus.specs.Commands.{IsCommand, IsNoCommand, Means, any_words_rule, fault_of_kind, with_checks, with_reasons, with_runs, wmlab_app, word_rule};
 ghost use Rattle.wm_litmus.specs.declared.command.Command.{Command};
 ghost use Rattle.wm_litmus.specs.declared.command.CommandFault.TheVariants.{OutOfMemory, Words};
 
@@ -24,6 +24,10 @@ pub enum Command<'a> {
     Drive { module: &'a str, turns: &'a str },
     /// Makes so many rounds of a module's threads; the words behind say what these start with.
     Run { module: &'a str, rounds: &'a str },
+    /// Checks a run, and says why the answer is what it is.
+    Explain { module: &'a str, document: &'a str },
+    /// Checks a run, and draws it.
+    Graph { module: &'a str, document: &'a str },
 }
 
 /// Why the words are no command.
@@ -70,9 +74,9 @@ fn any_words<'a>(alloc: Global, name: &'a str) -> Arg<'a>
         .action(ArgAction::Append)
 }
 
-/// The commands and their words.
-fn parser<'a>(alloc: Global) -> Result<Parser<'a>, AllocError>
-    ensures { IfOk result (λ parser. app_of parser ≡ wmlab_app) }
+/// Adds the commands that look at a document.
+fn with_checks<'a>(alloc: Global, parser: Parser<'a>) -> Result<Parser<'a>, AllocError>
+    ensures { IfOk result (λ more. app_of more ≡ with_checks (app_of parser.entry)) }
 {
     let rules = Parser::new(alloc, "rules").arg(word(alloc, "document"))?;
     let check = Parser::new(alloc, "check")
@@ -82,6 +86,17 @@ fn parser<'a>(alloc: Global) -> Result<Parser<'a>, AllocError>
     let complete = Parser::new(alloc, "complete")
         .arg(word(alloc, "module"))?
         .arg(word(alloc, "document"))?;
+    parser
+        .subcommand(rules)?
+        .subcommand(check)?
+        .subcommand(migrate)?
+        .subcommand(complete)
+}
+
+/// Adds the commands that run a module.
+fn with_runs<'a>(alloc: Global, parser: Parser<'a>) -> Result<Parser<'a>, AllocError>
+    ensures { IfOk result (λ more. app_of more ≡ with_runs (app_of parser.entry)) }
+{
     let drive = Parser::new(alloc, "drive")
         .arg(word(alloc, "module"))?
         .arg(word(alloc, "turns"))?
@@ -90,18 +105,35 @@ fn parser<'a>(alloc: Global) -> Result<Parser<'a>, AllocError>
         .arg(word(alloc, "module"))?
         .arg(word(alloc, "rounds"))?
         .arg(any_words(alloc, "start"))?;
-    Parser::new(alloc, "wmlab")
+    parser.subcommand(drive)?.subcommand(run)
+}
+
+/// Adds the commands that say why a check answers what it answers.
+fn with_reasons<'a>(alloc: Global, parser: Parser<'a>) -> Result<Parser<'a>, AllocError>
+    ensures { IfOk result (λ more. app_of more ≡ with_reasons (app_of parser.entry)) }
+{
+    let explain = Parser::new(alloc, "explain")
+        .arg(word(alloc, "module"))?
+        .arg(word(alloc, "document"))?;
+    let graph = Parser::new(alloc, "graph")
+        .arg(word(alloc, "module"))?
+        .arg(word(alloc, "document"))?;
+    parser.subcommand(explain)?.subcommand(graph)
+}
+
+/// The commands and their words.
+fn parser<'a>(alloc: Global) -> Result<Parser<'a>, AllocError>
+    ensures { IfOk result (λ parser. app_of parser ≡ wmlab_app) }
+{
+    let parser = Parser::new(alloc, "wmlab")
         .disable_help_flag(true)
         .disable_version_flag(true)
         .no_binary_name(true)
         .disable_help_subcommand(true)
-        .subcommand_required(true)
-        .subcommand(rules)?
-        .subcommand(check)?
-        .subcommand(migrate)?
-        .subcommand(complete)?
-        .subcommand(drive)?
-        .subcommand(run)
+        .subcommand_required(true);
+    let parser = with_checks(alloc, parser)?;
+    let parser = with_runs(alloc, parser)?;
+    with_reasons(alloc, parser)
 }
 
 /// The command that was named, with its words.
@@ -138,6 +170,16 @@ fn named<'a>(matches: &ArgMatches<'a>) -> Option<Command<'a>>
             let module = words.get_str("module")?;
             let rounds = words.get_str("rounds")?;
             Some(Command::Run { module, rounds })
+        }
+        "explain" => {
+            let module = words.get_str("module")?;
+            let document = words.get_str("document")?;
+            Some(Command::Explain { module, document })
+        }
+        "graph" => {
+            let module = words.get_str("module")?;
+            let document = words.get_str("document")?;
+            Some(Command::Graph { module, document })
         }
         _ => None,
     }

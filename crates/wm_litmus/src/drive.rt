@@ -2,15 +2,17 @@
 ghost use Rattle.std.specs.Prelude.{◌≡◌, IfOk, string_bytes};
 ghost use Rattle.wm_check.specs.Run.{IsModuleOf};
 ghost use Rattle.wm_litmus.specs.Drive.{AnswersDrive, IsDriven};
+ghost use Rattle.wm_litmus.specs.Own.{IsMadeOf};
 
 use crate::answer::Answer;
 use crate::outcomes::outcome;
-use crate::word::Script;
+use crate::own::check_own;
 use std::alloc::AllocError;
 use std::thread::Threads;
-use wm_check::{Unread, Verdict, check, read_module};
-use wm_run::{Run, RunFault, drive, write_run};
+use wm_check::{Unread, Verdict, read_module};
+use wm_run::{Run, RunFault, drive};
 use wm_valid::ValidModule;
+use wm_words::Script;
 
 /// The answer that a run is.
 fn driven<R: AllocGlobal + Threads + Sync>(
@@ -18,12 +20,17 @@ fn driven<R: AllocGlobal + Threads + Sync>(
     module_bytes: &[u8],
     run: &Run,
 ) -> Result<Answer, AllocError>
+    requires made { IsMadeOf module_bytes.now run.now }
     ensures { IfOk result (IsDriven module_bytes.now run.now) }
 {
-    let document = write_run(rt.alloc(), run)?;
-    let verdict = check(rt, module_bytes, document.as_bytes())?;
+    let checked = check_own(rt, module_bytes, run)?;
     let outcome = outcome(rt.alloc(), run)?;
-    Answer::driven(rt.alloc(), outcome.as_str(), &verdict, document.as_str())
+    Answer::driven(
+        rt.alloc(),
+        outcome.as_str(),
+        &checked.verdict,
+        checked.document.as_str(),
+    )
 }
 
 /// The answer to a script over a module that these bytes spell.

@@ -1,5 +1,5 @@
 //! The whole program.
-ghost use Rattle.std.specs.Prelude.{◌≡◌, ◌+◌, ◌^◌, ◌≤◌, ◌<◌, IfErr, IfOk, OnOk, List, ℕ, map, string_bytes};
+ghost use Rattle.std.specs.Prelude.{◌≡◌, ◌+◌, ◌^◌, ◌≤◌, ◌<◌, IfErr, IfOk, OnOk, List, ℕ, drop, map, string_bytes};
 ghost use Rattle.wm_litmus.specs.Answers.{IsAnswer, WritesAnswer, WritesFront, given};
 ghost use Rattle.wm_litmus.specs.Drive.{IsScriptAnswer};
 ghost use Rattle.wm_litmus.specs.Failures.{IsUnreadFile};
@@ -12,19 +12,20 @@ use crate::check::check_answer;
 use crate::command::{Command, CommandFault, read_command};
 use crate::completion::completion_answer;
 use crate::drive::drive_answer;
+use crate::explanation::{explain_answer, graph_answer};
 use crate::files::{FileFault, Files};
 use crate::input::read_limited;
 use crate::migration::migrate_answer;
 use crate::output::write_text;
 use crate::rounds::rounds_answer;
 use crate::rules::rules_answer;
-use crate::word::{read_rounds_of, read_script};
 use std::alloc::{AllocError, Global};
 use std::io::{Read, Write};
 use std::sync::Wait;
 use std::thread::Threads;
 use wm_decode::MAX_MODULE_BYTES;
 use wm_logfile::MAX_DOCUMENT_BYTES;
+use wm_words::{read_rounds, read_script};
 
 /// Why there is no answer.
 #[derive(Clone, Copy, Debug)]
@@ -125,7 +126,9 @@ fn read_run<'a, R: AllocGlobal, F: Files, I: Read>(
 }
 
 /// The words that say what threads start with: those behind the command, the module, and the turns or rounds.
-fn starts_of<'a>(words: &'a [&'a str]) -> &'a [&'a str] {
+fn starts_of<'a>(words: &'a [&'a str]) -> &'a [&'a str]
+    ensures { map (λ word. word.now) result.now ≡ drop 3 (map (λ word. word.now) words.now) }
+{
     words.get(3..).unwrap_or(&[])
 }
 
@@ -139,7 +142,8 @@ fn script_of<'a, R: AllocGlobal + Threads + Sync, F: Files>(
 ) -> Result<Answer, Failure<'a>>
     requires { F.failures_of files.old + 1 < 2 ^ 64 }
     ensures answers { IfOk result (λ answer.
-        IsScriptAnswer (F.content_of files.old name.now) answer.status (string_bytes answer.text)) }
+        IsScriptAnswer (F.content_of files.old name.now) turns.now (map (λ word. word.now) starts.now)
+        answer.status (string_bytes answer.text)) }
     ensures unread { IfErr result (λ stop. IsUnreadFile stop
         → F.failures_of files.old < F.failures_of files.new) }
 {
@@ -166,11 +170,12 @@ fn rounds_of<'a, R: AllocGlobal + Threads + Wait + Sync, F: Files>(
 ) -> Result<Answer, Failure<'a>>
     requires { F.failures_of files.old + 1 < 2 ^ 64 }
     ensures answers { IfOk result (λ answer.
-        IsRoundsAnswer (F.content_of files.old name.now) answer.status (string_bytes answer.text)) }
+        IsRoundsAnswer (F.content_of files.old name.now) rounds.now (map (λ word. word.now) starts.now)
+        answer.status (string_bytes answer.text)) }
     ensures unread { IfErr result (λ stop. IsUnreadFile stop
         → F.failures_of files.old < F.failures_of files.new) }
 {
-    match read_rounds_of(rt.alloc(), rounds, starts) {
+    match read_rounds(rt.alloc(), rounds, starts) {
         Ok(rounds) => {
             let bytes = read_file(files, name, MAX_MODULE_BYTES)?;
             let answer = rounds_answer(rt, bytes.as_slice(), &rounds)?;
@@ -214,6 +219,14 @@ fn answer_of<'a, R: AllocGlobal + Threads + Wait + Sync, F: Files, I: Read>(
             let read = read_run(rt, files, input, module, document)?;
             Ok(completion_answer(rt.alloc(), read.0.as_slice(), read.1.as_slice())?)
         }
+        Ok(Command::Explain { module, document }) => {
+            let read = read_run(rt, files, input, module, document)?;
+            Ok(explain_answer(rt, read.0.as_slice(), read.1.as_slice())?)
+        }
+        Ok(Command::Graph { module, document }) => {
+            let read = read_run(rt, files, input, module, document)?;
+            Ok(graph_answer(rt, read.0.as_slice(), read.1.as_slice())?)
+        }
         Ok(Command::Drive { module, turns }) => script_of(
             rt,
             files,
@@ -240,6 +253,8 @@ fn answer_of<'a, R: AllocGlobal + Threads + Wait + Sync, F: Files, I: Read>(
 /// then the document, and checks its run against the module and the memory rules. `migrate DOC` reads a document
 /// and prints it in version 2. `complete MODULE DOC` reads both as `check` does, and prints the document in version 2
 /// with the steps and the ends that the module gives its threads on the values that their events read.
+/// `explain MODULE DOC` prints the line of `check`, and behind it in sentences why it is that; `graph MODULE DOC` prints
+/// the execution for Graphviz, or the line of a refusal, each with the status of `check`.
 /// `drive MODULE TURNS START..` plays a script over a module, and prints the outcome, the verdict on what was logged, and
 /// its document. `run MODULE ROUNDS START..` lets the threads run at the same time, so many times over, checks each log,
 /// and prints how often each outcome came; it is the one command that may wait for other threads.

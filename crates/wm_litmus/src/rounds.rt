@@ -1,43 +1,44 @@
 //! The command `run`: rounds of a module's threads, which run at the same time.
-ghost use Rattle.std.specs.Prelude.{◌≡◌, IfOk, IfSome, string_bytes};
+ghost use Rattle.std.specs.Prelude.{◌≡◌, IfOk, MatchOption, string_bytes};
 ghost use Rattle.wm_check.specs.Run.{IsModuleOf};
-ghost use Rattle.wm_litmus.specs.Rounds.{AnswersRounds};
+ghost use Rattle.wm_litmus.specs.Rounds.{AnswersRounds, CountsRound};
 
 use crate::answer::Answer;
 use crate::outcomes::outcome;
+use crate::own::check_own;
 use crate::table::Table;
-use crate::word::Rounds;
 use std::alloc::AllocError;
 use std::sync::Wait;
 use std::thread::Threads;
-use wm_check::{Unread, Verdict, check, read_module};
-use wm_run::{OpenGate, Plan, RunFault, run_round, write_run};
+use wm_check::{Unread, Verdict, read_module};
+use wm_run::{OpenGate, RunFault, run_round};
 use wm_valid::ValidModule;
+use wm_words::Rounds;
 
 /// Makes a round and counts its outcome; where that isn't allowed, or can't be made, the answer to the whole.
 fn count_round<R: AllocGlobal + Threads + Wait + Sync>(
     rt: &R,
     module: &ValidModule,
     module_bytes: &[u8],
-    plan: &Plan,
+    rounds: &Rounds,
     table: &mut Table,
 ) -> Result<Option<Answer>, AllocError>
     requires { IsModuleOf module_bytes.now «module».now }
-    ensures { IfOk result (λ answer. IfSome answer (λ a.
-        AnswersRounds module_bytes.now plan.now a.status (string_bytes a.text))) }
+    ensures { IfOk result (λ answer. MatchOption answer
+        (CountsRound module_bytes.now «module».now rounds.now.plan table.old.counts table.new.counts)
+        (λ a. AnswersRounds module_bytes.now rounds.now.plan rounds.now.count a.status (string_bytes a.text))) }
 {
-    let run = match run_round(rt, rt.alloc(), module, plan, &OpenGate) {
+    let run = match run_round(rt, rt.alloc(), module, &rounds.plan, &OpenGate) {
         Ok(run) => run,
         Err(RunFault::OutOfMemory) => return Err(AllocError),
         Err(fault) => return Ok(Some(Answer::refused_run(rt.alloc(), fault)?)),
     };
-    let document = write_run(rt.alloc(), &run)?;
-    let verdict = check(rt, module_bytes, document.as_bytes())?;
-    if let Verdict::Allowed(_) = verdict {
+    let checked = check_own(rt, module_bytes, &run)?;
+    if let Verdict::Allowed(_) = checked.verdict {
         table.add(outcome(rt.alloc(), &run)?)?;
         return Ok(None);
     }
-    Ok(Some(Answer::of_verdict(rt.alloc(), &verdict)?))
+    Ok(Some(Answer::of_verdict(rt.alloc(), &checked.verdict)?))
 }
 
 /// The answer to rounds of a module that these bytes spell.
@@ -49,18 +50,16 @@ fn make_rounds<R: AllocGlobal + Threads + Wait + Sync>(
 ) -> Result<Answer, AllocError>
     requires { IsModuleOf module_bytes.now «module».now }
     ensures { IfOk result (λ answer.
-        AnswersRounds module_bytes.now rounds.now.plan answer.status (string_bytes answer.text)) }
+        AnswersRounds module_bytes.now rounds.now.plan rounds.now.count answer.status (string_bytes answer.text)) }
 {
     let mut table = Table::new(rt.alloc());
     for _ in 0..rounds.count {
-        if let Some(answer) = count_round(rt, module, module_bytes, &rounds.plan, &mut table)? {
+        if let Some(answer) = count_round(rt, module, module_bytes, rounds, &mut table)? {
             return Ok(answer);
         }
     }
-    let lines = table.text(rt.alloc())?;
-    let count = rounds.count;
-    let text = format!(in rt.alloc(); "{lines}allowed rounds={count}\n")?;
-    Ok(Answer { text, status: 0 })
+    let table = table.text(rt.alloc())?;
+    Answer::rounds(rt.alloc(), table.as_str(), rounds.count)
 }
 
 /// The answer to the bytes of a module, for rounds of its threads. It may wait for these.
@@ -74,7 +73,7 @@ pub(crate) fn rounds_answer<R: AllocGlobal + Threads + Wait + Sync>(
     rounds: &Rounds,
 ) -> Result<Answer, AllocError>
     ensures { IfOk result (λ answer.
-        AnswersRounds module_bytes.now rounds.now.plan answer.status (string_bytes answer.text)) }
+        AnswersRounds module_bytes.now rounds.now.plan rounds.now.count answer.status (string_bytes answer.text)) }
 {
     match read_module(rt.alloc(), module_bytes) {
         Ok(module) => make_rounds(rt, &module, module_bytes, rounds),

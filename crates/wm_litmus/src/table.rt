@@ -1,39 +1,69 @@
 //! How often each outcome came.
+ghost use Rattle.std.specs.Prelude.{◌≡◌, ◌<◌, ◌+◌, ◌-◌, ◌^◌, ◌++◌, codes, false, ◌∷◌, [], IfOk, OnOk, List, ℕ, length, map, string_bytes};
+ghost use Rattle.std.specs.BTreeMap.{get_by_text};
+ghost use Rattle.std.specs.Fmt.{decimal, format_spec, padded_integral};
+ghost use Rattle.std.specs.List.{flat_map};
+ghost use Rattle.wm_litmus.specs.Counts.{Counts, next_count, row_of};
+ghost use Rattle.wm_litmus.specs.Rounds.{outcomes};
+ghost use Rattle.wm_litmus.specs.Table.{IsTableText, row_text};
 
 use crate::outcomes::outcome;
 use std::alloc::{AllocError, Global};
 use std::collections::BTreeMap;
 use wm_run::Run;
 
+/// A line of the table: the count in 8 places, two spaces, and the outcome.
+fn row_line(alloc: Global, outcome: &str, count: u64) -> Result<String, AllocError>
+    ensures { IfOk result (λ line. string_bytes line
+        ≡ padded_integral (format_spec 32 3 0 8 (2 ^ 64 - 1)) false [] (decimal count) ++ (codes "  " ++ (outcome.now ++ codes "\n"))) }
+{
+    format!(in alloc; "{count:>8}  {outcome}\n")
+}
+
 /// How often each outcome came, by the outcome's bytes.
 #[derive(Drop)]
 pub(crate) struct Table {
-    counts: BTreeMap<String, u32>,
+    counts: BTreeMap<String, u64>,
 }
 
 impl Table {
     /// The table of no outcome.
-    pub fn new(alloc: Global) -> Table {
+    pub fn new(alloc: Global) -> Table
+        ensures { Counts [] result.counts }
+    {
         Table {
             counts: BTreeMap::new(alloc),
         }
     }
 
-    /// One more of an outcome.
-    pub fn add(&mut self, outcome: String) -> Result<(), AllocError> {
-        let count = match self.counts.get(outcome.as_str()) {
+    /// How often an outcome has come, with the next time.
+    fn next_count(&self, outcome: &str) -> u64
+        ensures { (came : List (List ℕ)) → Counts came self.now.counts → length came + 1 < 2 ^ 64
+            → result ≡ next_count (get_by_text self.now.counts outcome.now) }
+    {
+        match self.counts.get(outcome) {
             Some(count) => count.saturating_add(1),
             None => 1,
-        };
+        }
+    }
+
+    /// One more of an outcome.
+    pub fn add(&mut self, outcome: String) -> Result<(), AllocError>
+        ensures { OnOk result ((came : List (List ℕ)) → Counts came self.old.counts → length came + 1 < 2 ^ 64
+            → Counts (came ++ string_bytes outcome ∷ []) self.new.counts) }
+    {
+        let count = self.next_count(outcome.as_str());
         self.counts.insert(outcome, count)?;
         Ok(())
     }
 
     /// A line for each outcome: the count in 8 places, two spaces, and the outcome.
-    pub fn text(&self, alloc: Global) -> Result<String, AllocError> {
+    pub fn text(&self, alloc: Global) -> Result<String, AllocError>
+        ensures { IfOk result (λ text. string_bytes text ≡ flat_map row_text (map row_of self.now.counts.entries)) }
+    {
         let mut text = String::new(alloc);
         for (outcome, count) in self.counts.iter() {
-            let line = format!(in alloc; "{count:>8}  {outcome}\n")?;
+            let line = row_line(alloc, outcome.as_str(), *count)?;
             text.push_str(line.as_str())?;
         }
         Ok(text)
@@ -45,7 +75,9 @@ impl Table {
 /// # Errors
 ///
 /// Only where memory was refused.
-pub fn report(alloc: Global, runs: &[Run]) -> Result<String, AllocError> {
+pub fn report(alloc: Global, runs: &[Run]) -> Result<String, AllocError>
+    ensures { IfOk result (λ text. IsTableText (outcomes runs.now) (string_bytes text)) }
+{
     let mut table = Table::new(alloc);
     for run in runs {
         table.add(outcome(alloc, run)?)?;

@@ -4,12 +4,15 @@ mod check;
 mod closure;
 mod completion;
 mod documents;
+mod driving;
 mod fakes;
+mod gathering;
 mod migration;
 mod modules;
 mod numeric_instructions;
 mod other_instructions;
 mod recordings;
+mod rounds;
 mod runs;
 mod threads;
 

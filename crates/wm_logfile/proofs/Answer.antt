@@ -1,12 +1,12 @@
 -- What the reader of a whole document answers.
-use Rattle.std.proofs.Common.{◌≡◌, ◌≤◌, List, ℕ, length, Some, Result, Ok, Err, sym}
+use Rattle.std.proofs.Common.{◌≡◌, ◌<◌, ◌≤◌, List, ℕ, length, Some, Result, Ok, Err, sym, arith}
 use Rattle.std.specs.Prelude.{IfOk, IfErr, IsUtf8}
 use Rattle.serde_json.specs.Data.{Data}
 use Rattle.serde_json.specs.Read.{read}
 use Rattle.wm_event.specs.declared.log.ThreadLog.{ThreadLog}
 use Rattle.wm_event.specs.declared.witness.Witness.{Witness}
 use Rattle.wm_logfile.specs.declared.fault.DocFault.{DocFault}
-use Rattle.wm_logfile.specs.declared.fault.DocFault.TheVariants.{OutOfMemory, Misplaced}
+use Rattle.wm_logfile.specs.declared.fault.DocFault.TheVariants.{OutOfMemory, Misplaced, TooLarge}
 use Rattle.wm_logfile.specs.Faults.{DocGives}
 use Rattle.wm_event.specs.Log.{IsLog}
 use Rattle.wm_logfile.specs.Document.{IsWithinLimits, Spells}
@@ -38,6 +38,11 @@ pub refused : (bytes : List ℕ) (d : Data) (r : Result (List ThreadLog × Witne
     → IfErr r (λ e. (e ≡ OutOfMemory → ⊥) → length bytes ≤ 8388608 → (l : List ThreadLog) → (w : Witness) → IsLog l → IsWithinLimits l w → Spells bytes l w → ⊥)
 refused bytes d (Ok p) h = tt
 refused bytes d (Err e) h = λ ne le l w is fits spelling. none_spelled bytes d h.text (refusal e d ne h.given) l w is fits spelling
+
+-- of bytes within the limit nothing is said of larger ones
+pub not_large : (bytes : List ℕ) (r : Result (List ThreadLog × Witness) DocFault) → length bytes ≤ 8388608 → IfErr r (λ e. 8388608 < length bytes → e ≡ TooLarge)
+not_large bytes (Ok p) le = tt
+not_large bytes (Err e) le = λ lt. absurd (omega (arith, le, lt))
 
 pub not_misplaced : (bytes : List ℕ) (d : Data) (r : Result (List ThreadLog × Witness) DocFault) → Answers bytes d r → IfErr r (λ e. e ≡ Misplaced → ⊥)
 not_misplaced bytes d (Ok p) h = tt

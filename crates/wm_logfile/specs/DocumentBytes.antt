@@ -1,5 +1,5 @@
 -- What the bytes of a document stand for, within the limits.
-use Rattle.std.specs.Prelude.{◌≡◌, ◌≢◌, ◌≤◌, ℕ, List, length}
+use Rattle.std.specs.Prelude.{◌≡◌, ◌≢◌, ◌<◌, ◌≤◌, ℕ, List, length}
 use Rattle.wm_event.specs.declared.log.ThreadLog.{ThreadLog}
 use Rattle.wm_event.specs.declared.witness.Witness.{Witness}
 use Rattle.wm_event.specs.Log.{IsLog}
@@ -18,5 +18,6 @@ pub record IsDocumentOf (bytes : List ℕ) (log : List ThreadLog) (witness : Wit
 pub record IsNoDocument (bytes : List ℕ) (fault : DocFault) : Type 0 where
   pub no_document : (log : List ThreadLog) (witness : Witness) → ¬ IsDocumentOf bytes log witness
   pub too_large : fault ≡ TooLarge → IsTooLarge bytes
+  pub large : 8388608 < length bytes → fault ≡ TooLarge
   pub no_want : fault ≢ OutOfMemory
   pub placed : fault ≢ Misplaced

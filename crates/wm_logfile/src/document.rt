@@ -162,6 +162,7 @@ pub fn read_document(alloc: Global, bytes: &[u8]) -> Result<(Log, Witness), DocF
         → length bytes.now ≤ 8388608 → (log : List ThreadLog) → (w : Witness)
         → IsLog log → IsWithinLimits log w → ¬ Spells bytes.now log w) }
     ensures too_large { IfErr result (λ e. e ≡ DocFault.TooLarge → IsTooLarge bytes.now) }
+    ensures large { IfErr result (λ e. 8388608 < length bytes.now → e ≡ DocFault.TooLarge) }
     ensures placed { IfErr result (λ e. e ≢ DocFault.Misplaced) }
 {
     if bytes.len() > MAX_DOCUMENT_BYTES {

@@ -157,7 +157,12 @@ pub fn decide(
             block: *block,
             popped: 0,
         },
-        Instr::If(ty, first, second, other) => entered(levels, *ty, *first, *second, *other),
+        Instr::If {
+            result,
+            then_block,
+            else_block,
+            else_part,
+        } => entered(levels, *result, *then_block, *else_block, *else_part),
         Instr::Br(label) => Action::Branch {
             label: *label,
             popped: 0,

@@ -35,9 +35,9 @@ impl fmt::Display for MemFault {
 
     fn fmt<W: fmt::Write>(&self, f: &mut fmt::Formatter<W>) -> fmt::Result {
         match self {
-            MemFault::NoThread => write!(f, "NoThread"),
-            MemFault::OutOfBounds => write!(f, "OutOfBounds"),
-            MemFault::OutOfMemory => write!(f, "OutOfMemory"),
+            MemFault::NoThread => f.write_str("NoThread"),
+            MemFault::OutOfBounds => f.write_str("OutOfBounds"),
+            MemFault::OutOfMemory => f.write_str("OutOfMemory"),
         }
     }
 }

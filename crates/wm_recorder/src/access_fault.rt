@@ -23,10 +23,10 @@ impl fmt::Display for AccessFault {
 
     fn fmt<W: fmt::Write>(&self, f: &mut fmt::Formatter<W>) -> fmt::Result {
         match self {
-            AccessFault::NoThread => write!(f, "NoThread"),
-            AccessFault::OutOfBounds => write!(f, "OutOfBounds"),
-            AccessFault::OutOfMemory => write!(f, "OutOfMemory"),
-            AccessFault::Full => write!(f, "Full"),
+            AccessFault::NoThread => f.write_str("NoThread"),
+            AccessFault::OutOfBounds => f.write_str("OutOfBounds"),
+            AccessFault::OutOfMemory => f.write_str("OutOfMemory"),
+            AccessFault::Full => f.write_str("Full"),
         }
     }
 }

@@ -1,11 +1,13 @@
 -- What the turns of a script leave is the scripted run, and an own run of the module.
-use Rattle.std.proofs.Common.{◌≡◌, ℕ, ◌<◌, List, [], Some, refl, sym, ap, subst, ◌∙◌, arith, length, reverse, slice_get, map, All, get_or}
+use Rattle.std.proofs.Common.{◌≡◌, ℕ, ◌<◌, ◌≤◌, List, [], Some, refl, sym, ap, subst, ◌∙◌, arith, length, reverse, slice_get, map, All, get_or}
 use Rattle.std.specs.Prelude.{unwrap_or}
 use Rattle.std.proofs.lemmas.List.{length-map}
 use Rattle.std.proofs.lemmas.Option.{same_Some, slice_get-get_or, slice_get_within}
 use Rattle.wm_ast.specs.declared.module.Module.{Module}
 use Rattle.wm_event.specs.declared.event.Event.{Event}
 use Rattle.wm_event.specs.declared.log.Start.{Start}
+use Rattle.wm_event.specs.declared.log.ThreadLog.{ThreadLog}
+use Rattle.wm_logfile.specs.Document.{EndFits}
 use Rattle.wm_machine.specs.Run.{end_of}
 use Rattle.wm_machine.specs.State.{config_of}
 use Rattle.wm_memory.specs.Legal.{IsLegal}
@@ -18,13 +20,15 @@ use Rattle.wm_valid.specs.Valid.{IsInit}
 use Rattle.wm_run.specs.declared.plan.Plan.{Plan}
 use Rattle.wm_run.specs.declared.runner.Runner.{Runner}
 use Rattle.wm_run.specs.declared.turn.Turn.{Turn}
-use Rattle.wm_run.specs.Finish.{IsFinished}
+use Rattle.wm_run.specs.Finish.{AreLogs, IsFinished, log_of}
 use Rattle.wm_run.specs.Launch.{AreLaunched}
-use Rattle.wm_run.specs.Own.{IsOwnRun}
+use Rattle.wm_run.specs.Own.{IsOwnRun, IsWithinPlan}
+use Rattle.wm_run.specs.Plan.{IsPlan}
 use Rattle.wm_run.specs.Run.{Record}
 use Rattle.wm_run.specs.Runner.{IsSet, PlaysTurns, scene_of, setting_of, standing_of}
 use Rattle.wm_run.specs.Script.{Scene, Setting, Standing, done}
 use Rattle.wm_run.specs.Scripted.{Begins, IsFirstScene, IsLogOf, IsScripted, thread_log}
+use Rattle.wm_run.proofs.Limits.{AllWithin, first_within, turns_within}
 use Rattle.wm_run.proofs.Logging.{get_some, logged_events}
 use Rattle.wm_run.proofs.Runs.{AllRun, first_run, is_run, turns_run}
 use Rattle.wm_run.proofs.Turns.{IsOf, standing_at}
@@ -119,6 +123,43 @@ is_scripted m plan turns xs r ys r' run d = record {
   plays = d.plays.plays;
   logged = logged m plan turns xs r ys r' run d;
 }
+
+-- the thread and the start that a log is of
+record IsLogged (ys : List Runner) (r : Recording) (t : ℕ) (log : ThreadLog) : Type 0 where
+  pub start : Start
+  pub runner : Runner
+  pub at : slice_get ys t ≡ Some runner
+  pub is : log_of r t start runner ≡ log
+
+logged_at : (starts : List Start) (ys : List Runner) (r : Recording) (logs : List ThreadLog) (t : ℕ) (log : ThreadLog) → length ys ≡ length starts → AreLogs starts ys r logs → slice_get logs t ≡ Some log → IsLogged ys r t log
+logged_at starts ys r logs t log same are at =
+    let in_starts : t < length starts = omega (arith, slice_get_within logs t log at, are.count) in
+    let in_ys : t < length ys = omega (arith, in_starts, same) in
+    let start = get_some starts t in_starts in
+    let runner = get_some ys t in_ys in
+    record { start = start.0; runner = runner.0; at = runner.1; is = same_Some (log_of r t start.0 runner.0) log (sym (are.each t start.0 runner.0 start.1 runner.1) ∙ at) }
+
+-- at most so many threads and steps as the plan has
+pub is_within : (m : Module) (plan : Plan) (turns : List Turn) (xs : List Runner) (r : Recording) (ys : List Runner) (r' : Recording) (run : Record) → IsPlan plan turns → Drives m plan turns xs r ys r' run → IsWithinPlan run
+is_within m plan turns xs r ys r' run is d =
+    let g : Setting = setting_of m r plan.steps in
+    let count = as_many m plan turns xs r ys r' run d in
+    let few = is.threads.few in
+    let logs = d.finished.logs.count in
+    let first : AllWithin g (scene_of xs r) = first_within g plan.starts (scene_of xs r) (first_scene m plan.starts xs d.initial r d.launched d.new) in
+    let last : AllWithin g (scene_of ys r') = turns_within g (scene_of xs r) (scene_of ys r') turns d.plays.plays first in
+    record {
+      threads = omega (arith, few, logs);
+      steps = λ t log at.
+          let l = logged_at plan.starts ys r' run.log t log count d.finished.logs at in
+          let made = last t (standing_of l.runner) (standing_at ys t l.runner l.at) in
+          let same = ap (λ (x : ThreadLog). x.steps) l.is in
+          let most = is.steps in
+          omega (arith, made, most, same);
+      ends = λ t log at.
+          let l = logged_at plan.starts ys r' run.log t log count d.finished.logs at in
+          subst (λ (x : ThreadLog). EndFits x.end) l.is (d.finished.logs.ends t l.runner l.at);
+    }
 
 pub is_own : (m : Module) (plan : Plan) (turns : List Turn) (xs : List Runner) (r : Recording) (ys : List Runner) (r' : Recording) (run : Record) → Drives m plan turns xs r ys r' run → IsOwnRun m run
 is_own m plan turns xs r ys r' run d =

@@ -11,6 +11,9 @@ pub mod Absent
 pub mod Launching
 pub mod Logging
 pub mod Runs
+pub mod Limits
 pub mod Driving
 pub mod Together
 pub mod Rounds
+pub mod Ranges
+pub mod Once

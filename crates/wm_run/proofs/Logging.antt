@@ -1,5 +1,5 @@
 -- The logs of the threads, one after the other, and what they hold of the recorder.
-use Rattle.std.proofs.Common.{◌≡◌, ℕ, ◌+◌, ◌<◌, ◌≤◌, List, [], ◌∷◌, ◌++◌, inl, inr, sym, ap, ◌∙◌, arith, length, slice_get, Some, get_or, map}
+use Rattle.std.proofs.Common.{◌≡◌, ℕ, ◌+◌, ◌<◌, ◌≤◌, List, [], ◌∷◌, ◌++◌, inl, inr, sym, ap, subst, ◌∙◌, arith, length, slice_get, Some, get_or, map}
 use Rattle.std.specs.Prelude.{option_map, unwrap_or}
 use Rattle.std.proofs.Math.Nat.{eq-or-lt_of_le}
 use Rattle.std.proofs.lemmas.List.{length-map, same_lists}
@@ -7,6 +7,9 @@ use Rattle.std.proofs.lemmas.Option.{get_or_from_slice_get, same_Some, slice_get
 use Rattle.wm_event.specs.declared.event.Event.{Event}
 use Rattle.wm_event.specs.declared.log.Start.{Start}
 use Rattle.wm_event.specs.declared.log.ThreadLog.{ThreadLog}
+use Rattle.wm_logfile.specs.Document.{EndFits}
+use Rattle.wm_machine.specs.Run.{end_of}
+use Rattle.wm_machine.specs.State.{config_of}
 use Rattle.wm_memory.proofs.Listed.{get-end, get-front}
 use Rattle.wm_recorder.specs.Recorder.{Recording}
 use Rattle.wm_run.specs.declared.runner.Runner.{Runner}
@@ -34,8 +37,23 @@ logs_more starts runners r logs n start runner new count at at' is below t other
       | inr less ↦ get-front logs new t (λ e. omega (arith, e, count, less)) ∙ below t other runner' less of_start of_runner
     ]
 
-pub all_logs : (starts : List Start) (runners : List Runner) (r : Recording) (logs : List ThreadLog) (n : ℕ) → length logs ≡ n → length starts ≤ n → n ≤ length starts → LogsBelow starts runners r logs n → AreLogs starts runners r logs
-all_logs starts runners r logs n count all few below = record {
+-- the ends of the threads below n are of 64 bits
+abbrev pub EndsBelow : List Runner → ℕ → Type 0
+EndsBelow runners n = (t : ℕ) (runner : Runner) → t < n → slice_get runners t ≡ Some runner → EndFits (end_of (config_of runner.thread))
+
+pub one_more_end : (runners : List Runner) (n : ℕ) (runner : Runner) → slice_get runners n ≡ Some runner → EndFits (end_of (config_of runner.thread)) → EndsBelow runners n → EndsBelow runners (n + 1)
+one_more_end runners n runner at fits below t other lt of_other =
+    let within : t ≤ n = omega (arith, lt) in
+    elim (eq-or-lt_of_le within) [
+      | inl same ↦
+          let is : runner ≡ other = same_Some runner other (sym at ∙ ap (slice_get runners) (sym same) ∙ of_other) in
+          subst (λ (x : Runner). EndFits (end_of (config_of x.thread))) is fits
+      | inr less ↦ below t other less of_other
+    ]
+
+pub all_logs : (starts : List Start) (runners : List Runner) (r : Recording) (logs : List ThreadLog) (n : ℕ) → length logs ≡ n → length starts ≤ n → n ≤ length starts → length runners ≡ length starts → LogsBelow starts runners r logs n → EndsBelow runners n → AreLogs starts runners r logs
+all_logs starts runners r logs n count all few same below ends = record {
+  ends = λ t runner of_runner. ends t runner (let lt : t < n = omega (arith, all, same, slice_get_within runners t runner of_runner) in lt) of_runner;
   count = omega (arith, count, all, few);
   each = λ t start runner of_start of_runner. below t start runner (let lt : t < n = omega (arith, all, slice_get_within starts t start of_start) in lt) of_start of_runner;
 }

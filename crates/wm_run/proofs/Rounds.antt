@@ -8,6 +8,7 @@ use Rattle.wm_ast.specs.declared.module.Module.{Module}
 use Rattle.wm_event.specs.declared.log.End.TheVariants.{Cut}
 use Rattle.wm_event.specs.declared.log.Start.{Start}
 use Rattle.wm_event.specs.declared.log.ThreadLog.{ThreadLog}
+use Rattle.wm_logfile.specs.Document.{EndFits}
 use Rattle.wm_memory.specs.Legal.{IsLegal}
 use Rattle.wm_memory.specs.Recorded.{by_thread, events_of, writers_of}
 use Rattle.wm_recorder.specs.Recorder.{Recording, IsRecording, initial_of, steps_of, threads_of}
@@ -19,9 +20,9 @@ use Rattle.wm_run.specs.declared.fault.RunFault.{RunFault}
 use Rattle.wm_run.specs.declared.plan.Plan.{Plan}
 use Rattle.wm_run.specs.Ends.{IsEndIn}
 use Rattle.wm_run.specs.Gathered.{IsGathered, log_by}
-use Rattle.wm_run.specs.Own.{IsOwnRun, OwnRunsAreAllowed}
+use Rattle.wm_run.specs.Own.{IsOwnRun, IsWithinPlan, OwnRunsAreAllowed}
 use Rattle.wm_run.specs.Reached.{stands_before_access}
-use Rattle.wm_run.specs.Rounds.{AreEndsOf, AreWorkOf, IsHeld, IsRound}
+use Rattle.wm_run.specs.Rounds.{AreEndsOf, AreWorkOf, IsHeld, IsRound, IsRoundPlan}
 use Rattle.wm_run.specs.Run.{Record}
 use Rattle.wm_run.specs.Stops.{is_own}
 use Rattle.wm_run.specs.Worker.{IsEndOf, IsWorkOf}
@@ -104,6 +105,7 @@ record IsThread (is_open : Bool) (m : Module) (starts : List Start) (limit : ℕ
   pub within : log.steps ≤ limit
   pub is_run : IsRun m t log
   pub early : log.end ≡ Cut → log.steps < limit → IsHeld is_open m run t log
+  pub fits : EndFits log.end
 
 held : (is_open : Bool) (stop : Stop) (stands : Bool) (full : Type 0) → (is_own stop || stands) ≡ true → (stop ≡ Own → ⊥) → (stop ≡ Gate → is_open ≡ false) → (stop ≡ Memory → full) → (stands ≡ true) × ((is_open ≡ false) ⊎ full)
 held is_open Own stands full before own gate memory = absurd (own refl)
@@ -126,6 +128,7 @@ thread_at is_open m starts limit ends r run t log are g many e lt at =
       is_run = ran;
       early = λ cut less. held is_open e.end.stop (stands_before_access m t (log_by e.end)) (16384 ≤ length run.witness.order) stands
           (λ own. let all = e.is_end.whole own cut in absurd (omega (arith, all, less))) e.is_end.held full;
+      fits = e.is_end.fits;
     })
 
 -- ---- the round
@@ -181,6 +184,18 @@ own_from is_open m starts limit ends r run g are =
         memory = refl;
       };
       runs = λ t log at. (are.each t log at).is_run;
+    }
+
+-- at most so many threads and steps as the plan has
+pub within_from : (is_open : Bool) (m : Module) (plan : Plan) (ends : List ThreadEnd) (r : Recording) (run : Record) → IsRoundPlan plan → AreEndsOf is_open m plan.starts plan.steps ends → IsGathered m r ends run → IsWithinPlan run
+within_from is_open m plan ends r run is are g =
+    let threads = threads_from is_open m plan.starts plan.steps ends r run are g in
+    let count = threads.count in
+    let few = is.threads.few in
+    record {
+      threads = omega (arith, count, few);
+      steps = λ t log at. (let made = (threads.each t log at).within in let most = is.steps in omega (arith, made, most));
+      ends = λ t log at. (threads.each t log at).fits;
     }
 
 pub round_from : (is_open : Bool) (m : Module) (plan : Plan) (ends : List ThreadEnd) (r : Recording) (run : Record) → OwnRunsAreAllowed → AreEndsOf is_open m plan.starts plan.steps ends → IsGathered m r ends run → IsRound is_open m plan run

@@ -124,11 +124,11 @@ first_run g starts scene f t start thread of_start of_thread =
     subst (λ h. HasRun g.program t start thread (events_of (done g h) t)) (sym f.history) at_once
 
 -- the thread of a number is the new one there, or another as it was
-data IsSetAt (xs : List Standing) (u : ℕ) (y : Standing) (t : ℕ) (z : Standing) : Type 0 where
+pub data IsSetAt (xs : List Standing) (u : ℕ) (y : Standing) (t : ℕ) (z : Standing) : Type 0 where
   new : t ≡ u → y ≡ z → IsSetAt xs u y t z
   other : (t ≡ u → ⊥) → slice_get xs t ≡ Some z → IsSetAt xs u y t z
 
-set_at : (xs : List Standing) (u t : ℕ) (x y z : Standing) → slice_get xs u ≡ Some x → slice_get (set xs u y) t ≡ Some z → IsSetAt xs u y t z
+pub set_at : (xs : List Standing) (u t : ℕ) (x y z : Standing) → slice_get xs u ≡ Some x → slice_get (set xs u y) t ≡ Some z → IsSetAt xs u y t z
 set_at xs u t x y z there at = elim (cases_Bool (t == u)) [
   | inl same ↦
       let is : t ≡ u = eqb-true t u same in

@@ -1,16 +1,13 @@
 -- The logs of the threads by their ends, beside the recorder.
 use Rattle.std.proofs.Common.{◌≡◌, ℕ, ◌+◌, ◌<◌, List, [], ◌∷◌, ◌++◌, length, get_or, map, Some, slice_get, sym, ap, subst, ◌∙◌, arith}
 use Rattle.std.specs.Prelude.{option_map, unwrap_or}
-use Rattle.std.proofs.lemmas.Grind.{same_number_lists}
 use Rattle.std.proofs.lemmas.List.{length-map, same_lists}
 use Rattle.std.proofs.lemmas.Option.{get_or_from_slice_get, slice_get-get_or, slice_get-map}
-use Rattle.wm_ast.specs.declared.module.Module.{Module}
 use Rattle.wm_event.specs.declared.event.Event.{Event}
 use Rattle.wm_event.specs.declared.log.ThreadLog.{ThreadLog}
 use Rattle.wm_memory.proofs.Listed.{get-end, get-front, length-by_thread}
 use Rattle.wm_memory.specs.Recorded.{events_of}
 use Rattle.wm_recorder.specs.Recorder.{Recording, IsRecording, steps_of, threads_of}
-use Rattle.wm_valid.specs.Valid.{IsInit}
 use Rattle.wm_run.specs.declared.ended.ThreadEnd.{ThreadEnd}
 use Rattle.wm_run.specs.Ends.{HasOneEach, IsEndIn, ends_of}
 use Rattle.wm_run.specs.Gathered.{AllAgree, AreLogsBy, log_by}
@@ -49,12 +46,6 @@ logged_events r ends logs k one_each agrees are = same_lists (map (λ (log : Thr
         let there : t < threads_of r = omega (arith, in_events, by_events) in
         let has = some_end ends t (one_each.each t there) in
         item t d has.0 in_events there has.1
-
--- a module has one initial memory
-pub one_init : (m : Module) (xs ys : List ℕ) → IsInit m xs → IsInit m ys → xs ≡ ys
-one_init m xs ys a b =
-    same_number_lists xs ys (a.size ∙ sym b.size)
-    (λ k lt. a.each k (omega (arith, lt, a.size)) ∙ sym (b.each k (omega (arith, lt, a.size))))
 
 -- ---- what the parts of a gathering say
 

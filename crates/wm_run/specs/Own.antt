@@ -5,12 +5,13 @@ use Rattle.wm_event.specs.declared.log.ThreadLog.{ThreadLog}
 use Rattle.wm_event.specs.LoggedRun.{execution}
 use Rattle.wm_event.specs.Rules.{IsValid}
 use Rattle.wm_event.specs.Shape.{IsWellShaped}
+use Rattle.wm_logfile.specs.Document.{EndFits, IsWithinLimits}
 use Rattle.wm_memory.specs.declared.item.Item.{Item}
 use Rattle.wm_memory.specs.Legal.{IsLegal}
 use Rattle.wm_memory.specs.Recorded.{Records}
 use Rattle.wm_memory.specs.Visibility.{steps}
 use Rattle.wm_replay.specs.Replay.{AreRuns}
-use Rattle.wm_valid.specs.Valid.{IsInit}
+use Rattle.wm_valid.specs.Valid.{IsInit, Valid}
 use Rattle.wm_run.specs.Run.{Record, over}
 
 -- each thread is its run, and log and witness are what one legal history over the initial memory records
@@ -23,16 +24,21 @@ pub record IsOwnRun (m : Module) (run : Record) : Type 0 where
   pub records : Records (length run.log) initial (steps initial history) (over initial run)
   pub runs : AreRuns m run.log
 
--- at most so many threads and steps as a document has
+-- at most so many threads and steps as a document has, and results of 64 bits
 pub record IsWithinPlan (run : Record) : Type 0 where
   pub threads : length run.log ≤ 16
   pub steps : (t : ℕ) (thread : ThreadLog) → slice_get run.log t ≡ Some thread → thread.steps ≤ 1000000
+  pub ends : (t : ℕ) (thread : ThreadLog) → slice_get run.log t ≡ Some thread → EndFits thread.end
 
 -- over the initial memory it is a well-shaped candidate whose threads are their runs, and a valid execution
 pub record IsAllowedOver (m : Module) (initial : List ℕ) (run : Record) : Type 0 where
   pub shape : IsWellShaped (over initial run)
   pub runs : AreRuns m run.log
   pub valid : IsValid (execution (over initial run))
+
+-- own logs are within the limits of a document
+abbrev pub OwnRunsAreWithinLimits : Type 0
+OwnRunsAreWithinLimits = (m : Module) (run : Record) → Valid m → IsOwnRun m run → IsWithinPlan run → IsWithinLimits run.log run.witness
 
 -- own logs are allowed
 abbrev pub OwnRunsAreAllowed : Type 0

@@ -46,3 +46,7 @@ pub record IsScripted (m : Module) (plan : Plan) (turns : List Turn) (run : Reco
   pub begins : IsFirstScene m plan.starts first
   pub plays : Plays setting first turns last
   pub logged : IsLogOf plan.starts last.threads (done setting last.history) run
+
+-- a module, a plan and turns have one scripted run
+abbrev pub OneScriptedRun : Type 0
+OneScriptedRun = (m : Module) (plan : Plan) (turns : List Turn) (run other : Record) → IsScripted m plan turns run → IsScripted m plan turns other → run ≡ other

@@ -3,6 +3,7 @@ use Rattle.std.specs.Prelude.{◌≡◌, ℕ, ◌≤◌, Bool, false, Result, Ok
 use Rattle.wm_ast.specs.declared.module.Module.{Module}
 use Rattle.wm_event.specs.declared.log.End.TheVariants.{Cut}
 use Rattle.wm_event.specs.declared.log.Start.{Start}
+use Rattle.wm_logfile.specs.Document.{EndFits}
 use Rattle.wm_machine.specs.Start.{started}
 use Rattle.wm_run.specs.declared.ended.Stop.TheVariants.{Own, Gate}
 use Rattle.wm_run.specs.declared.ended.ThreadEnd.{ThreadEnd}
@@ -10,7 +11,7 @@ use Rattle.wm_run.specs.declared.fault.RunFault.{RunFault}
 use Rattle.wm_run.specs.declared.fault.RunFault.TheVariants as run
 
 -- a run of at most so many steps of this thread and start, which is cut by itself only behind all of them, and by the
--- gate only where that isn't open
+-- gate only where that isn't open; its result is of 64 bits
 pub record IsEndOf (is_open : Bool) (m : Module) (thread : ℕ) (start : Start) (steps : ℕ) (e : ThreadEnd) : Type 0 where
   pub of_module : e.program.value ≡ m
   pub of_thread : e.thread ≡ thread
@@ -18,6 +19,7 @@ pub record IsEndOf (is_open : Bool) (m : Module) (thread : ℕ) (start : Start) 
   pub within : e.steps ≤ steps
   pub whole : e.stop ≡ Own → e.end ≡ Cut → e.steps ≡ steps
   pub held : e.stop ≡ Gate → is_open ≡ false
+  pub fits : EndFits e.end
 
 -- the fault was met: the thread doesn't start so, or memory was refused
 abbrev pub IsWorkFault : Module → ℕ → Start → RunFault → Type 0

@@ -22,11 +22,11 @@ pub use ended::{Stop, ThreadEnd};
 pub use fault::{PlanFault, RunFault};
 pub use gate::{Gate, OpenGate};
 pub use gathering::gather;
-pub use own::own_runs_are_allowed;
+pub use own::{own_runs_are_allowed, own_runs_are_within_limits};
 pub use plan::Plan;
 pub use round::{WorkPromise, run_round};
 pub use run::{Run, write_run};
-pub use script::drive;
+pub use script::{drive, one_scripted_run};
 pub use turn::Turn;
 pub use worker::work;
 

@@ -1,5 +1,5 @@
 //! Own logs are allowed.
-ghost use Rattle.wm_run.specs.Own.{OwnRunsAreAllowed};
+ghost use Rattle.wm_run.specs.Own.{OwnRunsAreAllowed, OwnRunsAreWithinLimits};
 
 use wm_memory::legal_histories_are_valid;
 
@@ -9,4 +9,11 @@ pub fn own_runs_are_allowed()
     ensures { OwnRunsAreAllowed }
 {
     legal_histories_are_valid();
+}
+
+/// The numbers of such a log, of as many threads and steps as a plan may have, are in the ranges of a document.
+pub fn own_runs_are_within_limits()
+    ensures { OwnRunsAreWithinLimits }
+{
+    own_runs_are_allowed();
 }

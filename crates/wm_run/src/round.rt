@@ -1,6 +1,7 @@
 //! A round: a worker for each thread, and a drainer, over one locked memory.
 ghost use Rattle.std.specs.Prelude.{◌≡◌, ◌≤◌, Ok, IfErr, IfOk, OnOk, length, map};
 ghost use Rattle.wm_recorder.specs.Recorder.{IsRecording, RecordsValid};
+ghost use Rattle.wm_run.specs.Own.{IsWithinPlan};
 ghost use Rattle.wm_run.specs.Plan.{HasThreads};
 ghost use Rattle.wm_run.specs.Rounds.{AreWorkOf, IsRound, IsRoundFault, IsRoundPlan, IsRoundPlanFault};
 ghost use Rattle.wm_run.specs.Worker.{IsWorkOf};
@@ -214,6 +215,8 @@ pub fn run_round<R: Threads + Wait + Sync, G: Gate + Sync>(
     gate: &G,
 ) -> Result<Run, RunFault>
     ensures round { IfOk result (IsRound (G.is_open gate.now) «module».now plan.now) }
+    ensures within { IfOk result IsWithinPlan }
+    ensures planned { OnOk result (IsRoundPlan plan.now) }
     ensures refused { IfErr result (IsRoundFault «module».now plan.now) }
 {
     if let Err(fault) = check_plan(plan) {

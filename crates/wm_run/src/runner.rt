@@ -1,6 +1,8 @@
 //! The threads of a script, with the memory that they share.
 ghost use Rattle.std.specs.Prelude.{◌≡◌, ◌<◌, ℕ, length, IfOk, OnOk};
-ghost use Rattle.wm_machine.specs.State.{need_of};
+ghost use Rattle.wm_logfile.specs.Document.{EndFits};
+ghost use Rattle.wm_machine.specs.Run.{end_of as config_end};
+ghost use Rattle.wm_machine.specs.State.{config_of, need_of};
 ghost use Rattle.wm_recorder.specs.Recorder.{initial_of, threads_of};
 ghost use Rattle.wm_valid.specs.Valid.{IsInit};
 ghost use Rattle.wm_run.specs.Plan.{thread_of};
@@ -9,7 +11,7 @@ ghost use Rattle.wm_run.specs.Runner.{Advances, DrainsBy, IsSet, Moves, TakesTur
 
 use crate::turn::Turn;
 use std::alloc::AllocError;
-use wm_event::Op;
+use wm_event::{End, Op};
 use wm_machine::{AdvanceFault, Need, Thread};
 use wm_recorder::{AccessFault, Recorder};
 use wm_valid::ValidModule;
@@ -28,6 +30,17 @@ pub enum Moved {
     Stepped,
     /// It makes no further step.
     Rested,
+}
+
+/// How a thread ends that makes no further step.
+pub fn end_of(thread: &Thread) -> End
+    ensures end { result ≡ config_end (config_of thread.now) }
+    ensures fits { EndFits result }
+{
+    match thread.next() {
+        Need::Ended(end) => end,
+        Need::Local | Need::Access(_) => End::Cut,
+    }
 }
 
 /// Makes the access that a thread needs, where the log isn't full.

@@ -1,25 +1,22 @@
 //! Scripted runs.
 ghost use Rattle.std.specs.Prelude.{◌≡◌, ◌≤◌, length, IfErr, IfOk, OnOk};
-ghost use Rattle.wm_machine.specs.Run.{end_of as config_end};
-ghost use Rattle.wm_machine.specs.State.{config_of};
 ghost use Rattle.wm_recorder.specs.Recorder.{threads_of};
 ghost use Rattle.wm_run.specs.Finish.{AreLogs, IsFinished};
-ghost use Rattle.wm_run.specs.Own.{IsOwnRun};
+ghost use Rattle.wm_run.specs.Own.{IsOwnRun, IsWithinPlan};
 ghost use Rattle.wm_run.specs.Plan.{AreTurnsOf, IsPlan};
 ghost use Rattle.wm_run.specs.Refusal.{IsScriptFault};
 ghost use Rattle.wm_run.specs.Runner.{IsSet, PlaysTurns};
-ghost use Rattle.wm_run.specs.Scripted.{IsScripted};
+ghost use Rattle.wm_run.specs.Scripted.{IsScripted, OneScriptedRun};
 
 use crate::fault::RunFault;
 use crate::launch::{copy_start, launch};
 use crate::plan::Plan;
 use crate::run::Run;
-use crate::runner::{Runner, take};
+use crate::runner::{Runner, end_of, take};
 use crate::turn::Turn;
 use std::alloc::{AllocError, Global};
-use wm_event::{End, Log, Start, ThreadLog, Witness};
+use wm_event::{Log, Start, ThreadLog, Witness};
 use wm_list::List;
-use wm_machine::{Need, Thread};
 use wm_recorder::Recorder;
 use wm_valid::ValidModule;
 
@@ -39,16 +36,6 @@ fn play(
         take(module, runners, recorder, limit, *turn)?;
     }
     Ok(())
-}
-
-/// How a thread ends that makes no further step.
-fn end_of(thread: &Thread) -> End
-    ensures { result ≡ config_end (config_of thread.now) }
-{
-    match thread.next() {
-        Need::Ended(end) => end,
-        Need::Local | Need::Access(_) => End::Cut,
-    }
 }
 
 /// What is logged of each thread.
@@ -115,6 +102,7 @@ pub fn drive(
 ) -> Result<Run, RunFault>
     ensures scripted { IfOk result (IsScripted «module».now plan.now turns.now) }
     ensures own { IfOk result (IsOwnRun «module».now) }
+    ensures within { IfOk result IsWithinPlan }
     ensures planned { OnOk result (IsPlan plan.now turns.now) }
     ensures refused { IfErr result (IsScriptFault «module».now plan.now turns.now) }
 {
@@ -128,3 +116,8 @@ pub fn drive(
     let run = finish(alloc, starts, runners.as_slice(), recorder)?;
     Ok(run)
 }
+
+/// A module, a plan and turns have one scripted run.
+pub fn one_scripted_run()
+    ensures { OneScriptedRun }
+{}

@@ -1,5 +1,6 @@
 //! The worker of one thread.
 ghost use Rattle.std.specs.Prelude.{◌≡◌, ◌+◌, ◌<◌, ◌≤◌, ◌^◌, ◌||◌, ℕ, Ok, None, true, length, IfOk, IfSome};
+ghost use Rattle.wm_logfile.specs.Document.{EndFits};
 ghost use Rattle.wm_machine.specs.Run.{end_of as config_end};
 ghost use Rattle.wm_machine.specs.State.{config_of, need_of};
 ghost use Rattle.wm_machine.specs.Term.{Config};
@@ -11,9 +12,10 @@ use crate::ended::{Stop, ThreadEnd};
 use crate::fault::RunFault;
 use crate::gate::Gate;
 use crate::launch::copy_start;
+use crate::runner::end_of;
 use std::alloc::{AllocError, Global};
 use std::snapshot::Snapshot;
-use wm_event::{End, Event, EventKey, Op, Start};
+use wm_event::{Event, EventKey, Op, Start};
 use wm_list::Growing;
 use wm_machine::{AdvanceFault, Need, StartFault, Thread};
 use wm_recorder::{AccessFault, Shared};
@@ -84,16 +86,6 @@ fn step<S: Shared, G: Gate>(
     }
 }
 
-/// How a thread ends that makes no further step.
-fn end_of(running: &Thread) -> End
-    ensures { result ≡ config_end (config_of running.now) }
-{
-    match running.next() {
-        Need::Ended(end) => end,
-        Need::Local | Need::Access(_) => End::Cut,
-    }
-}
-
 /// What a thread has come to behind so many steps.
 fn finished(
     module: &ValidModule,
@@ -109,6 +101,7 @@ fn finished(
     requires stopped { (is_own stop || is_before_access «module».now (config_of running.now)) ≡ true }
     ensures given { (result.program.value ≡ «module».now) × (result.thread ≡ thread) × (result.start ≡ start) × (result.steps ≡ steps) × (result.stop ≡ stop) }
     ensures end { result.end ≡ config_end (config_of running.now) }
+    ensures fits { EndFits result.end }
 {
     ThreadEnd {
         program: Snapshot::of(module),

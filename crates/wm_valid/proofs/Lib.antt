@@ -7,3 +7,4 @@ pub mod Laid
 pub mod FuncLaws
 pub mod SectionFacts
 pub mod LabelLaws
+pub mod Initial

@@ -62,7 +62,12 @@ impl Checker<'_> {
                 *position = next_number(*position);
                 stack.give(*t)
             }
-            Instr::If(t, first, second, part) => {
+            Instr::If {
+                result: t,
+                then_block: first,
+                else_block: second,
+                else_part: part,
+            } => {
                 stack.take(ValType::I32)?;
                 self.nested(alloc, number, *first, labels, position, *t, *t)?;
                 self.else_part(alloc, number, *second, labels, position, *t, *part)?;

@@ -209,7 +209,7 @@ impl Checker<'_> {
                 Ok(())
             }
             Instr::Nop => Ok(()),
-            Instr::Block(_, _) | Instr::Loop(_, _) | Instr::If(_, _, _, _) => {
+            Instr::Block(_, _) | Instr::Loop(_, _) | Instr::If { .. } => {
                 Err(InstrFault::Breaks(FaultKind::BadType))
             }
             Instr::Br(label) => stack.branch(labels.get(*label)?),

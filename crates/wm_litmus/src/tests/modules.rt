@@ -1,5 +1,13 @@
-//! Modules, as an assembler writes them.
+//! Modules, each behind its text, as `scripts/module_tests.py` assembles them.
 
+// (module
+//   (memory 1 1 shared)
+//   (func (export "a") (result i32)
+//     (i32.store (i32.const 0) (i32.const 1))
+//     (i32.load (i32.const 4)))
+//   (func (export "b") (result i32)
+//     (i32.store (i32.const 4) (i32.const 1))
+//     (i32.load (i32.const 0))))
 /// Two threads, each of which stores and then loads what the other stores; plain.
 pub(super) const STORE_BUFFERING: [u8; 70] = [
     0x00, 0x61, 0x73, 0x6D, 0x01, 0x00, 0x00, 0x00, 0x01, 0x05, 0x01, 0x60, 0x00, 0x01, 0x7F, 0x03,
@@ -9,6 +17,14 @@ pub(super) const STORE_BUFFERING: [u8; 70] = [
     0x41, 0x00, 0x28, 0x02, 0x00, 0x0B,
 ];
 
+// (module
+//   (memory 1 1 shared)
+//   (func (export "a") (result i32)
+//     (i32.atomic.store (i32.const 0) (i32.const 1))
+//     (i32.atomic.load (i32.const 4)))
+//   (func (export "b") (result i32)
+//     (i32.atomic.store (i32.const 4) (i32.const 1))
+//     (i32.atomic.load (i32.const 0))))
 /// The same with atomic accesses.
 pub(super) const STORE_BUFFERING_ATOMIC: [u8; 74] = [
     0x00, 0x61, 0x73, 0x6D, 0x01, 0x00, 0x00, 0x00, 0x01, 0x05, 0x01, 0x60, 0x00, 0x01, 0x7F, 0x03,
@@ -18,6 +34,14 @@ pub(super) const STORE_BUFFERING_ATOMIC: [u8; 74] = [
     0x17, 0x02, 0x00, 0x41, 0x00, 0xFE, 0x10, 0x02, 0x00, 0x0B,
 ];
 
+// (module
+//   (memory 1 1 shared)
+//   (func (export "a") (result i32)
+//     (i32.atomic.load (i32.const 2)))
+//   (func (export "b") (result i32)
+//     (i32.load (i32.const 65534)))
+//   (func (export "c") (result i32)
+//     (i32.atomic.load (i32.const 65534))))
 /// Three functions: an unaligned atomic load, a load past the memory, and one that is both.
 pub(super) const TRAPS: [u8; 75] = [
     0x00, 0x61, 0x73, 0x6D, 0x01, 0x00, 0x00, 0x00, 0x01, 0x05, 0x01, 0x60, 0x00, 0x01, 0x7F, 0x03,
@@ -27,6 +51,11 @@ pub(super) const TRAPS: [u8; 75] = [
     0x0A, 0x00, 0x41, 0xFE, 0xFF, 0x03, 0xFE, 0x10, 0x02, 0x00, 0x0B,
 ];
 
+// (module
+//   (memory 1 1 shared)
+//   (func (export "a") (result i32)
+//     (i64.store (i32.const 0) (i64.const 0x0807060504030201))
+//     (i32.load (i32.const 2))))
 /// A store of eight bytes, and a load of four in its middle.
 pub(super) const OVERLAPPING_LOAD: [u8; 58] = [
     0x00, 0x61, 0x73, 0x6D, 0x01, 0x00, 0x00, 0x00, 0x01, 0x05, 0x01, 0x60, 0x00, 0x01, 0x7F, 0x03,
@@ -35,6 +64,11 @@ pub(super) const OVERLAPPING_LOAD: [u8; 58] = [
     0x08, 0x37, 0x03, 0x00, 0x41, 0x02, 0x28, 0x02, 0x00, 0x0B,
 ];
 
+// (module
+//   (memory 1 1 shared)
+//   (func (export "f") (param i32) (result i32)
+//     (i32.store (local.get 0) (i32.const 7))
+//     (i32.load (local.get 0))))
 /// A function that stores 7 at its argument and loads it.
 pub(super) const ARGUMENT: [u8; 51] = [
     0x00, 0x61, 0x73, 0x6D, 0x01, 0x00, 0x00, 0x00, 0x01, 0x06, 0x01, 0x60, 0x01, 0x7F, 0x01, 0x7F,
@@ -43,6 +77,7 @@ pub(super) const ARGUMENT: [u8; 51] = [
     0x02, 0x00, 0x0B,
 ];
 
+// (module (memory 1 1 shared) (func (export "a") call 0))
 /// A function that calls itself.
 pub(super) const CALLS_ITSELF: [u8; 39] = [
     0x00, 0x61, 0x73, 0x6D, 0x01, 0x00, 0x00, 0x00, 0x01, 0x04, 0x01, 0x60, 0x00, 0x00, 0x03, 0x02,
@@ -50,6 +85,7 @@ pub(super) const CALLS_ITSELF: [u8; 39] = [
     0x06, 0x01, 0x04, 0x00, 0x10, 0x00, 0x0B,
 ];
 
+// (module (memory 1 1 shared) (func (export "a") br 0))
 /// A function that branches to its end.
 pub(super) const BRANCHES_AT_ONCE: [u8; 39] = [
     0x00, 0x61, 0x73, 0x6D, 0x01, 0x00, 0x00, 0x00, 0x01, 0x04, 0x01, 0x60, 0x00, 0x00, 0x03, 0x02,
@@ -57,6 +93,15 @@ pub(super) const BRANCHES_AT_ONCE: [u8; 39] = [
     0x06, 0x01, 0x04, 0x00, 0x0C, 0x00, 0x0B,
 ];
 
+// (module
+//   (memory 1 1 shared)
+//   (func (export "a") (result i32)
+//     (i32.store (i32.const 0) (i32.const 1))
+//     (i32.load (i32.const 4)))
+//   (func (export "b") (result i32)
+//     (i32.store (i32.const 4) (i32.const 1))
+//     (i32.load (i32.const 0))))
+// but for the bytes that the script changes
 /// Store buffering with a custom section at its end.
 pub(super) const NAME_SECTION_BEHIND: [u8; 77] = [
     0x00, 0x61, 0x73, 0x6D, 0x01, 0x00, 0x00, 0x00, 0x01, 0x05, 0x01, 0x60, 0x00, 0x01, 0x7F, 0x03,
@@ -66,6 +111,15 @@ pub(super) const NAME_SECTION_BEHIND: [u8; 77] = [
     0x41, 0x00, 0x28, 0x02, 0x00, 0x0B, 0x00, 0x05, 0x04, 0x6E, 0x61, 0x6D, 0x65,
 ];
 
+// (module
+//   (memory 1 1 shared)
+//   (func (export "a") (result i32)
+//     (i32.store (i32.const 0) (i32.const 1))
+//     (i32.load (i32.const 4)))
+//   (func (export "b") (result i32)
+//     (i32.store (i32.const 4) (i32.const 1))
+//     (i32.load (i32.const 0))))
+// but for the bytes that the script changes
 /// Store buffering where the size of the code section is padded.
 pub(super) const PADDED_SIZE: [u8; 74] = [
     0x00, 0x61, 0x73, 0x6D, 0x01, 0x00, 0x00, 0x00, 0x01, 0x05, 0x01, 0x60, 0x00, 0x01, 0x7F, 0x03,
@@ -75,6 +129,16 @@ pub(super) const PADDED_SIZE: [u8; 74] = [
     0x01, 0x36, 0x02, 0x00, 0x41, 0x00, 0x28, 0x02, 0x00, 0x0B,
 ];
 
+// (module
+//   (memory 1 1 shared)
+//   (func (export "a") (result i32)
+//     (i32.store (i32.const 0) (i32.const 1))
+//     (i32.load (i32.const 4)))
+//   (func (export "b") (result i32)
+//     (i32.store (i32.const 4) (i32.const 1))
+//     (i32.load (i32.const 0)))
+//   (data (i32.const 4) "\09"))
+// but for the bytes that the script changes
 /// Store buffering with a data count and a byte 9 at address 4.
 pub(super) const DATA_SEGMENT: [u8; 82] = [
     0x00, 0x61, 0x73, 0x6D, 0x01, 0x00, 0x00, 0x00, 0x01, 0x05, 0x01, 0x60, 0x00, 0x01, 0x7F, 0x03,
@@ -85,6 +149,14 @@ pub(super) const DATA_SEGMENT: [u8; 82] = [
     0x01, 0x09,
 ];
 
+// (module
+//   (memory 1 1 shared)
+//   (func (export "a") (result i32)
+//     (i32.store align=8 (i32.const 0) (i32.const 1))
+//     (i32.load (i32.const 4)))
+//   (func (export "b") (result i32)
+//     (i32.store (i32.const 4) (i32.const 1))
+//     (i32.load (i32.const 0))))
 /// Store buffering whose first store says that its address is a multiple of 8.
 pub(super) const MISALIGNED: [u8; 70] = [
     0x00, 0x61, 0x73, 0x6D, 0x01, 0x00, 0x00, 0x00, 0x01, 0x05, 0x01, 0x60, 0x00, 0x01, 0x7F, 0x03,
@@ -94,14 +166,25 @@ pub(super) const MISALIGNED: [u8; 70] = [
     0x41, 0x00, 0x28, 0x02, 0x00, 0x0B,
 ];
 
+// (module)
 /// The header alone.
 pub(super) const HEADER: [u8; 8] = [0x00, 0x61, 0x73, 0x6D, 0x01, 0x00, 0x00, 0x00];
 
+// (module (type (func (result i32))))
 /// The header and the types alone.
 pub(super) const TYPES: [u8; 15] = [
     0x00, 0x61, 0x73, 0x6D, 0x01, 0x00, 0x00, 0x00, 0x01, 0x05, 0x01, 0x60, 0x00, 0x01, 0x7F,
 ];
 
+// (module
+//   (memory 1 1 shared)
+//   (func (export "a") (result i32)
+//     (i32.store (i32.const 0) (i32.const 1))
+//     (i32.load (i32.const 4)))
+//   (func (export "b") (result i32)
+//     (i32.store (i32.const 4) (i32.const 1))
+//     (i32.load (i32.const 0))))
+// but for the bytes that the script changes
 /// Store buffering, cut to 42 bytes.
 pub(super) const CUT_SHORT: [u8; 42] = [
     0x00, 0x61, 0x73, 0x6D, 0x01, 0x00, 0x00, 0x00, 0x01, 0x05, 0x01, 0x60, 0x00, 0x01, 0x7F, 0x03,
@@ -109,6 +192,15 @@ pub(super) const CUT_SHORT: [u8; 42] = [
     0x00, 0x01, 0x62, 0x00, 0x01, 0x0A, 0x1F, 0x02, 0x0E, 0x00,
 ];
 
+// (module
+//   (memory 1 1 shared)
+//   (func (export "a") (result i32)
+//     (i32.store (i32.const 0) (i32.const 1))
+//     (i32.load (i32.const 4)))
+//   (func (export "b") (result i32)
+//     (i32.store (i32.const 4) (i32.const 1))
+//     (i32.load (i32.const 0))))
+// but for the bytes that the script changes
 /// Store buffering, cut before its code.
 pub(super) const FUNCTIONS_WITHOUT_CODE: [u8; 37] = [
     0x00, 0x61, 0x73, 0x6D, 0x01, 0x00, 0x00, 0x00, 0x01, 0x05, 0x01, 0x60, 0x00, 0x01, 0x7F, 0x03,
@@ -116,6 +208,7 @@ pub(super) const FUNCTIONS_WITHOUT_CODE: [u8; 37] = [
     0x00, 0x01, 0x62, 0x00, 0x01,
 ];
 
+// (module (memory 1 1 shared) (func i32.const 1 memory.grow drop))
 /// A body with `memory.grow`.
 pub(super) const MEMORY_GROW: [u8; 35] = [
     0x00, 0x61, 0x73, 0x6D, 0x01, 0x00, 0x00, 0x00, 0x01, 0x04, 0x01, 0x60, 0x00, 0x00, 0x03, 0x02,
@@ -123,6 +216,7 @@ pub(super) const MEMORY_GROW: [u8; 35] = [
     0x00, 0x1A, 0x0B,
 ];
 
+// (module (memory 1 1 shared) (func i32.const 0 i32.const 0 i32.const 0 i32.atomic.rmw8.cmpxchg_u drop))
 /// A body with a narrow compare-exchange.
 pub(super) const NARROW_CMPXCHG: [u8; 41] = [
     0x00, 0x61, 0x73, 0x6D, 0x01, 0x00, 0x00, 0x00, 0x01, 0x04, 0x01, 0x60, 0x00, 0x00, 0x03, 0x02,
@@ -130,6 +224,7 @@ pub(super) const NARROW_CMPXCHG: [u8; 41] = [
     0x00, 0x41, 0x00, 0xFE, 0x4A, 0x00, 0x00, 0x1A, 0x0B,
 ];
 
+// (module (memory 1 1 shared) (func f32.const 0 drop))
 /// A body with a constant that is a float.
 pub(super) const FLOAT_CONSTANT: [u8; 36] = [
     0x00, 0x61, 0x73, 0x6D, 0x01, 0x00, 0x00, 0x00, 0x01, 0x04, 0x01, 0x60, 0x00, 0x00, 0x03, 0x02,
@@ -137,6 +232,7 @@ pub(super) const FLOAT_CONSTANT: [u8; 36] = [
     0x00, 0x00, 0x1A, 0x0B,
 ];
 
+// (module (memory 1 1 shared) (func atomic.fence))
 /// A body with a fence.
 pub(super) const FENCE: [u8; 33] = [
     0x00, 0x61, 0x73, 0x6D, 0x01, 0x00, 0x00, 0x00, 0x01, 0x04, 0x01, 0x60, 0x00, 0x00, 0x03, 0x02,
@@ -144,6 +240,8 @@ pub(super) const FENCE: [u8; 33] = [
     0x0B,
 ];
 
+// (module (memory 1 1 shared) (func i32.const -1 drop))
+// but for the bytes that the script changes
 /// A constant whose unused bits don't repeat the sign.
 pub(super) const STRAY_BITS: [u8; 37] = [
     0x00, 0x61, 0x73, 0x6D, 0x01, 0x00, 0x00, 0x00, 0x01, 0x04, 0x01, 0x60, 0x00, 0x00, 0x03, 0x02,
@@ -151,6 +249,8 @@ pub(super) const STRAY_BITS: [u8; 37] = [
     0xFF, 0xFF, 0x0F, 0x1A, 0x0B,
 ];
 
+// (module (memory 1 1 shared) (func i32.const -1 drop))
+// but for the bytes that the script changes
 /// The constant -1.
 pub(super) const MINUS_ONE: [u8; 37] = [
     0x00, 0x61, 0x73, 0x6D, 0x01, 0x00, 0x00, 0x00, 0x01, 0x04, 0x01, 0x60, 0x00, 0x00, 0x03, 0x02,
@@ -158,6 +258,16 @@ pub(super) const MINUS_ONE: [u8; 37] = [
     0xFF, 0xFF, 0x7F, 0x1A, 0x0B,
 ];
 
+// (module
+//   (memory 1 1 shared)
+//   (func (export "a") (result i32)
+//     (i32.store (i32.const 0) (i32.const 1))
+//     (i32.load (i32.const 4)))
+//   (func (export "b") (result i32)
+//     (i32.store (i32.const 4) (i32.const 1))
+//     (i32.load (i32.const 0)))
+//   (data (i32.const 4) "\09"))
+// but for the bytes that the script changes
 /// One data segment, where the data count says two.
 pub(super) const DATA_COUNT_OF_TWO: [u8; 82] = [
     0x00, 0x61, 0x73, 0x6D, 0x01, 0x00, 0x00, 0x00, 0x01, 0x05, 0x01, 0x60, 0x00, 0x01, 0x7F, 0x03,
@@ -168,6 +278,15 @@ pub(super) const DATA_COUNT_OF_TWO: [u8; 82] = [
     0x01, 0x09,
 ];
 
+// (module
+//   (memory 1 1 shared)
+//   (func (export "a") (result i32)
+//     (i32.store (i32.const 0) (i32.const 1))
+//     (i32.load (i32.const 4)))
+//   (func (export "b") (result i32)
+//     (i32.store (i32.const 4) (i32.const 1))
+//     (i32.load (i32.const 0))))
+// but for the bytes that the script changes
 /// Two exports of one name.
 pub(super) const EXPORTS_OF_ONE_NAME: [u8; 70] = [
     0x00, 0x61, 0x73, 0x6D, 0x01, 0x00, 0x00, 0x00, 0x01, 0x05, 0x01, 0x60, 0x00, 0x01, 0x7F, 0x03,
@@ -177,12 +296,14 @@ pub(super) const EXPORTS_OF_ONE_NAME: [u8; 70] = [
     0x41, 0x00, 0x28, 0x02, 0x00, 0x0B,
 ];
 
+// (module (memory 1 1 shared) (func i32.eqz))
 /// `i32.eqz` without an operand.
 pub(super) const EQZ_OF_NOTHING: [u8; 31] = [
     0x00, 0x61, 0x73, 0x6D, 0x01, 0x00, 0x00, 0x00, 0x01, 0x04, 0x01, 0x60, 0x00, 0x00, 0x03, 0x02,
     0x01, 0x00, 0x05, 0x04, 0x01, 0x03, 0x01, 0x01, 0x0A, 0x05, 0x01, 0x03, 0x00, 0x45, 0x0B,
 ];
 
+// (module (memory 1 1 shared) (func local.get 0 drop))
 /// A local that isn't there.
 pub(super) const MISSING_LOCAL: [u8; 33] = [
     0x00, 0x61, 0x73, 0x6D, 0x01, 0x00, 0x00, 0x00, 0x01, 0x04, 0x01, 0x60, 0x00, 0x00, 0x03, 0x02,
@@ -190,24 +311,28 @@ pub(super) const MISSING_LOCAL: [u8; 33] = [
     0x0B,
 ];
 
+// (module (memory 1 1 shared) (func br 1))
 /// A branch out of more blocks than there are.
 pub(super) const MISSING_LABEL: [u8; 32] = [
     0x00, 0x61, 0x73, 0x6D, 0x01, 0x00, 0x00, 0x00, 0x01, 0x04, 0x01, 0x60, 0x00, 0x00, 0x03, 0x02,
     0x01, 0x00, 0x05, 0x04, 0x01, 0x03, 0x01, 0x01, 0x0A, 0x06, 0x01, 0x04, 0x00, 0x0C, 0x01, 0x0B,
 ];
 
+// (module  (func i32.const 0 i32.load drop))
 /// A load in a module without a memory.
 pub(super) const LOAD_WITHOUT_MEMORY: [u8; 30] = [
     0x00, 0x61, 0x73, 0x6D, 0x01, 0x00, 0x00, 0x00, 0x01, 0x04, 0x01, 0x60, 0x00, 0x00, 0x03, 0x02,
     0x01, 0x00, 0x0A, 0x0A, 0x01, 0x08, 0x00, 0x41, 0x00, 0x28, 0x02, 0x00, 0x1A, 0x0B,
 ];
 
+// (module (memory 2 1 shared) (func ))
 /// A memory of two pages at first and one at most.
 pub(super) const MAXIMUM_BELOW_MINIMUM: [u8; 30] = [
     0x00, 0x61, 0x73, 0x6D, 0x01, 0x00, 0x00, 0x00, 0x01, 0x04, 0x01, 0x60, 0x00, 0x00, 0x03, 0x02,
     0x01, 0x00, 0x05, 0x04, 0x01, 0x03, 0x02, 0x01, 0x0A, 0x04, 0x01, 0x02, 0x00, 0x0B,
 ];
 
+// (module (memory 1 1 shared) (func )(data (i32.const 65535) "\01\02"))
 /// A data segment of two bytes at the last byte of the memory.
 pub(super) const SEGMENT_PAST_MEMORY: [u8; 42] = [
     0x00, 0x61, 0x73, 0x6D, 0x01, 0x00, 0x00, 0x00, 0x01, 0x04, 0x01, 0x60, 0x00, 0x00, 0x03, 0x02,
@@ -215,6 +340,7 @@ pub(super) const SEGMENT_PAST_MEMORY: [u8; 42] = [
     0x01, 0x00, 0x41, 0xFF, 0xFF, 0x03, 0x0B, 0x02, 0x01, 0x02,
 ];
 
+// (module (memory 1 1 shared) (func )(data (i32.const 65535) "\01"))
 /// A data segment of one byte there.
 pub(super) const SEGMENT_AT_THE_END: [u8; 41] = [
     0x00, 0x61, 0x73, 0x6D, 0x01, 0x00, 0x00, 0x00, 0x01, 0x04, 0x01, 0x60, 0x00, 0x00, 0x03, 0x02,
@@ -222,6 +348,7 @@ pub(super) const SEGMENT_AT_THE_END: [u8; 41] = [
     0x01, 0x00, 0x41, 0xFF, 0xFF, 0x03, 0x0B, 0x01, 0x01,
 ];
 
+// (module (memory 1 1 shared) (func br 0 drop select drop))
 /// `drop; select; drop` behind a branch, where any operands may stand.
 pub(super) const CODE_BEHIND_A_BRANCH: [u8; 35] = [
     0x00, 0x61, 0x73, 0x6D, 0x01, 0x00, 0x00, 0x00, 0x01, 0x04, 0x01, 0x60, 0x00, 0x00, 0x03, 0x02,
@@ -229,6 +356,7 @@ pub(super) const CODE_BEHIND_A_BRANCH: [u8; 35] = [
     0x1B, 0x1A, 0x0B,
 ];
 
+// (module (memory 1 1 shared) (func br 0 i32.const 0 i64.const 0 i32.add drop))
 /// The sum of an i32 and an i64 behind a branch.
 pub(super) const MIXED_ADDITION: [u8; 38] = [
     0x00, 0x61, 0x73, 0x6D, 0x01, 0x00, 0x00, 0x00, 0x01, 0x04, 0x01, 0x60, 0x00, 0x00, 0x03, 0x02,
@@ -236,6 +364,11 @@ pub(super) const MIXED_ADDITION: [u8; 38] = [
     0x00, 0x42, 0x00, 0x6A, 0x1A, 0x0B,
 ];
 
+// (module
+//   (memory 1 1 shared)
+//   (func (export "a")
+//     (loop
+//       (br_if 0 (i32.eqz (i32.atomic.load (i32.const 0)))))))
 /// A loop that reads until it finds something else than 0.
 pub(super) const SPINS: [u8; 49] = [
     0x00, 0x61, 0x73, 0x6D, 0x01, 0x00, 0x00, 0x00, 0x01, 0x04, 0x01, 0x60, 0x00, 0x00, 0x03, 0x02,

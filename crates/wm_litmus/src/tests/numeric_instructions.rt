@@ -6,6 +6,23 @@ use super::runs::Row;
 pub(super) const NUMERIC: [Row; 5] = [
     Row {
         shows: "the operators on two operands of 32 bits",
+        // (module
+        //   (type (func (param i32 i32) (result i32))) (func (type 0) local.get 0 local.get 1 i32.add) (export "f0" (func 0))
+        //   (type (func (param i32 i32) (result i32))) (func (type 1) local.get 0 local.get 1 i32.sub) (export "f1" (func 1))
+        //   (type (func (param i32 i32) (result i32))) (func (type 2) local.get 0 local.get 1 i32.mul) (export "f2" (func 2))
+        //   (type (func (param i32 i32) (result i32))) (func (type 3) local.get 0 local.get 1 i32.div_s) (export "f3" (func 3))
+        //   (type (func (param i32 i32) (result i32))) (func (type 4) local.get 0 local.get 1 i32.div_u) (export "f4" (func 4))
+        //   (type (func (param i32 i32) (result i32))) (func (type 5) local.get 0 local.get 1 i32.rem_s) (export "f5" (func 5))
+        //   (type (func (param i32 i32) (result i32))) (func (type 6) local.get 0 local.get 1 i32.rem_u) (export "f6" (func 6))
+        //   (type (func (param i32 i32) (result i32))) (func (type 7) local.get 0 local.get 1 i32.and) (export "f7" (func 7))
+        //   (type (func (param i32 i32) (result i32))) (func (type 8) local.get 0 local.get 1 i32.or) (export "f8" (func 8))
+        //   (type (func (param i32 i32) (result i32))) (func (type 9) local.get 0 local.get 1 i32.xor) (export "f9" (func 9))
+        //   (type (func (param i32 i32) (result i32))) (func (type 10) local.get 0 local.get 1 i32.shl) (export "f10" (func 10))
+        //   (type (func (param i32 i32) (result i32))) (func (type 11) local.get 0 local.get 1 i32.shr_s) (export "f11" (func 11))
+        //   (type (func (param i32 i32) (result i32))) (func (type 12) local.get 0 local.get 1 i32.shr_u) (export "f12" (func 12))
+        //   (type (func (param i32 i32) (result i32))) (func (type 13) local.get 0 local.get 1 i32.rotl) (export "f13" (func 13))
+        //   (type (func (param i32 i32) (result i32))) (func (type 14) local.get 0 local.get 1 i32.rotr) (export "f14" (func 14))
+        //   (memory 1 1 shared))
         module: &[
             0x00, 0x61, 0x73, 0x6D, 0x01, 0x00, 0x00, 0x00, 0x01, 0x5B, 0x0F, 0x60, 0x02, 0x7F,
             0x7F, 0x01, 0x7F, 0x60, 0x02, 0x7F, 0x7F, 0x01, 0x7F, 0x60, 0x02, 0x7F, 0x7F, 0x01,
@@ -37,6 +54,22 @@ pub(super) const NUMERIC: [Row; 5] = [
     },
     Row {
         shows: "the comparisons and the counts of 32 bits",
+        // (module
+        //   (type (func (param i32 i32) (result i32))) (func (type 0) local.get 0 local.get 1 i32.eq) (export "f0" (func 0))
+        //   (type (func (param i32 i32) (result i32))) (func (type 1) local.get 0 local.get 1 i32.ne) (export "f1" (func 1))
+        //   (type (func (param i32 i32) (result i32))) (func (type 2) local.get 0 local.get 1 i32.lt_s) (export "f2" (func 2))
+        //   (type (func (param i32 i32) (result i32))) (func (type 3) local.get 0 local.get 1 i32.lt_u) (export "f3" (func 3))
+        //   (type (func (param i32 i32) (result i32))) (func (type 4) local.get 0 local.get 1 i32.gt_s) (export "f4" (func 4))
+        //   (type (func (param i32 i32) (result i32))) (func (type 5) local.get 0 local.get 1 i32.gt_u) (export "f5" (func 5))
+        //   (type (func (param i32 i32) (result i32))) (func (type 6) local.get 0 local.get 1 i32.le_s) (export "f6" (func 6))
+        //   (type (func (param i32 i32) (result i32))) (func (type 7) local.get 0 local.get 1 i32.le_u) (export "f7" (func 7))
+        //   (type (func (param i32 i32) (result i32))) (func (type 8) local.get 0 local.get 1 i32.ge_s) (export "f8" (func 8))
+        //   (type (func (param i32 i32) (result i32))) (func (type 9) local.get 0 local.get 1 i32.ge_u) (export "f9" (func 9))
+        //   (type (func (param i32) (result i32))) (func (type 10) local.get 0 i32.eqz) (export "f10" (func 10))
+        //   (type (func (param i32) (result i32))) (func (type 11) local.get 0 i32.clz) (export "f11" (func 11))
+        //   (type (func (param i32) (result i32))) (func (type 12) local.get 0 i32.ctz) (export "f12" (func 12))
+        //   (type (func (param i32) (result i32))) (func (type 13) local.get 0 i32.popcnt) (export "f13" (func 13))
+        //   (memory 1 1 shared))
         module: &[
             0x00, 0x61, 0x73, 0x6D, 0x01, 0x00, 0x00, 0x00, 0x01, 0x51, 0x0E, 0x60, 0x02, 0x7F,
             0x7F, 0x01, 0x7F, 0x60, 0x02, 0x7F, 0x7F, 0x01, 0x7F, 0x60, 0x02, 0x7F, 0x7F, 0x01,
@@ -66,6 +99,23 @@ pub(super) const NUMERIC: [Row; 5] = [
     },
     Row {
         shows: "the operators on two operands of 64 bits",
+        // (module
+        //   (type (func (param i64 i64) (result i64))) (func (type 0) local.get 0 local.get 1 i64.add) (export "f0" (func 0))
+        //   (type (func (param i64 i64) (result i64))) (func (type 1) local.get 0 local.get 1 i64.sub) (export "f1" (func 1))
+        //   (type (func (param i64 i64) (result i64))) (func (type 2) local.get 0 local.get 1 i64.mul) (export "f2" (func 2))
+        //   (type (func (param i64 i64) (result i64))) (func (type 3) local.get 0 local.get 1 i64.div_s) (export "f3" (func 3))
+        //   (type (func (param i64 i64) (result i64))) (func (type 4) local.get 0 local.get 1 i64.div_u) (export "f4" (func 4))
+        //   (type (func (param i64 i64) (result i64))) (func (type 5) local.get 0 local.get 1 i64.rem_s) (export "f5" (func 5))
+        //   (type (func (param i64 i64) (result i64))) (func (type 6) local.get 0 local.get 1 i64.rem_u) (export "f6" (func 6))
+        //   (type (func (param i64 i64) (result i64))) (func (type 7) local.get 0 local.get 1 i64.and) (export "f7" (func 7))
+        //   (type (func (param i64 i64) (result i64))) (func (type 8) local.get 0 local.get 1 i64.or) (export "f8" (func 8))
+        //   (type (func (param i64 i64) (result i64))) (func (type 9) local.get 0 local.get 1 i64.xor) (export "f9" (func 9))
+        //   (type (func (param i64 i64) (result i64))) (func (type 10) local.get 0 local.get 1 i64.shl) (export "f10" (func 10))
+        //   (type (func (param i64 i64) (result i64))) (func (type 11) local.get 0 local.get 1 i64.shr_s) (export "f11" (func 11))
+        //   (type (func (param i64 i64) (result i64))) (func (type 12) local.get 0 local.get 1 i64.shr_u) (export "f12" (func 12))
+        //   (type (func (param i64 i64) (result i64))) (func (type 13) local.get 0 local.get 1 i64.rotl) (export "f13" (func 13))
+        //   (type (func (param i64 i64) (result i64))) (func (type 14) local.get 0 local.get 1 i64.rotr) (export "f14" (func 14))
+        //   (memory 1 1 shared))
         module: &[
             0x00, 0x61, 0x73, 0x6D, 0x01, 0x00, 0x00, 0x00, 0x01, 0x5B, 0x0F, 0x60, 0x02, 0x7E,
             0x7E, 0x01, 0x7E, 0x60, 0x02, 0x7E, 0x7E, 0x01, 0x7E, 0x60, 0x02, 0x7E, 0x7E, 0x01,
@@ -97,6 +147,22 @@ pub(super) const NUMERIC: [Row; 5] = [
     },
     Row {
         shows: "the comparisons and the counts of 64 bits",
+        // (module
+        //   (type (func (param i64 i64) (result i32))) (func (type 0) local.get 0 local.get 1 i64.eq) (export "f0" (func 0))
+        //   (type (func (param i64 i64) (result i32))) (func (type 1) local.get 0 local.get 1 i64.ne) (export "f1" (func 1))
+        //   (type (func (param i64 i64) (result i32))) (func (type 2) local.get 0 local.get 1 i64.lt_s) (export "f2" (func 2))
+        //   (type (func (param i64 i64) (result i32))) (func (type 3) local.get 0 local.get 1 i64.lt_u) (export "f3" (func 3))
+        //   (type (func (param i64 i64) (result i32))) (func (type 4) local.get 0 local.get 1 i64.gt_s) (export "f4" (func 4))
+        //   (type (func (param i64 i64) (result i32))) (func (type 5) local.get 0 local.get 1 i64.gt_u) (export "f5" (func 5))
+        //   (type (func (param i64 i64) (result i32))) (func (type 6) local.get 0 local.get 1 i64.le_s) (export "f6" (func 6))
+        //   (type (func (param i64 i64) (result i32))) (func (type 7) local.get 0 local.get 1 i64.le_u) (export "f7" (func 7))
+        //   (type (func (param i64 i64) (result i32))) (func (type 8) local.get 0 local.get 1 i64.ge_s) (export "f8" (func 8))
+        //   (type (func (param i64 i64) (result i32))) (func (type 9) local.get 0 local.get 1 i64.ge_u) (export "f9" (func 9))
+        //   (type (func (param i64) (result i32))) (func (type 10) local.get 0 i64.eqz) (export "f10" (func 10))
+        //   (type (func (param i64) (result i64))) (func (type 11) local.get 0 i64.clz) (export "f11" (func 11))
+        //   (type (func (param i64) (result i64))) (func (type 12) local.get 0 i64.ctz) (export "f12" (func 12))
+        //   (type (func (param i64) (result i64))) (func (type 13) local.get 0 i64.popcnt) (export "f13" (func 13))
+        //   (memory 1 1 shared))
         module: &[
             0x00, 0x61, 0x73, 0x6D, 0x01, 0x00, 0x00, 0x00, 0x01, 0x51, 0x0E, 0x60, 0x02, 0x7E,
             0x7E, 0x01, 0x7F, 0x60, 0x02, 0x7E, 0x7E, 0x01, 0x7F, 0x60, 0x02, 0x7E, 0x7E, 0x01,
@@ -126,6 +192,23 @@ pub(super) const NUMERIC: [Row; 5] = [
     },
     Row {
         shows: "the conversions, and the traps of divisions",
+        // (module
+        //   (type (func (param i64) (result i32))) (func (type 0) local.get 0 i32.wrap_i64) (export "f0" (func 0))
+        //   (type (func (param i32) (result i64))) (func (type 1) local.get 0 i64.extend_i32_s) (export "f1" (func 1))
+        //   (type (func (param i32) (result i64))) (func (type 2) local.get 0 i64.extend_i32_u) (export "f2" (func 2))
+        //   (type (func (param i32 i32) (result i32))) (func (type 3) local.get 0 local.get 1 i32.div_s) (export "f3" (func 3))
+        //   (type (func (param i32 i32) (result i32))) (func (type 4) local.get 0 local.get 1 i32.div_u) (export "f4" (func 4))
+        //   (type (func (param i32 i32) (result i32))) (func (type 5) local.get 0 local.get 1 i32.rem_s) (export "f5" (func 5))
+        //   (type (func (param i32 i32) (result i32))) (func (type 6) local.get 0 local.get 1 i32.rem_u) (export "f6" (func 6))
+        //   (type (func (param i32 i32) (result i32))) (func (type 7) local.get 0 local.get 1 i32.div_s) (export "f7" (func 7))
+        //   (type (func (param i32 i32) (result i32))) (func (type 8) local.get 0 local.get 1 i32.rem_s) (export "f8" (func 8))
+        //   (type (func (param i64 i64) (result i64))) (func (type 9) local.get 0 local.get 1 i64.div_s) (export "f9" (func 9))
+        //   (type (func (param i64 i64) (result i64))) (func (type 10) local.get 0 local.get 1 i64.div_u) (export "f10" (func 10))
+        //   (type (func (param i64 i64) (result i64))) (func (type 11) local.get 0 local.get 1 i64.rem_s) (export "f11" (func 11))
+        //   (type (func (param i64 i64) (result i64))) (func (type 12) local.get 0 local.get 1 i64.rem_u) (export "f12" (func 12))
+        //   (type (func (param i64 i64) (result i64))) (func (type 13) local.get 0 local.get 1 i64.div_s) (export "f13" (func 13))
+        //   (type (func (param i64 i64) (result i64))) (func (type 14) local.get 0 local.get 1 i64.rem_s) (export "f14" (func 14))
+        //   (memory 1 1 shared))
         module: &[
             0x00, 0x61, 0x73, 0x6D, 0x01, 0x00, 0x00, 0x00, 0x01, 0x58, 0x0F, 0x60, 0x01, 0x7E,
             0x01, 0x7F, 0x60, 0x01, 0x7F, 0x01, 0x7E, 0x60, 0x01, 0x7F, 0x01, 0x7E, 0x60, 0x02,

@@ -6,6 +6,37 @@ use super::runs::Row;
 pub(super) const MEMORY: [Row; 7] = [
     Row {
         shows: "the loads",
+        // (module
+        //   (type (func (param i32) (result i32))) (func (type 0) local.get 0 i32.load offset=3 align=1) (export "f0" (func 0))
+        //   (type (func (param i32) (result i64))) (func (type 1) local.get 0 i64.load offset=3 align=1) (export "f1" (func 1))
+        //   (type (func (param i32) (result i32))) (func (type 2) local.get 0 i32.load8_s offset=3) (export "f2" (func 2))
+        //   (type (func (param i32) (result i32))) (func (type 3) local.get 0 i32.load8_u offset=3) (export "f3" (func 3))
+        //   (type (func (param i32) (result i32))) (func (type 4) local.get 0 i32.load16_s offset=3 align=1) (export "f4" (func 4))
+        //   (type (func (param i32) (result i32))) (func (type 5) local.get 0 i32.load16_u offset=3 align=1) (export "f5" (func 5))
+        //   (type (func (param i32) (result i64))) (func (type 6) local.get 0 i64.load8_s offset=3) (export "f6" (func 6))
+        //   (type (func (param i32) (result i64))) (func (type 7) local.get 0 i64.load8_u offset=3) (export "f7" (func 7))
+        //   (type (func (param i32) (result i64))) (func (type 8) local.get 0 i64.load16_s offset=3 align=1) (export "f8" (func 8))
+        //   (type (func (param i32) (result i64))) (func (type 9) local.get 0 i64.load16_u offset=3 align=1) (export "f9" (func 9))
+        //   (type (func (param i32) (result i64))) (func (type 10) local.get 0 i64.load32_s offset=3 align=1) (export "f10" (func 10))
+        //   (type (func (param i32) (result i64))) (func (type 11) local.get 0 i64.load32_u offset=3 align=1) (export "f11" (func 11))
+        //   (memory 1 1 shared)
+        //   (data (i32.const 0)
+        //     "\81\a6\cb\f0\15\3a\5f\84\a9\ce\f3\18\3d\62\87\ac\d1\f6\1b\40\65\8a\af\d4\f9"
+        //     "\1e\43\68\8d\b2\d7\fc\21\46\6b\90\b5\da\ff\24\49\6e\93\b8\dd\02\27\4c\71\96"
+        //     "\bb\e0\05\2a\4f\74\99\be\e3\08\2d\52\77\9c\c1\e6\0b\30\55\7a\9f\c4\e9\0e\33"
+        //     "\58\7d\a2\c7\ec\11\36\5b\80\a5\ca\ef\14\39\5e\83\a8\cd\f2\17\3c\61\86\ab\d0"
+        //     "\f5\1a\3f\64\89\ae\d3\f8\1d\42\67\8c\b1\d6\fb\20\45\6a\8f\b4\d9\fe\23\48\6d"
+        //     "\92\b7\dc\01\26\4b\70\95\ba\df\04\29\4e\73\98\bd\e2\07\2c\51\76\9b\c0\e5\0a"
+        //     "\2f\54\79\9e\c3\e8\0d\32\57\7c\a1\c6\eb\10\35\5a\7f\a4\c9\ee\13\38\5d\82\a7"
+        //     "\cc\f1\16\3b\60\85\aa\cf\f4\19\3e\63\88\ad\d2\f7\1c\41\66\8b\b0\d5\fa\1f\44"
+        //     "\69\8e\b3\d8\fd\22\47\6c\91\b6\db\00\25\4a\6f\94\b9\de\03\28\4d\72\97\bc\e1"
+        //     "\06\2b\50\75\9a\bf\e4\09\2e\53\78\9d\c2\e7\0c\31\56\7b\a0\c5\ea\0f\34\59\7e"
+        //     "\a3\c8\ed\12\37\5c\81\a6\cb\f0\15\3a\5f\84\a9\ce\f3\18\3d\62\87\ac\d1\f6\1b"
+        //     "\40\65\8a\af\d4\f9\1e\43\68\8d\b2\d7\fc\21\46\6b\90\b5\da\ff\24\49\6e\93\b8"
+        //     "\dd\02\27\4c\71\96\bb\e0\05\2a\4f\74\99\be\e3\08\2d\52\77\9c\c1\e6\0b\30\55"
+        //     "\7a\9f\c4\e9\0e\33\58\7d\a2\c7\ec\11\36\5b\80\a5\ca\ef\14\39\5e\83\a8\cd\f2"
+        //     "\17\3c\61\86\ab\d0\f5\1a\3f\64\89\ae\d3\f8\1d\42\67\8c\b1\d6\fb\20\45\6a\8f"
+        //     "\b4\d9\fe\23\48\6d\92\b7\dc\01\26\4b\70\95\ba\df\04\29\4e\73\98\bd\e2\07\2c"))
         module: &[
             0x00, 0x61, 0x73, 0x6D, 0x01, 0x00, 0x00, 0x00, 0x01, 0x3D, 0x0C, 0x60, 0x01, 0x7F,
             0x01, 0x7F, 0x60, 0x01, 0x7F, 0x01, 0x7E, 0x60, 0x01, 0x7F, 0x01, 0x7F, 0x60, 0x01,
@@ -61,6 +92,33 @@ pub(super) const MEMORY: [Row; 7] = [
     },
     Row {
         shows: "the stores, and memory.size",
+        // (module
+        //   (type (func (param i32 i32))) (func (type 0) local.get 0 local.get 1 i32.store offset=5 align=1) (export "f0" (func 0))
+        //   (type (func (param i32 i64))) (func (type 1) local.get 0 local.get 1 i64.store offset=5 align=1) (export "f1" (func 1))
+        //   (type (func (param i32 i32))) (func (type 2) local.get 0 local.get 1 i32.store8 offset=5) (export "f2" (func 2))
+        //   (type (func (param i32 i32))) (func (type 3) local.get 0 local.get 1 i32.store16 offset=5 align=1) (export "f3" (func 3))
+        //   (type (func (param i32 i64))) (func (type 4) local.get 0 local.get 1 i64.store8 offset=5) (export "f4" (func 4))
+        //   (type (func (param i32 i64))) (func (type 5) local.get 0 local.get 1 i64.store16 offset=5 align=1) (export "f5" (func 5))
+        //   (type (func (param i32 i64))) (func (type 6) local.get 0 local.get 1 i64.store32 offset=5 align=1) (export "f6" (func 6))
+        //   (type (func (result i32))) (func (type 7) memory.size) (export "f7" (func 7))
+        //   (memory 1 1 shared)
+        //   (data (i32.const 0)
+        //     "\81\a6\cb\f0\15\3a\5f\84\a9\ce\f3\18\3d\62\87\ac\d1\f6\1b\40\65\8a\af\d4\f9"
+        //     "\1e\43\68\8d\b2\d7\fc\21\46\6b\90\b5\da\ff\24\49\6e\93\b8\dd\02\27\4c\71\96"
+        //     "\bb\e0\05\2a\4f\74\99\be\e3\08\2d\52\77\9c\c1\e6\0b\30\55\7a\9f\c4\e9\0e\33"
+        //     "\58\7d\a2\c7\ec\11\36\5b\80\a5\ca\ef\14\39\5e\83\a8\cd\f2\17\3c\61\86\ab\d0"
+        //     "\f5\1a\3f\64\89\ae\d3\f8\1d\42\67\8c\b1\d6\fb\20\45\6a\8f\b4\d9\fe\23\48\6d"
+        //     "\92\b7\dc\01\26\4b\70\95\ba\df\04\29\4e\73\98\bd\e2\07\2c\51\76\9b\c0\e5\0a"
+        //     "\2f\54\79\9e\c3\e8\0d\32\57\7c\a1\c6\eb\10\35\5a\7f\a4\c9\ee\13\38\5d\82\a7"
+        //     "\cc\f1\16\3b\60\85\aa\cf\f4\19\3e\63\88\ad\d2\f7\1c\41\66\8b\b0\d5\fa\1f\44"
+        //     "\69\8e\b3\d8\fd\22\47\6c\91\b6\db\00\25\4a\6f\94\b9\de\03\28\4d\72\97\bc\e1"
+        //     "\06\2b\50\75\9a\bf\e4\09\2e\53\78\9d\c2\e7\0c\31\56\7b\a0\c5\ea\0f\34\59\7e"
+        //     "\a3\c8\ed\12\37\5c\81\a6\cb\f0\15\3a\5f\84\a9\ce\f3\18\3d\62\87\ac\d1\f6\1b"
+        //     "\40\65\8a\af\d4\f9\1e\43\68\8d\b2\d7\fc\21\46\6b\90\b5\da\ff\24\49\6e\93\b8"
+        //     "\dd\02\27\4c\71\96\bb\e0\05\2a\4f\74\99\be\e3\08\2d\52\77\9c\c1\e6\0b\30\55"
+        //     "\7a\9f\c4\e9\0e\33\58\7d\a2\c7\ec\11\36\5b\80\a5\ca\ef\14\39\5e\83\a8\cd\f2"
+        //     "\17\3c\61\86\ab\d0\f5\1a\3f\64\89\ae\d3\f8\1d\42\67\8c\b1\d6\fb\20\45\6a\8f"
+        //     "\b4\d9\fe\23\48\6d\92\b7\dc\01\26\4b\70\95\ba\df\04\29\4e\73\98\bd\e2\07\2c"))
         module: &[
             0x00, 0x61, 0x73, 0x6D, 0x01, 0x00, 0x00, 0x00, 0x01, 0x28, 0x08, 0x60, 0x02, 0x7F,
             0x7F, 0x00, 0x60, 0x02, 0x7F, 0x7E, 0x00, 0x60, 0x02, 0x7F, 0x7F, 0x00, 0x60, 0x02,
@@ -111,6 +169,39 @@ pub(super) const MEMORY: [Row; 7] = [
     },
     Row {
         shows: "the atomic loads and stores",
+        // (module
+        //   (type (func (param i32) (result i32))) (func (type 0) local.get 0 i32.atomic.load offset=8) (export "f0" (func 0))
+        //   (type (func (param i32) (result i64))) (func (type 1) local.get 0 i64.atomic.load offset=8) (export "f1" (func 1))
+        //   (type (func (param i32) (result i32))) (func (type 2) local.get 0 i32.atomic.load8_u offset=8) (export "f2" (func 2))
+        //   (type (func (param i32) (result i32))) (func (type 3) local.get 0 i32.atomic.load16_u offset=8) (export "f3" (func 3))
+        //   (type (func (param i32) (result i64))) (func (type 4) local.get 0 i64.atomic.load8_u offset=8) (export "f4" (func 4))
+        //   (type (func (param i32) (result i64))) (func (type 5) local.get 0 i64.atomic.load16_u offset=8) (export "f5" (func 5))
+        //   (type (func (param i32) (result i64))) (func (type 6) local.get 0 i64.atomic.load32_u offset=8) (export "f6" (func 6))
+        //   (type (func (param i32 i32))) (func (type 7) local.get 0 local.get 1 i32.atomic.store offset=8) (export "f7" (func 7))
+        //   (type (func (param i32 i64))) (func (type 8) local.get 0 local.get 1 i64.atomic.store offset=8) (export "f8" (func 8))
+        //   (type (func (param i32 i32))) (func (type 9) local.get 0 local.get 1 i32.atomic.store8 offset=8) (export "f9" (func 9))
+        //   (type (func (param i32 i32))) (func (type 10) local.get 0 local.get 1 i32.atomic.store16 offset=8) (export "f10" (func 10))
+        //   (type (func (param i32 i64))) (func (type 11) local.get 0 local.get 1 i64.atomic.store8 offset=8) (export "f11" (func 11))
+        //   (type (func (param i32 i64))) (func (type 12) local.get 0 local.get 1 i64.atomic.store16 offset=8) (export "f12" (func 12))
+        //   (type (func (param i32 i64))) (func (type 13) local.get 0 local.get 1 i64.atomic.store32 offset=8) (export "f13" (func 13))
+        //   (memory 1 1 shared)
+        //   (data (i32.const 0)
+        //     "\81\a6\cb\f0\15\3a\5f\84\a9\ce\f3\18\3d\62\87\ac\d1\f6\1b\40\65\8a\af\d4\f9"
+        //     "\1e\43\68\8d\b2\d7\fc\21\46\6b\90\b5\da\ff\24\49\6e\93\b8\dd\02\27\4c\71\96"
+        //     "\bb\e0\05\2a\4f\74\99\be\e3\08\2d\52\77\9c\c1\e6\0b\30\55\7a\9f\c4\e9\0e\33"
+        //     "\58\7d\a2\c7\ec\11\36\5b\80\a5\ca\ef\14\39\5e\83\a8\cd\f2\17\3c\61\86\ab\d0"
+        //     "\f5\1a\3f\64\89\ae\d3\f8\1d\42\67\8c\b1\d6\fb\20\45\6a\8f\b4\d9\fe\23\48\6d"
+        //     "\92\b7\dc\01\26\4b\70\95\ba\df\04\29\4e\73\98\bd\e2\07\2c\51\76\9b\c0\e5\0a"
+        //     "\2f\54\79\9e\c3\e8\0d\32\57\7c\a1\c6\eb\10\35\5a\7f\a4\c9\ee\13\38\5d\82\a7"
+        //     "\cc\f1\16\3b\60\85\aa\cf\f4\19\3e\63\88\ad\d2\f7\1c\41\66\8b\b0\d5\fa\1f\44"
+        //     "\69\8e\b3\d8\fd\22\47\6c\91\b6\db\00\25\4a\6f\94\b9\de\03\28\4d\72\97\bc\e1"
+        //     "\06\2b\50\75\9a\bf\e4\09\2e\53\78\9d\c2\e7\0c\31\56\7b\a0\c5\ea\0f\34\59\7e"
+        //     "\a3\c8\ed\12\37\5c\81\a6\cb\f0\15\3a\5f\84\a9\ce\f3\18\3d\62\87\ac\d1\f6\1b"
+        //     "\40\65\8a\af\d4\f9\1e\43\68\8d\b2\d7\fc\21\46\6b\90\b5\da\ff\24\49\6e\93\b8"
+        //     "\dd\02\27\4c\71\96\bb\e0\05\2a\4f\74\99\be\e3\08\2d\52\77\9c\c1\e6\0b\30\55"
+        //     "\7a\9f\c4\e9\0e\33\58\7d\a2\c7\ec\11\36\5b\80\a5\ca\ef\14\39\5e\83\a8\cd\f2"
+        //     "\17\3c\61\86\ab\d0\f5\1a\3f\64\89\ae\d3\f8\1d\42\67\8c\b1\d6\fb\20\45\6a\8f"
+        //     "\b4\d9\fe\23\48\6d\92\b7\dc\01\26\4b\70\95\ba\df\04\29\4e\73\98\bd\e2\07\2c"))
         module: &[
             0x00, 0x61, 0x73, 0x6D, 0x01, 0x00, 0x00, 0x00, 0x01, 0x47, 0x0E, 0x60, 0x01, 0x7F,
             0x01, 0x7F, 0x60, 0x01, 0x7F, 0x01, 0x7E, 0x60, 0x01, 0x7F, 0x01, 0x7F, 0x60, 0x01,
@@ -171,6 +262,39 @@ pub(super) const MEMORY: [Row; 7] = [
     },
     Row {
         shows: "the atomic updates add and sub",
+        // (module
+        //   (type (func (param i32 i32) (result i32))) (func (type 0) local.get 0 local.get 1 i32.atomic.rmw.add) (export "f0" (func 0))
+        //   (type (func (param i32 i64) (result i64))) (func (type 1) local.get 0 local.get 1 i64.atomic.rmw.add) (export "f1" (func 1))
+        //   (type (func (param i32 i32) (result i32))) (func (type 2) local.get 0 local.get 1 i32.atomic.rmw8.add_u) (export "f2" (func 2))
+        //   (type (func (param i32 i32) (result i32))) (func (type 3) local.get 0 local.get 1 i32.atomic.rmw16.add_u) (export "f3" (func 3))
+        //   (type (func (param i32 i64) (result i64))) (func (type 4) local.get 0 local.get 1 i64.atomic.rmw8.add_u) (export "f4" (func 4))
+        //   (type (func (param i32 i64) (result i64))) (func (type 5) local.get 0 local.get 1 i64.atomic.rmw16.add_u) (export "f5" (func 5))
+        //   (type (func (param i32 i64) (result i64))) (func (type 6) local.get 0 local.get 1 i64.atomic.rmw32.add_u) (export "f6" (func 6))
+        //   (type (func (param i32 i32) (result i32))) (func (type 7) local.get 0 local.get 1 i32.atomic.rmw.sub) (export "f7" (func 7))
+        //   (type (func (param i32 i64) (result i64))) (func (type 8) local.get 0 local.get 1 i64.atomic.rmw.sub) (export "f8" (func 8))
+        //   (type (func (param i32 i32) (result i32))) (func (type 9) local.get 0 local.get 1 i32.atomic.rmw8.sub_u) (export "f9" (func 9))
+        //   (type (func (param i32 i32) (result i32))) (func (type 10) local.get 0 local.get 1 i32.atomic.rmw16.sub_u) (export "f10" (func 10))
+        //   (type (func (param i32 i64) (result i64))) (func (type 11) local.get 0 local.get 1 i64.atomic.rmw8.sub_u) (export "f11" (func 11))
+        //   (type (func (param i32 i64) (result i64))) (func (type 12) local.get 0 local.get 1 i64.atomic.rmw16.sub_u) (export "f12" (func 12))
+        //   (type (func (param i32 i64) (result i64))) (func (type 13) local.get 0 local.get 1 i64.atomic.rmw32.sub_u) (export "f13" (func 13))
+        //   (memory 1 1 shared)
+        //   (data (i32.const 0)
+        //     "\81\a6\cb\f0\15\3a\5f\84\a9\ce\f3\18\3d\62\87\ac\d1\f6\1b\40\65\8a\af\d4\f9"
+        //     "\1e\43\68\8d\b2\d7\fc\21\46\6b\90\b5\da\ff\24\49\6e\93\b8\dd\02\27\4c\71\96"
+        //     "\bb\e0\05\2a\4f\74\99\be\e3\08\2d\52\77\9c\c1\e6\0b\30\55\7a\9f\c4\e9\0e\33"
+        //     "\58\7d\a2\c7\ec\11\36\5b\80\a5\ca\ef\14\39\5e\83\a8\cd\f2\17\3c\61\86\ab\d0"
+        //     "\f5\1a\3f\64\89\ae\d3\f8\1d\42\67\8c\b1\d6\fb\20\45\6a\8f\b4\d9\fe\23\48\6d"
+        //     "\92\b7\dc\01\26\4b\70\95\ba\df\04\29\4e\73\98\bd\e2\07\2c\51\76\9b\c0\e5\0a"
+        //     "\2f\54\79\9e\c3\e8\0d\32\57\7c\a1\c6\eb\10\35\5a\7f\a4\c9\ee\13\38\5d\82\a7"
+        //     "\cc\f1\16\3b\60\85\aa\cf\f4\19\3e\63\88\ad\d2\f7\1c\41\66\8b\b0\d5\fa\1f\44"
+        //     "\69\8e\b3\d8\fd\22\47\6c\91\b6\db\00\25\4a\6f\94\b9\de\03\28\4d\72\97\bc\e1"
+        //     "\06\2b\50\75\9a\bf\e4\09\2e\53\78\9d\c2\e7\0c\31\56\7b\a0\c5\ea\0f\34\59\7e"
+        //     "\a3\c8\ed\12\37\5c\81\a6\cb\f0\15\3a\5f\84\a9\ce\f3\18\3d\62\87\ac\d1\f6\1b"
+        //     "\40\65\8a\af\d4\f9\1e\43\68\8d\b2\d7\fc\21\46\6b\90\b5\da\ff\24\49\6e\93\b8"
+        //     "\dd\02\27\4c\71\96\bb\e0\05\2a\4f\74\99\be\e3\08\2d\52\77\9c\c1\e6\0b\30\55"
+        //     "\7a\9f\c4\e9\0e\33\58\7d\a2\c7\ec\11\36\5b\80\a5\ca\ef\14\39\5e\83\a8\cd\f2"
+        //     "\17\3c\61\86\ab\d0\f5\1a\3f\64\89\ae\d3\f8\1d\42\67\8c\b1\d6\fb\20\45\6a\8f"
+        //     "\b4\d9\fe\23\48\6d\92\b7\dc\01\26\4b\70\95\ba\df\04\29\4e\73\98\bd\e2\07\2c"))
         module: &[
             0x00, 0x61, 0x73, 0x6D, 0x01, 0x00, 0x00, 0x00, 0x01, 0x55, 0x0E, 0x60, 0x02, 0x7F,
             0x7F, 0x01, 0x7F, 0x60, 0x02, 0x7F, 0x7E, 0x01, 0x7E, 0x60, 0x02, 0x7F, 0x7F, 0x01,
@@ -233,6 +357,39 @@ pub(super) const MEMORY: [Row; 7] = [
     },
     Row {
         shows: "the atomic updates and and or",
+        // (module
+        //   (type (func (param i32 i32) (result i32))) (func (type 0) local.get 0 local.get 1 i32.atomic.rmw.and) (export "f0" (func 0))
+        //   (type (func (param i32 i64) (result i64))) (func (type 1) local.get 0 local.get 1 i64.atomic.rmw.and) (export "f1" (func 1))
+        //   (type (func (param i32 i32) (result i32))) (func (type 2) local.get 0 local.get 1 i32.atomic.rmw8.and_u) (export "f2" (func 2))
+        //   (type (func (param i32 i32) (result i32))) (func (type 3) local.get 0 local.get 1 i32.atomic.rmw16.and_u) (export "f3" (func 3))
+        //   (type (func (param i32 i64) (result i64))) (func (type 4) local.get 0 local.get 1 i64.atomic.rmw8.and_u) (export "f4" (func 4))
+        //   (type (func (param i32 i64) (result i64))) (func (type 5) local.get 0 local.get 1 i64.atomic.rmw16.and_u) (export "f5" (func 5))
+        //   (type (func (param i32 i64) (result i64))) (func (type 6) local.get 0 local.get 1 i64.atomic.rmw32.and_u) (export "f6" (func 6))
+        //   (type (func (param i32 i32) (result i32))) (func (type 7) local.get 0 local.get 1 i32.atomic.rmw.or) (export "f7" (func 7))
+        //   (type (func (param i32 i64) (result i64))) (func (type 8) local.get 0 local.get 1 i64.atomic.rmw.or) (export "f8" (func 8))
+        //   (type (func (param i32 i32) (result i32))) (func (type 9) local.get 0 local.get 1 i32.atomic.rmw8.or_u) (export "f9" (func 9))
+        //   (type (func (param i32 i32) (result i32))) (func (type 10) local.get 0 local.get 1 i32.atomic.rmw16.or_u) (export "f10" (func 10))
+        //   (type (func (param i32 i64) (result i64))) (func (type 11) local.get 0 local.get 1 i64.atomic.rmw8.or_u) (export "f11" (func 11))
+        //   (type (func (param i32 i64) (result i64))) (func (type 12) local.get 0 local.get 1 i64.atomic.rmw16.or_u) (export "f12" (func 12))
+        //   (type (func (param i32 i64) (result i64))) (func (type 13) local.get 0 local.get 1 i64.atomic.rmw32.or_u) (export "f13" (func 13))
+        //   (memory 1 1 shared)
+        //   (data (i32.const 0)
+        //     "\81\a6\cb\f0\15\3a\5f\84\a9\ce\f3\18\3d\62\87\ac\d1\f6\1b\40\65\8a\af\d4\f9"
+        //     "\1e\43\68\8d\b2\d7\fc\21\46\6b\90\b5\da\ff\24\49\6e\93\b8\dd\02\27\4c\71\96"
+        //     "\bb\e0\05\2a\4f\74\99\be\e3\08\2d\52\77\9c\c1\e6\0b\30\55\7a\9f\c4\e9\0e\33"
+        //     "\58\7d\a2\c7\ec\11\36\5b\80\a5\ca\ef\14\39\5e\83\a8\cd\f2\17\3c\61\86\ab\d0"
+        //     "\f5\1a\3f\64\89\ae\d3\f8\1d\42\67\8c\b1\d6\fb\20\45\6a\8f\b4\d9\fe\23\48\6d"
+        //     "\92\b7\dc\01\26\4b\70\95\ba\df\04\29\4e\73\98\bd\e2\07\2c\51\76\9b\c0\e5\0a"
+        //     "\2f\54\79\9e\c3\e8\0d\32\57\7c\a1\c6\eb\10\35\5a\7f\a4\c9\ee\13\38\5d\82\a7"
+        //     "\cc\f1\16\3b\60\85\aa\cf\f4\19\3e\63\88\ad\d2\f7\1c\41\66\8b\b0\d5\fa\1f\44"
+        //     "\69\8e\b3\d8\fd\22\47\6c\91\b6\db\00\25\4a\6f\94\b9\de\03\28\4d\72\97\bc\e1"
+        //     "\06\2b\50\75\9a\bf\e4\09\2e\53\78\9d\c2\e7\0c\31\56\7b\a0\c5\ea\0f\34\59\7e"
+        //     "\a3\c8\ed\12\37\5c\81\a6\cb\f0\15\3a\5f\84\a9\ce\f3\18\3d\62\87\ac\d1\f6\1b"
+        //     "\40\65\8a\af\d4\f9\1e\43\68\8d\b2\d7\fc\21\46\6b\90\b5\da\ff\24\49\6e\93\b8"
+        //     "\dd\02\27\4c\71\96\bb\e0\05\2a\4f\74\99\be\e3\08\2d\52\77\9c\c1\e6\0b\30\55"
+        //     "\7a\9f\c4\e9\0e\33\58\7d\a2\c7\ec\11\36\5b\80\a5\ca\ef\14\39\5e\83\a8\cd\f2"
+        //     "\17\3c\61\86\ab\d0\f5\1a\3f\64\89\ae\d3\f8\1d\42\67\8c\b1\d6\fb\20\45\6a\8f"
+        //     "\b4\d9\fe\23\48\6d\92\b7\dc\01\26\4b\70\95\ba\df\04\29\4e\73\98\bd\e2\07\2c"))
         module: &[
             0x00, 0x61, 0x73, 0x6D, 0x01, 0x00, 0x00, 0x00, 0x01, 0x55, 0x0E, 0x60, 0x02, 0x7F,
             0x7F, 0x01, 0x7F, 0x60, 0x02, 0x7F, 0x7E, 0x01, 0x7E, 0x60, 0x02, 0x7F, 0x7F, 0x01,
@@ -295,6 +452,39 @@ pub(super) const MEMORY: [Row; 7] = [
     },
     Row {
         shows: "the atomic updates xor and xchg",
+        // (module
+        //   (type (func (param i32 i32) (result i32))) (func (type 0) local.get 0 local.get 1 i32.atomic.rmw.xor) (export "f0" (func 0))
+        //   (type (func (param i32 i64) (result i64))) (func (type 1) local.get 0 local.get 1 i64.atomic.rmw.xor) (export "f1" (func 1))
+        //   (type (func (param i32 i32) (result i32))) (func (type 2) local.get 0 local.get 1 i32.atomic.rmw8.xor_u) (export "f2" (func 2))
+        //   (type (func (param i32 i32) (result i32))) (func (type 3) local.get 0 local.get 1 i32.atomic.rmw16.xor_u) (export "f3" (func 3))
+        //   (type (func (param i32 i64) (result i64))) (func (type 4) local.get 0 local.get 1 i64.atomic.rmw8.xor_u) (export "f4" (func 4))
+        //   (type (func (param i32 i64) (result i64))) (func (type 5) local.get 0 local.get 1 i64.atomic.rmw16.xor_u) (export "f5" (func 5))
+        //   (type (func (param i32 i64) (result i64))) (func (type 6) local.get 0 local.get 1 i64.atomic.rmw32.xor_u) (export "f6" (func 6))
+        //   (type (func (param i32 i32) (result i32))) (func (type 7) local.get 0 local.get 1 i32.atomic.rmw.xchg) (export "f7" (func 7))
+        //   (type (func (param i32 i64) (result i64))) (func (type 8) local.get 0 local.get 1 i64.atomic.rmw.xchg) (export "f8" (func 8))
+        //   (type (func (param i32 i32) (result i32))) (func (type 9) local.get 0 local.get 1 i32.atomic.rmw8.xchg_u) (export "f9" (func 9))
+        //   (type (func (param i32 i32) (result i32))) (func (type 10) local.get 0 local.get 1 i32.atomic.rmw16.xchg_u) (export "f10" (func 10))
+        //   (type (func (param i32 i64) (result i64))) (func (type 11) local.get 0 local.get 1 i64.atomic.rmw8.xchg_u) (export "f11" (func 11))
+        //   (type (func (param i32 i64) (result i64))) (func (type 12) local.get 0 local.get 1 i64.atomic.rmw16.xchg_u) (export "f12" (func 12))
+        //   (type (func (param i32 i64) (result i64))) (func (type 13) local.get 0 local.get 1 i64.atomic.rmw32.xchg_u) (export "f13" (func 13))
+        //   (memory 1 1 shared)
+        //   (data (i32.const 0)
+        //     "\81\a6\cb\f0\15\3a\5f\84\a9\ce\f3\18\3d\62\87\ac\d1\f6\1b\40\65\8a\af\d4\f9"
+        //     "\1e\43\68\8d\b2\d7\fc\21\46\6b\90\b5\da\ff\24\49\6e\93\b8\dd\02\27\4c\71\96"
+        //     "\bb\e0\05\2a\4f\74\99\be\e3\08\2d\52\77\9c\c1\e6\0b\30\55\7a\9f\c4\e9\0e\33"
+        //     "\58\7d\a2\c7\ec\11\36\5b\80\a5\ca\ef\14\39\5e\83\a8\cd\f2\17\3c\61\86\ab\d0"
+        //     "\f5\1a\3f\64\89\ae\d3\f8\1d\42\67\8c\b1\d6\fb\20\45\6a\8f\b4\d9\fe\23\48\6d"
+        //     "\92\b7\dc\01\26\4b\70\95\ba\df\04\29\4e\73\98\bd\e2\07\2c\51\76\9b\c0\e5\0a"
+        //     "\2f\54\79\9e\c3\e8\0d\32\57\7c\a1\c6\eb\10\35\5a\7f\a4\c9\ee\13\38\5d\82\a7"
+        //     "\cc\f1\16\3b\60\85\aa\cf\f4\19\3e\63\88\ad\d2\f7\1c\41\66\8b\b0\d5\fa\1f\44"
+        //     "\69\8e\b3\d8\fd\22\47\6c\91\b6\db\00\25\4a\6f\94\b9\de\03\28\4d\72\97\bc\e1"
+        //     "\06\2b\50\75\9a\bf\e4\09\2e\53\78\9d\c2\e7\0c\31\56\7b\a0\c5\ea\0f\34\59\7e"
+        //     "\a3\c8\ed\12\37\5c\81\a6\cb\f0\15\3a\5f\84\a9\ce\f3\18\3d\62\87\ac\d1\f6\1b"
+        //     "\40\65\8a\af\d4\f9\1e\43\68\8d\b2\d7\fc\21\46\6b\90\b5\da\ff\24\49\6e\93\b8"
+        //     "\dd\02\27\4c\71\96\bb\e0\05\2a\4f\74\99\be\e3\08\2d\52\77\9c\c1\e6\0b\30\55"
+        //     "\7a\9f\c4\e9\0e\33\58\7d\a2\c7\ec\11\36\5b\80\a5\ca\ef\14\39\5e\83\a8\cd\f2"
+        //     "\17\3c\61\86\ab\d0\f5\1a\3f\64\89\ae\d3\f8\1d\42\67\8c\b1\d6\fb\20\45\6a\8f"
+        //     "\b4\d9\fe\23\48\6d\92\b7\dc\01\26\4b\70\95\ba\df\04\29\4e\73\98\bd\e2\07\2c"))
         module: &[
             0x00, 0x61, 0x73, 0x6D, 0x01, 0x00, 0x00, 0x00, 0x01, 0x55, 0x0E, 0x60, 0x02, 0x7F,
             0x7F, 0x01, 0x7F, 0x60, 0x02, 0x7F, 0x7E, 0x01, 0x7E, 0x60, 0x02, 0x7F, 0x7F, 0x01,
@@ -357,6 +547,36 @@ pub(super) const MEMORY: [Row; 7] = [
     },
     Row {
         shows: "compare-exchanges, and the traps of accesses",
+        // (module
+        //   (type (func (param i32 i32 i32) (result i32))) (func (type 0) local.get 0 local.get 1 local.get 2 i32.atomic.rmw.cmpxchg) (export "f0" (func 0))
+        //   (type (func (param i32 i32 i32) (result i32))) (func (type 1) local.get 0 local.get 1 local.get 2 i32.atomic.rmw.cmpxchg) (export "f1" (func 1))
+        //   (type (func (param i32 i64 i64) (result i64))) (func (type 2) local.get 0 local.get 1 local.get 2 i64.atomic.rmw.cmpxchg) (export "f2" (func 2))
+        //   (type (func (param i32 i64 i64) (result i64))) (func (type 3) local.get 0 local.get 1 local.get 2 i64.atomic.rmw.cmpxchg) (export "f3" (func 3))
+        //   (type (func (param i32))) (func (type 4) local.get 0 i32.atomic.load drop) (export "f4" (func 4))
+        //   (type (func (param i32))) (func (type 5) local.get 0 i32.atomic.load offset=2 drop) (export "f5" (func 5))
+        //   (type (func (param i32))) (func (type 6) local.get 0 i32.load align=1 drop) (export "f6" (func 6))
+        //   (type (func (param i32))) (func (type 7) local.get 0 i64.atomic.load drop) (export "f7" (func 7))
+        //   (type (func (param i32))) (func (type 8) local.get 0 i64.const 1 i64.store align=1) (export "f8" (func 8))
+        //   (type (func (param i32))) (func (type 9) local.get 0 i32.load offset=4294967295 align=1 drop) (export "f9" (func 9))
+        //   (type (func)) (func (type 10) unreachable) (export "f10" (func 10))
+        //   (memory 1 1 shared)
+        //   (data (i32.const 0)
+        //     "\81\a6\cb\f0\15\3a\5f\84\a9\ce\f3\18\3d\62\87\ac\d1\f6\1b\40\65\8a\af\d4\f9"
+        //     "\1e\43\68\8d\b2\d7\fc\21\46\6b\90\b5\da\ff\24\49\6e\93\b8\dd\02\27\4c\71\96"
+        //     "\bb\e0\05\2a\4f\74\99\be\e3\08\2d\52\77\9c\c1\e6\0b\30\55\7a\9f\c4\e9\0e\33"
+        //     "\58\7d\a2\c7\ec\11\36\5b\80\a5\ca\ef\14\39\5e\83\a8\cd\f2\17\3c\61\86\ab\d0"
+        //     "\f5\1a\3f\64\89\ae\d3\f8\1d\42\67\8c\b1\d6\fb\20\45\6a\8f\b4\d9\fe\23\48\6d"
+        //     "\92\b7\dc\01\26\4b\70\95\ba\df\04\29\4e\73\98\bd\e2\07\2c\51\76\9b\c0\e5\0a"
+        //     "\2f\54\79\9e\c3\e8\0d\32\57\7c\a1\c6\eb\10\35\5a\7f\a4\c9\ee\13\38\5d\82\a7"
+        //     "\cc\f1\16\3b\60\85\aa\cf\f4\19\3e\63\88\ad\d2\f7\1c\41\66\8b\b0\d5\fa\1f\44"
+        //     "\69\8e\b3\d8\fd\22\47\6c\91\b6\db\00\25\4a\6f\94\b9\de\03\28\4d\72\97\bc\e1"
+        //     "\06\2b\50\75\9a\bf\e4\09\2e\53\78\9d\c2\e7\0c\31\56\7b\a0\c5\ea\0f\34\59\7e"
+        //     "\a3\c8\ed\12\37\5c\81\a6\cb\f0\15\3a\5f\84\a9\ce\f3\18\3d\62\87\ac\d1\f6\1b"
+        //     "\40\65\8a\af\d4\f9\1e\43\68\8d\b2\d7\fc\21\46\6b\90\b5\da\ff\24\49\6e\93\b8"
+        //     "\dd\02\27\4c\71\96\bb\e0\05\2a\4f\74\99\be\e3\08\2d\52\77\9c\c1\e6\0b\30\55"
+        //     "\7a\9f\c4\e9\0e\33\58\7d\a2\c7\ec\11\36\5b\80\a5\ca\ef\14\39\5e\83\a8\cd\f2"
+        //     "\17\3c\61\86\ab\d0\f5\1a\3f\64\89\ae\d3\f8\1d\42\67\8c\b1\d6\fb\20\45\6a\8f"
+        //     "\b4\d9\fe\23\48\6d\92\b7\dc\01\26\4b\70\95\ba\df\04\29\4e\73\98\bd\e2\07\2c"))
         module: &[
             0x00, 0x61, 0x73, 0x6D, 0x01, 0x00, 0x00, 0x00, 0x01, 0x38, 0x0B, 0x60, 0x03, 0x7F,
             0x7F, 0x7F, 0x01, 0x7F, 0x60, 0x03, 0x7F, 0x7F, 0x7F, 0x01, 0x7F, 0x60, 0x03, 0x7F,
@@ -416,6 +636,26 @@ pub(super) const MEMORY: [Row; 7] = [
 /// Control instructions and variables, each in a function of its own.
 pub(super) const CONTROL: [Row; 1] = [Row {
     shows: "control instructions and variables",
+    // (module
+    //   (type (func (param i32) (result i32))) (func (type 0) (local i32) loop local.get 1 local.get 0 i32.add local.set 1 local.get 0 i32.const 1 i32.sub local.tee 0 br_if 0 end local.get 1) (export "f0" (func 0))
+    //   (type (func (param i32) (result i32))) (func (type 1) block (result i32) block block local.get 0 br_table 0 1 0 1 end i32.const 10 br 1 end i32.const 20 end) (export "f1" (func 1))
+    //   (type (func (param i32) (result i32))) (func (type 2) block (result i32) block block local.get 0 br_table 0 1 0 1 end i32.const 10 br 1 end i32.const 20 end) (export "f2" (func 2))
+    //   (type (func (param i32) (result i32))) (func (type 3) block (result i32) block block local.get 0 br_table 0 1 0 1 end i32.const 10 br 1 end i32.const 20 end) (export "f3" (func 3))
+    //   (type (func (param i32) (result i64))) (func (type 4) local.get 0 if (result i64) i64.const 1 else i64.const 2 end) (export "f4" (func 4))
+    //   (type (func (param i32) (result i64))) (func (type 5) local.get 0 if (result i64) i64.const 1 else i64.const 2 end) (export "f5" (func 5))
+    //   (type (func (param i32) (result i32))) (func (type 6) i32.const 1 local.get 0 if nop end) (export "f6" (func 6))
+    //   (type (func (param i32) (result i32))) (func (type 7) i32.const 1 local.get 0 if nop end) (export "f7" (func 7))
+    //   (type (func (param i32) (result i32))) (func (type 8) i32.const 7 i32.const 8 local.get 0 select) (export "f8" (func 8))
+    //   (type (func (param i32) (result i32))) (func (type 9) i32.const 7 i32.const 8 local.get 0 select) (export "f9" (func 9))
+    //   (type (func (param i32 i32) (result i32))) (func (type 10) local.get 1 local.get 0 call 16) (export "f10" (func 10))
+    //   (type (func (result i64))) (func (type 11) global.get 0 i64.const 1 i64.add global.set 0 global.get 0) (export "f11" (func 11))
+    //   (type (func (param i32) (result i32))) (func (type 12) local.get 0 if i32.const 5 i32.const 6 return end i32.const 9) (export "f12" (func 12))
+    //   (type (func (param i32) (result i32))) (func (type 13) block (result i32) i32.const 1 i32.const 2 local.get 0 br_if 0 drop end) (export "f13" (func 13))
+    //   (type (func (param i32) (result i32))) (func (type 14) block (result i32) i32.const 1 i32.const 2 local.get 0 br_if 0 drop end) (export "f14" (func 14))
+    //   (type (func (param i32) (result i32))) (func (type 15) i32.const 3 i32.const 4 local.get 0 br 0) (export "f15" (func 15))
+    //   (type (func (param i32 i32) (result i32))) (func (type 16) local.get 0 local.get 1 i32.sub)
+    //   (memory 1 1 shared)
+    //   (global (mut i64) (i64.const 41)))
     module: &[
         0x00, 0x61, 0x73, 0x6D, 0x01, 0x00, 0x00, 0x00, 0x01, 0x57, 0x11, 0x60, 0x01, 0x7F, 0x01,
         0x7F, 0x60, 0x01, 0x7F, 0x01, 0x7F, 0x60, 0x01, 0x7F, 0x01, 0x7F, 0x60, 0x01, 0x7F, 0x01,

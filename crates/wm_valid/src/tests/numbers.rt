@@ -6,7 +6,12 @@ use wm_ast::Else;
 fn behind_if(alloc: Global, second: Vec<Instr>, part: Else) -> Result<Module, Fail> {
     let body = vec![in alloc;
         Instr::I32Const(0),
-        Instr::If(None, 1, 2, part),
+        Instr::If {
+            result: None,
+            then_block: 1,
+            else_block: 2,
+            else_part: part,
+        },
         Instr::LocalGet(7),
     ]?;
     let first = vec![in alloc; Instr::Nop]?;

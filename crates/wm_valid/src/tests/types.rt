@@ -191,7 +191,12 @@ fn the_label_of_a_loop_takes_nothing(rt: HostRuntime) -> Result<(), Fail> {
 fn an_absent_else_part_has_no_result(rt: HostRuntime) -> Result<(), Fail> {
     let body = vec![in rt.alloc();
         Instr::I32Const(0),
-        Instr::If(Some(ValType::I32), 1, 2, Else::Absent),
+        Instr::If {
+            result: Some(ValType::I32),
+            then_block: 1,
+            else_block: 2,
+            else_part: Else::Absent,
+        },
         Instr::Drop,
     ]?;
     let then = vec![in rt.alloc(); Instr::I32Const(1)]?;

@@ -1,6 +1,6 @@
 use Rattle.std.proofs.Common.{◌≡◌, ◌∙◌, ap, codes, Some}
 use Rattle.clap.specs.Words.{Text, found_of, rows_of, subcommand_rows_of}
-use Rattle.wm_litmus.proofs.Entered.{entered_is, no_complete_document, no_complete_module, no_document, no_drive_module, no_drive_turns, no_migrate, no_module, no_rules, no_run_module, no_run_rounds, no_value, value_is}
+use Rattle.wm_litmus.proofs.Entered.{entered_is, no_complete_document, no_complete_module, no_document, no_drive_module, no_drive_turns, no_migrate, no_module, no_rules, no_run_module, no_run_rounds, no_explain_document, no_explain_module, no_graph_document, no_graph_module, no_value, value_is}
 use Rattle.wm_litmus.proofs.command.named.Goals as goal
 
 pub returns-in_err-document-in-rules-clause-none : goal.returns-in_err-document-in-rules-clause-none
@@ -145,4 +145,60 @@ returns-in_ok-rounds-in-run-clause-some c =
       is,
       value_is f (codes "module") c.get_str-in-run.result c.in_ok-module-in-run.module c.in_ok-module-in-run.was c.get_str-in-run.ensures,
       value_is f (codes "rounds") c.get_str-in-run-2.result c.in_ok-rounds-in-run.rounds c.in_ok-rounds-in-run.was c.get_str-in-run-2.ensures,
+    )
+
+pub returns-in_err-module-in-explain-clause-none : goal.returns-in_err-module-in-explain-clause-none
+returns-in_err-module-in-explain-clause-none c = λ _.
+    let f = found_of c.in_ok-name.words.now in
+    let is : subcommand_rows_of c.args.matches.now ≡ Some (codes "explain", rows_of f) =
+    entered_is c.args.matches.now c.subcommand.result c.in_ok-name.name c.in_ok-name.words c.in_ok-name.was c.subcommand.ensures.name c.subcommand.ensures.rows
+    ∙ ap (λ (t : Text). Some (t, rows_of f)) c.in-explain.is in
+    no_explain_module (subcommand_rows_of c.args.matches.now) (rows_of f) is (no_value f (codes "module") c.get_str-in-explain.result c.in_err-module-in-explain.was c.get_str-in-explain.ensures)
+
+pub returns-in_err-document-in-explain-clause-none : goal.returns-in_err-document-in-explain-clause-none
+returns-in_err-document-in-explain-clause-none c = λ _.
+    let f = found_of c.in_ok-name.words.now in
+    let is : subcommand_rows_of c.args.matches.now ≡ Some (codes "explain", rows_of f) =
+    entered_is c.args.matches.now c.subcommand.result c.in_ok-name.name c.in_ok-name.words c.in_ok-name.was c.subcommand.ensures.name c.subcommand.ensures.rows
+    ∙ ap (λ (t : Text). Some (t, rows_of f)) c.in-explain.is in
+    no_explain_document (subcommand_rows_of c.args.matches.now) (rows_of f) is (no_value f (codes "document") c.get_str-in-explain-2.result c.in_err-document-in-explain.was c.get_str-in-explain-2.ensures)
+
+pub returns-in_ok-document-in-explain-clause-some : goal.returns-in_ok-document-in-explain-clause-some
+returns-in_ok-document-in-explain-clause-some c =
+    let f = found_of c.in_ok-name.words.now in
+    let is : subcommand_rows_of c.args.matches.now ≡ Some (codes "explain", rows_of f) =
+    entered_is c.args.matches.now c.subcommand.result c.in_ok-name.name c.in_ok-name.words c.in_ok-name.was c.subcommand.ensures.name c.subcommand.ensures.rows
+    ∙ ap (λ (t : Text). Some (t, rows_of f)) c.in-explain.is in (
+      rows_of f,
+      is,
+      value_is f (codes "module") c.get_str-in-explain.result c.in_ok-module-in-explain.module c.in_ok-module-in-explain.was c.get_str-in-explain.ensures,
+      value_is f (codes "document") c.get_str-in-explain-2.result c.in_ok-document-in-explain.document c.in_ok-document-in-explain.was c.get_str-in-explain-2.ensures,
+    )
+
+pub returns-in_err-module-in-graph-clause-none : goal.returns-in_err-module-in-graph-clause-none
+returns-in_err-module-in-graph-clause-none c = λ _.
+    let f = found_of c.in_ok-name.words.now in
+    let is : subcommand_rows_of c.args.matches.now ≡ Some (codes "graph", rows_of f) =
+    entered_is c.args.matches.now c.subcommand.result c.in_ok-name.name c.in_ok-name.words c.in_ok-name.was c.subcommand.ensures.name c.subcommand.ensures.rows
+    ∙ ap (λ (t : Text). Some (t, rows_of f)) c.in-graph.is in
+    no_graph_module (subcommand_rows_of c.args.matches.now) (rows_of f) is (no_value f (codes "module") c.get_str-in-graph.result c.in_err-module-in-graph.was c.get_str-in-graph.ensures)
+
+pub returns-in_err-document-in-graph-clause-none : goal.returns-in_err-document-in-graph-clause-none
+returns-in_err-document-in-graph-clause-none c = λ _.
+    let f = found_of c.in_ok-name.words.now in
+    let is : subcommand_rows_of c.args.matches.now ≡ Some (codes "graph", rows_of f) =
+    entered_is c.args.matches.now c.subcommand.result c.in_ok-name.name c.in_ok-name.words c.in_ok-name.was c.subcommand.ensures.name c.subcommand.ensures.rows
+    ∙ ap (λ (t : Text). Some (t, rows_of f)) c.in-graph.is in
+    no_graph_document (subcommand_rows_of c.args.matches.now) (rows_of f) is (no_value f (codes "document") c.get_str-in-graph-2.result c.in_err-document-in-graph.was c.get_str-in-graph-2.ensures)
+
+pub returns-in_ok-document-in-graph-clause-some : goal.returns-in_ok-document-in-graph-clause-some
+returns-in_ok-document-in-graph-clause-some c =
+    let f = found_of c.in_ok-name.words.now in
+    let is : subcommand_rows_of c.args.matches.now ≡ Some (codes "graph", rows_of f) =
+    entered_is c.args.matches.now c.subcommand.result c.in_ok-name.name c.in_ok-name.words c.in_ok-name.was c.subcommand.ensures.name c.subcommand.ensures.rows
+    ∙ ap (λ (t : Text). Some (t, rows_of f)) c.in-graph.is in (
+      rows_of f,
+      is,
+      value_is f (codes "module") c.get_str-in-graph.result c.in_ok-module-in-graph.module c.in_ok-module-in-graph.was c.get_str-in-graph.ensures,
+      value_is f (codes "document") c.get_str-in-graph-2.result c.in_ok-document-in-graph.document c.in_ok-document-in-graph.was c.get_str-in-graph-2.ensures,
     )

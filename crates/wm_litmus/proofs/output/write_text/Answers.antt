@@ -1,4 +1,4 @@
-use Rattle.std.proofs.Common.{List, ℕ, Option, subst, sym, ap}
+use Rattle.std.proofs.Common.{List, ℕ}
 use Rattle.wm_litmus.proofs.Writing.{HasFront, goes_on, rest_is, stays}
 use Rattle.wm_litmus.proofs.output.write_text.Goals.{in-Ok, in-Err}
 use Rattle.wm_litmus.proofs.output.write_text.Goals as goal

@@ -1,8 +1,10 @@
-use Rattle.std.proofs.Common.{◌≡◌, ℕ, List, Option, subst, string_bytes}
+use Rattle.std.proofs.Common.{◌≡◌, subst, string_bytes}
 use Rattle.std.proofs.lemmas.Result.{IfOk-weaker}
-use Rattle.wm_litmus.specs.Input.{IsReadOf}
+use Rattle.wm_litmus.specs.Drive.{IsScriptAnswer}
+use Rattle.wm_litmus.specs.Explanation.{AnswersExplain, AnswersGraph}
+use Rattle.wm_litmus.specs.Rounds.{IsRoundsAnswer}
 use Rattle.wm_litmus.specs.Answers.{AnswersCheck, AnswersComplete, AnswersMigrate, AnswersRules}
-use Rattle.wm_litmus.specs.Answers.IsAnswer.{check_of, complete_of, drive_of, migrate_of, rules_of, run_of}
+use Rattle.wm_litmus.specs.Answers.IsAnswer.{check_of, complete_of, drive_of, explain_of, graph_of, migrate_of, rules_of, run_of}
 use Rattle.wm_litmus.proofs.program.answer_of.Goals as goal
 
 pub returns-in_ok-rules_answer-in-Ok-Rules-clause-answers : goal.returns-in_ok-rules_answer-in-Ok-Rules-clause-answers
@@ -47,12 +49,46 @@ returns-in_ok-completion_answer-in-Ok-Complete-clause-answers g c =
     (subst (λ bytes. AnswersComplete bytes c.as_slice-in-Ok-Complete-2.result.now answer.status (string_bytes answer.text)) of_module
     c.in_ok-completion_answer-in-Ok-Complete.ensures))
 
+pub returns-in_ok-explain_answer-in-Ok-Explain-clause-answers :
+    goal.returns-in_ok-explain_answer-in-Ok-Explain-clause-answers
+returns-in_ok-explain_answer-in-Ok-Explain-clause-answers g c =
+    let answer = c.in_ok-explain_answer-in-Ok-Explain.field-0 in
+    let read = c.in_ok-read-in-Ok-Explain in
+    let of_module : c.as_slice-in-Ok-Explain.result.now ≡ read.read.0.items = c.as_slice-in-Ok-Explain.ensures.value in
+    let of_document : c.as_slice-in-Ok-Explain-2.result.now ≡ read.read.1.items = c.as_slice-in-Ok-Explain-2.ensures.value in
+    explain_of c.in-Ok-Explain.module c.in-Ok-Explain.document read.read.0.items read.read.1.items (rw c.in-Ok-Explain.field-0-is at c.in-Ok-Explain.ensures.read)
+    read.ensures.modules read.ensures.documents
+    (subst (λ bytes. AnswersExplain read.read.0.items bytes answer.status (string_bytes answer.text)) of_document
+    (subst (λ bytes. AnswersExplain bytes c.as_slice-in-Ok-Explain-2.result.now answer.status (string_bytes answer.text)) of_module
+    c.in_ok-explain_answer-in-Ok-Explain.ensures))
+
+pub returns-in_ok-graph_answer-in-Ok-Graph-clause-answers :
+    goal.returns-in_ok-graph_answer-in-Ok-Graph-clause-answers
+returns-in_ok-graph_answer-in-Ok-Graph-clause-answers g c =
+    let answer = c.in_ok-graph_answer-in-Ok-Graph.field-0 in
+    let read = c.in_ok-read-in-Ok-Graph in
+    let of_module : c.as_slice-in-Ok-Graph.result.now ≡ read.read.0.items = c.as_slice-in-Ok-Graph.ensures.value in
+    let of_document : c.as_slice-in-Ok-Graph-2.result.now ≡ read.read.1.items = c.as_slice-in-Ok-Graph-2.ensures.value in
+    graph_of c.in-Ok-Graph.module c.in-Ok-Graph.document read.read.0.items read.read.1.items (rw c.in-Ok-Graph.field-0-is at c.in-Ok-Graph.ensures.read)
+    read.ensures.modules read.ensures.documents
+    (subst (λ bytes. AnswersGraph read.read.0.items bytes answer.status (string_bytes answer.text)) of_document
+    (subst (λ bytes. AnswersGraph bytes c.as_slice-in-Ok-Graph-2.result.now answer.status (string_bytes answer.text)) of_module
+    c.in_ok-graph_answer-in-Ok-Graph.ensures))
+
 pub returns-in-Ok-Drive-clause-answers : goal.returns-in-Ok-Drive-clause-answers
 returns-in-Ok-Drive-clause-answers g c =
     let read = rw c.in-Ok-Drive.field-0-is at c.in-Ok-Drive.ensures.read in
-    IfOk-weaker c.script_of.result _ _ (λ answer is. drive_of c.in-Ok-Drive.module c.in-Ok-Drive.turns read is) c.script_of.ensures.answers
+    let turns = c.in-Ok-Drive.turns in
+    let file = g.F.Files.content_of c.args.files.now c.in-Ok-Drive.module.now in
+    IfOk-weaker c.script_of.result _ _
+    (λ answer is. drive_of c.in-Ok-Drive.module turns read (subst (λ starts. IsScriptAnswer file turns.now starts answer.status (string_bytes answer.text)) c.starts_of.ensures is))
+    c.script_of.ensures.answers
 
 pub returns-in-Ok-Run-clause-answers : goal.returns-in-Ok-Run-clause-answers
 returns-in-Ok-Run-clause-answers g c =
     let read = rw c.in-Ok-Run.field-0-is at c.in-Ok-Run.ensures.read in
-    IfOk-weaker c.rounds_of.result _ _ (λ answer is. run_of c.in-Ok-Run.module c.in-Ok-Run.rounds read is) c.rounds_of.ensures.answers
+    let rounds = c.in-Ok-Run.rounds in
+    let file = g.F.Files.content_of c.args.files.now c.in-Ok-Run.module.now in
+    IfOk-weaker c.rounds_of.result _ _
+    (λ answer is. run_of c.in-Ok-Run.module rounds read (subst (λ starts. IsRoundsAnswer file rounds.now starts answer.status (string_bytes answer.text)) c.starts_of-in-Ok-Run.ensures is))
+    c.rounds_of.ensures.answers

@@ -9,10 +9,10 @@ returns-in_ok-answer-in-Ok-clause-answers g c =
     let answer = c.in_ok-answer-in-Ok.answer in
     let bytes = c.in_ok-bytes-in-Ok.bytes.items in
     let slice : c.as_slice.result.now ≡ bytes = c.as_slice.ensures.value in
-    ran rounds.plan bytes c.in-Ok.ensures.steps c.in-Ok.ensures.drains c.in_ok-bytes-in-Ok.ensures.known
-    (subst (λ b. AnswersRounds b rounds.plan answer.status (string_bytes answer.text)) slice c.in_ok-answer-in-Ok.ensures)
+    ran rounds bytes c.in-Ok.ensures.spelled c.in_ok-bytes-in-Ok.ensures.known
+    (subst (λ b. AnswersRounds b rounds.plan rounds.count answer.status (string_bytes answer.text)) slice c.in_ok-answer-in-Ok.ensures)
 
 pub returns-in_ok-answer-in-Err-clause-answers : goal.returns-in_ok-answer-in-Err-clause-answers
 returns-in_ok-answer-in-Err-clause-answers g c =
     let prints = c.in_ok-answer-in-Err.ensures in
-    no_rounds c.in-Err.fault prints.0 prints.1.status_is prints.1.text_is
+    no_rounds c.in-Err.fault prints.0 c.in-Err.ensures.fault prints.1.status_is prints.1.text_is

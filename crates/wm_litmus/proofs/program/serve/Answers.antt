@@ -1,4 +1,4 @@
-use Rattle.std.proofs.Common.{List, ℕ, string_bytes, subst}
+use Rattle.std.proofs.Common.{string_bytes, subst}
 use Rattle.wm_litmus.specs.Answers.WritesFront.{front}
 use Rattle.wm_litmus.specs.Output.{AppendsFront}
 use Rattle.wm_litmus.proofs.program.serve.Goals as goal

@@ -1,10 +1,14 @@
-use Rattle.std.proofs.Common.{◌≡◌, ◌∙◌, rules, subst}
+use Rattle.std.proofs.Common.{[], ◌∷◌, ◌++◌, ◌≡◌, ◌∙◌, ap, rules, subst}
 use Rattle.std.specs.Prelude.{◌≢◌}
 use Rattle.wm_check.specs.Verdicts.{Says}
 use Rattle.wm_run.specs.declared.fault.RunFault.TheVariants.{OutOfMemory}
-use Rattle.wm_litmus.specs.Drive.{run_text}
-use Rattle.wm_litmus.specs.Rounds.AnswersRounds.{not_allowed, refused}
-use Rattle.wm_litmus.proofs.Answering.{says}
+use Rattle.wm_check.specs.declared.verdict.Verdict.TheVariants.{Allowed}
+use Rattle.wm_litmus.specs.Counts.{Counts}
+use Rattle.wm_litmus.specs.Lines.{verdict_status, verdict_text}
+use Rattle.wm_litmus.specs.Own.{IsMadeOf, run_text}
+use Rattle.wm_litmus.specs.Prints.{ended}
+use Rattle.wm_litmus.specs.Rounds.AnswersRounds.{refused, too_large}
+use Rattle.wm_litmus.proofs.OwnVerdicts.{only_large}
 use Rattle.wm_litmus.proofs.rounds.count_round.Goals as goal
 
 pub returns-in-Err : goal.returns-in-Err
@@ -13,11 +17,30 @@ returns-in-Err g c =
     let other : c.in-Err.fault ≢ OutOfMemory = search rules in
     refused c.args.module.now c.in-Err.fault c.requires other c.in-Err.ensures.refused prints.status_is prints.text_is
 
+pub returns-in-Allowed : goal.returns-in-Allowed
+returns-in-Allowed g c =
+    let run = c.in-Ok.run' in
+    let certificate = c.in-Allowed.field-0 in
+    record {
+      run = run;
+      allowed = record {
+        round = c.in-Ok.ensures.round;
+        certificate = certificate;
+        says = subst (λ v. Says c.args.module_bytes.now (run_text run) v) c.in-Allowed.is c.in_ok-checked.ensures.says;
+      };
+      counted = λ came h small. subst (λ outcome. Counts (came ++ outcome ∷ []) c.add.new.self.counts) c.in_ok-outcome.ensures (c.in_ok-add.ensures came h small);
+    }
+
 pub returns : goal.returns
 returns g c =
     let run = c.in-Ok.run' in
-    let bytes : c.as_bytes.result.now ≡ run_text run = c.as_bytes.ensures.value ∙ c.in_ok-document.ensures.text in
-    let v = c.in_ok-verdict.verdict in
-    let is = says c.args.module_bytes.now c.as_bytes.result.now v c.in_ok-verdict.ensures.allowed c.in_ok-verdict.ensures.refused c.in_ok-verdict.ensures.broken in
+    let v = c.in_ok-checked.checked.verdict in
     let prints = c.in_ok-of_verdict.ensures in
-    not_allowed c.args.module.now run v c.requires c.in-Ok.ensures.round (subst (λ d. Says c.args.module_bytes.now d v) bytes is) prints.status_is prints.text_is
+    let large = only_large run v c.in_default.not-Allowed c.in_ok-checked.ensures.own in
+    too_large c.args.module.now run c.requires c.in-Ok.ensures.round large.1
+    (prints.status_is ∙ ap verdict_status large.0) (prints.text_is ∙ ap (λ w. ended (verdict_text w)) large.0)
+
+pub check_own-requires-clause-made : goal.check_own-requires-clause-made
+check_own-requires-clause-made g c =
+    let made : IsMadeOf c.args.module_bytes.now c.in-Ok.run' = record { «module» = c.args.module.now; modules = c.requires; own = c.in-Ok.ensures.round.own; within = c.in-Ok.ensures.within } in
+    λ _ _. made

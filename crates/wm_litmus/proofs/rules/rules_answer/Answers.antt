@@ -20,6 +20,7 @@ returns-in-Err g c =
     (record {
       no_document = λ log witness d. c.in-Err.ensures.refused prints.0 d.small log witness d.is_log d.limits d.spelled;
       too_large = c.in-Err.ensures.too_large;
+      large = c.in-Err.ensures.large;
       no_want = prints.0;
       placed = c.in-Err.ensures.placed;
     })

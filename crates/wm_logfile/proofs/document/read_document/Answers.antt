@@ -1,6 +1,6 @@
 use Rattle.std.proofs.Common.{arith}
 use Rattle.serde_json.specs.View.{view}
-use Rattle.wm_logfile.proofs.Answer.{spelled, within, only, refused, not_misplaced}
+use Rattle.wm_logfile.proofs.Answer.{spelled, within, only, refused, not_large, not_misplaced}
 use Rattle.wm_logfile.proofs.document.read_document.Goals as goal
 
 pub returns-in-Ok-clause-spelled : goal.returns-in-Ok-clause-spelled
@@ -18,6 +18,9 @@ returns-in-Ok-clause-only c =
 pub returns-in-Ok-clause-refused : goal.returns-in-Ok-clause-refused
 returns-in-Ok-clause-refused c =
     refused c.args.bytes.now (view c.in-Ok.value) c.document_of.result (record { utf8 = c.in-Ok.ensures.ok.0; text = c.in-Ok.ensures.ok.1; given = c.document_of.ensures.given })
+
+pub returns-in-Ok-clause-large : goal.returns-in-Ok-clause-large
+returns-in-Ok-clause-large c = not_large c.args.bytes.now c.document_of.result (omega arith)
 
 pub returns-in-Ok-clause-placed : goal.returns-in-Ok-clause-placed
 returns-in-Ok-clause-placed c =

@@ -9,6 +9,7 @@ returns-in_err-log-clause-refused c =
     (λ memory misplaced. record {
       no_document = λ log witness document. read.refused memory document.small log witness document.is_log document.limits document.spelled;
       too_large = read.too_large;
+      large = read.large;
       no_want = memory;
       placed = misplaced;
     })

@@ -3,7 +3,8 @@ use Rattle.wm_event.specs.LoggedRun.{LoggedRun}
 use Rattle.wm_event.proofs.FittingLemmas.{fits_log}
 use Rattle.wm_recorder.specs.Recorder.{initial_of}
 use Rattle.wm_valid.specs.Valid.{IsInit}
-use Rattle.wm_run.proofs.Together.{events_of_whole, one_init, whole}
+use Rattle.wm_valid.proofs.Initial.{one_init}
+use Rattle.wm_run.proofs.Together.{events_of_whole, whole}
 use Rattle.wm_run.proofs.gathering.gather.Goals as goal
 
 pub returns-then-not-same_bytes-clause-refused : goal.returns-then-not-same_bytes-clause-refused

@@ -1,7 +1,8 @@
-use Rattle.std.proofs.Common.{subst, sym}
+use Rattle.std.proofs.Common.{rules, subst, sym}
+use Rattle.wm_run.specs.Plan.{IsPlan}
 use Rattle.wm_run.specs.Launch.{AreLaunched}
 use Rattle.wm_recorder.specs.Recorder.{IsNew}
-use Rattle.wm_run.proofs.Driving.{Drives, is_own, is_scripted, launched_set}
+use Rattle.wm_run.proofs.Driving.{Drives, is_own, is_scripted, is_within, launched_set}
 use Rattle.wm_run.proofs.script.drive.Goals as goal
 
 pub play-requires-clause-set : goal.play-requires-clause-set
@@ -34,3 +35,17 @@ returns-clause-own c =
       finished = rw (← c.as_slice-starts.ensures, ← c.as_slice.ensures.value) c.in_ok-run.ensures;
     } in
     is_own c.args.module.now c.args.plan.now c.args.turns.now c.in_ok-runners.runners.items c.in_ok-recorder.recorder c.play.new.runners.items c.play.new.recorder c.in_ok-run.run' d
+
+pub returns-clause-within : goal.returns-clause-within
+returns-clause-within c =
+    let new = subst (λ n. IsNew n c.initial.result.now c.in_ok-recorder.recorder) (sym c.in_ok-runners.ensures.launched.count) c.in_ok-recorder.ensures in
+    let d : Drives c.args.module.now c.args.plan.now c.args.turns.now c.in_ok-runners.runners.items c.in_ok-recorder.recorder c.play.new.runners.items c.play.new.recorder c.in_ok-run.run' = record {
+      initial = c.initial.result.now;
+      is_init = c.initial.ensures;
+      launched = subst (λ starts. AreLaunched c.args.module.now starts c.in_ok-runners.runners.items) c.as_slice-starts.ensures c.in_ok-runners.ensures.launched;
+      new = new;
+      plays = c.in_ok-play.ensures;
+      finished = rw (← c.as_slice-starts.ensures, ← c.as_slice.ensures.value) c.in_ok-run.ensures;
+    } in
+    let planned : IsPlan c.args.plan.now c.args.turns.now = search rules in
+    is_within c.args.module.now c.args.plan.now c.args.turns.now c.in_ok-runners.runners.items c.in_ok-recorder.recorder c.play.new.runners.items c.play.new.recorder c.in_ok-run.run' planned d

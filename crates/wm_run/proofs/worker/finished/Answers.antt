@@ -10,6 +10,6 @@ invariant_of-result c =
     let at = config_of c.args.running.now in
     let before = stands m c.args.thread c.args.start c.end_of.result c.args.events.items c.args.steps at c.requires.run in
     record {
-      is_run = rw (c.of.ensures, c.end_of.ensures, c.into_list.ensures) (run_is m c.args.thread c.args.start c.args.events.items c.args.steps at c.requires.run);
+      is_run = rw (c.of.ensures, c.end_of.ensures.end, c.into_list.ensures) (run_is m c.args.thread c.args.start c.args.events.items c.args.steps at c.requires.run);
       stopped = rw (c.of.ensures, c.into_list.ensures) (ap (λ b. is_own c.args.stop || b) before ∙ c.requires.stopped);
     }

@@ -19,7 +19,7 @@ returns-in-Some g c =
     c.in_ok-own.ensures (c.loop-made.invariant.program ∙ c.in-Ok.ensures.ok.1) stopped.0 (ap config_of stopped.1) c.loop-made.invariant.leads in
     stopped_early (g.G.Gate.is_open c.args.gate.now) c.args.module.now c.loop-made.running.module c.args.thread c.args.start.now c.in_ok-own.own c.loop-made.made c.args.steps c.in-Some.stop
     (config_of c.loop-made.running) (config_of c.step.new.running) c.step.new.events.items c.finished.result stopped.2 ran (ap config_of stopped.1) c.finished.ensures.given
-    c.finished.ensures.end (omega (arith, c.loop-made-test.true)) c.in_ok-own.ensures
+    c.finished.ensures.end c.finished.ensures.fits (omega (arith, c.loop-made-test.true)) c.in_ok-own.ensures
 
 pub finished-requires-2-clause-run : goal.finished-requires-2-clause-run
 finished-requires-2-clause-run g c =

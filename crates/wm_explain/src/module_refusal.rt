@@ -1,0 +1,177 @@
+//! Why a module is refused.
+
+use std::alloc::{AllocError, Global};
+use std::fmt;
+use wm_decode::{DecodeFault, FaultKind, Limit};
+use wm_valid::{FaultKind as ValidKind, Location, ValidFault};
+
+/// How many bytes are shown before a faulty one, and how many from it on.
+const AROUND: usize = 8;
+
+/// What there is too much of.
+#[derive(Clone, Copy)]
+struct LimitSentence(Limit);
+
+impl fmt::Display for LimitSentence {
+    fn fmt<W: fmt::Write>(&self, f: &mut fmt::Formatter<W>) -> fmt::Result {
+        match self.0 {
+            Limit::ModuleBytes => f.write_str("The module has more than 1048576 bytes."),
+            Limit::Pages => f.write_str("The memory has more than 16 pages at first."),
+            Limit::Functions => f.write_str("The module has more than 1000 functions."),
+            Limit::Locals => {
+                f.write_str("A function has more than 1000 parameters and locals together.")
+            }
+            Limit::Nesting => {
+                f.write_str("In a function's body more than 64 blocks stand inside one another.")
+            }
+        }
+    }
+}
+
+/// What is wrong with the bytes of a module.
+#[derive(Clone, Copy)]
+pub(crate) struct DecodeSentence(pub FaultKind);
+
+impl fmt::Display for DecodeSentence {
+    fn fmt<W: fmt::Write>(&self, f: &mut fmt::Formatter<W>) -> fmt::Result {
+        match self.0 {
+            FaultKind::Magic => f.write_str("A binary module begins with the bytes 00 61 73 6d."),
+            FaultKind::Version => {
+                f.write_str(
+                    "Behind its first four bytes a binary module has 01 00 00 00, the version.",
+                )
+            }
+            FaultKind::Truncated => f.write_str("The bytes end where more have to come."),
+            FaultKind::BadNumber => f.write_str(
+                "A number is too long or too large here, or a byte isn't one of those that may stand here.",
+            ),
+            FaultKind::BadName => f.write_str("A name isn't UTF-8."),
+            FaultKind::SectionOrder => f.write_str(
+                "A section stands twice, or behind one that it has to stand before.",
+            ),
+            FaultKind::SectionSize => f.write_str(
+                "An item runs past the size of its section or body, or bytes are left over there.",
+            ),
+            FaultKind::CountMismatch => f.write_str("Two counts that have to agree don't agree."),
+            FaultKind::UnknownOpcode(opcode) => {
+                write!(f, "No instruction has the opcode {opcode:02x}.")
+            }
+            FaultKind::Unsupported(feature) => write!(
+                f,
+                "The module uses a part of WebAssembly that is left out here: {feature}."
+            ),
+            FaultKind::Limit(limit) => write!(f, "{}", LimitSentence(limit)),
+            FaultKind::DuplicateExport => f.write_str("Two exports have one name."),
+        }
+    }
+}
+
+/// The bytes round an offset, the one there in brackets.
+#[derive(Clone, Copy)]
+struct BytesAround<'a>(&'a [u8], usize);
+
+impl fmt::Display for BytesAround<'_> {
+    fn fmt<W: fmt::Write>(&self, f: &mut fmt::Formatter<W>) -> fmt::Result {
+        let BytesAround(bytes, offset) = *self;
+        for (position, byte) in bytes.iter().enumerate() {
+            if position.saturating_add(AROUND) < offset
+                || position > offset.saturating_add(AROUND)
+            {
+                continue;
+            }
+            if position == offset {
+                write!(f, " [{byte:02x}]")?;
+            } else {
+                write!(f, " {byte:02x}")?;
+            }
+        }
+        Ok(())
+    }
+}
+
+/// Why bytes are no module within the limits.
+///
+/// # Errors
+///
+/// Only where memory was refused.
+pub(crate) fn decode_reason(
+    alloc: Global,
+    fault: &DecodeFault,
+    bytes: &[u8],
+) -> Result<String, AllocError> {
+    match fault {
+        DecodeFault::OutOfMemory => Err(AllocError),
+        DecodeFault::At(kind, offset) => {
+            let sentence = DecodeSentence(*kind);
+            let around = BytesAround(bytes, *offset);
+            let size = bytes.len();
+            format!(in alloc;
+                "The bytes are no module that is read here, from byte {offset} of {size} on. {sentence}\nThe bytes there, the one at {offset} in brackets:{around}\n"
+            )
+        }
+    }
+}
+
+/// Which rule a module breaks.
+#[derive(Clone, Copy)]
+pub(crate) struct ValidSentence(pub ValidKind);
+
+impl fmt::Display for ValidSentence {
+    fn fmt<W: fmt::Write>(&self, f: &mut fmt::Formatter<W>) -> fmt::Result {
+        match self.0 {
+            ValidKind::BadType => f.write_str(
+                "The operands, a label, a global or an offset aren't of the types that are wanted there, or a constant global is set.",
+            ),
+            ValidKind::Index => f.write_str(
+                "A type, function, local, global or memory is named by an index that isn't there.",
+            ),
+            ValidKind::Label => {
+                f.write_str("A branch names a label, and fewer blocks stand around it.")
+            }
+            ValidKind::Alignment => f.write_str(
+                "A plain access may not claim more alignment than its width, and an atomic one has to claim just its width.",
+            ),
+            ValidKind::DataOutOfRange => {
+                f.write_str("A data segment doesn't lie in the memory as it is at first.")
+            }
+            ValidKind::MemoryAbsent => {
+                f.write_str("An instruction or a data segment needs a memory, and there is none.")
+            }
+            ValidKind::MemoryLimits => f.write_str(
+                "The memory's maximum is below its minimum, or above 65536 pages.",
+            ),
+        }
+    }
+}
+
+/// Where a module breaks a rule.
+#[derive(Clone, Copy)]
+struct LocationPhrase(Location);
+
+impl fmt::Display for LocationPhrase {
+    fn fmt<W: fmt::Write>(&self, f: &mut fmt::Formatter<W>) -> fmt::Result {
+        match self.0 {
+            Location::Module => f.write_str("outside the functions' instructions"),
+            Location::Instr { func, instr } => write!(
+                f,
+                "in function {func} at instruction {instr}, both counted from 0, and each else and end counted too"
+            ),
+        }
+    }
+}
+
+/// Why a module isn't valid.
+///
+/// # Errors
+///
+/// Only where memory was refused.
+pub(crate) fn valid_reason(alloc: Global, fault: &ValidFault) -> Result<String, AllocError> {
+    match fault {
+        ValidFault::OutOfMemory => Err(AllocError),
+        ValidFault::At(kind, location) => {
+            let sentence = ValidSentence(*kind);
+            let place = LocationPhrase(*location);
+            format!(in alloc; "The bytes spell a module that isn't valid, {place}. {sentence}\n")
+        }
+    }
+}

@@ -1,0 +1,156 @@
+//! Events, writers and ends in words.
+
+use std::fmt;
+use wm_access::RmwOperator;
+use wm_event::{End, Event, EventId, OpFields, OpKind};
+
+/// A number of things, as `1 step` or `2 steps`.
+#[derive(Clone, Copy)]
+pub(crate) struct Count<'a>(pub u64, pub &'a str);
+
+impl fmt::Display for Count<'_> {
+    fn fmt<W: fmt::Write>(&self, f: &mut fmt::Formatter<W>) -> fmt::Result {
+        let Count(number, thing) = *self;
+        if number == 1 {
+            write!(f, "{number} {thing}")
+        } else {
+            write!(f, "{number} {thing}s")
+        }
+    }
+}
+
+/// How an access is ordered.
+fn order_word(atomic: bool) -> &'static str {
+    if atomic { "atomic" } else { "plain" }
+}
+
+/// Whether an access is an atomic one, what it does, its range and its values.
+#[derive(Clone, Copy)]
+pub(crate) struct EventPhrase<'a>(pub &'a Event);
+
+impl fmt::Display for EventPhrase<'_> {
+    fn fmt<W: fmt::Write>(&self, f: &mut fmt::Formatter<W>) -> fmt::Result {
+        let event = self.0;
+        let order = order_word(event.is_atomic());
+        let size = Count(u64::from(event.width.bytes()), "byte");
+        let address = event.address;
+        let read = event.read;
+        let written = event.written;
+        match (event.reads(), event.writes()) {
+            (true, true) => write!(
+                f,
+                "{order} update of {size} at address {address}, which reads {read} and writes {written}"
+            ),
+            (true, false) => write!(
+                f,
+                "{order} read of {size} at address {address}, which reads {read}"
+            ),
+            (false, _) => write!(
+                f,
+                "{order} write of {size} at address {address}, which writes {written}"
+            ),
+        }
+    }
+}
+
+/// What an update makes of the value that it reads.
+fn operator_word(operator: RmwOperator) -> &'static str {
+    match operator {
+        RmwOperator::Add => "adds",
+        RmwOperator::Sub => "subtracts",
+        RmwOperator::And => "ands",
+        RmwOperator::Or => "ors",
+        RmwOperator::Xor => "xors",
+        RmwOperator::Xchg => "writes",
+    }
+}
+
+/// An access that isn't made yet.
+#[derive(Clone, Copy)]
+pub(crate) struct OpPhrase(pub OpFields);
+
+impl fmt::Display for OpPhrase {
+    fn fmt<W: fmt::Write>(&self, f: &mut fmt::Formatter<W>) -> fmt::Result {
+        let fields = self.0;
+        let order = order_word(fields.order.is_atomic());
+        let size = Count(u64::from(fields.width.bytes()), "byte");
+        let address = fields.address;
+        match fields.kind {
+            OpKind::Read => write!(f, "{order} read of {size} at address {address}"),
+            OpKind::Write(value) => write!(
+                f,
+                "{order} write of {size} at address {address}, which writes {value}"
+            ),
+            OpKind::Rmw(operator, operand) => {
+                let word = operator_word(operator);
+                write!(
+                    f,
+                    "{order} update of {size} at address {address}, which {word} {operand}"
+                )
+            }
+            OpKind::CmpXchg(expected, new) => write!(
+                f,
+                "{order} compare-exchange of {size} at address {address}, which writes {new} where it reads {expected}"
+            ),
+        }
+    }
+}
+
+/// Who wrote the bytes that were read: one event, or which bytes each wrote.
+#[derive(Clone, Copy)]
+pub(crate) struct WritersPhrase<'a>(pub &'a [EventId]);
+
+impl fmt::Display for WritersPhrase<'_> {
+    fn fmt<W: fmt::Write>(&self, f: &mut fmt::Formatter<W>) -> fmt::Result {
+        let writers = self.0;
+        let mut first = 0usize;
+        for (last, writer) in writers.iter().enumerate() {
+            let behind = last.saturating_add(1);
+            if writers.get(behind) == Some(writer) {
+                continue;
+            }
+            if first == 0 && behind == writers.len() {
+                return write!(f, "from {writer}");
+            }
+            if first > 0 {
+                f.write_str(", ")?;
+            }
+            write!(f, "{} from {writer}", BytesPhrase { first, last })?;
+            first = behind;
+        }
+        Ok(())
+    }
+}
+
+/// The bytes of a range from the first to the last one.
+#[derive(Clone, Copy)]
+struct BytesPhrase {
+    first: usize,
+    last: usize,
+}
+
+impl fmt::Display for BytesPhrase {
+    fn fmt<W: fmt::Write>(&self, f: &mut fmt::Formatter<W>) -> fmt::Result {
+        let BytesPhrase { first, last } = *self;
+        if first == last {
+            write!(f, "byte {first}")
+        } else {
+            write!(f, "bytes {first} to {last}")
+        }
+    }
+}
+
+/// How a thread ends.
+#[derive(Clone, Copy)]
+pub(crate) struct EndPhrase(pub End);
+
+impl fmt::Display for EndPhrase {
+    fn fmt<W: fmt::Write>(&self, f: &mut fmt::Formatter<W>) -> fmt::Result {
+        match self.0 {
+            End::Done(Some(value)) => write!(f, "returns {value}"),
+            End::Done(None) => f.write_str("returns nothing"),
+            End::Trap(kind) => write!(f, "traps ({kind})"),
+            End::Cut => f.write_str("has not ended"),
+        }
+    }
+}

@@ -1,0 +1,106 @@
+//! Why a verdict says what it says.
+
+use crate::allowed::allowed_reason;
+use crate::log_refusal::{document_reason, shape_reason};
+use crate::module_refusal::{decode_reason, valid_reason};
+use crate::replay::replay_reason;
+use crate::rule::rule_reason;
+use std::alloc::{AllocError, Global};
+use std::thread::Threads;
+use wm_check::{Breach, Refusal, Unread, Verdict, read_module};
+use wm_event::{Candidate, Log, Witness};
+use wm_logfile::{DocFault, read_document};
+use wm_rules::judge;
+use wm_valid::ValidModule;
+
+/// A log with its witness, None where the bytes spell none.
+fn read_log(alloc: Global, bytes: &[u8]) -> Result<Option<(Log, Witness)>, AllocError> {
+    match read_document(alloc, bytes) {
+        Ok(read) => Ok(Some(read)),
+        Err(DocFault::OutOfMemory) => Err(AllocError),
+        Err(_) => Ok(None),
+    }
+}
+
+/// Why a refusal comes.
+fn refusal_reason(
+    alloc: Global,
+    refusal: &Refusal,
+    module_bytes: &[u8],
+    document_bytes: &[u8],
+) -> Result<String, AllocError> {
+    match refusal {
+        Refusal::Decode(fault) => decode_reason(alloc, fault, module_bytes),
+        Refusal::Valid(fault) => valid_reason(alloc, fault),
+        Refusal::Document(fault) => document_reason(alloc, fault, document_bytes),
+        Refusal::Shape(fault) => {
+            let module = match read_module(alloc, module_bytes) {
+                Ok(module) => module,
+                Err(Unread::OutOfMemory) => return Err(AllocError),
+                Err(Unread::Refused(_)) => return Ok(String::new(alloc)),
+            };
+            let Some((log, witness)) = read_log(alloc, document_bytes)? else {
+                return Ok(String::new(alloc));
+            };
+            shape_reason(alloc, *fault, &log, &witness, module.initial().len())
+        }
+    }
+}
+
+/// Why a candidate has its verdict.
+fn candidate_reason<R: AllocGlobal + Threads + Sync>(
+    rt: &R,
+    verdict: &Verdict,
+    module: &ValidModule,
+    candidate: &Candidate,
+) -> Result<String, AllocError> {
+    match verdict {
+        Verdict::Refused(_) => Ok(String::new(rt.alloc())),
+        Verdict::Allowed(_) => allowed_reason(rt.alloc(), candidate),
+        Verdict::Broken(Breach::Rule(fault)) => rule_reason(rt.alloc(), candidate, fault),
+        Verdict::Broken(Breach::Replay(answer)) => {
+            let judgement = judge(rt, candidate)?;
+            replay_reason(rt.alloc(), module, candidate, *answer, &judgement)
+        }
+    }
+}
+
+/// Why a log with a witness has its verdict over the initial memory of a module.
+fn log_reason<R: AllocGlobal + Threads + Sync>(
+    rt: &R,
+    verdict: &Verdict,
+    module: &ValidModule,
+    log: Log,
+    witness: Witness,
+) -> Result<String, AllocError> {
+    match Candidate::new(rt.alloc(), log, witness, module.initial()) {
+        Ok(candidate) => candidate_reason(rt, verdict, module, &candidate),
+        Err(_) => Err(AllocError),
+    }
+}
+
+/// What stands behind the line of the verdict that [`check`](wm_check::check) gave on the bytes of a module and of a
+/// document: in sentences and a table, each line ended by a newline.
+///
+/// # Errors
+///
+/// Only where memory was refused.
+pub fn explain<R: AllocGlobal + Threads + Sync>(
+    rt: &R,
+    verdict: &Verdict,
+    module_bytes: &[u8],
+    document_bytes: &[u8],
+) -> Result<String, AllocError> {
+    if let Verdict::Refused(refusal) = verdict {
+        return refusal_reason(rt.alloc(), refusal, module_bytes, document_bytes);
+    }
+    let module = match read_module(rt.alloc(), module_bytes) {
+        Ok(module) => module,
+        Err(Unread::OutOfMemory) => return Err(AllocError),
+        Err(Unread::Refused(_)) => return Ok(String::new(rt.alloc())),
+    };
+    let Some((log, witness)) = read_log(rt.alloc(), document_bytes)? else {
+        return Ok(String::new(rt.alloc()));
+    };
+    log_reason(rt, verdict, &module, log, witness)
+}

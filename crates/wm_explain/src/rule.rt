@@ -1,0 +1,349 @@
+//! Why a memory rule is broken.
+ghost use Rattle.wm_event.specs.LoggedRun.{execution};
+ghost use Rattle.wm_event.specs.Rules.{KeepsOrder};
+
+use crate::chain::{Link, LinkKind, shortest_chain};
+use crate::row::{HEAD, add_row};
+use std::alloc::{AllocError, Global};
+use std::fmt;
+use wm_event::{Candidate, EventId, Rule, RuleFault, byte_of};
+use wm_hb::Ordered;
+
+/// A fault with what is said of its byte.
+#[derive(Clone, Copy)]
+struct RuleSentence {
+    fault: RuleFault,
+    /// The address of the byte.
+    address: u64,
+    /// The byte that was read.
+    read: u8,
+    /// The byte that the writer leaves there, where it writes there.
+    written: Option<u8>,
+}
+
+/// The other write of a fault, as it prints.
+#[derive(Clone, Copy)]
+struct OtherName(Option<EventId>);
+
+impl fmt::Display for OtherName {
+    fn fmt<W: fmt::Write>(&self, f: &mut fmt::Formatter<W>) -> fmt::Result {
+        match self.0 {
+            None => f.write_str("another write"),
+            Some(id) => write!(f, "{id}"),
+        }
+    }
+}
+
+/// The byte that a writer leaves, as it prints.
+#[derive(Clone, Copy)]
+struct ByteName(Option<u8>);
+
+impl fmt::Display for ByteName {
+    fn fmt<W: fmt::Write>(&self, f: &mut fmt::Formatter<W>) -> fmt::Result {
+        match self.0 {
+            None => f.write_str("nothing"),
+            Some(byte) => write!(f, "{byte}"),
+        }
+    }
+}
+
+impl RuleSentence {
+    /// What is said of a fault of a candidate.
+    fn of(candidate: &Candidate, fault: &RuleFault) -> RuleSentence {
+        let (start, value) = match candidate.event(EventId::At(fault.event)) {
+            None => (0, 0),
+            Some(event) => (u64::from(event.address), event.read),
+        };
+        let address = start.saturating_add(u64::from(fault.byte));
+        let read = if fault.byte < 8 {
+            byte_of(value, fault.byte)
+        } else {
+            0
+        };
+        RuleSentence {
+            fault: *fault,
+            address,
+            read,
+            written: candidate.byte_by(fault.writer, address),
+        }
+    }
+
+    /// Writes the sentence on written values.
+    fn write_values<W: fmt::Write>(&self, f: &mut fmt::Formatter<W>) -> fmt::Result {
+        let RuleFault {
+            case,
+            event,
+            byte,
+            writer,
+            ..
+        } = self.fault;
+        let address = self.address;
+        match case {
+            1 => write!(
+                f,
+                "{event} takes its byte {byte}, at address {address}, from itself: what an update writes can't be what it reads."
+            ),
+            2 => write!(
+                f,
+                "{event} takes its byte {byte}, at address {address}, from {writer}, which doesn't write that address."
+            ),
+            _ => write!(
+                f,
+                "{event} takes its byte {byte}, at address {address}, from {writer}: it reads {} there, and {writer} wrote {}.",
+                self.read,
+                ByteName(self.written)
+            ),
+        }
+    }
+
+    /// Writes the sentence on the order.
+    fn write_order<W: fmt::Write>(&self, f: &mut fmt::Formatter<W>) -> fmt::Result {
+        let RuleFault {
+            case,
+            event,
+            writer,
+            ..
+        } = self.fault;
+        match case {
+            1 => write!(
+                f,
+                "{writer} comes before {event} in their thread, and the order doesn't list it before {event}."
+            ),
+            _ => write!(
+                f,
+                "{event} reads from {writer}, and both are atomic accesses of one range: so {writer} synchronizes with {event} and happens before it, and the order doesn't list it before {event}."
+            ),
+        }
+    }
+
+    /// Writes the sentence on coherence.
+    fn write_coherence<W: fmt::Write>(&self, f: &mut fmt::Formatter<W>) -> fmt::Result {
+        let RuleFault {
+            case,
+            event,
+            byte,
+            writer,
+            other,
+            ..
+        } = self.fault;
+        let address = self.address;
+        let other = OtherName(other);
+        match case {
+            1 => write!(
+                f,
+                "{event} takes its byte {byte}, at address {address}, from {writer}, but {event} happens before {writer}: nothing is read before it is written."
+            ),
+            _ => write!(
+                f,
+                "{event} takes its byte {byte}, at address {address}, from {writer}, but {other} writes that address too, {writer} happens before {other}, and {other} happens before {event}: so the byte of {writer} was overwritten before {event} reads."
+            ),
+        }
+    }
+
+    /// Writes the sentence on tearing.
+    fn write_tearing<W: fmt::Write>(&self, f: &mut fmt::Formatter<W>) -> fmt::Result {
+        let RuleFault {
+            event,
+            byte,
+            writer,
+            other,
+            ..
+        } = self.fault;
+        let other = OtherName(other);
+        write!(
+            f,
+            "{event} takes its byte {byte} from {writer} and an earlier byte from {other}. All three are accesses of one range that may not tear (atomic, or plain of at most 4 bytes at a multiple of their width): {event} has to see one of the two writes whole."
+        )
+    }
+
+    /// Writes the sentence on the order of atomic accesses.
+    fn write_consistency<W: fmt::Write>(&self, f: &mut fmt::Formatter<W>) -> fmt::Result {
+        let RuleFault {
+            case,
+            event,
+            writer,
+            other,
+            ..
+        } = self.fault;
+        let other = OtherName(other);
+        match case {
+            1 => write!(
+                f,
+                "{event} reads from {writer}, which synchronizes with it, but {other}, an atomic write of the same range, stands between the two in the order: {event} has to see {other} or what comes behind it."
+            ),
+            2 => write!(
+                f,
+                "{event} reads from {writer}, but {other}, an atomic write of the range of {writer}, stands between the two in the order, and both writes are atomic and happen before {event}: {event} has to see {other} or what comes behind it."
+            ),
+            _ => write!(
+                f,
+                "{event} is atomic and reads from {writer}, but {other}, an atomic write of the same range, stands between the two in the order, and {writer} happens before both: {event} has to see {other} or what comes behind it."
+            ),
+        }
+    }
+}
+
+impl fmt::Display for RuleSentence {
+    fn fmt<W: fmt::Write>(&self, f: &mut fmt::Formatter<W>) -> fmt::Result {
+        match self.fault.rule {
+            Rule::WrittenValues => self.write_values(f),
+            Rule::Order => self.write_order(f),
+            Rule::Coherence => self.write_coherence(f),
+            Rule::NoTearing => self.write_tearing(f),
+            Rule::SequentialConsistency => self.write_consistency(f),
+        }
+    }
+}
+
+/// A rule by what it asks.
+#[derive(Clone, Copy)]
+struct RuleName(Rule);
+
+impl fmt::Display for RuleName {
+    fn fmt<W: fmt::Write>(&self, f: &mut fmt::Formatter<W>) -> fmt::Result {
+        match self.0 {
+            Rule::WrittenValues => {
+                f.write_str("V1, written values: each byte read was written so by its writer.")
+            }
+            Rule::Order => f.write_str(
+                "V2, order: what happens before an event stands before it in the order.",
+            ),
+            Rule::Coherence => f.write_str(
+                "V3, coherence: a read doesn't happen before its writer, and no write of the byte happens between the two.",
+            ),
+            Rule::NoTearing => f.write_str(
+                "V4, no tearing: a read that may not tear sees at most one such write of its range.",
+            ),
+            Rule::SequentialConsistency => f.write_str(
+                "V5, sequential consistency: no atomic write stands in the order between a read and its writer where the two are ordered by atomic accesses.",
+            ),
+        }
+    }
+}
+
+/// The pairs of events of which a fault of a memory rule says that the first happens before the second.
+pub fn grounds(fault: &RuleFault) -> [Option<(EventId, EventId)>; 2] {
+    let event = EventId::At(fault.event);
+    let writer = fault.writer;
+    match (fault.rule, fault.case, fault.other) {
+        (Rule::Coherence, 1, _) => [Some((event, writer)), None],
+        (Rule::Coherence, _, Some(other)) => [Some((writer, other)), Some((other, event))],
+        (Rule::SequentialConsistency, 2, Some(other)) => {
+            [Some((writer, event)), Some((other, event))]
+        }
+        (Rule::SequentialConsistency, 3, Some(other)) => {
+            [Some((writer, event)), Some((writer, other))]
+        }
+        (_, _, _) => [None, None],
+    }
+}
+
+/// A link behind the event that it leaves.
+#[derive(Clone, Copy)]
+struct LinkSentence(EventId, Link);
+
+impl fmt::Display for LinkSentence {
+    fn fmt<W: fmt::Write>(&self, f: &mut fmt::Formatter<W>) -> fmt::Result {
+        let LinkSentence(from, Link { kind, event }) = *self;
+        match kind {
+            LinkKind::Initial => write!(
+                f,
+                "{from} writes the initial memory, before {event} as before every event"
+            ),
+            LinkKind::Sequenced => write!(
+                f,
+                "{from} is sequenced before {event}: it comes earlier in thread {}",
+                event.thread
+            ),
+            LinkKind::Synchronizes => write!(
+                f,
+                "{from} synchronizes with {event}: {event} reads from it, and both are atomic accesses of one range"
+            ),
+        }
+    }
+}
+
+/// Adds why one event happens before another.
+fn add_chain(
+    alloc: Global,
+    text: &mut String,
+    candidate: &Candidate,
+    from: EventId,
+    to: EventId,
+) -> Result<(), AllocError>
+    requires { KeepsOrder (execution candidate.now) }
+{
+    let Some(links) = shortest_chain(alloc, candidate, from, to)? else {
+        return Ok(());
+    };
+    let head = format!(in alloc; "Why {from} happens before {to}:\n")?;
+    text.push_str(head.as_str())?;
+    let mut last = from;
+    for link in links.as_slice() {
+        let sentence = LinkSentence(last, *link);
+        let line = format!(in alloc; "  {sentence}\n")?;
+        text.push_str(line.as_str())?;
+        last = EventId::At(link.event);
+    }
+    Ok(())
+}
+
+/// Adds the chains that a fault stands on.
+fn add_grounds(
+    alloc: Global,
+    text: &mut String,
+    candidate: &Candidate,
+    fault: &RuleFault,
+) -> Result<(), AllocError> {
+    let Ok(ordered) = Ordered::of(candidate) else {
+        return Ok(());
+    };
+    for ground in grounds(fault) {
+        let Some((from, to)) = ground else {
+            continue;
+        };
+        add_chain(alloc, text, ordered.candidate(), from, to)?;
+    }
+    Ok(())
+}
+
+/// Adds the rows of the events of a fault.
+fn add_events(
+    alloc: Global,
+    text: &mut String,
+    candidate: &Candidate,
+    fault: &RuleFault,
+) -> Result<(), AllocError> {
+    text.push_str("The events, with their places in the order:\n")?;
+    text.push_str(HEAD)?;
+    add_row(alloc, text, candidate, fault.writer)?;
+    if let Some(other) = fault.other {
+        add_row(alloc, text, candidate, other)?;
+    }
+    if fault.writer != EventId::At(fault.event) {
+        add_row(alloc, text, candidate, EventId::At(fault.event))?;
+    }
+    Ok(())
+}
+
+/// Why a run breaks a memory rule: the rule, the fault in a sentence, its events, and for each happens-before that it
+/// stands on a shortest chain.
+///
+/// # Errors
+///
+/// Only where memory was refused.
+pub(crate) fn rule_reason(
+    alloc: Global,
+    candidate: &Candidate,
+    fault: &RuleFault,
+) -> Result<String, AllocError> {
+    let rule = RuleName(fault.rule);
+    let sentence = RuleSentence::of(candidate, fault);
+    let mut text = format!(in alloc; "{rule}\n{sentence}\n")?;
+    add_events(alloc, &mut text, candidate, fault)?;
+    add_grounds(alloc, &mut text, candidate, fault)?;
+    text.push_str(
+        "With another order of the events, or other writers, the same accesses may be allowed.\n",
+    )?;
+    Ok(text)
+}

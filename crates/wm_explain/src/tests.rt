@@ -1,0 +1,71 @@
+//! The exact texts of each kind of verdict.
+use crate::explain;
+use crate::rule::rule_reason;
+use std::alloc::Global;
+use std::process::Abort;
+use std::sync::Wait;
+use std::test::Fail;
+use std::thread::Threads;
+use wm_check::check;
+use wm_event::{Candidate, Initial, Judgement};
+use wm_logfile::read_document;
+use wm_rules::judge;
+
+mod rows;
+mod sentences;
+
+use rows::{ALLOWED_AND_RULES, CheckRow, REFUSED, REPLAYS, RULES, RuleRow};
+
+/// Explains the verdict on each row.
+fn explains<R: Abort + AllocGlobal + Threads + Sync>(
+    rt: &R,
+    rows: &[CheckRow],
+) -> Result<(), Fail> {
+    for row in rows {
+        let document = row.document.as_bytes();
+        let verdict = check(rt, row.module, document)?;
+        let text = explain(rt, &verdict, row.module, document)?;
+        assert_eq!(rt; text.as_str(), row.text, "{}", row.shows);
+    }
+    Ok(())
+}
+
+/// Explains the fault of a row.
+fn explains_rule<R: Abort + AllocGlobal + Threads + Sync>(
+    rt: &R,
+    zeros: &Initial,
+    row: &RuleRow,
+) -> Result<(), Fail> {
+    let (log, witness) = read_document(rt.alloc(), row.document.as_bytes())?;
+    let candidate = Candidate::new(rt.alloc(), log, witness, zeros)?;
+    let Judgement::Broken(fault) = judge(rt, &candidate)? else {
+        panic!(rt; "{}", row.shows);
+    };
+    let text = rule_reason(rt.alloc(), &candidate, &fault)?;
+    assert_eq!(rt; text.as_str(), row.text, "{}", row.shows);
+    Ok(())
+}
+
+#[test]
+fn an_allowed_run_and_a_broken_rule(rt: HostRuntime) -> Result<(), Fail> {
+    explains(&rt, &ALLOWED_AND_RULES)
+}
+
+#[test]
+fn threads_whose_logs_are_not_their_runs(rt: HostRuntime) -> Result<(), Fail> {
+    explains(&rt, &REPLAYS)
+}
+
+#[test]
+fn refusals(rt: HostRuntime) -> Result<(), Fail> {
+    explains(&rt, &REFUSED)
+}
+
+#[test]
+fn each_case_of_each_rule(rt: HostRuntime) -> Result<(), Fail> {
+    let zeros = Initial::zeros(rt.alloc(), 16)?;
+    for row in &RULES {
+        explains_rule(&rt, &zeros, row)?;
+    }
+    Ok(())
+}

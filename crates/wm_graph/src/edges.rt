@@ -1,0 +1,207 @@
+//! The arrows of a picture.
+ghost use Rattle.wm_event.specs.LoggedRun.{execution};
+ghost use Rattle.wm_event.specs.Rules.{KeepsOrder};
+
+use crate::label::{ByteLabel, FAULT_COLOUR, NodeName};
+use std::alloc::{AllocError, Global};
+use std::fmt;
+use wm_event::{Candidate, Event, EventId, EventKey, RuleFault, ThreadLog};
+use wm_explain::{LinkKind, grounds, shortest_chain};
+use wm_hb::{Ordered, synchronizes};
+
+/// What an arrow says.
+#[derive(Clone, Copy)]
+enum ArrowKind {
+    /// To the next event of the thread.
+    Sequenced,
+    /// From a writer to all bytes of a read, and whether it synchronizes with the read.
+    Reads { synchronizes: bool },
+    /// From the writer of some bytes of a read.
+    ReadsBytes(ByteLabel),
+    /// The order lists the first event before the second, and another arrow goes back.
+    Order,
+    /// A link of a chain that a fault stands on.
+    Chain(LinkKind),
+}
+
+/// The attributes of an arrow.
+#[derive(Clone, Copy)]
+struct Attributes(ArrowKind);
+
+impl fmt::Display for Attributes {
+    fn fmt<W: fmt::Write>(&self, f: &mut fmt::Formatter<W>) -> fmt::Result {
+        match self.0 {
+            ArrowKind::Sequenced => f.write_str("label=\"sb\""),
+            ArrowKind::Reads { synchronizes: true } => {
+                f.write_str(
+                    "xlabel=\"rf, sw\", color=\"blue\", fontcolor=\"blue\", constraint=false",
+                )
+            }
+            ArrowKind::Reads {
+                synchronizes: false,
+            } => f.write_str(
+                "xlabel=\"rf\", color=\"darkgreen\", fontcolor=\"darkgreen\", constraint=false",
+            ),
+            ArrowKind::ReadsBytes(bytes) => write!(
+                f,
+                "xlabel=\"{bytes}\", color=\"darkgreen\", fontcolor=\"darkgreen\", constraint=false"
+            ),
+            ArrowKind::Order => {
+                f.write_str("xlabel=\"order\", style=\"dotted\", constraint=false")
+            }
+            ArrowKind::Chain(kind) => {
+                let name = match kind {
+                    LinkKind::Initial => "before all",
+                    LinkKind::Sequenced => "sb",
+                    LinkKind::Synchronizes => "sw",
+                };
+                write!(
+                    f,
+                    "xlabel=\"{name}\", color=\"{FAULT_COLOUR}\", fontcolor=\"{FAULT_COLOUR}\", penwidth=2, constraint=false"
+                )
+            }
+        }
+    }
+}
+
+/// Adds an arrow.
+fn add_arrow(
+    alloc: Global,
+    text: &mut String,
+    from: EventId,
+    to: EventId,
+    kind: ArrowKind,
+) -> Result<(), AllocError> {
+    let start = NodeName(from);
+    let end = NodeName(to);
+    let attributes = Attributes(kind);
+    let line = format!(in alloc; "  {start} -> {end} [{attributes}];\n")?;
+    text.push_str(line.as_str())?;
+    Ok(())
+}
+
+/// Adds an arrow of the order where it lists the second event of another arrow before the first.
+fn add_order(
+    alloc: Global,
+    text: &mut String,
+    candidate: &Candidate,
+    from: EventId,
+    to: EventId,
+) -> Result<(), AllocError> {
+    match (candidate.place(from), candidate.place(to)) {
+        (Some(first), Some(second)) if second < first => {
+            add_arrow(alloc, text, to, from, ArrowKind::Order)
+        }
+        (_, _) => Ok(()),
+    }
+}
+
+/// Whether the writer of a byte synchronizes with the read.
+fn is_synchronized(candidate: &Candidate, writer: EventId, reader: EventKey) -> bool {
+    match writer {
+        EventId::Init => false,
+        EventId::At(key) => synchronizes(candidate, key, reader),
+    }
+}
+
+/// Adds the arrows to a read from the writers of its bytes, one for bytes in a row that have one writer.
+fn add_reads(
+    alloc: Global,
+    text: &mut String,
+    candidate: &Candidate,
+    reader: EventKey,
+) -> Result<(), AllocError> {
+    let writers = candidate.writers(reader);
+    let mut first = 0usize;
+    for (last, writer) in writers.iter().enumerate() {
+        let behind = last.saturating_add(1);
+        if writers.get(behind) == Some(writer) {
+            continue;
+        }
+        let kind = if first == 0 && behind == writers.len() {
+            ArrowKind::Reads {
+                synchronizes: is_synchronized(candidate, *writer, reader),
+            }
+        } else {
+            ArrowKind::ReadsBytes(ByteLabel { first, last })
+        };
+        add_arrow(alloc, text, *writer, EventId::At(reader), kind)?;
+        add_order(alloc, text, candidate, *writer, EventId::At(reader))?;
+        first = behind;
+    }
+    Ok(())
+}
+
+/// Adds the arrow to an event from the one before it in its thread.
+fn add_sequenced(
+    alloc: Global,
+    text: &mut String,
+    candidate: &Candidate,
+    event: &Event,
+) -> Result<(), AllocError> {
+    let Some(number) = event.number.checked_sub(1) else {
+        return Ok(());
+    };
+    let previous = EventId::At(EventKey {
+        thread: event.thread,
+        number,
+    });
+    let next = EventId::At(event.key());
+    add_arrow(alloc, text, previous, next, ArrowKind::Sequenced)?;
+    add_order(alloc, text, candidate, previous, next)
+}
+
+/// Adds the arrows to the events of a thread.
+pub(crate) fn add_edges(
+    alloc: Global,
+    text: &mut String,
+    candidate: &Candidate,
+    thread: &ThreadLog,
+) -> Result<(), AllocError> {
+    for event in thread.events.as_slice() {
+        add_sequenced(alloc, text, candidate, event)?;
+        add_reads(alloc, text, candidate, event.key())?;
+    }
+    Ok(())
+}
+
+/// Adds the links of a shortest chain.
+fn add_chain(
+    alloc: Global,
+    text: &mut String,
+    candidate: &Candidate,
+    from: EventId,
+    to: EventId,
+) -> Result<(), AllocError>
+    requires { KeepsOrder (execution candidate.now) }
+{
+    let Some(links) = shortest_chain(alloc, candidate, from, to)? else {
+        return Ok(());
+    };
+    let mut last = from;
+    for link in links.as_slice() {
+        let next = EventId::At(link.event);
+        add_arrow(alloc, text, last, next, ArrowKind::Chain(link.kind))?;
+        last = next;
+    }
+    Ok(())
+}
+
+/// Adds the chains that a fault stands on.
+pub(crate) fn add_chains(
+    alloc: Global,
+    text: &mut String,
+    candidate: &Candidate,
+    fault: &RuleFault,
+) -> Result<(), AllocError> {
+    let Ok(ordered) = Ordered::of(candidate) else {
+        return Ok(());
+    };
+    for ground in grounds(fault) {
+        let Some((from, to)) = ground else {
+            continue;
+        };
+        add_chain(alloc, text, ordered.candidate(), from, to)?;
+    }
+    Ok(())
+}

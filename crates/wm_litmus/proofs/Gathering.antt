@@ -1,0 +1,59 @@
+-- Rounds that were made, one after the other.
+use Rattle.std.proofs.Common.{◌≡◌, ◌+◌, ◌<◌, ◌≤◌, ◌^◌, ℕ, List, [], ◌∷◌, ◌++◌, get_or, take, length, map, refl, sym, ap, ◌∙◌, subst, arith}
+use Rattle.std.specs.BTreeMap.{BTreeMap}
+use Rattle.std.specs.List.{All}
+use Rattle.std.specs.Prelude.{String}
+use Rattle.std.specs.declared.alloc.Global.{Global}
+use Rattle.std.proofs.lemmas.List.{length-append, length-map, length-take-le, map-append, take_all, take_more}
+use Rattle.std.proofs.lemmas.List.Elements.{All-push}
+use Rattle.wm_ast.specs.declared.module.Module.{Module}
+use Rattle.wm_run.specs.declared.plan.Plan.{Plan}
+use Rattle.wm_run.specs.Run.{Record}
+use Rattle.wm_litmus.specs.Counts.{Counts, row_of}
+use Rattle.wm_litmus.specs.Table.{IsTable}
+use Rattle.wm_litmus.proofs.Tabling.{rows_are_table}
+use Rattle.wm_litmus.specs.Outcomes.{outcome_text}
+use Rattle.wm_litmus.specs.Rounds.{CountsRound, IsAllowedRound, outcomes}
+
+-- so many rounds were made, each is allowed, and their outcomes are counted
+pub record HasMade (module_bytes : List ℕ) («module» : Module) (plan : Plan) (number : ℕ) (counts : BTreeMap (String Global) ℕ) : Type 0 where
+  pub runs : List Record
+  pub many : length runs ≡ number
+  pub allowed : All (IsAllowedRound module_bytes «module» plan) runs
+  pub counted : Counts (outcomes runs) counts
+
+pub none_made : (module_bytes : List ℕ) («module» : Module) (plan : Plan) (counts : BTreeMap (String Global) ℕ) → Counts [] counts
+    → HasMade module_bytes «module» plan 0 counts
+none_made module_bytes «module» plan counts h = record { runs = []; many = refl; allowed = λ k d inside. absurd (omega arith); counted = h }
+
+one_more : (runs : List Record) (run : Record) (number : ℕ) → length runs ≡ number → length (runs ++ run ∷ []) ≡ number + 1
+one_more runs run number is = length-append runs (run ∷ []) ∙ ap (λ n. n + 1) is
+
+pub made_more : (module_bytes : List ℕ) («module» : Module) (plan : Plan) (number : ℕ) (old new : BTreeMap (String Global) ℕ) → number + 1 < 2 ^ 64
+    → HasMade module_bytes «module» plan number old → CountsRound module_bytes «module» plan old new → HasMade module_bytes «module» plan (number + 1) new
+made_more module_bytes «module» plan number old new small h r = record {
+  runs = h.runs ++ r.run ∷ [];
+  many = one_more h.runs r.run number h.many;
+  allowed = All-push (IsAllowedRound module_bytes «module» plan) h.runs r.run h.allowed r.allowed;
+  counted =
+      let many : length (outcomes h.runs) ≡ number = length-map h.runs (λ (run : Record). outcome_text run.log) ∙ h.many in
+      let few : length (outcomes h.runs) + 1 < 2 ^ 64 = subst (λ (n : ℕ). n + 1 < 2 ^ 64) (sym many) small in
+      subst (λ came. Counts came new) (sym (map-append (λ (run : Record). outcome_text run.log) h.runs (r.run ∷ []))) (r.counted (outcomes h.runs) h.counted few);
+}
+
+-- ---- runs that are there
+
+pub reported_next : (runs : List Record) (i : ℕ) (run : Record) (old new : BTreeMap (String Global) ℕ) → i < length runs → length runs < 2 ^ 64 → run ≡ get_or runs i run
+    → Counts (outcomes (take i runs)) old
+    → ((came : List (List ℕ)) → Counts came old → length came + 1 < 2 ^ 64 → Counts (came ++ outcome_text run.log ∷ []) new)
+    → Counts (outcomes (take (i + 1) runs)) new
+reported_next runs i run old new inside small at h counted =
+    let one : take (i + 1) runs ≡ take i runs ++ run ∷ [] = take_more runs i run inside ∙ ap (λ y. take i runs ++ y ∷ []) (sym at) in
+    let grown : outcomes (take (i + 1) runs) ≡ outcomes (take i runs) ++ outcome_text run.log ∷ [] = ap outcomes one ∙ map-append (λ (r : Record). outcome_text r.log) (take i runs) (run ∷ []) in
+    let many : length (outcomes (take i runs)) ≡ i = length-map (take i runs) (λ (r : Record). outcome_text r.log) ∙ length-take-le i runs (omega (arith, inside)) in
+    let few : length (outcomes (take i runs)) + 1 < 2 ^ 64 = subst (λ (n : ℕ). n + 1 < 2 ^ 64) (sym many) (omega (arith, inside, small)) in
+    subst (λ came. Counts came new) (sym grown) (counted (outcomes (take i runs)) h few)
+
+pub reported : (runs : List Record) (i : ℕ) (counts : BTreeMap (String Global) ℕ) → length runs ≤ i → Counts (outcomes (take i runs)) counts
+    → IsTable (outcomes runs) (map row_of counts.entries)
+reported runs i counts all h = rows_are_table (outcomes runs) counts (subst (λ (rs : List Record). Counts (outcomes rs) counts) (take_all i runs all) h)

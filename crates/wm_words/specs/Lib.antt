@@ -1,0 +1,6 @@
+pub mod Each
+pub mod Faults
+pub mod Numbers
+pub mod Starts
+pub mod Turns
+pub mod Words

@@ -1,0 +1,37 @@
+//! Why words are no script and no rounds.
+ghost use Rattle.std.specs.Prelude.{◌≡◌};
+
+use std::alloc::{AllocError, AllocFailed};
+
+/// The word that spells nothing, or want of memory.
+#[derive(Clone, Copy, Debug, PartialEq, Eq)]
+pub enum WordFault {
+    /// The turns of a script.
+    Turns,
+    /// The number of rounds.
+    Rounds,
+    /// What a thread starts with.
+    Start,
+    /// Memory was refused.
+    OutOfMemory,
+}
+
+impl From<AllocError> for WordFault {
+    ghost use Rattle.wm_words.specs.declared.fault.WordFault.TheVariants.{OutOfMemory};
+
+    ghost from_gives = { λ _ fault. fault ≡ OutOfMemory };
+
+    fn from(_refused: AllocError) -> Self {
+        WordFault::OutOfMemory
+    }
+}
+
+impl<T: Drop> From<AllocFailed<T>> for WordFault {
+    ghost use Rattle.wm_words.specs.declared.fault.WordFault.TheVariants.{OutOfMemory};
+
+    ghost from_gives = { λ _ fault. fault ≡ OutOfMemory };
+
+    fn from(_refused: AllocFailed<T>) -> Self {
+        WordFault::OutOfMemory
+    }
+}

@@ -1,0 +1,90 @@
+//! Scripts and rounds, as words spell them.
+ghost use Rattle.std.specs.Prelude.{◌≡◌, Some, IfErr, IfOk, map};
+ghost use Rattle.wm_words.specs.Faults.{Misses};
+ghost use Rattle.wm_words.specs.Words.{IsRoundsOf, IsScriptOf, SpellNoRounds, SpellNoScript, rounds_of};
+
+use crate::fault::WordFault;
+use crate::number::small_decimal;
+use crate::start::read_starts;
+use crate::turns::read_turns;
+use std::alloc::Global;
+use wm_list::List;
+use wm_run::{MAX_STEPS, Plan, Turn};
+
+/// A script: what its threads start with, and the turns that they take.
+#[derive(Drop)]
+pub struct Script {
+    /// Each thread makes at most 1,000,000 steps.
+    pub plan: Plan,
+    /// As many as its word spells, but no more than 1,000,001.
+    pub turns: List<Turn>,
+}
+
+/// Rounds: what their threads start with, and how many there are.
+#[derive(Drop)]
+pub struct Rounds {
+    /// Each thread makes at most 1,000,000 steps, and the drainer takes 256 turns.
+    pub plan: Plan,
+    /// 1 to 10,000.
+    pub count: u32,
+}
+
+/// How many turns the drainer of a round takes.
+const DRAINS: u32 = 256;
+
+/// How many rounds there are at most.
+const MAX_ROUNDS: u32 = 10_000;
+
+/// The script that these words spell, one of its turns and one of each start.
+///
+/// # Errors
+///
+/// `Turns` where the first spells no turns; else `Start` where one of the others spells no start; else want of memory.
+pub fn read_script(alloc: Global, turns: &str, starts: &[&str]) -> Result<Script, WordFault>
+    ensures spelled { IfOk result (IsScriptOf turns.now (map (λ word. word.now) starts.now)) }
+    ensures fault { IfErr result (SpellNoScript turns.now (map (λ word. word.now) starts.now)) }
+{
+    let turns = read_turns(alloc, turns)?;
+    let starts = read_starts(alloc, starts)?;
+    let plan = Plan {
+        starts,
+        steps: MAX_STEPS,
+        drains: 0,
+    };
+    Ok(Script { plan, turns })
+}
+
+/// How many rounds a word spells: 1 to 10,000 in decimal digits.
+///
+/// # Errors
+///
+/// `Rounds` where it spells none.
+pub fn read_count(word: &str) -> Result<u32, WordFault>
+    ensures spelled { IfOk result (λ count. rounds_of word.now ≡ Some count) }
+    ensures fault { IfErr result (λ fault. (fault ≡ WordFault.Rounds) × (rounds_of word.now ≡ None)) }
+{
+    match small_decimal(word) {
+        Some(count) if 1 <= count && count <= MAX_ROUNDS => Ok(count),
+        _ => Err(WordFault::Rounds),
+    }
+}
+
+/// The rounds that these words spell, one of their number and one of each start.
+///
+/// # Errors
+///
+/// `Rounds` where the first spells no number of rounds; else `Start` where one of the others spells no start; else want of
+/// memory.
+pub fn read_rounds(alloc: Global, count: &str, starts: &[&str]) -> Result<Rounds, WordFault>
+    ensures spelled { IfOk result (IsRoundsOf count.now (map (λ word. word.now) starts.now)) }
+    ensures fault { IfErr result (SpellNoRounds count.now (map (λ word. word.now) starts.now)) }
+{
+    let count = read_count(count)?;
+    let starts = read_starts(alloc, starts)?;
+    let plan = Plan {
+        starts,
+        steps: MAX_STEPS,
+        drains: DRAINS,
+    };
+    Ok(Rounds { plan, count })
+}

@@ -1,0 +1,459 @@
+#!/usr/bin/env python3
+"""Hostile input through the built program, each with its exact line and status: modules and logs cut at each length, each
+limit at its value and one past it, values and addresses changed, inputs that never end or come byte by byte, and devices,
+streams and files that fail. What has to be answered stands here, from README.md and docs/, and not from the program.
+
+    scripts/hostile.py [WMLAB]        WMLAB: the built program; crates/wmlab/out/wmlab if it isn't given
+
+The last line is `N passed, N failed`.
+"""
+import concurrent.futures
+import glob
+import json
+import os
+import subprocess
+import sys
+import tempfile
+import time
+
+TOP = os.path.dirname(os.path.dirname(os.path.abspath(__file__)))
+WMLAB = os.path.abspath(sys.argv[1] if len(sys.argv) > 1 else f"{TOP}/crates/wmlab/out/wmlab")
+STATUS = {"allowed": 0, "broken": 1, "refused": 2}
+WORK = tempfile.TemporaryDirectory()
+passed = failed = 0
+
+
+def check(holds, shows, got):
+    global passed, failed
+    passed, failed = passed + holds, failed + (not holds)
+    if not holds:
+        print(f"FAILED {shows}: {str(got)[:400]}")
+
+
+def run(words, data=b"", **streams):
+    if "stdin" not in streams:
+        streams["input"] = data
+    for name in ("stdout", "stderr"):
+        streams.setdefault(name, subprocess.PIPE)
+    ran = subprocess.run([WMLAB, *words], cwd=TOP, timeout=120, **streams)
+    return (ran.stdout or b"").decode(), (ran.stderr or b"").decode(), ran.returncode
+
+
+def wanted(text, error="", status=None):
+    """What has to come: a line, nothing on standard error, and the status that goes with the line's first word."""
+    if status is None:
+        status = STATUS.get(text.split(" ")[0], 0)
+    return (text + "\n" if text else ""), (error + "\n" if error else ""), status
+
+
+def answers(shows, words, line, data=b"", error="", status=None, **streams):
+    got = run(words, data, **streams)
+    check(got == wanted(line, error, status), shows, got)
+
+
+def all_answer(cases):
+    """Many short runs side by side: what each shows, its words, its input and its line."""
+    with concurrent.futures.ThreadPoolExecutor(os.cpu_count()) as pool:
+        for (shows, _, _, line), got in zip(cases, pool.map(lambda case: run(case[1], case[2]), cases)):
+            check(got == wanted(line), shows, got)
+
+
+def file_of(data, name):
+    path = f"{WORK.name}/{name}"
+    with open(path, "wb") as file:
+        file.write(data)
+    return path
+
+
+def example(name):
+    with open(f"{TOP}/examples/{name}", "rb") as file:
+        return file.read()
+
+
+# ---- modules, byte by byte
+
+
+def number(value):
+    """An unsigned number as the binary format has it."""
+    out = b""
+    while value > 127:
+        out, value = out + bytes([value % 128 + 128]), value // 128
+    return out + bytes([value])
+
+
+def sized(data):
+    return number(len(data)) + data
+
+
+def section(which, data):
+    return bytes([which]) + sized(data)
+
+
+def vector(items):
+    return number(len(items)) + b"".join(items)
+
+
+HEADER = b"\0asm\1\0\0\0"
+
+
+def module_of(bodies, pages=1, parameters=0, exports=(b"a",)):
+    """Functions without a result, each of some locals and code, all of one type, over a shared memory."""
+    kind = b"\x60" + number(parameters) + b"\x7f" * parameters + b"\0"
+    code = [sized((b"\1" + number(count) + b"\x7f" if count else b"\0") + body + b"\x0b") for count, body in bodies]
+    memory = b"\3" + number(pages) + number(max(pages, 16))
+    return (
+        HEADER
+        + section(1, vector([kind]))
+        + section(3, vector([b"\0"] * len(bodies)))
+        + section(5, vector([memory]))
+        + section(7, vector([sized(name) + b"\0" + number(index) for index, name in enumerate(exports)]))
+        + section(10, vector(code))
+    )
+
+
+def sections_of(module):
+    """Where each section begins, with its number, and the length at the end."""
+    at, found = 8, []
+    while at < len(module):
+        which, start, size, shift = module[at], at, 0, 0
+        at += 1
+        while True:
+            byte = module[at]
+            size, shift, at = size + ((byte & 127) << shift), shift + 7, at + 1
+            if byte < 128:
+                break
+        found.append((start, which))
+        at += size
+    return found, at
+
+
+# ---- documents
+
+
+def document(threads, order, version=2):
+    """The text of a log. A thread is its start, end, steps and events; an event of a read has its writers behind it."""
+    if version == 2:
+        value = ["wasm-litmus-log", 2, threads, order]
+    else:
+        plain, writers = [], []
+        for name, arguments, end, steps, events in threads:
+            with_writers = [event if event[0] == "w" else event[:-1] for event in events]
+            plain.append([name, arguments, end, steps, with_writers])
+            writers.append([[] if event[0] == "w" else event[-1] for event in events])
+        value = ["wasm-litmus-log", 1, plain, [writers, order]]
+    return json.dumps(value, separators=(",", ":")).encode()
+
+
+def one_thread(events, steps=0, end=("cut",), version=2, name="a", arguments=()):
+    order = [[0, index] for index in range(len(events))]
+    return document([[name, list(arguments), list(end), steps, events]], order, version)
+
+
+def stores(count):
+    return [["w", "un", 0, 4, 1]] * count
+
+
+STORE_BUFFERING = json.loads(example("store-buffering.json"))
+MODULE = "examples/store-buffering.wasm"
+LOG = "examples/store-buffering.json"
+ALLOWED = "allowed threads=2 events=4"
+
+
+# ---- what is cut
+
+
+def cut_documents():
+    """A list that isn't closed is no JSON text, in each version and under each command."""
+    cases = []
+    for name in ("store-buffering.json", "store-buffering-one-after-the-other.json"):
+        text = example(name).rstrip()
+        for length in range(len(text)):
+            for words in (["rules", "-"], ["check", MODULE, "-"], ["migrate", "-"], ["complete", MODULE, "-"]):
+                cases.append((f"{name} cut to {length}, {words[0]}", words, text[:length], "refused document NotJson"))
+        cases.append((f"{name} without the end of its line", ["check", MODULE, "-"], text, ALLOWED))
+    all_answer(cases)
+
+
+def line_of_cut(sections, end, length):
+    """The line of `check` on a module of a type section, functions, code and more that is cut. Bytes that are missing are
+    missed where the first one would stand; a section that is absent is missed at the end, where counts have to agree. What is
+    left behind a whole section may be a module: without a memory it has no place for the log's first event."""
+    starts = [8] + [start for start, _ in sections] + [end]
+    if length not in starts:
+        return f"refused decode Truncated at {length}"
+    there = {which for start, which in sections if start < length}
+    if 3 in there and 10 not in there or 12 in there and 11 not in there:
+        return f"refused decode CountMismatch at {length}"
+    return None if 10 in there else "refused shape RangeOutOfMemory at 0.0"
+
+
+def cut_modules():
+    cases = []
+    for path in sorted(glob.glob(f"{TOP}/examples/*.wasm") + glob.glob(f"{TOP}/examples/c/*.wasm")):
+        name = os.path.relpath(path, f"{TOP}/examples")
+        if name in ("floats.wasm", "misaligned.wasm"):
+            continue
+        module = example(name)
+        sections, end = sections_of(module)
+        for length in range(len(module)):
+            line = line_of_cut(sections, end, length)
+            if line:
+                words = ["check", file_of(module[:length], f"{length}-{name.replace('/', '-')}"), LOG]
+                cases.append((f"{name} cut to {length}", words, b"", line))
+    all_answer(cases)
+
+
+# ---- limits
+
+
+def document_limits():
+    """Events, threads, steps and bytes, in both versions."""
+    storing = file_of(module_of([(0, b"\x03\x40" + b"\x41\0\x41\1\x36\x02\0" + b"\x0c\0\x0b")]), "storing.wasm")
+    looping = file_of(module_of([(0, b"\x03\x40\x0c\0\x0b")]), "looping.wasm")
+    for version in (1, 2):
+        says = f"version {version}"
+        most = one_thread(stores(16_384), version=version)
+        answers(f"16,384 events, {says}", ["rules", "-"], "allowed", most)
+        more = one_thread(stores(16_385), version=version)
+        for words in (["rules", "-"], ["check", storing, "-"], ["complete", storing, "-"]):
+            answers(f"16,385 events, {words[0]}, {says}", words, "refused shape TooManyEvents", more)
+        # The loop, two constants and the store for the first event; then the branch before each of the four again. The
+        # thread is cut behind the branch, the loop and the two constants.
+        steps = 4 + 5 * 16_383 + 4
+        completed = one_thread(stores(16_384), steps=steps)
+        answers(f"16,384 events, complete, {says}", ["complete", storing, "-"], completed.decode(), most)
+        answers(f"16,384 events, check, {says}", ["check", storing, "-"], "allowed threads=1 events=16384", one_thread(stores(16_384), steps=steps, version=version))
+        cut = ["a", [], ["cut"], 0, []]
+        answers(f"16 threads, {says}", ["check", MODULE, "-"], "allowed threads=16 events=0", document([cut] * 16, [], version))
+        answers(f"17 threads, {says}", ["check", MODULE, "-"], "refused document TooLarge", document([cut] * 17, [], version))
+        answers(f"1,000,000 steps, {says}", ["check", looping, "-"], "allowed threads=1 events=0", one_thread([], steps=1_000_000, version=version))
+        for words in (["check", looping, "-"], ["rules", "-"], ["migrate", "-"], ["complete", looping, "-"]):
+            answers(f"1,000,001 steps, {words[0]}, {says}", words, "refused document NumberRange at /2/0/3", one_thread([], steps=1_000_001, version=version))
+        answers(f"a loop is completed to the limit, {says}", ["complete", looping, "-"], one_thread([], steps=1_000_000).decode(), one_thread([], version=version))
+        text = document(STORE_BUFFERING[2], STORE_BUFFERING[3], version)
+        printed = document(STORE_BUFFERING[2], STORE_BUFFERING[3]).decode()
+        for size in (8_388_608, 8_388_609):
+            for words, line in (
+                (["rules", "-"], "allowed"),
+                (["check", MODULE, "-"], ALLOWED),
+                (["migrate", "-"], printed),
+                (["complete", MODULE, "-"], printed),
+            ):
+                line = line if size == 8_388_608 else "refused document TooLarge"
+                answers(f"{size} bytes, {words[0]}, {says}", words, line, text.ljust(size))
+                words = [*words[:-1], file_of(text.ljust(size), "document.json")]
+                answers(f"a file of {size} bytes, {words[0]}, {says}", words, line)
+
+
+def numbers_at_their_limits():
+    """Addresses, names of events, values and arguments at the largest number and one past it."""
+    for version in (1, 2):
+        for value, event, place in (
+            (2**32, ["w", "un", 2**32, 1, 0], "/2/0/4/0/2"),
+            (2**64, ["w", "un", 0, 8, 2**64], "/2/0/4/0/4"),
+            (3, ["w", "un", 0, 3, 0], "/2/0/4/0/3"),
+        ):
+            answers(f"the number {value}, version {version}", ["rules", "-"], f"refused document NumberRange at {place}", one_thread([event], version=version))
+        answers("the largest value", ["rules", "-"], "allowed", one_thread([["w", "un", 0, 8, 2**64 - 1]], version=version))
+        answers("the largest address", ["rules", "-"], "refused shape RangeOutOfMemory at 0.0", one_thread([["w", "un", 2**32 - 1, 1, 0]], version=version))
+        answers("the last byte", ["rules", "-"], "allowed", one_thread([["w", "un", 16 * 65_536 - 1, 1, 0]], version=version))
+        answers("past the last byte", ["rules", "-"], "refused shape RangeOutOfMemory at 0.0", one_thread([["w", "un", 16 * 65_536, 1, 0]], version=version))
+        answers("the largest argument", ["rules", "-"], "allowed", one_thread([], arguments=[2**64 - 1], version=version))
+        answers("a larger argument", ["rules", "-"], "refused document NumberRange at /2/0/1/0", one_thread([], arguments=[2**64], version=version))
+        answers("a value that is too wide", ["rules", "-"], "refused shape ValueTooWide at 0.0", one_thread([["w", "un", 0, 4, 2**32]], version=version))
+    order = document([["a", [], ["cut"], 0, stores(1)]], [[0, 2**32]])
+    answers("an event's number past 2^32", ["rules", "-"], "refused document NumberRange at /3/0/1", order)
+
+
+def module_limits():
+    """Bytes, pages, functions, locals with parameters, and nesting."""
+    cut = one_thread([], arguments=[])
+    allowed = "allowed threads=1 events=0"
+    plain = module_of([(0, b"")])
+    for size in (1_048_576, 1_048_577):
+        # A custom section with an empty name behind the code, whose size takes three bytes.
+        padding = section(0, b"\0" * (size - len(plain) - 4))
+        assert len(plain + padding) == size
+        line = allowed if size == 1_048_576 else "refused decode Limit ModuleBytes at 1048576"
+        answers(f"a module of {size} bytes", ["check", file_of(plain + padding, "long.wasm"), "-"], line, cut)
+
+    def judged(shows, module, line, log=cut):
+        answers(shows, ["check", file_of(module, "limit.wasm"), "-"], line, log)
+
+    judged("16 pages", module_of([(0, b"")], pages=16), allowed)
+    pages = module_of([(0, b"")], pages=17)
+    # The memory's section: its number, its size, a count, the flag, and then the pages.
+    place = [start for start, which in sections_of(pages)[0] if which == 5][0] + 4
+    judged("17 pages", pages, f"refused decode Limit Pages at {place}")
+    judged("1,000 functions", module_of([(0, b"")] * 1_000), allowed)
+    functions = module_of([(0, b"")] * 1_001)
+    place = [start for start, which in sections_of(functions)[0] if which == 3][0] + 3
+    judged("1,001 functions", functions, f"refused decode Limit Functions at {place}")
+    judged("1,000 locals", module_of([(1_000, b"")]), allowed)
+    locals_ = module_of([(1_001, b"")])
+    # The code's section: its number, its size, a count, the body's size and its count of entries; then the entry.
+    place = [start for start, which in sections_of(locals_)[0] if which == 10][0] + 5
+    judged("1,001 locals", locals_, f"refused decode Limit Locals at {place}")
+    both = module_of([(400, b"")], parameters=600)
+    arguments = one_thread([], arguments=[0] * 600)
+    judged("600 parameters and 400 locals", both, allowed, arguments)
+    both = module_of([(401, b"")], parameters=600)
+    place = [start for start, which in sections_of(both)[0] if which == 10][0] + 5
+    judged("600 parameters and 401 locals", both, f"refused decode Limit Locals at {place}", arguments)
+    judged("64 blocks in one another", module_of([(0, b"\x02\x40" * 64 + b"\x0b" * 64)]), allowed)
+    nested = module_of([(0, b"\x02\x40" * 65 + b"\x0b" * 65)])
+    # The code's section: its number, its two bytes of size, a count, the body's two bytes of size, a count of no locals.
+    place = [start for start, which in sections_of(nested)[0] if which == 10][0] + 7 + 2 * 64
+    judged("65 blocks in one another", nested, f"refused decode Limit Nesting at {place}")
+
+
+def script_limits():
+    """Threads, turns and rounds."""
+    answers("17 starts", ["drive", MODULE, "0", *["a"] * 17], "refused plan Threads")
+    answers("17 starts of a round", ["run", MODULE, "1", *["a"] * 17], "refused plan Threads")
+    alone = one_thread(STORE_BUFFERING[2][0][4], steps=6, end=["done", [0]]).decode()
+    answers("1,000,000 turns", ["drive", MODULE, "0*1000000", "a"], f"outcome 0\nallowed threads=1 events=2\n{alone}", status=0)
+    sixteen = ",".join(f"{thread}*6" for thread in range(16))
+    text, error, status = run(["drive", MODULE, sixteen, *["a"] * 16])
+    lines = text.split("\n")
+    check((lines[:2], status, error) == (["outcome" + " 0" * 16, "allowed threads=16 events=32"], 0, ""), "16 starts", (text[:200], error, status))
+    answers("1,000,001 turns", ["drive", MODULE, "0*1000001", "a"], "refused plan Turns")
+    answers("a turn of a thread that isn't there", ["drive", MODULE, "16", *["a"] * 16], "refused plan Turn 16")
+    answers("no rounds", ["run", MODULE, "0", "a", "b"], "refused command rounds")
+    answers("10,001 rounds", ["run", MODULE, "10001", "a", "b"], "refused command rounds")
+
+
+# ---- what is changed
+
+
+def changed_logs():
+    """Each value and each address of the first log changed, under `check` and under `rules`. Each thread stores 1 and then
+    loads 0 from the initial memory, which is its result."""
+    for thread in (0, 1):
+        for event, changes in ((0, ((4, 2), (2, 8))), (1, ((4, 1), (2, 8)))):
+            for place, value in changes:
+                log = json.loads(json.dumps(STORE_BUFFERING))
+                log[2][thread][4][event][place] = value
+                text = json.dumps(log).encode()
+                is_read_value = (event, place) == (1, 4)
+                replay = f"broken replay thread {thread} " + ("end" if is_read_value else f"event {event}")
+                rules = f"broken V1 case 3 at {thread}.1 byte 0 writer init" if is_read_value else "allowed"
+                shows = f"thread {thread} event {event}, item {place} is {value}"
+                answers(f"{shows}, check", ["check", MODULE, "-"], replay, text)
+                answers(f"{shows}, complete", ["complete", MODULE, "-"], replay if not is_read_value else json.dumps(with_result(log, thread, 1), separators=(",", ":")), text)
+                answers(f"{shows}, rules", ["rules", "-"], rules, text)
+
+
+def with_result(log, thread, result):
+    log = json.loads(json.dumps(log))
+    log[2][thread][2] = ["done", [result]]
+    return log
+
+
+# ---- inputs, devices and streams
+
+
+def endless_inputs():
+    """What never ends is read to its limit."""
+    with open("/dev/zero", "rb") as zero:
+        answers("zeros without end", ["rules", "-"], "refused document TooLarge", stdin=zero)
+    for words in (["rules", "-"], ["check", MODULE, "-"], ["migrate", "-"], ["complete", MODULE, "-"]):
+        endless = subprocess.Popen(["yes"], stdout=subprocess.PIPE)
+        answers(f"lines without end, {words[0]}", words, "refused document TooLarge", stdin=endless.stdout)
+        endless.stdout.close()
+        endless.kill()
+        endless.wait()
+    answers("a document that is a device", ["rules", "/dev/zero"], "refused document TooLarge")
+    for words in (["check", "/dev/zero", LOG], ["drive", "/dev/zero", "0", "a"], ["run", "/dev/zero", "1", "a"], ["complete", "/dev/zero", LOG]):
+        answers(f"a module that is a device, {words[0]}", words, "refused decode Limit ModuleBytes at 1048576")
+    answers("an empty module", ["check", "/dev/null", LOG], "refused decode Truncated at 0")
+    answers("an empty document", ["rules", "/dev/null"], "refused document NotJson")
+
+
+def one_byte_a_read():
+    for words, line in ((["rules", "-"], "allowed"), (["check", MODULE, "-"], ALLOWED)):
+        slow = subprocess.Popen([WMLAB, *words], cwd=TOP, stdin=subprocess.PIPE, stdout=subprocess.PIPE, stderr=subprocess.PIPE, bufsize=0)
+        for byte in example("store-buffering.json"):
+            slow.stdin.write(bytes([byte]))
+            time.sleep(0.001)
+        slow.stdin.close()
+        got = slow.stdout.read().decode(), slow.stderr.read().decode(), slow.wait(timeout=60)
+        check(got == wanted(line), f"one byte a read, {words[0]}", got)
+
+
+COMMANDS = [
+    ["rules", LOG],
+    ["check", MODULE, LOG],
+    ["migrate", LOG],
+    ["complete", MODULE, LOG],
+    ["drive", MODULE, "0*6,1*6", "a", "b"],
+    ["run", MODULE, "3", "a", "b"],
+    ["rules", "examples/too-few-writers.json"],
+    ["nothing"],
+]
+
+
+def devices_and_streams():
+    """A full device, streams that are closed or that nobody reads, files that aren't there, and folders."""
+    for words in COMMANDS:
+        shows = " ".join(words)
+        with open("/dev/full", "wb") as full:
+            answers(f"a full device, {shows}", words, "", error="cannot write", status=3, stdout=full)
+        unread, end = os.pipe()
+        os.close(unread)
+        answers(f"an output that nobody reads, {shows}", words, "", error="cannot write", status=3, stdout=end)
+        os.close(end)
+        # Nothing can be said where standard error fails too: the status still says it.
+        with open("/dev/full", "wb") as full:
+            got = run(words, stdout=full, stderr=full)
+            check(got == ("", "", 3), f"both devices are full, {shows}", got)
+    for words in (
+        ["rules", "NAME"],
+        ["migrate", "NAME"],
+        ["check", "NAME", LOG],
+        ["check", MODULE, "NAME"],
+        ["complete", "NAME", LOG],
+        ["complete", MODULE, "NAME"],
+        ["drive", "NAME", "0", "a"],
+        ["run", "NAME", "1", "a"],
+    ):
+        for name, shows in (("examples/nothing", "a missing file"), ("examples", "a folder"), (f"{LOG}/below", "a file below a file"), ("", "no name")):
+            given = [name if word == "NAME" else word for word in words]
+            answers(f"{shows}, {words[0]}", given, "", error=f"cannot read {name}", status=3)
+    folder = os.open(f"{TOP}/examples", os.O_RDONLY)
+    answers("an input that is a folder", ["rules", "-"], "", error="cannot read -", status=3, stdin=folder)
+    os.close(folder)
+    for given, tail, text, error, status in (
+        (["rules", "-"], "<&-", "", "cannot read -\n", 3),
+        (["check", MODULE, "-"], "<&-", "", "cannot read -\n", 3),
+        (["migrate", "-"], "<&-", "", "cannot read -\n", 3),
+        (["complete", MODULE, "-"], "<&-", "", "cannot read -\n", 3),
+        (["rules", LOG], "<&-", "allowed\n", "", 0),
+        (["rules", LOG], "2>&-", "allowed\n", "", 0),
+        (["rules", "-"], "<&- 2>&-", "", "", 3),
+        *((words, ">&-", "", "cannot write\n", 3) for words in COMMANDS),
+        *((words, ">&- 2>&-", "", "", 3) for words in COMMANDS),
+    ):
+        ran = subprocess.run(["sh", "-c", f'exec "$0" "$@" {tail}', WMLAB, *given], cwd=TOP, stdin=subprocess.DEVNULL, capture_output=True, timeout=60)
+        got = ran.stdout.decode(), ran.stderr.decode(), ran.returncode
+        check(got == (text, error, status), f"closed streams, {given} {tail}", got)
+
+
+if __name__ == "__main__":
+    for part in (
+        cut_documents,
+        cut_modules,
+        document_limits,
+        numbers_at_their_limits,
+        module_limits,
+        script_limits,
+        changed_logs,
+        endless_inputs,
+        one_byte_a_read,
+        devices_and_streams,
+    ):
+        start = time.monotonic()
+        part()
+        print(f"{part.__name__}: {passed} passed, {failed} failed so far, {time.monotonic() - start:.1f} s", flush=True)
+    print(f"{passed} passed, {failed} failed")
+    sys.exit(1 if failed or not passed else 0)
