@@ -1,11 +1,11 @@
 #!/usr/bin/env python3
-"""Writes the tests of the machine's instructions, numeric_instructions.rt and other_instructions.rt of wm_litmus: modules
+"""Writes the tests of the machine's instructions, numeric_instructions.rt and other_instructions.rt of wmlab: modules
 with a function for each instruction, and a log of one call of each.
 
 The functions stand below as WebAssembly text. wabt's wat2wasm assembles them, and node's WebAssembly runs each call in an
 instance of its own: results, traps, and the bytes read and written come from there, and nothing from this repository.
 The steps are counted here: one for each instruction, and one for leaving the function.
-    cd crates/wm_litmus/src/tests
+    cd crates/wmlab/src/tests
     ../../../../scripts/instruction_tests.py
 It needs wat2wasm (Debian's wabt) and node 20.
 """

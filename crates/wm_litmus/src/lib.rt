@@ -44,6 +44,3 @@ pub use line::{rules_line, verdict_line};
 pub use outcomes::outcome;
 pub use program::serve;
 pub use table::report;
-
-#[cfg(test)]
-mod tests;

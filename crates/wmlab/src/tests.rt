@@ -1,105 +1,19 @@
-//! The words, the streams and the status, and files of the system.
-use super::*;
-use std::io;
-use std::test::Fail;
-use wm_litmus::{FileFault, Files};
-
-/// Keeps what is written.
-#[derive(Drop)]
-struct FakeWriter {
-    bytes: Vec<u8>,
-}
-
-impl Write for FakeWriter {
-    fn write(&mut self, buf: &[u8]) -> io::Result<usize> {
-        self.bytes.extend_from_slice(buf)?;
-        Ok(buf.len())
-    }
-
-    fn flush(&mut self) -> io::Result<()> {
-        Ok(())
-    }
-}
-
-fn fake_writer(alloc: Global) -> FakeWriter {
-    FakeWriter {
-        bytes: Vec::new(alloc),
-    }
-}
-
-/// The words as arguments.
-fn given(alloc: Global, words: &[&str]) -> Result<Vec<String>, AllocError> {
-    let mut texts = Vec::new(alloc);
-    for word in words {
-        texts.push(String::from_str(alloc, word)?)?;
-    }
-    Ok(texts)
-}
-
-#[test]
-fn each_word_counts_and_the_status_is_that_of_the_line(rt: HostRuntime) {
-    let cases: [(&[&str], &str, &str, u8); 6] = [
-        (&["rules", "-"], "allowed\n", "", 0),
-        (&["rules", "/dev/null"], "refused document NotJson\n", "", 2),
-        (
-            &["check", "/dev/null", "-"],
-            "refused decode Truncated at 0\n",
-            "",
-            2,
-        ),
-        (&["rules", "-", "-"], "refused command words\n", "", 2),
-        (&[], "refused command words\n", "", 2),
-        (&["rules", "/nowhere"], "", "cannot read /nowhere\n", 3),
-    ];
-    for (words, line, error, status) in &cases {
-        let mut input = br#"["wasm-litmus-log",1,[],[[],[]]]"#.as_slice();
-        let mut out = fake_writer(rt.alloc());
-        let mut err = fake_writer(rt.alloc());
-        let got = run(
-            &rt,
-            given(rt.alloc(), words),
-            &mut input,
-            &mut out,
-            &mut err,
-        );
-        assert_eq!(rt; out.bytes.as_slice(), line.as_bytes());
-        assert_eq!(rt; err.bytes.as_slice(), error.as_bytes());
-        assert_eq!(rt; got, *status);
-    }
-}
-
-#[test]
-fn refused_memory_for_the_words_is_said(rt: HostRuntime) {
-    let mut input = b"".as_slice();
-    let mut out = fake_writer(rt.alloc());
-    let mut err = fake_writer(rt.alloc());
-    let got = run(&rt, Err(AllocError), &mut input, &mut out, &mut err);
-    assert_eq!(rt; got, 3);
-    assert_eq!(rt; out.bytes.len(), 0);
-    assert_eq!(rt; err.bytes.as_slice(), b"out of memory\n".as_slice());
-}
-
-#[test]
-fn files_are_read_to_the_limit(rt: HostRuntime) -> Result<(), Fail> {
-    let mut files = Disk::new(&rt);
-    assert_eq!(rt; files.read("/dev/null", 10)?.len(), 0);
-    assert_eq!(rt; files.read("/dev/zero", 0)?.len(), 0);
-    assert_eq!(rt;
-        files.read("/dev/zero", 9_000)?.as_slice(),
-        [0u8; 9_000].as_slice()
-    );
-    assert!(rt; files.read("/proc/self/stat", 100_000)?.len() > 10);
-    assert_eq!(rt; files.read("/proc/self/stat", 10)?.len(), 10);
-    assert_eq!(rt; files.failures(), 0);
-    Ok(())
-}
-
-#[test]
-fn a_file_that_is_not_read_is_counted(rt: HostRuntime) {
-    for name in ["/nowhere", "/", ""] {
-        let mut files = Disk::new(&rt);
-        let is_device = matches!(files.read(name, 10), Err(FileFault::Device));
-        assert!(rt; is_device);
-        assert_eq!(rt; files.failures(), 1);
-    }
-}
+//! The program over fake streams and files and over those of the system, and runs and logs through several crates.
+mod arguments;
+mod candidates;
+mod check;
+mod closure;
+mod completion;
+mod documents;
+mod driving;
+mod fakes;
+mod gathering;
+mod migration;
+mod modules;
+mod numeric_instructions;
+mod other_instructions;
+mod program;
+mod recordings;
+mod rounds;
+mod runs;
+mod threads;

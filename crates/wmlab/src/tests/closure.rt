@@ -1,7 +1,7 @@
 //! Happens-before in bit columns beside the plain closure of its edges, and the limit of events.
 use super::documents::{ALLOWED, BROKEN};
 use super::fakes::{NEVER, fake_reader, says};
-use super::reads;
+use super::program::reads;
 use std::alloc::{AllocError, Global};
 use std::process::Abort;
 use std::test::Fail;

@@ -5,10 +5,10 @@ use super::modules::STORE_BUFFERING;
 use super::numeric_instructions::NUMERIC;
 use super::other_instructions::{CONTROL, MEMORY};
 use super::runs::{ALLOWED, BROKEN, LOG, REFUSED_BYTES, REFUSED_MODULES, REFUSED_SHAPES, Row};
-use crate::serve;
 use std::process::Abort;
 use std::sync::Wait;
 use std::thread::Threads;
+use wm_litmus::serve;
 
 /// Runs `check` over the files of each row, and looks at its line and its status.
 fn checks<R: Abort + AllocGlobal + Threads + Wait + Sync>(rt: &R, rows: &[Row], status: u8) {

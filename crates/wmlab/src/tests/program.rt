@@ -1,29 +1,14 @@
 //! The program over a fake reader, fake writers and fake files.
-mod candidates;
-mod check;
-mod closure;
-mod completion;
-mod documents;
-mod driving;
-mod fakes;
-mod gathering;
-mod migration;
-mod modules;
-mod numeric_instructions;
-mod other_instructions;
-mod recordings;
-mod rounds;
-mod runs;
-mod threads;
-
-use super::*;
-use documents::{ALLOWED, BROKEN, REFUSED, Row};
-use fakes::{EndlessReader, NEVER, fake_files, fake_reader, fake_writer, holding_writer, says};
+use super::documents::{ALLOWED, BROKEN, REFUSED, Row};
+use super::fakes::{
+    EndlessReader, NEVER, fake_files, fake_reader, fake_writer, holding_writer, says,
+};
 use std::alloc::{AllocError, Global};
 use std::process::Abort;
 use std::sync::Wait;
 use std::test::Fail;
 use std::thread::Threads;
+use wm_litmus::serve;
 
 fn answers<R: Abort + AllocGlobal + Threads + Wait + Sync>(rt: &R, rows: &[Row]) {
     for row in rows {
@@ -54,7 +39,7 @@ fn each_document_has_its_line(rt: HostRuntime) {
 }
 
 /// One thread that reads a byte of the initial memory so many times.
-fn reads(alloc: Global, count: u32) -> Result<String, AllocError> {
+pub(super) fn reads(alloc: Global, count: u32) -> Result<String, AllocError> {
     let mut events = String::new(alloc);
     let mut writers = String::new(alloc);
     let mut order = String::new(alloc);

@@ -4,10 +4,10 @@ use super::documents::{self, REFUSED};
 use super::fakes::{FakeWriter, NEVER, fake_files, fake_reader, fake_writer, says};
 use super::modules::OVERLAPPING_LOAD;
 use super::runs;
-use crate::serve;
 use std::process::Abort;
 use std::sync::Wait;
 use std::thread::Threads;
+use wm_litmus::serve;
 
 /// An 8-byte store and a load of 4 bytes out of its middle.
 const OVERLAP: &str =

@@ -5,10 +5,10 @@ use super::modules::{
     CALLS_ITSELF, OVERLAPPING_LOAD, SPINS, STORE_BUFFERING, STORE_BUFFERING_ATOMIC, TRAPS,
 };
 use super::runs::{ALLOWED, REFUSED_BYTES, REFUSED_MODULES, REFUSED_SHAPES, Row};
-use crate::serve;
 use std::process::Abort;
 use std::sync::Wait;
 use std::thread::Threads;
+use wm_litmus::serve;
 
 /// What the program prints over a module and a document, and the status.
 fn run<R: Abort + AllocGlobal + Threads + Wait + Sync>(

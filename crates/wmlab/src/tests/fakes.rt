@@ -1,13 +1,13 @@
 //! Files, a reader and writers that stand in for those of the system.
 ghost use Rattle.std.specs.Prelude.{◌≡◌};
 
-use crate::{FileFault, Files, serve};
 use std::alloc::Global;
 use std::io;
 use std::io::{ErrorKind, Read, Write};
 use std::process::Abort;
 use std::sync::Wait;
 use std::thread::Threads;
+use wm_litmus::{FileFault, Files, serve};
 
 /// No read or write fails.
 pub(super) const NEVER: u64 = u64::MAX;
