@@ -1,14 +1,14 @@
 //! The exact texts of each kind of verdict.
 use crate::explain;
 use crate::rule::rule_reason;
-use std::alloc::Global;
+use std::alloc::{AllocError, Global};
 use std::process::Abort;
 use std::sync::Wait;
 use std::test::Fail;
 use std::thread::Threads;
-use wm_check::check;
-use wm_event::{Candidate, Initial, Judgement};
-use wm_logfile::read_document;
+use wm_check::{Verdict, check};
+use wm_event::{Candidate, Initial, Judgement, Log, Witness};
+use wm_logfile::{DocFault, read_document};
 use wm_rules::judge;
 
 mod rows;
@@ -16,18 +16,38 @@ mod sentences;
 
 use rows::{ALLOWED_AND_RULES, CheckRow, REFUSED, REPLAYS, RULES, RuleRow};
 
+/// The verdict on a row. What a check promises of it is of no use to a test, and would cost its proof minutes.
+fn verdict_on<R: Abort + AllocGlobal + Threads + Sync>(
+    rt: &R,
+    row: &CheckRow,
+) -> Result<Verdict, AllocError> {
+    check(rt, row.module, row.document.as_bytes())
+}
+
 /// Explains the verdict on each row.
 fn explains<R: Abort + AllocGlobal + Threads + Sync>(
     rt: &R,
     rows: &[CheckRow],
 ) -> Result<(), Fail> {
     for row in rows {
-        let document = row.document.as_bytes();
-        let verdict = check(rt, row.module, document)?;
-        let text = explain(rt, &verdict, row.module, document)?;
+        let verdict = verdict_on(rt, row)?;
+        let text = explain(rt, &verdict, row.module, row.document.as_bytes())?;
         assert_eq!(rt; text.as_str(), row.text, "{}", row.shows);
     }
     Ok(())
+}
+
+/// The log and the witness of a document.
+fn read(alloc: Global, text: &str) -> Result<(Log, Witness), DocFault> {
+    read_document(alloc, text.as_bytes())
+}
+
+/// How the rules judge a candidate.
+fn judgement_on<R: AllocGlobal + Threads + Sync>(
+    rt: &R,
+    candidate: &Candidate,
+) -> Result<Judgement, AllocError> {
+    judge(rt, candidate)
 }
 
 /// Explains the fault of a row.
@@ -36,9 +56,9 @@ fn explains_rule<R: Abort + AllocGlobal + Threads + Sync>(
     zeros: &Initial,
     row: &RuleRow,
 ) -> Result<(), Fail> {
-    let (log, witness) = read_document(rt.alloc(), row.document.as_bytes())?;
+    let (log, witness) = read(rt.alloc(), row.document)?;
     let candidate = Candidate::new(rt.alloc(), log, witness, zeros)?;
-    let Judgement::Broken(fault) = judge(rt, &candidate)? else {
+    let Judgement::Broken(fault) = judgement_on(rt, &candidate)? else {
         panic!(rt; "{}", row.shows);
     };
     let text = rule_reason(rt.alloc(), &candidate, &fault)?;

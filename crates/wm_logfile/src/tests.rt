@@ -4,7 +4,7 @@ use std::alloc::{AllocError, Global};
 use std::process::Abort;
 use std::test::Fail;
 use wm_access::{AccessWidth, MemoryOrder};
-use wm_event::{End, Event, EventId, EventKey, EventKind, TrapKind};
+use wm_event::{End, Event, EventId, EventKey, EventKind, Log, TrapKind, Witness};
 
 /// Two threads that each write an address and then read the other's.
 const STORE_BUFFERING: &str =
@@ -28,6 +28,11 @@ fn plain(thread: u32, number: u32, kind: EventKind, address: u32, written: u64) 
 
 fn key(thread: u32, number: u32) -> EventKey {
     EventKey { thread, number }
+}
+
+/// The log and the witness of a document. No test knows more of them than this.
+fn read(alloc: Global, text: &str) -> Result<(Log, Witness), DocFault> {
+    read_document(alloc, text.as_bytes())
 }
 
 /// What reading the bytes answers: `read`, or the fault's text.
@@ -56,7 +61,7 @@ fn check<R: Abort>(
 
 #[test]
 fn store_buffering_is_read(rt: HostRuntime) -> Result<(), Fail> {
-    let (log, witness) = read_document(rt.alloc(), STORE_BUFFERING.as_bytes())?;
+    let (log, witness) = read(rt.alloc(), STORE_BUFFERING)?;
     let [first, second] = log.threads() else {
         panic!(rt; "two threads");
     };
@@ -94,7 +99,7 @@ const ENDS: &str = r#"
 
 #[test]
 fn each_end_is_read(rt: HostRuntime) -> Result<(), Fail> {
-    let (log, witness) = read_document(rt.alloc(), ENDS.as_bytes())?;
+    let (log, witness) = read(rt.alloc(), ENDS)?;
     let [returned, trapped, cut] = log.threads() else {
         panic!(rt; "three threads");
     };
@@ -385,7 +390,7 @@ fn migrated(alloc: Global, text: &str) -> Result<String, AllocError> {
 
 #[test]
 fn version_2_is_read(rt: HostRuntime) -> Result<(), Fail> {
-    let (log, witness) = read_document(rt.alloc(), ENDS_WITH_WRITERS.as_bytes())?;
+    let (log, witness) = read(rt.alloc(), ENDS_WITH_WRITERS)?;
     let [returned, trapped, cut] = log.threads() else {
         panic!(rt; "three threads");
     };
@@ -514,7 +519,7 @@ fn a_witness_that_does_not_fit_is_misplaced(rt: HostRuntime) -> Result<(), Fail>
 
 #[test]
 fn what_is_written_is_read_again(rt: HostRuntime) -> Result<(), Fail> {
-    let (log, witness) = read_document(rt.alloc(), STORE_BUFFERING.as_bytes())?;
+    let (log, witness) = read(rt.alloc(), STORE_BUFFERING)?;
     if !witness.fits(&log) {
         panic!(rt; "the witness fits");
     }

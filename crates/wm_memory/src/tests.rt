@@ -1,7 +1,8 @@
 //! Rows of buffered memory, with values from outside, and each call once where it succeeds.
-ghost use Rattle.std.specs.Prelude.{◌<◌, ◌^◌};
+ghost use Rattle.std.specs.Prelude.{◌<◌, ◌≤◌, ◌^◌};
 
 use super::*;
+use std::alloc::Global;
 use std::process::Abort;
 use std::test::Fail;
 use wm_access::{AccessWidth, MemoryOrder};
@@ -52,6 +53,33 @@ fn exchange(expected: u64, new: u64) -> Op {
     })
 }
 
+// Each call of a memory stands in a function of its own, which hands none of its contract on, so that a test is proved in
+// seconds.
+
+/// A memory of a page of zeros.
+fn zeros(alloc: Global, threads: usize) -> Result<Memory, Fail>
+    requires { threads ≤ 16 }
+{
+    let initial = Initial::zeros(alloc, 1)?;
+    Ok(Memory::new(alloc, &initial, threads)?)
+}
+
+fn pending(memory: &Memory, thread: u32) -> usize {
+    memory.pending(thread)
+}
+
+fn accesses(memory: &Memory, thread: u32) -> u32 {
+    memory.accesses(thread)
+}
+
+fn drain(memory: &mut Memory, thread: u32) -> bool {
+    memory.drain(thread)
+}
+
+fn drain_at(memory: &mut Memory, thread: u32, index: u32) -> bool {
+    memory.drain_at(thread, index)
+}
+
 /// An access of a thread that made fewer than 1,000.
 fn access<R: Abort>(rt: &R, memory: &mut Memory, thread: u32, op: Op) -> Result<Reply, MemFault> {
     assert!(rt; memory.accesses(thread) < 1_000);
@@ -67,39 +95,37 @@ fn reads<R: Abort>(rt: &R, memory: &mut Memory, thread: u32, address: u32) -> Op
 
 #[test]
 fn a_full_buffer_drains_its_oldest_store(rt: HostRuntime) -> Result<(), Fail> {
-    let initial = Initial::zeros(rt.alloc(), 1)?;
-    let mut memory = Memory::new(rt.alloc(), &initial, 2)?;
+    let mut memory = zeros(rt.alloc(), 2)?;
     assert_eq!(rt; memory.threads(), 2);
     assert_eq!(rt; memory.initial().len(), 65_536);
     for address in 0..65u32 {
         access(&rt, &mut memory, 0, store_byte(address, 1))?;
     }
-    assert_eq!(rt; memory.pending(0), 64);
+    assert_eq!(rt; pending(&memory, 0), 64);
     assert_eq!(rt; reads(&rt, &mut memory, 1, 0), Some(1));
     assert_eq!(rt; reads(&rt, &mut memory, 1, 1), Some(0));
     assert_eq!(rt; reads(&rt, &mut memory, 0, 1), Some(1));
     access(&rt, &mut memory, 0, atomic_load(0))?;
-    assert_eq!(rt; memory.pending(0), 0);
+    assert_eq!(rt; pending(&memory, 0), 0);
     assert_eq!(rt; reads(&rt, &mut memory, 1, 64), Some(1));
-    assert_eq!(rt; memory.accesses(0), 67);
+    assert_eq!(rt; accesses(&memory, 0), 67);
     Ok(())
 }
 
 #[test]
 fn a_store_leaves_before_older_ones_that_it_does_not_overlap(rt: HostRuntime) -> Result<(), Fail> {
-    let initial = Initial::zeros(rt.alloc(), 1)?;
-    let mut memory = Memory::new(rt.alloc(), &initial, 2)?;
+    let mut memory = zeros(rt.alloc(), 2)?;
     for (address, value) in [(0, 1), (2, 2), (8, 3)] {
         access(&rt, &mut memory, 0, store_word(address, value))?;
     }
-    assert!(rt; !memory.drain_at(0, 1));
-    assert!(rt; !memory.drain_at(0, 3));
-    assert!(rt; !memory.drain_at(2, 0));
-    assert!(rt; memory.drain_at(0, 2));
-    assert_eq!(rt; memory.pending(0), 2);
+    assert!(rt; !drain_at(&mut memory, 0, 1));
+    assert!(rt; !drain_at(&mut memory, 0, 3));
+    assert!(rt; !drain_at(&mut memory, 2, 0));
+    assert!(rt; drain_at(&mut memory, 0, 2));
+    assert_eq!(rt; pending(&memory, 0), 2);
     assert_eq!(rt; reads(&rt, &mut memory, 1, 8), Some(3));
     assert_eq!(rt; reads(&rt, &mut memory, 1, 0), Some(0));
-    assert!(rt; memory.drain(0) && memory.drain(0) && !memory.drain(0));
+    assert!(rt; drain(&mut memory, 0) && drain(&mut memory, 0) && !drain(&mut memory, 0));
     assert_eq!(rt; reads(&rt, &mut memory, 1, 0), Some(1));
     assert_eq!(rt; reads(&rt, &mut memory, 1, 2), Some(2));
     Ok(())
@@ -124,7 +150,7 @@ fn accesses_are_refused_in_order(rt: HostRuntime) -> Result<(), Fail> {
     );
     let reply = access(&rt, &mut memory, 0, load(0, AccessWidth::Four))?;
     assert_eq!(rt; reply.read, Some(0x0403_0201));
-    assert_eq!(rt; memory.accesses(0), 1);
+    assert_eq!(rt; accesses(&memory, 0), 1);
     assert_eq!(rt;
         format!(in rt.alloc(); "{}", MemFault::OutOfBounds)?.as_str(),
         "OutOfBounds"
@@ -134,8 +160,7 @@ fn accesses_are_refused_in_order(rt: HostRuntime) -> Result<(), Fail> {
 
 #[test]
 fn a_reply_names_the_writers_of_the_bytes_read(rt: HostRuntime) -> Result<(), Fail> {
-    let initial = Initial::zeros(rt.alloc(), 1)?;
-    let mut memory = Memory::new(rt.alloc(), &initial, 1)?;
+    let mut memory = zeros(rt.alloc(), 1)?;
     let stored = access(&rt, &mut memory, 0, store_byte(1, 7))?;
     assert!(rt; stored.stored && stored.read == None);
     let mut expected = [EventId::Init; 8];
@@ -150,7 +175,7 @@ fn a_reply_names_the_writers_of_the_bytes_read(rt: HostRuntime) -> Result<(), Fa
     assert_eq!(rt; reply.writers.as_slice(), expected.as_slice());
     let failed = access(&rt, &mut memory, 0, exchange(1, 2))?;
     assert!(rt; !failed.stored && failed.read == Some(0x700));
-    assert_eq!(rt; memory.pending(0), 0);
+    assert_eq!(rt; pending(&memory, 0), 0);
     let done = access(&rt, &mut memory, 0, exchange(0x700, 2))?;
     assert!(rt; done.stored && done.read == Some(0x700));
     assert_eq!(rt; reads(&rt, &mut memory, 0, 0), Some(2));

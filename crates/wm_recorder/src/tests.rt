@@ -4,7 +4,7 @@ mod locked;
 ghost use Rattle.std.specs.Prelude.{◌<◌, ◌^◌};
 
 use super::*;
-use std::alloc::Global;
+use std::alloc::{AllocError, Global};
 use std::process::Abort;
 use std::test::Fail;
 use wm_access::{AccessWidth, MemoryOrder};
@@ -38,14 +38,62 @@ fn store_word(address: u32, value: u32) -> Op {
     })
 }
 
+// Each call of a recorder stands in a function of its own, which hands none of its contract on: so a test is proved in
+// seconds, and not in a minute.
+
+/// A recorder of two threads over a page of zeros.
+fn two_threads(alloc: Global) -> Result<Recorder, Fail> {
+    let initial = Initial::zeros(alloc, 1)?;
+    Ok(Recorder::new(alloc, &initial, 2)?)
+}
+
+fn access(recorder: &mut Recorder, thread: u32, op: Op) -> Result<Reply, AccessFault> {
+    recorder.step_access(thread, op)
+}
+
+fn drain(recorder: &mut Recorder, thread: u32) -> Result<bool, AllocError> {
+    recorder.step_drain(thread)
+}
+
+fn drain_at(recorder: &mut Recorder, thread: u32, index: u32) -> Result<bool, AllocError> {
+    recorder.step_drain_at(thread, index)
+}
+
+/// How many steps there are.
+fn steps(recorder: &Recorder) -> usize {
+    recorder.history().len()
+}
+
+/// The step with so many earlier ones.
+fn step_at(recorder: &Recorder, place: usize) -> Option<Item> {
+    recorder.history().get(place).copied()
+}
+
+/// How many stores of a thread wait.
+fn pending(recorder: &Recorder, thread: u32) -> usize {
+    recorder.memory().pending(thread)
+}
+
+fn event_count(recorder: &Recorder, thread: u32) -> usize {
+    recorder.events(thread).len()
+}
+
+fn writer_count(recorder: &Recorder, thread: u32) -> usize {
+    recorder.writers(thread).len()
+}
+
+fn order_length(recorder: &Recorder) -> usize {
+    recorder.order().len()
+}
+
 /// How many steps, events and writers of a thread, places of the order and waiting stores there are.
 fn counts(recorder: &Recorder, thread: u32) -> [usize; 5] {
     [
-        recorder.history().len(),
-        recorder.events(thread).len(),
-        recorder.writers(thread).len(),
-        recorder.order().len(),
-        recorder.memory().pending(thread),
+        steps(recorder),
+        event_count(recorder, thread),
+        writer_count(recorder, thread),
+        order_length(recorder),
+        pending(recorder, thread),
     ]
 }
 
@@ -57,10 +105,10 @@ fn step<R: Abort>(
     op: Op,
 ) -> Result<Reply, AccessFault> {
     let before = counts(recorder, thread);
-    match recorder.step_access(thread, op) {
+    match access(recorder, thread, op) {
         Err(AccessFault::OutOfMemory) => {
             assert_eq!(rt; counts(recorder, thread).as_slice(), before.as_slice());
-            recorder.step_access(thread, op)
+            access(recorder, thread, op)
         }
         made => made,
     }
@@ -75,27 +123,22 @@ fn reads<R: Abort>(rt: &R, recorder: &mut Recorder, thread: u32, address: u32) -
 
 #[test]
 fn a_forced_drain_is_a_step_of_its_own(rt: HostRuntime) -> Result<(), Fail> {
-    let initial = Initial::zeros(rt.alloc(), 1)?;
-    let mut recorder = Recorder::new(rt.alloc(), &initial, 2)?;
+    let mut recorder = two_threads(rt.alloc())?;
     assert_eq!(rt; recorder.threads(), 2);
     assert_eq!(rt; recorder.initial().len(), 65_536);
     for address in 0..65u32 {
         step(&rt, &mut recorder, 0, store(address, 1))?;
     }
-    assert_eq!(rt; recorder.history().len(), 66);
-    assert_eq!(rt; recorder.history().get(64).copied(), Some(Item::Drain(0)));
-    assert_eq!(rt;
-        recorder.history().get(65).copied(),
-        Some(Item::Access(0, store(64, 1)))
-    );
-    assert_eq!(rt; recorder.memory().pending(0), 64);
+    assert_eq!(rt; steps(&recorder), 66);
+    assert_eq!(rt; step_at(&recorder, 64), Some(Item::Drain(0)));
+    assert_eq!(rt; step_at(&recorder, 65), Some(Item::Access(0, store(64, 1))));
+    assert_eq!(rt; pending(&recorder, 0), 64);
     Ok(())
 }
 
 /// A recorder of two threads that made as many accesses as it may, the first a store of thread 0 that waits.
 fn full<R: Abort>(rt: &R, alloc: Global) -> Result<Recorder, Fail> {
-    let initial = Initial::zeros(alloc, 1)?;
-    let mut recorder = Recorder::new(alloc, &initial, 2)?;
+    let mut recorder = two_threads(alloc)?;
     step(rt, &mut recorder, 0, store(0, 1))?;
     for _made in 1..MAX_EVENTS {
         step(rt, &mut recorder, 1, load(0))?;
@@ -105,7 +148,7 @@ fn full<R: Abort>(rt: &R, alloc: Global) -> Result<Recorder, Fail> {
 
 /// Why an access is refused, None where it is made.
 fn fault_of(recorder: &mut Recorder, thread: u32, op: Op) -> Option<AccessFault> {
-    match recorder.step_access(thread, op) {
+    match access(recorder, thread, op) {
         Ok(_) => None,
         Err(fault) => Some(fault),
     }
@@ -126,7 +169,7 @@ fn a_full_recorder_refuses_accesses(rt: HostRuntime) -> Result<(), Fail> {
         fault_of(&mut recorder, 0, load(0)),
         Some(AccessFault::Full)
     );
-    assert_eq!(rt; recorder.history().len(), MAX_EVENTS);
+    assert_eq!(rt; steps(&recorder), MAX_EVENTS);
     assert_eq!(rt;
         format!(in rt.alloc(); "{}", AccessFault::Full)?.as_str(),
         "Full"
@@ -137,31 +180,27 @@ fn a_full_recorder_refuses_accesses(rt: HostRuntime) -> Result<(), Fail> {
 #[test]
 fn a_full_recorder_drains(rt: HostRuntime) -> Result<(), Fail> {
     let mut recorder = full(&rt, rt.alloc())?;
-    assert!(rt; recorder.step_drain(0)?);
-    assert_eq!(rt; recorder.history().len(), MAX_EVENTS + 1);
-    assert!(rt; !recorder.step_drain(0)?);
-    assert_eq!(rt; recorder.history().len(), MAX_EVENTS + 1);
+    assert!(rt; drain(&mut recorder, 0)?);
+    assert_eq!(rt; steps(&recorder), MAX_EVENTS + 1);
+    assert!(rt; !drain(&mut recorder, 0)?);
+    assert_eq!(rt; steps(&recorder), MAX_EVENTS + 1);
     Ok(())
 }
 
 #[test]
 fn a_store_leaves_before_older_ones_that_it_does_not_overlap(rt: HostRuntime) -> Result<(), Fail> {
-    let initial = Initial::zeros(rt.alloc(), 1)?;
-    let mut recorder = Recorder::new(rt.alloc(), &initial, 2)?;
+    let mut recorder = two_threads(rt.alloc())?;
     for (address, value) in [(0, 1), (2, 2), (8, 3)] {
         step(&rt, &mut recorder, 0, store_word(address, value))?;
     }
-    assert!(rt; !recorder.step_drain_at(0, 1)?);
-    assert_eq!(rt; recorder.history().len(), 3);
-    assert!(rt; recorder.step_drain_at(0, 2)?);
-    assert_eq!(rt;
-        recorder.history().get(3).copied(),
-        Some(Item::DrainAt(0, 2))
-    );
-    assert_eq!(rt; recorder.memory().pending(0), 2);
+    assert!(rt; !drain_at(&mut recorder, 0, 1)?);
+    assert_eq!(rt; steps(&recorder), 3);
+    assert!(rt; drain_at(&mut recorder, 0, 2)?);
+    assert_eq!(rt; step_at(&recorder, 3), Some(Item::DrainAt(0, 2)));
+    assert_eq!(rt; pending(&recorder, 0), 2);
     assert_eq!(rt; reads(&rt, &mut recorder, 1, 8), Some(3));
     assert_eq!(rt; reads(&rt, &mut recorder, 1, 0), Some(0));
-    assert!(rt; !recorder.step_drain_at(0, 2)?);
+    assert!(rt; !drain_at(&mut recorder, 0, 2)?);
     Ok(())
 }
 
@@ -177,14 +216,17 @@ fn writer_of(parts: &Parts, thread: usize, number: usize) -> Option<EventId> {
 
 /// What thread 0 recorded that read a byte before and after a store of thread 1 to it was drained.
 fn two_reads<R: Abort>(rt: &R, alloc: Global) -> Result<Parts, Fail> {
-    let initial = Initial::zeros(alloc, 1)?;
-    let mut recorder = Recorder::new(alloc, &initial, 2)?;
+    let mut recorder = two_threads(alloc)?;
     step(rt, &mut recorder, 1, store(3, 9))?;
     step(rt, &mut recorder, 0, load(3))?;
-    recorder.step_drain(1)?;
+    drain(&mut recorder, 1)?;
     step(rt, &mut recorder, 0, load(3))?;
     recorder.recorded_log_is_valid();
-    Ok(recorder.into_parts()?)
+    Ok(parts_of(recorder)?)
+}
+
+fn parts_of(recorder: Recorder) -> Result<Parts, AllocError> {
+    recorder.into_parts()
 }
 
 #[test]

@@ -47,9 +47,14 @@ fn memory_of(minimum: u32, maximum: u32) -> Option<Memory> {
     })
 }
 
+/// Why a module is refused, None where it is valid.
+fn refusal(alloc: Global, module: Module) -> Option<ValidFault> {
+    validate(alloc, module).err()
+}
+
 /// The fault of a function with this body.
 fn fault_of(alloc: Global, body: Vec<Instr>) -> Result<Option<ValidFault>, Fail> {
-    Ok(validate(alloc, module_of(alloc, body)?).err())
+    Ok(refusal(alloc, module_of(alloc, body)?))
 }
 
 fn in_module(kind: FaultKind) -> Option<ValidFault> {

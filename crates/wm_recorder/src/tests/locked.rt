@@ -1,13 +1,12 @@
 //! A recorder under its lock, on one thread and on two.
-use super::{load, store_word};
-use crate::{AccessFault, LockedMemory, Recorder, Shared};
-use std::alloc::Global;
+use super::{event_count, load, order_length, pending, steps, store_word, two_threads};
+use crate::{AccessFault, LockedMemory, Shared};
 use std::process::Abort;
 use std::sync::Wait;
 use std::test::Fail;
 use std::thread;
 use wm_access::{AccessWidth, MemoryOrder};
-use wm_event::{Initial, Op, OpFields, OpKind};
+use wm_event::{Op, OpFields, OpKind};
 
 fn load_word(address: u32) -> Op {
     Op::new(OpFields {
@@ -23,32 +22,42 @@ fn read<S: Shared>(shared: &S, thread: u32, address: u32) -> Result<Option<u64>,
     Ok(shared.access(thread, load_word(address))?.read)
 }
 
-/// A recorder of two threads over a page of zeros.
-fn recorder(alloc: Global) -> Result<Recorder, Fail> {
-    let initial = Initial::zeros(alloc, 1)?;
-    Ok(Recorder::new(alloc, &initial, 2)?)
+/// Stores a word.
+fn write<S: Shared>(shared: &S, thread: u32, address: u32, value: u32) -> Result<(), AccessFault> {
+    let _reply = shared.access(thread, store_word(address, value))?;
+    Ok(())
+}
+
+/// Whether a thread's oldest store left its buffer.
+fn drain<S: Shared>(shared: &S, thread: u32) -> Result<bool, AccessFault> {
+    match shared.drain(thread) {
+        Ok(drained) => Ok(drained),
+        Err(_) => Err(AccessFault::OutOfMemory),
+    }
+}
+
+/// Why a load is refused, None where it is made.
+fn refusal<S: Shared>(shared: &S, thread: u32) -> Option<AccessFault> {
+    shared.access(thread, load(0)).err()
 }
 
 #[test]
 fn a_drain_shows_the_oldest_store_to_the_others(rt: HostRuntime) -> Result<(), Fail> {
-    let shared = LockedMemory::new(&rt, recorder(rt.alloc())?);
-    shared.access(0, store_word(0, 1))?;
-    shared.access(0, store_word(8, 2))?;
-    shared.access(1, store_word(4, 3))?;
-    assert!(rt; shared.drain(0)?);
+    let shared = LockedMemory::new(&rt, two_threads(rt.alloc())?);
+    write(&shared, 0, 0, 1)?;
+    write(&shared, 0, 8, 2)?;
+    write(&shared, 1, 4, 3)?;
+    assert!(rt; drain(&shared, 0)?);
     assert_eq!(rt; read(&shared, 1, 0)?, Some(1));
     assert_eq!(rt; read(&shared, 1, 8)?, Some(0));
-    assert!(rt; shared.drain(1)?);
-    assert!(rt; !shared.drain(1)?);
+    assert!(rt; drain(&shared, 1)?);
+    assert!(rt; !drain(&shared, 1)?);
     assert_eq!(rt; read(&shared, 0, 4)?, Some(3));
-    assert_eq!(rt;
-        shared.access(2, load(0)).err(),
-        Some(AccessFault::NoThread)
-    );
+    assert_eq!(rt; refusal(&shared, 2), Some(AccessFault::NoThread));
     let recorder = shared.into_recorder();
-    assert_eq!(rt; recorder.history().len(), 8);
-    assert_eq!(rt; recorder.order().len(), 6);
-    assert_eq!(rt; recorder.memory().pending(0), 1);
+    assert_eq!(rt; steps(&recorder), 8);
+    assert_eq!(rt; order_length(&recorder), 6);
+    assert_eq!(rt; pending(&recorder, 0), 1);
     Ok(())
 }
 
@@ -63,7 +72,7 @@ fn drain_at<S: Shared>(shared: &S, index: u32) -> Result<bool, AccessFault> {
 /// Stores 1 at 0, 2 at 2 and 3 at 8, each of four bytes, and drains the second and then the third of these.
 fn store_three<S: Shared>(shared: &S) -> Result<[bool; 2], AccessFault> {
     for (address, value) in [(0, 1), (2, 2), (8, 3)] {
-        shared.access(0, store_word(address, value))?;
+        write(shared, 0, address, value)?;
     }
     Ok([drain_at(shared, 1)?, drain_at(shared, 2)?])
 }
@@ -78,7 +87,7 @@ fn read_often<S: Shared>(shared: &S) -> Result<(), AccessFault> {
 
 #[test]
 fn two_threads_drain_and_read(rt: HostRuntime) -> Result<(), Fail> {
-    let shared = LockedMemory::new(&rt, recorder(rt.alloc())?);
+    let shared = LockedMemory::new(&rt, two_threads(rt.alloc())?);
     let (drained, seen) = thread::join(&rt, || store_three(&shared), || read_often(&shared));
     let drained = drained?;
     seen?;
@@ -87,10 +96,10 @@ fn two_threads_drain_and_read(rt: HostRuntime) -> Result<(), Fail> {
     assert_eq!(rt; read(&shared, 1, 0)?, Some(0));
     let recorder = shared.into_recorder();
     recorder.recorded_log_is_valid();
-    assert_eq!(rt; recorder.memory().pending(0), 2);
-    assert_eq!(rt; recorder.events(0).len(), 3);
-    assert_eq!(rt; recorder.events(1).len(), 32);
-    assert_eq!(rt; recorder.order().len(), 35);
-    assert_eq!(rt; recorder.history().len(), 36);
+    assert_eq!(rt; pending(&recorder, 0), 2);
+    assert_eq!(rt; event_count(&recorder, 0), 3);
+    assert_eq!(rt; event_count(&recorder, 1), 32);
+    assert_eq!(rt; order_length(&recorder), 35);
+    assert_eq!(rt; steps(&recorder), 36);
     Ok(())
 }

@@ -50,23 +50,23 @@ fn later_segments_lie_over_earlier_ones(rt: HostRuntime) -> Result<(), Fail> {
 fn segments_lie_in_the_memory(rt: HostRuntime) -> Result<(), Fail> {
     let module = with_data(rt.alloc(), &[(ConstExpr::I32(65535), 2)])?;
     assert_eq!(rt;
-        validate(rt.alloc(), module).err(),
+        refusal(rt.alloc(), module),
         in_module(FaultKind::DataOutOfRange)
     );
     let module = with_data(rt.alloc(), &[(ConstExpr::I32(65537), 0)])?;
     assert_eq!(rt;
-        validate(rt.alloc(), module).err(),
+        refusal(rt.alloc(), module),
         in_module(FaultKind::DataOutOfRange)
     );
     let module = with_data(rt.alloc(), &[(ConstExpr::I64(0), 1)])?;
     assert_eq!(rt;
-        validate(rt.alloc(), module).err(),
+        refusal(rt.alloc(), module),
         in_module(FaultKind::BadType)
     );
     let mut module = with_data(rt.alloc(), &[(ConstExpr::I32(0), 1)])?;
     module.memory = None;
     assert_eq!(rt;
-        validate(rt.alloc(), module).err(),
+        refusal(rt.alloc(), module),
         in_module(FaultKind::MemoryAbsent)
     );
     Ok(())

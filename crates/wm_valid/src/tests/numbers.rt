@@ -27,12 +27,12 @@ fn behind_if(alloc: Global, second: Vec<Instr>, part: Else) -> Result<Module, Fa
 fn else_and_end_are_counted(rt: HostRuntime) -> Result<(), Fail> {
     let second = vec![in rt.alloc(); Instr::Nop, Instr::Nop]?;
     let module = behind_if(rt.alloc(), second, Else::Present)?;
-    assert_eq!(rt; validate(rt.alloc(), module).err(), at(FaultKind::Index, 7));
+    assert_eq!(rt; refusal(rt.alloc(), module), at(FaultKind::Index, 7));
     let module = behind_if(rt.alloc(), Vec::new(rt.alloc()), Else::Absent)?;
-    assert_eq!(rt; validate(rt.alloc(), module).err(), at(FaultKind::Index, 4));
+    assert_eq!(rt; refusal(rt.alloc(), module), at(FaultKind::Index, 4));
     let second = vec![in rt.alloc(); Instr::Nop, Instr::Br(2)]?;
     let module = behind_if(rt.alloc(), second, Else::Present)?;
-    assert_eq!(rt; validate(rt.alloc(), module).err(), at(FaultKind::Label, 5));
+    assert_eq!(rt; refusal(rt.alloc(), module), at(FaultKind::Label, 5));
     Ok(())
 }
 
@@ -43,7 +43,7 @@ fn blocks_that_name_one_another_are_refused(rt: HostRuntime) -> Result<(), Fail>
     let blocks = vec![in rt.alloc(); List::from_vec(body), List::from_vec(inner)]?;
     let module = module_of_blocks(rt.alloc(), blocks)?;
     assert_eq!(rt;
-        validate(rt.alloc(), module).err(),
+        refusal(rt.alloc(), module),
         at(FaultKind::BadType, 1)
     );
     let body = vec![in rt.alloc(); Instr::Block(None, 0)]?;

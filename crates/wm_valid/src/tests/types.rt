@@ -60,7 +60,7 @@ fn globals_are_set_where_they_are_variable(rt: HostRuntime) -> Result<(), Fail> 
     let constant = global(Mutability::Constant);
     module.globals = List::from_vec(vec![in rt.alloc(); variable, constant]?);
     assert_eq!(rt;
-        validate(rt.alloc(), module).err(),
+        refusal(rt.alloc(), module),
         at(FaultKind::BadType, 3)
     );
     Ok(())
@@ -152,13 +152,13 @@ fn accesses_take_their_operands(rt: HostRuntime) -> Result<(), Fail> {
 
 #[test]
 fn the_labels_of_a_table_have_one_type(rt: HostRuntime) -> Result<(), Fail> {
-    assert_eq!(rt; validate(rt.alloc(), table(rt.alloc(), 0)?).err(), None);
+    assert_eq!(rt; refusal(rt.alloc(), table(rt.alloc(), 0)?), None);
     assert_eq!(rt;
-        validate(rt.alloc(), table(rt.alloc(), 1)?).err(),
+        refusal(rt.alloc(), table(rt.alloc(), 1)?),
         at(FaultKind::BadType, 3)
     );
     assert_eq!(rt;
-        validate(rt.alloc(), table(rt.alloc(), 2)?).err(),
+        refusal(rt.alloc(), table(rt.alloc(), 2)?),
         at(FaultKind::Label, 3)
     );
     Ok(())
@@ -183,7 +183,7 @@ fn the_label_of_a_loop_takes_nothing(rt: HostRuntime) -> Result<(), Fail> {
     let inner = vec![in rt.alloc(); Instr::I32Const(0), Instr::BrIf(0), Instr::I32Const(1)]?;
     let blocks = vec![in rt.alloc(); List::from_vec(body), List::from_vec(inner)]?;
     let module = module_of_blocks(rt.alloc(), blocks)?;
-    assert_eq!(rt; validate(rt.alloc(), module).err(), None);
+    assert_eq!(rt; refusal(rt.alloc(), module), None);
     Ok(())
 }
 
@@ -207,7 +207,7 @@ fn an_absent_else_part_has_no_result(rt: HostRuntime) -> Result<(), Fail> {
     ]?;
     let module = module_of_blocks(rt.alloc(), blocks)?;
     assert_eq!(rt;
-        validate(rt.alloc(), module).err(),
+        refusal(rt.alloc(), module),
         at(FaultKind::BadType, 3)
     );
     Ok(())
@@ -222,7 +222,7 @@ fn arguments_are_taken_from_the_last(rt: HostRuntime) -> Result<(), Fail> {
         Instr::Drop,
     ]?;
     assert_eq!(rt;
-        validate(rt.alloc(), calling(rt.alloc(), body)?).err(),
+        refusal(rt.alloc(), calling(rt.alloc(), body)?),
         None
     );
     let body = vec![in rt.alloc();
@@ -232,7 +232,7 @@ fn arguments_are_taken_from_the_last(rt: HostRuntime) -> Result<(), Fail> {
         Instr::Drop,
     ]?;
     assert_eq!(rt;
-        validate(rt.alloc(), calling(rt.alloc(), body)?).err(),
+        refusal(rt.alloc(), calling(rt.alloc(), body)?),
         at(FaultKind::BadType, 2)
     );
     Ok(())
