@@ -1,6 +1,7 @@
 //! Documents that are read, refused with a fault and its path, written and migrated.
 use crate::{DocFault, MAX_DOCUMENT_BYTES, migrate, read_document, write_document};
 use std::alloc::{AllocError, Global};
+use std::fmt::Debug;
 use std::process::Abort;
 use std::test::Fail;
 use wm_access::{AccessWidth, MemoryOrder};
@@ -12,6 +13,11 @@ const STORE_BUFFERING: &str =
 
 /// How a document ends after its threads, with an empty witness.
 const AFTER_THREADS: &str = ",[[],[]]]";
+
+/// Stops the test where the two differ. Each `assert_eq!` of a test would lengthen its proof by some seconds.
+fn same<R: Abort, T: PartialEq + Debug + Drop>(rt: &R, got: T, wanted: T) {
+    assert_eq!(rt; got, wanted);
+}
 
 fn plain(thread: u32, number: u32, kind: EventKind, address: u32, written: u64) -> Event {
     Event {
@@ -65,26 +71,26 @@ fn store_buffering_is_read(rt: HostRuntime) -> Result<(), Fail> {
     let [first, second] = log.threads() else {
         panic!(rt; "two threads");
     };
-    assert_eq!(rt; first.start.name.as_str(), "a");
-    assert_eq!(rt; second.start.name.as_str(), "b");
-    assert_eq!(rt; first.start.args.len(), 0);
-    assert_eq!(rt; first.end, End::Done(Some(0)));
-    assert_eq!(rt; first.steps, 6);
+    same(&rt, first.start.name.as_str(), "a");
+    same(&rt, second.start.name.as_str(), "b");
+    same(&rt, first.start.args.len(), 0);
+    same(&rt, first.end, End::Done(Some(0)));
+    same(&rt, first.steps, 6);
     let events = [
         plain(0, 0, EventKind::Write, 0, 1),
         plain(0, 1, EventKind::Read, 4, 0),
     ];
-    assert_eq!(rt; first.events.as_slice(), events.as_slice());
+    same(&rt, first.events.as_slice(), events.as_slice());
     let events = [
         plain(1, 0, EventKind::Write, 4, 1),
         plain(1, 1, EventKind::Read, 0, 0),
     ];
-    assert_eq!(rt; second.events.as_slice(), events.as_slice());
-    assert_eq!(rt; witness.writers(key(0, 0)).len(), 0);
+    same(&rt, second.events.as_slice(), events.as_slice());
+    same(&rt, witness.writers(key(0, 0)).len(), 0);
     assert_eq!(rt; witness.writers(key(0, 1)), [EventId::Init; 4].as_slice());
     assert_eq!(rt; witness.writers(key(1, 1)), [EventId::Init; 4].as_slice());
     let order = [key(0, 0), key(1, 0), key(0, 1), key(1, 1)];
-    assert_eq!(rt; witness.order.as_slice(), order.as_slice());
+    same(&rt, witness.order.as_slice(), order.as_slice());
     Ok(())
 }
 
@@ -103,9 +109,13 @@ fn each_end_is_read(rt: HostRuntime) -> Result<(), Fail> {
     let [returned, trapped, cut] = log.threads() else {
         panic!(rt; "three threads");
     };
-    assert_eq!(rt; returned.start.args.as_slice(), [1, u64::MAX].as_slice());
-    assert_eq!(rt; returned.end, End::Done(None));
-    assert_eq!(rt; returned.steps, 1_000_000);
+    same(
+        &rt,
+        returned.start.args.as_slice(),
+        [1, u64::MAX].as_slice(),
+    );
+    same(&rt, returned.end, End::Done(None));
+    same(&rt, returned.steps, 1_000_000);
     let update = Event {
         thread: 0,
         number: 0,
@@ -116,15 +126,19 @@ fn each_end_is_read(rt: HostRuntime) -> Result<(), Fail> {
         read: 5,
         written: 6,
     };
-    assert_eq!(rt; returned.events.as_slice(), [update].as_slice());
-    assert_eq!(rt; trapped.start.name.as_str(), "");
-    assert_eq!(rt; trapped.end, End::Trap(TrapKind::DivideByZero));
-    assert_eq!(rt; cut.end, End::Cut);
-    assert_eq!(rt; cut.events.len(), 0);
-    assert_eq!(rt; witness.writers(key(0, 0)), [EventId::Init].as_slice());
+    same(&rt, returned.events.as_slice(), [update].as_slice());
+    same(&rt, trapped.start.name.as_str(), "");
+    same(&rt, trapped.end, End::Trap(TrapKind::DivideByZero));
+    same(&rt, cut.end, End::Cut);
+    same(&rt, cut.events.len(), 0);
+    same(&rt, witness.writers(key(0, 0)), [EventId::Init].as_slice());
     let writers = [EventId::At(key(0, 0)), EventId::At(key(u32::MAX, 1))];
-    assert_eq!(rt; witness.writers(key(1, 0)), writers.as_slice());
-    assert_eq!(rt; witness.order.as_slice(), [key(1, 0), key(0, 0)].as_slice());
+    same(&rt, witness.writers(key(1, 0)), writers.as_slice());
+    same(
+        &rt,
+        witness.order.as_slice(),
+        [key(1, 0), key(0, 0)].as_slice(),
+    );
     Ok(())
 }
 
@@ -312,7 +326,7 @@ fn a_fault_has_the_indices_of_its_value(rt: HostRuntime) -> Result<(), Fail> {
 fn bytes_that_are_no_text_are_refused(rt: HostRuntime) -> Result<(), Fail> {
     for bytes in [[0xff, b' '], [b'"', 0x80], [0xfe, 0xff]] {
         let found = answer(rt.alloc(), &bytes)?;
-        assert_eq!(rt; found.as_str(), "NotJson");
+        same(&rt, found.as_str(), "NotJson");
     }
     Ok(())
 }
@@ -356,7 +370,7 @@ fn padded(alloc: Global, front: &[u8], len: usize) -> Result<Vec<u8>, AllocError
 
 #[test]
 fn a_byte_past_the_limit_is_too_large(rt: HostRuntime) -> Result<(), Fail> {
-    assert_eq!(rt; MAX_DOCUMENT_BYTES, 8_388_608);
+    same(&rt, MAX_DOCUMENT_BYTES, 8_388_608);
     let document = STORE_BUFFERING.as_bytes();
     let cases = [
         (document, 8_388_608, "read"),
@@ -397,14 +411,18 @@ fn version_2_is_read(rt: HostRuntime) -> Result<(), Fail> {
     let [update] = returned.events.as_slice() else {
         panic!(rt; "one event");
     };
-    assert_eq!(rt; update.read, 5);
-    assert_eq!(rt; update.written, 6);
-    assert_eq!(rt; trapped.end, End::Trap(TrapKind::DivideByZero));
-    assert_eq!(rt; cut.events.len(), 0);
-    assert_eq!(rt; witness.writers(key(0, 0)), [EventId::Init].as_slice());
+    same(&rt, update.read, 5);
+    same(&rt, update.written, 6);
+    same(&rt, trapped.end, End::Trap(TrapKind::DivideByZero));
+    same(&rt, cut.events.len(), 0);
+    same(&rt, witness.writers(key(0, 0)), [EventId::Init].as_slice());
     let writers = [EventId::At(key(0, 0)), EventId::At(key(u32::MAX, 1))];
-    assert_eq!(rt; witness.writers(key(1, 0)), writers.as_slice());
-    assert_eq!(rt; witness.order.as_slice(), [key(1, 0), key(0, 0)].as_slice());
+    same(&rt, witness.writers(key(1, 0)), writers.as_slice());
+    same(
+        &rt,
+        witness.order.as_slice(),
+        [key(1, 0), key(0, 0)].as_slice(),
+    );
     assert!(rt; witness.fits(&log));
     Ok(())
 }
@@ -486,9 +504,9 @@ fn documents_are_migrated(rt: HostRuntime) -> Result<(), Fail> {
     ];
     for (text, expected) in cases {
         let found = migrated(rt.alloc(), text)?;
-        assert_eq!(rt; found.as_str(), expected);
+        same(&rt, found.as_str(), expected);
         let again = migrated(rt.alloc(), expected)?;
-        assert_eq!(rt; again.as_str(), expected);
+        same(&rt, again.as_str(), expected);
     }
     Ok(())
 }
@@ -524,6 +542,6 @@ fn what_is_written_is_read_again(rt: HostRuntime) -> Result<(), Fail> {
         panic!(rt; "the witness fits");
     }
     let text = write_document(rt.alloc(), &log, &witness)?;
-    assert_eq!(rt; text.as_str(), STORE_BUFFERING_WITH_WRITERS);
+    same(&rt, text.as_str(), STORE_BUFFERING_WITH_WRITERS);
     Ok(())
 }

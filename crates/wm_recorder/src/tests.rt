@@ -5,6 +5,7 @@ ghost use Rattle.std.specs.Prelude.{◌<◌, ◌^◌};
 
 use super::*;
 use std::alloc::{AllocError, Global};
+use std::fmt::Debug;
 use std::process::Abort;
 use std::test::Fail;
 use wm_access::{AccessWidth, MemoryOrder};
@@ -36,6 +37,11 @@ fn store_word(address: u32, value: u32) -> Op {
         width: AccessWidth::Four,
         order: MemoryOrder::Unordered,
     })
+}
+
+/// Stops the test where the two differ. Each `assert_eq!` of a test would lengthen its proof by some seconds.
+fn same<R: Abort, T: PartialEq + Debug + Drop>(rt: &R, got: T, wanted: T) {
+    assert_eq!(rt; got, wanted);
 }
 
 // Each call of a recorder stands in a function of its own, which hands none of its contract on: so a test is proved in
@@ -107,7 +113,7 @@ fn step<R: Abort>(
     let before = counts(recorder, thread);
     match access(recorder, thread, op) {
         Err(AccessFault::OutOfMemory) => {
-            assert_eq!(rt; counts(recorder, thread).as_slice(), before.as_slice());
+            same(rt, counts(recorder, thread).as_slice(), before.as_slice());
             access(recorder, thread, op)
         }
         made => made,
@@ -124,15 +130,19 @@ fn reads<R: Abort>(rt: &R, recorder: &mut Recorder, thread: u32, address: u32) -
 #[test]
 fn a_forced_drain_is_a_step_of_its_own(rt: HostRuntime) -> Result<(), Fail> {
     let mut recorder = two_threads(rt.alloc())?;
-    assert_eq!(rt; recorder.threads(), 2);
-    assert_eq!(rt; recorder.initial().len(), 65_536);
+    same(&rt, recorder.threads(), 2);
+    same(&rt, recorder.initial().len(), 65_536);
     for address in 0..65u32 {
         step(&rt, &mut recorder, 0, store(address, 1))?;
     }
-    assert_eq!(rt; steps(&recorder), 66);
-    assert_eq!(rt; step_at(&recorder, 64), Some(Item::Drain(0)));
-    assert_eq!(rt; step_at(&recorder, 65), Some(Item::Access(0, store(64, 1))));
-    assert_eq!(rt; pending(&recorder, 0), 64);
+    same(&rt, steps(&recorder), 66);
+    same(&rt, step_at(&recorder, 64), Some(Item::Drain(0)));
+    same(
+        &rt,
+        step_at(&recorder, 65),
+        Some(Item::Access(0, store(64, 1))),
+    );
+    same(&rt, pending(&recorder, 0), 64);
     Ok(())
 }
 
@@ -157,22 +167,26 @@ fn fault_of(recorder: &mut Recorder, thread: u32, op: Op) -> Option<AccessFault>
 #[test]
 fn a_full_recorder_refuses_accesses(rt: HostRuntime) -> Result<(), Fail> {
     let mut recorder = full(&rt, rt.alloc())?;
-    assert_eq!(rt;
+    same(
+        &rt,
         fault_of(&mut recorder, 2, load(0)),
-        Some(AccessFault::NoThread)
+        Some(AccessFault::NoThread),
     );
-    assert_eq!(rt;
+    same(
+        &rt,
         fault_of(&mut recorder, 0, load(65_536)),
-        Some(AccessFault::OutOfBounds)
+        Some(AccessFault::OutOfBounds),
     );
-    assert_eq!(rt;
+    same(
+        &rt,
         fault_of(&mut recorder, 0, load(0)),
-        Some(AccessFault::Full)
+        Some(AccessFault::Full),
     );
-    assert_eq!(rt; steps(&recorder), MAX_EVENTS);
-    assert_eq!(rt;
+    same(&rt, steps(&recorder), MAX_EVENTS);
+    same(
+        &rt,
         format!(in rt.alloc(); "{}", AccessFault::Full)?.as_str(),
-        "Full"
+        "Full",
     );
     Ok(())
 }
@@ -180,10 +194,10 @@ fn a_full_recorder_refuses_accesses(rt: HostRuntime) -> Result<(), Fail> {
 #[test]
 fn a_full_recorder_drains(rt: HostRuntime) -> Result<(), Fail> {
     let mut recorder = full(&rt, rt.alloc())?;
-    assert!(rt; drain(&mut recorder, 0)?);
-    assert_eq!(rt; steps(&recorder), MAX_EVENTS + 1);
-    assert!(rt; !drain(&mut recorder, 0)?);
-    assert_eq!(rt; steps(&recorder), MAX_EVENTS + 1);
+    same(&rt, drain(&mut recorder, 0)?, true);
+    same(&rt, steps(&recorder), MAX_EVENTS + 1);
+    same(&rt, drain(&mut recorder, 0)?, false);
+    same(&rt, steps(&recorder), MAX_EVENTS + 1);
     Ok(())
 }
 
@@ -193,14 +207,14 @@ fn a_store_leaves_before_older_ones_that_it_does_not_overlap(rt: HostRuntime) ->
     for (address, value) in [(0, 1), (2, 2), (8, 3)] {
         step(&rt, &mut recorder, 0, store_word(address, value))?;
     }
-    assert!(rt; !drain_at(&mut recorder, 0, 1)?);
-    assert_eq!(rt; steps(&recorder), 3);
-    assert!(rt; drain_at(&mut recorder, 0, 2)?);
-    assert_eq!(rt; step_at(&recorder, 3), Some(Item::DrainAt(0, 2)));
-    assert_eq!(rt; pending(&recorder, 0), 2);
-    assert_eq!(rt; reads(&rt, &mut recorder, 1, 8), Some(3));
-    assert_eq!(rt; reads(&rt, &mut recorder, 1, 0), Some(0));
-    assert!(rt; !drain_at(&mut recorder, 0, 2)?);
+    same(&rt, drain_at(&mut recorder, 0, 1)?, false);
+    same(&rt, steps(&recorder), 3);
+    same(&rt, drain_at(&mut recorder, 0, 2)?, true);
+    same(&rt, step_at(&recorder, 3), Some(Item::DrainAt(0, 2)));
+    same(&rt, pending(&recorder, 0), 2);
+    same(&rt, reads(&rt, &mut recorder, 1, 8), Some(3));
+    same(&rt, reads(&rt, &mut recorder, 1, 0), Some(0));
+    same(&rt, drain_at(&mut recorder, 0, 2)?, false);
     Ok(())
 }
 
@@ -233,14 +247,15 @@ fn parts_of(recorder: Recorder) -> Result<Parts, AllocError> {
 fn what_is_recorded_is_given_as_lists(rt: HostRuntime) -> Result<(), Fail> {
     let parts = two_reads(&rt, rt.alloc())?;
     let key = |thread: u32, number: u32| EventKey { thread, number };
-    assert_eq!(rt; parts.history.len(), 4);
-    assert_eq!(rt;
+    same(&rt, parts.history.len(), 4);
+    same(
+        &rt,
         parts.order.as_slice(),
-        [key(1, 0), key(0, 0), key(0, 1)].as_slice()
+        [key(1, 0), key(0, 0), key(0, 1)].as_slice(),
     );
-    assert_eq!(rt; read_of(&parts, 0, 0), Some(0));
-    assert_eq!(rt; read_of(&parts, 0, 1), Some(9));
-    assert_eq!(rt; writer_of(&parts, 0, 0), Some(EventId::Init));
-    assert_eq!(rt; writer_of(&parts, 0, 1), Some(EventId::At(key(1, 0))));
+    same(&rt, read_of(&parts, 0, 0), Some(0));
+    same(&rt, read_of(&parts, 0, 1), Some(9));
+    same(&rt, writer_of(&parts, 0, 0), Some(EventId::Init));
+    same(&rt, writer_of(&parts, 0, 1), Some(EventId::At(key(1, 0))));
     Ok(())
 }

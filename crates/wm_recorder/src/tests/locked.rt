@@ -1,5 +1,5 @@
 //! A recorder under its lock, on one thread and on two.
-use super::{event_count, load, order_length, pending, steps, store_word, two_threads};
+use super::{event_count, load, order_length, pending, same, steps, store_word, two_threads};
 use crate::{AccessFault, LockedMemory, Shared};
 use std::process::Abort;
 use std::sync::Wait;
@@ -47,17 +47,17 @@ fn a_drain_shows_the_oldest_store_to_the_others(rt: HostRuntime) -> Result<(), F
     write(&shared, 0, 0, 1)?;
     write(&shared, 0, 8, 2)?;
     write(&shared, 1, 4, 3)?;
-    assert!(rt; drain(&shared, 0)?);
-    assert_eq!(rt; read(&shared, 1, 0)?, Some(1));
-    assert_eq!(rt; read(&shared, 1, 8)?, Some(0));
-    assert!(rt; drain(&shared, 1)?);
-    assert!(rt; !drain(&shared, 1)?);
-    assert_eq!(rt; read(&shared, 0, 4)?, Some(3));
-    assert_eq!(rt; refusal(&shared, 2), Some(AccessFault::NoThread));
+    same(&rt, drain(&shared, 0)?, true);
+    same(&rt, read(&shared, 1, 0)?, Some(1));
+    same(&rt, read(&shared, 1, 8)?, Some(0));
+    same(&rt, drain(&shared, 1)?, true);
+    same(&rt, drain(&shared, 1)?, false);
+    same(&rt, read(&shared, 0, 4)?, Some(3));
+    same(&rt, refusal(&shared, 2), Some(AccessFault::NoThread));
     let recorder = shared.into_recorder();
-    assert_eq!(rt; steps(&recorder), 8);
-    assert_eq!(rt; order_length(&recorder), 6);
-    assert_eq!(rt; pending(&recorder, 0), 1);
+    same(&rt, steps(&recorder), 8);
+    same(&rt, order_length(&recorder), 6);
+    same(&rt, pending(&recorder, 0), 1);
     Ok(())
 }
 
@@ -91,15 +91,15 @@ fn two_threads_drain_and_read(rt: HostRuntime) -> Result<(), Fail> {
     let (drained, seen) = thread::join(&rt, || store_three(&shared), || read_often(&shared));
     let drained = drained?;
     seen?;
-    assert_eq!(rt; drained, [false, true]);
-    assert_eq!(rt; read(&shared, 1, 8)?, Some(3));
-    assert_eq!(rt; read(&shared, 1, 0)?, Some(0));
+    same(&rt, drained, [false, true]);
+    same(&rt, read(&shared, 1, 8)?, Some(3));
+    same(&rt, read(&shared, 1, 0)?, Some(0));
     let recorder = shared.into_recorder();
     recorder.recorded_log_is_valid();
-    assert_eq!(rt; pending(&recorder, 0), 2);
-    assert_eq!(rt; event_count(&recorder, 0), 3);
-    assert_eq!(rt; event_count(&recorder, 1), 32);
-    assert_eq!(rt; order_length(&recorder), 35);
-    assert_eq!(rt; steps(&recorder), 36);
+    same(&rt, pending(&recorder, 0), 2);
+    same(&rt, event_count(&recorder, 0), 3);
+    same(&rt, event_count(&recorder, 1), 32);
+    same(&rt, order_length(&recorder), 35);
+    same(&rt, steps(&recorder), 36);
     Ok(())
 }

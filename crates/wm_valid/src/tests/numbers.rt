@@ -27,12 +27,12 @@ fn behind_if(alloc: Global, second: Vec<Instr>, part: Else) -> Result<Module, Fa
 fn else_and_end_are_counted(rt: HostRuntime) -> Result<(), Fail> {
     let second = vec![in rt.alloc(); Instr::Nop, Instr::Nop]?;
     let module = behind_if(rt.alloc(), second, Else::Present)?;
-    assert_eq!(rt; refusal(rt.alloc(), module), at(FaultKind::Index, 7));
+    same(&rt, refusal(rt.alloc(), module), at(FaultKind::Index, 7));
     let module = behind_if(rt.alloc(), Vec::new(rt.alloc()), Else::Absent)?;
-    assert_eq!(rt; refusal(rt.alloc(), module), at(FaultKind::Index, 4));
+    same(&rt, refusal(rt.alloc(), module), at(FaultKind::Index, 4));
     let second = vec![in rt.alloc(); Instr::Nop, Instr::Br(2)]?;
     let module = behind_if(rt.alloc(), second, Else::Present)?;
-    assert_eq!(rt; refusal(rt.alloc(), module), at(FaultKind::Label, 5));
+    same(&rt, refusal(rt.alloc(), module), at(FaultKind::Label, 5));
     Ok(())
 }
 
@@ -42,28 +42,31 @@ fn blocks_that_name_one_another_are_refused(rt: HostRuntime) -> Result<(), Fail>
     let inner = vec![in rt.alloc(); Instr::Loop(None, 1)]?;
     let blocks = vec![in rt.alloc(); List::from_vec(body), List::from_vec(inner)]?;
     let module = module_of_blocks(rt.alloc(), blocks)?;
-    assert_eq!(rt;
-        refusal(rt.alloc(), module),
-        at(FaultKind::BadType, 1)
-    );
+    same(&rt, refusal(rt.alloc(), module), at(FaultKind::BadType, 1));
     let body = vec![in rt.alloc(); Instr::Block(None, 0)]?;
-    assert_eq!(rt; fault_of(rt.alloc(), body)?, at(FaultKind::BadType, 0));
+    same(&rt, fault_of(rt.alloc(), body)?, at(FaultKind::BadType, 0));
     Ok(())
 }
 
 #[test]
 fn faults_print_with_their_places(rt: HostRuntime) -> Result<(), Fail> {
     let fault = ValidFault::At(FaultKind::Alignment, Location::Instr { func: 0, instr: 2 });
-    assert_eq!(rt;
+    same(
+        &rt,
         format!(in rt.alloc(); "{fault}")?.as_str(),
-        "Alignment in function 0 instruction 2"
+        "Alignment in function 0 instruction 2",
     );
     let fault = ValidFault::At(FaultKind::Index, Location::Module);
-    assert_eq!(rt;
+    same(
+        &rt,
         format!(in rt.alloc(); "{fault}")?.as_str(),
-        "Index in module"
+        "Index in module",
     );
     let fault = ValidFault::OutOfMemory;
-    assert_eq!(rt; format!(in rt.alloc(); "{fault}")?.as_str(), "OutOfMemory");
+    same(
+        &rt,
+        format!(in rt.alloc(); "{fault}")?.as_str(),
+        "OutOfMemory",
+    );
     Ok(())
 }

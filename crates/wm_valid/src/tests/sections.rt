@@ -6,19 +6,21 @@ use wm_ast::{AccessKind, ConstExpr, Export, ExportKind, MemArg, Mutability, Stor
 fn memories_have_good_limits(rt: HostRuntime) -> Result<(), Fail> {
     let mut module = module_of(rt.alloc(), Vec::new(rt.alloc()))?;
     module.memory = memory_of(2, 1);
-    assert_eq!(rt;
+    same(
+        &rt,
         refusal(rt.alloc(), module),
-        in_module(FaultKind::MemoryLimits)
+        in_module(FaultKind::MemoryLimits),
     );
     let mut module = module_of(rt.alloc(), Vec::new(rt.alloc()))?;
     module.memory = memory_of(0, 65537);
-    assert_eq!(rt;
+    same(
+        &rt,
         refusal(rt.alloc(), module),
-        in_module(FaultKind::MemoryLimits)
+        in_module(FaultKind::MemoryLimits),
     );
     let mut module = module_of(rt.alloc(), Vec::new(rt.alloc()))?;
     module.memory = memory_of(0, 65536);
-    assert_eq!(rt; refusal(rt.alloc(), module), None);
+    same(&rt, refusal(rt.alloc(), module), None);
     Ok(())
 }
 
@@ -35,16 +37,18 @@ fn some_instructions_need_a_memory(rt: HostRuntime) -> Result<(), Fail> {
     ]?;
     let mut module = module_of(rt.alloc(), body)?;
     module.memory = None;
-    assert_eq!(rt;
+    same(
+        &rt,
         refusal(rt.alloc(), module),
-        at(FaultKind::MemoryAbsent, 1)
+        at(FaultKind::MemoryAbsent, 1),
     );
     let body = vec![in rt.alloc(); Instr::MemorySize, Instr::Drop]?;
     let mut module = module_of(rt.alloc(), body)?;
     module.memory = None;
-    assert_eq!(rt;
+    same(
+        &rt,
         refusal(rt.alloc(), module),
-        at(FaultKind::MemoryAbsent, 0)
+        at(FaultKind::MemoryAbsent, 0),
     );
     Ok(())
 }
@@ -60,25 +64,30 @@ fn exporting(alloc: Global, kind: ExportKind, index: u32) -> Result<Module, Fail
 
 #[test]
 fn exports_are_there(rt: HostRuntime) -> Result<(), Fail> {
-    assert_eq!(rt;
+    same(
+        &rt,
         refusal(rt.alloc(), exporting(rt.alloc(), ExportKind::Func, 0)?),
-        None
+        None,
     );
-    assert_eq!(rt;
+    same(
+        &rt,
         refusal(rt.alloc(), exporting(rt.alloc(), ExportKind::Func, 1)?),
-        in_module(FaultKind::Index)
+        in_module(FaultKind::Index),
     );
-    assert_eq!(rt;
+    same(
+        &rt,
         refusal(rt.alloc(), exporting(rt.alloc(), ExportKind::Memory, 0)?),
-        None
+        None,
     );
-    assert_eq!(rt;
+    same(
+        &rt,
         refusal(rt.alloc(), exporting(rt.alloc(), ExportKind::Memory, 1)?),
-        in_module(FaultKind::Index)
+        in_module(FaultKind::Index),
     );
-    assert_eq!(rt;
+    same(
+        &rt,
         refusal(rt.alloc(), exporting(rt.alloc(), ExportKind::Global, 0)?),
-        in_module(FaultKind::Index)
+        in_module(FaultKind::Index),
     );
     Ok(())
 }
@@ -87,9 +96,10 @@ fn exports_are_there(rt: HostRuntime) -> Result<(), Fail> {
 fn types_are_there_and_globals_are_of_them(rt: HostRuntime) -> Result<(), Fail> {
     let mut module = module_of(rt.alloc(), Vec::new(rt.alloc()))?;
     module.types = List::new(rt.alloc());
-    assert_eq!(rt;
+    same(
+        &rt,
         refusal(rt.alloc(), module),
-        in_module(FaultKind::Index)
+        in_module(FaultKind::Index),
     );
     let mut module = module_of(rt.alloc(), Vec::new(rt.alloc()))?;
     let global = wm_ast::Global {
@@ -98,9 +108,10 @@ fn types_are_there_and_globals_are_of_them(rt: HostRuntime) -> Result<(), Fail> 
         init: ConstExpr::I32(0),
     };
     module.globals = List::from_vec(vec![in rt.alloc(); global]?);
-    assert_eq!(rt;
+    same(
+        &rt,
         refusal(rt.alloc(), module),
-        in_module(FaultKind::BadType)
+        in_module(FaultKind::BadType),
     );
     Ok(())
 }

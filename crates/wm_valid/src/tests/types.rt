@@ -7,7 +7,7 @@ use wm_num::{BinaryOperator, Width};
 #[test]
 fn operands_of_any_type_stand_behind_a_branch(rt: HostRuntime) -> Result<(), Fail> {
     let body = vec![in rt.alloc(); Instr::Br(0), Instr::Drop, Instr::Select, Instr::Drop]?;
-    assert_eq!(rt; fault_of(rt.alloc(), body)?, None);
+    same(&rt, fault_of(rt.alloc(), body)?, None);
     let body = vec![in rt.alloc();
         Instr::Br(0),
         Instr::I32Const(0),
@@ -15,16 +15,16 @@ fn operands_of_any_type_stand_behind_a_branch(rt: HostRuntime) -> Result<(), Fai
         Instr::Binary(BinaryOperator::Add, Width::W32),
         Instr::Drop,
     ]?;
-    assert_eq!(rt; fault_of(rt.alloc(), body)?, at(FaultKind::BadType, 3));
+    same(&rt, fault_of(rt.alloc(), body)?, at(FaultKind::BadType, 3));
     Ok(())
 }
 
 #[test]
 fn operands_have_to_be_there(rt: HostRuntime) -> Result<(), Fail> {
     let body = vec![in rt.alloc(); Instr::Eqz(Width::W32)]?;
-    assert_eq!(rt; fault_of(rt.alloc(), body)?, at(FaultKind::BadType, 0));
+    same(&rt, fault_of(rt.alloc(), body)?, at(FaultKind::BadType, 0));
     let body = vec![in rt.alloc(); Instr::I32Const(1)]?;
-    assert_eq!(rt; fault_of(rt.alloc(), body)?, at(FaultKind::BadType, 1));
+    same(&rt, fault_of(rt.alloc(), body)?, at(FaultKind::BadType, 1));
     let body = vec![in rt.alloc();
         Instr::I32Const(1),
         Instr::I64Const(1),
@@ -32,18 +32,18 @@ fn operands_have_to_be_there(rt: HostRuntime) -> Result<(), Fail> {
         Instr::Select,
         Instr::Drop,
     ]?;
-    assert_eq!(rt; fault_of(rt.alloc(), body)?, at(FaultKind::BadType, 3));
+    same(&rt, fault_of(rt.alloc(), body)?, at(FaultKind::BadType, 3));
     Ok(())
 }
 
 #[test]
 fn indices_have_to_be_there(rt: HostRuntime) -> Result<(), Fail> {
     let body = vec![in rt.alloc(); Instr::LocalGet(0), Instr::Drop]?;
-    assert_eq!(rt; fault_of(rt.alloc(), body)?, at(FaultKind::Index, 0));
+    same(&rt, fault_of(rt.alloc(), body)?, at(FaultKind::Index, 0));
     let body = vec![in rt.alloc(); Instr::Call(0), Instr::Call(1)]?;
-    assert_eq!(rt; fault_of(rt.alloc(), body)?, at(FaultKind::Index, 1));
+    same(&rt, fault_of(rt.alloc(), body)?, at(FaultKind::Index, 1));
     let body = vec![in rt.alloc(); Instr::Br(1)]?;
-    assert_eq!(rt; fault_of(rt.alloc(), body)?, at(FaultKind::Label, 0));
+    same(&rt, fault_of(rt.alloc(), body)?, at(FaultKind::Label, 0));
     Ok(())
 }
 
@@ -59,10 +59,7 @@ fn globals_are_set_where_they_are_variable(rt: HostRuntime) -> Result<(), Fail> 
     let variable = global(Mutability::Variable);
     let constant = global(Mutability::Constant);
     module.globals = List::from_vec(vec![in rt.alloc(); variable, constant]?);
-    assert_eq!(rt;
-        refusal(rt.alloc(), module),
-        at(FaultKind::BadType, 3)
-    );
+    same(&rt, refusal(rt.alloc(), module), at(FaultKind::BadType, 3));
     Ok(())
 }
 
@@ -76,40 +73,45 @@ fn global(mutability: Mutability) -> wm_ast::Global {
 
 #[test]
 fn atomic_accesses_are_aligned_to_their_width(rt: HostRuntime) -> Result<(), Fail> {
-    assert_eq!(rt;
+    same(
+        &rt,
         fault_of(
             rt.alloc(),
-            load(rt.alloc(), AccessKind::Read(Storage::I32), 2)?
+            load(rt.alloc(), AccessKind::Read(Storage::I32), 2)?,
         )?,
-        None
+        None,
     );
-    assert_eq!(rt;
+    same(
+        &rt,
         fault_of(
             rt.alloc(),
-            load(rt.alloc(), AccessKind::Read(Storage::I32), 0)?
+            load(rt.alloc(), AccessKind::Read(Storage::I32), 0)?,
         )?,
-        None
+        None,
     );
-    assert_eq!(rt;
+    same(
+        &rt,
         fault_of(
             rt.alloc(),
-            load(rt.alloc(), AccessKind::Read(Storage::I32), 3)?
+            load(rt.alloc(), AccessKind::Read(Storage::I32), 3)?,
         )?,
-        at(FaultKind::Alignment, 1)
+        at(FaultKind::Alignment, 1),
     );
-    assert_eq!(rt;
+    same(
+        &rt,
         fault_of(
             rt.alloc(),
-            load(rt.alloc(), AccessKind::AtomicRead(Storage::I32), 2)?
+            load(rt.alloc(), AccessKind::AtomicRead(Storage::I32), 2)?,
         )?,
-        None
+        None,
     );
-    assert_eq!(rt;
+    same(
+        &rt,
         fault_of(
             rt.alloc(),
-            load(rt.alloc(), AccessKind::AtomicRead(Storage::I32), 1)?
+            load(rt.alloc(), AccessKind::AtomicRead(Storage::I32), 1)?,
         )?,
-        at(FaultKind::Alignment, 1)
+        at(FaultKind::Alignment, 1),
     );
     Ok(())
 }
@@ -146,20 +148,22 @@ fn accesses_take_their_operands(rt: HostRuntime) -> Result<(), Fail> {
         exchange,
         store,
     ]?;
-    assert_eq!(rt; fault_of(rt.alloc(), body)?, None);
+    same(&rt, fault_of(rt.alloc(), body)?, None);
     Ok(())
 }
 
 #[test]
 fn the_labels_of_a_table_have_one_type(rt: HostRuntime) -> Result<(), Fail> {
-    assert_eq!(rt; refusal(rt.alloc(), table(rt.alloc(), 0)?), None);
-    assert_eq!(rt;
+    same(&rt, refusal(rt.alloc(), table(rt.alloc(), 0)?), None);
+    same(
+        &rt,
         refusal(rt.alloc(), table(rt.alloc(), 1)?),
-        at(FaultKind::BadType, 3)
+        at(FaultKind::BadType, 3),
     );
-    assert_eq!(rt;
+    same(
+        &rt,
         refusal(rt.alloc(), table(rt.alloc(), 2)?),
-        at(FaultKind::Label, 3)
+        at(FaultKind::Label, 3),
     );
     Ok(())
 }
@@ -183,7 +187,7 @@ fn the_label_of_a_loop_takes_nothing(rt: HostRuntime) -> Result<(), Fail> {
     let inner = vec![in rt.alloc(); Instr::I32Const(0), Instr::BrIf(0), Instr::I32Const(1)]?;
     let blocks = vec![in rt.alloc(); List::from_vec(body), List::from_vec(inner)]?;
     let module = module_of_blocks(rt.alloc(), blocks)?;
-    assert_eq!(rt; refusal(rt.alloc(), module), None);
+    same(&rt, refusal(rt.alloc(), module), None);
     Ok(())
 }
 
@@ -206,10 +210,7 @@ fn an_absent_else_part_has_no_result(rt: HostRuntime) -> Result<(), Fail> {
         List::new(rt.alloc()),
     ]?;
     let module = module_of_blocks(rt.alloc(), blocks)?;
-    assert_eq!(rt;
-        refusal(rt.alloc(), module),
-        at(FaultKind::BadType, 3)
-    );
+    same(&rt, refusal(rt.alloc(), module), at(FaultKind::BadType, 3));
     Ok(())
 }
 
@@ -221,19 +222,17 @@ fn arguments_are_taken_from_the_last(rt: HostRuntime) -> Result<(), Fail> {
         Instr::Call(1),
         Instr::Drop,
     ]?;
-    assert_eq!(rt;
-        refusal(rt.alloc(), calling(rt.alloc(), body)?),
-        None
-    );
+    same(&rt, refusal(rt.alloc(), calling(rt.alloc(), body)?), None);
     let body = vec![in rt.alloc();
         Instr::I64Const(1),
         Instr::I32Const(1),
         Instr::Call(1),
         Instr::Drop,
     ]?;
-    assert_eq!(rt;
+    same(
+        &rt,
         refusal(rt.alloc(), calling(rt.alloc(), body)?),
-        at(FaultKind::BadType, 2)
+        at(FaultKind::BadType, 2),
     );
     Ok(())
 }
