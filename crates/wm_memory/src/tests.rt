@@ -3,10 +3,16 @@ ghost use Rattle.std.specs.Prelude.{◌<◌, ◌≤◌, ◌^◌};
 
 use super::*;
 use std::alloc::Global;
+use std::fmt::Debug;
 use std::process::Abort;
 use std::test::Fail;
 use wm_access::{AccessWidth, MemoryOrder};
 use wm_event::{EventId, EventKey, Initial, Op, OpFields, OpKind, Reply};
+
+/// Stops the test where the two differ. Each `assert_eq!` of a test would lengthen its proof by some seconds.
+fn same<R: Abort, T: PartialEq + Debug + Drop>(rt: &R, got: T, wanted: T) {
+    assert_eq!(rt; got, wanted);
+}
 
 fn load(address: u32, width: AccessWidth) -> Op {
     Op::new(OpFields {
@@ -96,19 +102,19 @@ fn reads<R: Abort>(rt: &R, memory: &mut Memory, thread: u32, address: u32) -> Op
 #[test]
 fn a_full_buffer_drains_its_oldest_store(rt: HostRuntime) -> Result<(), Fail> {
     let mut memory = zeros(rt.alloc(), 2)?;
-    assert_eq!(rt; memory.threads(), 2);
-    assert_eq!(rt; memory.initial().len(), 65_536);
+    same(&rt, memory.threads(), 2);
+    same(&rt, memory.initial().len(), 65_536);
     for address in 0..65u32 {
         access(&rt, &mut memory, 0, store_byte(address, 1))?;
     }
-    assert_eq!(rt; pending(&memory, 0), 64);
-    assert_eq!(rt; reads(&rt, &mut memory, 1, 0), Some(1));
-    assert_eq!(rt; reads(&rt, &mut memory, 1, 1), Some(0));
-    assert_eq!(rt; reads(&rt, &mut memory, 0, 1), Some(1));
+    same(&rt, pending(&memory, 0), 64);
+    same(&rt, reads(&rt, &mut memory, 1, 0), Some(1));
+    same(&rt, reads(&rt, &mut memory, 1, 1), Some(0));
+    same(&rt, reads(&rt, &mut memory, 0, 1), Some(1));
     access(&rt, &mut memory, 0, atomic_load(0))?;
-    assert_eq!(rt; pending(&memory, 0), 0);
-    assert_eq!(rt; reads(&rt, &mut memory, 1, 64), Some(1));
-    assert_eq!(rt; accesses(&memory, 0), 67);
+    same(&rt, pending(&memory, 0), 0);
+    same(&rt, reads(&rt, &mut memory, 1, 64), Some(1));
+    same(&rt, accesses(&memory, 0), 67);
     Ok(())
 }
 
@@ -122,12 +128,12 @@ fn a_store_leaves_before_older_ones_that_it_does_not_overlap(rt: HostRuntime) ->
     assert!(rt; !drain_at(&mut memory, 0, 3));
     assert!(rt; !drain_at(&mut memory, 2, 0));
     assert!(rt; drain_at(&mut memory, 0, 2));
-    assert_eq!(rt; pending(&memory, 0), 2);
-    assert_eq!(rt; reads(&rt, &mut memory, 1, 8), Some(3));
-    assert_eq!(rt; reads(&rt, &mut memory, 1, 0), Some(0));
+    same(&rt, pending(&memory, 0), 2);
+    same(&rt, reads(&rt, &mut memory, 1, 8), Some(3));
+    same(&rt, reads(&rt, &mut memory, 1, 0), Some(0));
     assert!(rt; drain(&mut memory, 0) && drain(&mut memory, 0) && !drain(&mut memory, 0));
-    assert_eq!(rt; reads(&rt, &mut memory, 1, 0), Some(1));
-    assert_eq!(rt; reads(&rt, &mut memory, 1, 2), Some(2));
+    same(&rt, reads(&rt, &mut memory, 1, 0), Some(1));
+    same(&rt, reads(&rt, &mut memory, 1, 2), Some(2));
     Ok(())
 }
 
@@ -149,11 +155,12 @@ fn accesses_are_refused_in_order(rt: HostRuntime) -> Result<(), Fail> {
         )
     );
     let reply = access(&rt, &mut memory, 0, load(0, AccessWidth::Four))?;
-    assert_eq!(rt; reply.read, Some(0x0403_0201));
-    assert_eq!(rt; accesses(&memory, 0), 1);
-    assert_eq!(rt;
+    same(&rt, reply.read, Some(0x0403_0201));
+    same(&rt, accesses(&memory, 0), 1);
+    same(
+        &rt,
         format!(in rt.alloc(); "{}", MemFault::OutOfBounds)?.as_str(),
-        "OutOfBounds"
+        "OutOfBounds",
     );
     Ok(())
 }
@@ -164,7 +171,7 @@ fn a_reply_names_the_writers_of_the_bytes_read(rt: HostRuntime) -> Result<(), Fa
     let stored = access(&rt, &mut memory, 0, store_byte(1, 7))?;
     assert!(rt; stored.stored && stored.read == None);
     let mut expected = [EventId::Init; 8];
-    assert_eq!(rt; stored.writers.as_slice(), expected.as_slice());
+    same(&rt, stored.writers.as_slice(), expected.as_slice());
     let own = EventId::At(EventKey {
         thread: 0,
         number: 0,
@@ -172,12 +179,12 @@ fn a_reply_names_the_writers_of_the_bytes_read(rt: HostRuntime) -> Result<(), Fa
     expected[1] = own;
     let reply = access(&rt, &mut memory, 0, load(0, AccessWidth::Two))?;
     assert!(rt; !reply.stored && reply.read == Some(0x700));
-    assert_eq!(rt; reply.writers.as_slice(), expected.as_slice());
+    same(&rt, reply.writers.as_slice(), expected.as_slice());
     let failed = access(&rt, &mut memory, 0, exchange(1, 2))?;
     assert!(rt; !failed.stored && failed.read == Some(0x700));
-    assert_eq!(rt; pending(&memory, 0), 0);
+    same(&rt, pending(&memory, 0), 0);
     let done = access(&rt, &mut memory, 0, exchange(0x700, 2))?;
     assert!(rt; done.stored && done.read == Some(0x700));
-    assert_eq!(rt; reads(&rt, &mut memory, 0, 0), Some(2));
+    same(&rt, reads(&rt, &mut memory, 0, 0), Some(2));
     Ok(())
 }

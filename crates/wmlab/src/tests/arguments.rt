@@ -1,5 +1,5 @@
 //! The words, the streams and the status, and files of the system.
-use super::fakes::{NEVER, fake_writer};
+use super::fakes::{NEVER, fake_writer, same};
 use crate::disk::Disk;
 use crate::run;
 use std::alloc::{AllocError, Global};
@@ -41,9 +41,9 @@ fn each_word_counts_and_the_status_is_that_of_the_line(rt: HostRuntime) {
             &mut out,
             &mut err,
         );
-        assert_eq!(rt; out.bytes.as_slice(), line.as_bytes());
-        assert_eq!(rt; err.bytes.as_slice(), error.as_bytes());
-        assert_eq!(rt; got, *status);
+        same(&rt, out.bytes.as_slice(), line.as_bytes());
+        same(&rt, err.bytes.as_slice(), error.as_bytes());
+        same(&rt, got, *status);
     }
 }
 
@@ -53,23 +53,24 @@ fn refused_memory_for_the_words_is_said(rt: HostRuntime) {
     let mut out = fake_writer(rt.alloc(), NEVER);
     let mut err = fake_writer(rt.alloc(), NEVER);
     let got = run(&rt, Err(AllocError), &mut input, &mut out, &mut err);
-    assert_eq!(rt; got, 3);
-    assert_eq!(rt; out.bytes.len(), 0);
-    assert_eq!(rt; err.bytes.as_slice(), b"out of memory\n".as_slice());
+    same(&rt, got, 3);
+    same(&rt, out.bytes.len(), 0);
+    same(&rt, err.bytes.as_slice(), b"out of memory\n".as_slice());
 }
 
 #[test]
 fn files_are_read_to_the_limit(rt: HostRuntime) -> Result<(), Fail> {
     let mut files = Disk::new(&rt);
-    assert_eq!(rt; files.read("/dev/null", 10)?.len(), 0);
-    assert_eq!(rt; files.read("/dev/zero", 0)?.len(), 0);
-    assert_eq!(rt;
+    same(&rt, files.read("/dev/null", 10)?.len(), 0);
+    same(&rt, files.read("/dev/zero", 0)?.len(), 0);
+    same(
+        &rt,
         files.read("/dev/zero", 9_000)?.as_slice(),
-        [0u8; 9_000].as_slice()
+        [0u8; 9_000].as_slice(),
     );
     assert!(rt; files.read("/proc/self/stat", 100_000)?.len() > 10);
-    assert_eq!(rt; files.read("/proc/self/stat", 10)?.len(), 10);
-    assert_eq!(rt; files.failures(), 0);
+    same(&rt, files.read("/proc/self/stat", 10)?.len(), 10);
+    same(&rt, files.failures(), 0);
     Ok(())
 }
 
@@ -79,6 +80,6 @@ fn a_file_that_is_not_read_is_counted(rt: HostRuntime) {
         let mut files = Disk::new(&rt);
         let is_device = matches!(files.read(name, 10), Err(FileFault::Device));
         assert!(rt; is_device);
-        assert_eq!(rt; files.failures(), 1);
+        same(&rt, files.failures(), 1);
     }
 }

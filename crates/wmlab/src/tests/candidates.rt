@@ -1,6 +1,7 @@
 //! The readers of a candidate and of the initial memory, and the events of accesses.
 ghost use Rattle.wm_event.specs.Op.{KindFits};
 
+use super::fakes::same;
 use std::process::Abort;
 use std::test::Fail;
 use wm_access::{AccessWidth, MemoryOrder, RmwOperator};
@@ -34,9 +35,9 @@ fn candidate_of<'a, R: Abort + AllocGlobal>(rt: &R, initial: &'a Initial) -> Can
 #[test]
 fn initial_bytes_are_those_given(rt: HostRuntime) -> Result<(), Fail> {
     let initial = Initial::of(rt.alloc(), &[4, 5, 7])?;
-    assert_eq!(rt; initial.len(), 3);
-    assert_eq!(rt; initial.byte(2), Some(7));
-    assert_eq!(rt; initial.byte(3), None);
+    same(&rt, initial.len(), 3);
+    same(&rt, initial.byte(2), Some(7));
+    same(&rt, initial.byte(3), None);
     Ok(())
 }
 
@@ -47,7 +48,7 @@ fn a_candidate_gives_its_events(rt: HostRuntime) -> Result<(), Fail> {
     let written = candidate
         .event(EventId::At(SECOND))
         .map(|event| event.written);
-    assert_eq!(rt; written, Some(6));
+    same(&rt, written, Some(6));
     assert!(rt; candidate.event(EventId::Init).is_none());
     Ok(())
 }
@@ -56,8 +57,8 @@ fn a_candidate_gives_its_events(rt: HostRuntime) -> Result<(), Fail> {
 fn a_candidate_gives_its_places(rt: HostRuntime) -> Result<(), Fail> {
     let initial = Initial::of(rt.alloc(), &[4, 5, 7])?;
     let candidate = candidate_of(&rt, &initial);
-    assert_eq!(rt; candidate.place(EventId::At(SECOND)), Some(1));
-    assert_eq!(rt; candidate.place(EventId::Init), None);
+    same(&rt, candidate.place(EventId::At(SECOND)), Some(1));
+    same(&rt, candidate.place(EventId::Init), None);
     Ok(())
 }
 
@@ -65,9 +66,13 @@ fn a_candidate_gives_its_places(rt: HostRuntime) -> Result<(), Fail> {
 fn a_candidate_gives_writers_and_bytes(rt: HostRuntime) -> Result<(), Fail> {
     let initial = Initial::of(rt.alloc(), &[4, 5, 7])?;
     let candidate = candidate_of(&rt, &initial);
-    assert_eq!(rt; candidate.writers(SECOND), [EventId::At(WRITE)].as_slice());
-    assert_eq!(rt; candidate.byte_by(EventId::At(SECOND), 1), Some(6));
-    assert_eq!(rt; candidate.byte_by(EventId::Init, 2), Some(7));
+    same(
+        &rt,
+        candidate.writers(SECOND),
+        [EventId::At(WRITE)].as_slice(),
+    );
+    same(&rt, candidate.byte_by(EventId::At(SECOND), 1), Some(6));
+    same(&rt, candidate.byte_by(EventId::Init, 2), Some(7));
     Ok(())
 }
 
@@ -75,9 +80,9 @@ fn a_candidate_gives_writers_and_bytes(rt: HostRuntime) -> Result<(), Fail> {
 fn a_candidate_gives_what_it_was_made_of(rt: HostRuntime) -> Result<(), Fail> {
     let initial = Initial::of(rt.alloc(), &[4, 5, 7])?;
     let candidate = candidate_of(&rt, &initial);
-    assert_eq!(rt; candidate.log().threads().len(), 1);
-    assert_eq!(rt; candidate.witness().order.len(), 2);
-    assert_eq!(rt; candidate.initial().len(), 3);
+    same(&rt, candidate.log().threads().len(), 1);
+    same(&rt, candidate.witness().order.len(), 2);
+    same(&rt, candidate.initial().len(), 3);
     Ok(())
 }
 
@@ -98,9 +103,9 @@ fn event_of(kind: OpKind, read: u64) -> (EventKind, u64)
 #[test]
 fn an_access_has_its_event(rt: HostRuntime) {
     let add = OpKind::Rmw(RmwOperator::Add, 0xfffe);
-    assert_eq!(rt; event_of(add, 5), (EventKind::Update, 3));
+    same(&rt, event_of(add, 5), (EventKind::Update, 3));
     let exchange = OpKind::CmpXchg(5, 9);
-    assert_eq!(rt; event_of(exchange, 5), (EventKind::Update, 9));
-    assert_eq!(rt; event_of(exchange, 6), (EventKind::Read, 0));
-    assert_eq!(rt; event_of(OpKind::Write(7), 0), (EventKind::Write, 7));
+    same(&rt, event_of(exchange, 5), (EventKind::Update, 9));
+    same(&rt, event_of(exchange, 6), (EventKind::Read, 0));
+    same(&rt, event_of(OpKind::Write(7), 0), (EventKind::Write, 7));
 }

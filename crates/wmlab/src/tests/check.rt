@@ -1,6 +1,6 @@
 //! The command `check`.
 
-use super::fakes::{NEVER, fake_files, fake_reader, fake_writer};
+use super::fakes::{NEVER, fake_files, fake_reader, fake_writer, same};
 use super::modules::STORE_BUFFERING;
 use super::numeric_instructions::NUMERIC;
 use super::other_instructions::{CONTROL, MEMORY};
@@ -72,9 +72,9 @@ fn checks_input<R: Abort + AllocGlobal + Threads + Wait + Sync>(
     let mut out = fake_writer(rt.alloc(), NEVER);
     let mut err = fake_writer(rt.alloc(), NEVER);
     let got = serve(rt, words, &mut files, &mut input, &mut out, &mut err);
-    assert_eq!(rt; out.bytes.as_slice(), line.as_bytes());
-    assert_eq!(rt; err.bytes.as_slice(), error.as_bytes());
-    assert_eq!(rt; got, status);
+    same(rt, out.bytes.as_slice(), line.as_bytes());
+    same(rt, err.bytes.as_slice(), error.as_bytes());
+    same(rt, got, status);
     input.reads
 }
 
@@ -87,7 +87,7 @@ fn both_files_are_read_in_the_order_of_the_words(rt: HostRuntime) {
     }
     let words = ["check", "-", "-"];
     let reads = checks_input(&rt, &words, NEVER, "", "cannot read -\n", 3);
-    assert_eq!(rt; reads, 0);
+    same(&rt, reads, 0);
     let words = ["check", "module.wasm", "x"];
     checks_input(&rt, &words, NEVER, "", "cannot read x\n", 3);
     let words = ["check", "y", "x"];

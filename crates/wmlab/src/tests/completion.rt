@@ -1,6 +1,6 @@
 //! The command `complete`, on documents whose steps and ends are left open.
 
-use super::fakes::{FakeWriter, NEVER, fake_files, fake_reader, fake_writer, says};
+use super::fakes::{FakeWriter, NEVER, fake_files, fake_reader, fake_writer, same, says};
 use super::modules::{
     CALLS_ITSELF, OVERLAPPING_LOAD, SPINS, STORE_BUFFERING, STORE_BUFFERING_ATOMIC, TRAPS,
 };
@@ -23,7 +23,7 @@ fn run<R: Abort + AllocGlobal + Threads + Wait + Sync>(
     let mut err = fake_writer(rt.alloc(), NEVER);
     let words = [command, "module.wasm", "log.json"];
     let status = serve(rt, &words, &mut files, &mut input, &mut out, &mut err);
-    assert_eq!(rt; err.bytes.len(), 0);
+    same(rt, err.bytes.len(), 0);
     (out, status)
 }
 
@@ -164,7 +164,7 @@ fn completing_reads_both_files_in_their_order(rt: HostRuntime) {
     let mut input = fake_reader(b"", NEVER);
     let line = "cannot read y\n";
     says(&rt, &["complete", "y", "-"], &mut input, "", line, 3);
-    assert_eq!(rt; input.reads, 0);
+    same(&rt, input.reads, 0);
     let words = "refused command words\n";
     says(&rt, &["complete"], &mut input, words, "", 2);
     says(&rt, &["complete", "log.json"], &mut input, words, "", 2);

@@ -1,6 +1,7 @@
 //! Scripts of turns from seeds: each run is allowed. That is proved; the test plays, writes, reads and checks each of them.
 ghost use Rattle.std.specs.Prelude.{◌<◌};
 
+use super::fakes::same;
 use super::modules::{STORE_BUFFERING, STORE_BUFFERING_ATOMIC};
 use std::alloc::{AllocError, Global};
 use std::process::Abort;
@@ -119,14 +120,14 @@ fn allowed_of<R: AllocGlobal + Threads + Sync>(
 
 #[test]
 fn driven_runs_are_allowed(rt: HostRuntime) -> Result<(), Fail> {
-    assert_eq!(rt; allowed_of(&rt, &STORE_BUFFERING, 4)?, 200);
-    assert_eq!(rt; allowed_of(&rt, &STORE_BUFFERING_ATOMIC, 4)?, 200);
+    same(&rt, allowed_of(&rt, &STORE_BUFFERING, 4)?, 200);
+    same(&rt, allowed_of(&rt, &STORE_BUFFERING_ATOMIC, 4)?, 200);
     Ok(())
 }
 
 #[test]
 fn runs_that_drain_in_any_order_are_allowed(rt: HostRuntime) -> Result<(), Fail> {
-    assert_eq!(rt; allowed_of(&rt, &STORE_BUFFERING, 6)?, 200);
-    assert_eq!(rt; allowed_of(&rt, &STORE_BUFFERING_ATOMIC, 6)?, 200);
+    same(&rt, allowed_of(&rt, &STORE_BUFFERING, 6)?, 200);
+    same(&rt, allowed_of(&rt, &STORE_BUFFERING_ATOMIC, 6)?, 200);
     Ok(())
 }

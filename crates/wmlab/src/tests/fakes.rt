@@ -2,6 +2,7 @@
 ghost use Rattle.std.specs.Prelude.{◌≡◌};
 
 use std::alloc::Global;
+use std::fmt::Debug;
 use std::io;
 use std::io::{ErrorKind, Read, Write};
 use std::process::Abort;
@@ -178,6 +179,11 @@ pub(super) fn fake_writer(alloc: Global, fails_at: u64) -> FakeWriter {
     }
 }
 
+/// Stops the test where the two differ. Each `assert_eq!` of a test would lengthen its proof by some seconds.
+pub(super) fn same<R: Abort, T: PartialEq + Debug + Drop>(rt: &R, got: T, wanted: T) {
+    assert_eq!(rt; got, wanted);
+}
+
 /// Runs the program over one file, `log.json`, and this input, and looks at its lines and its status.
 pub(super) fn says<R: Abort + AllocGlobal + Threads + Wait + Sync, I: Read>(
     rt: &R,
@@ -191,7 +197,7 @@ pub(super) fn says<R: Abort + AllocGlobal + Threads + Wait + Sync, I: Read>(
     let mut out = fake_writer(rt.alloc(), NEVER);
     let mut err = fake_writer(rt.alloc(), NEVER);
     let got = serve(rt, words, &mut files, input, &mut out, &mut err);
-    assert_eq!(rt; out.bytes.as_slice(), line.as_bytes());
-    assert_eq!(rt; err.bytes.as_slice(), error.as_bytes());
-    assert_eq!(rt; got, status);
+    same(rt, out.bytes.as_slice(), line.as_bytes());
+    same(rt, err.bytes.as_slice(), error.as_bytes());
+    same(rt, got, status);
 }

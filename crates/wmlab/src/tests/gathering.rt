@@ -4,6 +4,7 @@ ghost use Rattle.wm_access.specs.declared.AccessWidth.TheVariants as AccessWidth
 ghost use Rattle.wm_access.specs.declared.MemoryOrder.TheVariants as MemoryOrder;
 ghost use Rattle.wm_event.specs.Op.{IsOp};
 
+use super::fakes::same;
 use super::modules::STORE_BUFFERING;
 use std::alloc::{AllocError, Global};
 use std::process::Abort;
@@ -90,11 +91,31 @@ fn gathered(alloc: Global, pages: usize, threads: [u32; 2]) -> Option<RunFault>
 
 #[test]
 fn what_does_not_belong_together_is_not_gathered(rt: HostRuntime) -> Result<(), Fail> {
-    assert_eq!(rt; gathered(rt.alloc(), 1, [0, 0]), Some(RunFault::Ends(0)));
-    assert_eq!(rt; gathered(rt.alloc(), 1, [0, 7]), Some(RunFault::Ends(1)));
-    assert_eq!(rt; gathered(rt.alloc(), 2, [0, 0]), Some(RunFault::Foreign));
-    assert_eq!(rt; gathered(rt.alloc(), 1, [0, 1]), Some(RunFault::Split(0)));
-    assert_eq!(rt; gathered(rt.alloc(), 1, [1, 0]), Some(RunFault::Split(0)));
+    same(
+        &rt,
+        gathered(rt.alloc(), 1, [0, 0]),
+        Some(RunFault::Ends(0)),
+    );
+    same(
+        &rt,
+        gathered(rt.alloc(), 1, [0, 7]),
+        Some(RunFault::Ends(1)),
+    );
+    same(
+        &rt,
+        gathered(rt.alloc(), 2, [0, 0]),
+        Some(RunFault::Foreign),
+    );
+    same(
+        &rt,
+        gathered(rt.alloc(), 1, [0, 1]),
+        Some(RunFault::Split(0)),
+    );
+    same(
+        &rt,
+        gathered(rt.alloc(), 1, [1, 0]),
+        Some(RunFault::Split(0)),
+    );
     Ok(())
 }
 
@@ -111,7 +132,7 @@ fn stopped(alloc: Global) -> Option<(Stop, End, u32)> {
 
 #[test]
 fn a_full_memory_stops_a_worker_before_its_access(rt: HostRuntime) -> Result<(), Fail> {
-    assert_eq!(rt; stopped(rt.alloc()), Some((Stop::Memory, End::Cut, 2)));
+    same(&rt, stopped(rt.alloc()), Some((Stop::Memory, End::Cut, 2)));
     Ok(())
 }
 
@@ -133,11 +154,11 @@ fn take_turns<R: Abort, S: Shared>(rt: &R, shared: &S) -> Result<(), Fail> {
     shared.access(0, plain(OpKind::Write(2), 8))?;
     shared.access(1, plain(OpKind::Write(3), 4))?;
     assert!(rt; shared.drain(0)?);
-    assert_eq!(rt; shared.access(1, plain(OpKind::Read, 0))?.read, Some(1));
-    assert_eq!(rt; shared.access(1, plain(OpKind::Read, 8))?.read, Some(0));
+    same(rt, shared.access(1, plain(OpKind::Read, 0))?.read, Some(1));
+    same(rt, shared.access(1, plain(OpKind::Read, 8))?.read, Some(0));
     drainer(shared, 2, 2, &OpenGate)?;
-    assert_eq!(rt; shared.access(1, plain(OpKind::Read, 8))?.read, Some(2));
-    assert_eq!(rt; shared.access(0, plain(OpKind::Read, 4))?.read, Some(3));
+    same(rt, shared.access(1, plain(OpKind::Read, 8))?.read, Some(2));
+    same(rt, shared.access(0, plain(OpKind::Read, 4))?.read, Some(3));
     assert!(rt; !shared.drain(0)?);
     Ok(())
 }
@@ -148,9 +169,9 @@ fn pass_one<R: Abort, S: Shared>(rt: &R, shared: &S) -> Result<(), Fail> {
     shared.access(0, plain(OpKind::Write(1), 4))?;
     shared.access(0, plain(OpKind::Write(1), 8))?;
     drainer(shared, 2, 3, &OpenGate)?;
-    assert_eq!(rt; shared.access(1, plain(OpKind::Read, 0))?.read, Some(1));
-    assert_eq!(rt; shared.access(1, plain(OpKind::Read, 4))?.read, Some(0));
-    assert_eq!(rt; shared.access(1, plain(OpKind::Read, 8))?.read, Some(1));
+    same(rt, shared.access(1, plain(OpKind::Read, 0))?.read, Some(1));
+    same(rt, shared.access(1, plain(OpKind::Read, 4))?.read, Some(0));
+    same(rt, shared.access(1, plain(OpKind::Read, 8))?.read, Some(1));
     Ok(())
 }
 

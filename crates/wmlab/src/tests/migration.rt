@@ -1,7 +1,7 @@
 //! The command `migrate`, and documents that it makes.
 
 use super::documents::{self, REFUSED};
-use super::fakes::{FakeWriter, NEVER, fake_files, fake_reader, fake_writer, says};
+use super::fakes::{FakeWriter, NEVER, fake_files, fake_reader, fake_writer, same, says};
 use super::modules::OVERLAPPING_LOAD;
 use super::runs;
 use std::process::Abort;
@@ -30,7 +30,7 @@ fn run<R: Abort + AllocGlobal + Threads + Wait + Sync>(
     let mut out = fake_writer(rt.alloc(), NEVER);
     let mut err = fake_writer(rt.alloc(), NEVER);
     let status = serve(rt, words, &mut files, &mut input, &mut out, &mut err);
-    assert_eq!(rt; err.bytes.len(), 0);
+    same(rt, err.bytes.len(), 0);
     (out, status)
 }
 
@@ -124,8 +124,8 @@ fn a_document_of_version_2_is_checked(rt: HostRuntime) {
     for (document, line, status) in cases {
         let words = ["check", "module.wasm", "log.json"];
         let (out, got) = run(&rt, &words, &OVERLAPPING_LOAD, document.as_bytes());
-        assert_eq!(rt; out.bytes.as_slice(), line.as_bytes());
-        assert_eq!(rt; got, status);
+        same(&rt, out.bytes.as_slice(), line.as_bytes());
+        same(&rt, got, status);
     }
 }
 
@@ -135,7 +135,7 @@ fn migrating_stops_at_a_failed_read_or_write(rt: HostRuntime) {
         let mut input = fake_reader(OVERLAP.as_bytes(), number);
         input.piece = 60;
         says(&rt, &["migrate", "-"], &mut input, "", "cannot read -\n", 3);
-        assert_eq!(rt; input.reads, number + 1);
+        same(&rt, input.reads, number + 1);
     }
     let mut files = fake_files(rt.alloc(), None, Some(OVERLAP.as_bytes()));
     let mut input = fake_reader(b"", NEVER);
@@ -143,7 +143,7 @@ fn migrating_stops_at_a_failed_read_or_write(rt: HostRuntime) {
     let mut err = fake_writer(rt.alloc(), NEVER);
     let words = ["migrate", "log.json"];
     let status = serve(&rt, &words, &mut files, &mut input, &mut out, &mut err);
-    assert_eq!(rt; err.bytes.as_slice(), b"cannot write\n".as_slice());
-    assert_eq!(rt; out.bytes.len(), 0);
-    assert_eq!(rt; status, 3);
+    same(&rt, err.bytes.as_slice(), b"cannot write\n".as_slice());
+    same(&rt, out.bytes.len(), 0);
+    same(&rt, status, 3);
 }

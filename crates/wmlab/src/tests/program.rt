@@ -1,7 +1,7 @@
 //! The program over a fake reader, fake writers and fake files.
 use super::documents::{ALLOWED, BROKEN, REFUSED, Row};
 use super::fakes::{
-    EndlessReader, NEVER, fake_files, fake_reader, fake_writer, holding_writer, says,
+    EndlessReader, NEVER, fake_files, fake_reader, fake_writer, holding_writer, same, says,
 };
 use std::alloc::{AllocError, Global};
 use std::process::Abort;
@@ -27,7 +27,7 @@ fn answers<R: Abort + AllocGlobal + Threads + Wait + Sync>(rt: &R, rows: &[Row])
         assert_eq!(rt; out.bytes.as_slice(), row.line.as_bytes(), "{}", row.shows);
         assert_eq!(rt; err.bytes.len(), 0, "{}", row.shows);
         assert_eq!(rt; status, row.status, "{}", row.shows);
-        assert_eq!(rt; files.limit, 8_388_609);
+        same(rt, files.limit, 8_388_609);
     }
 }
 
@@ -102,7 +102,7 @@ fn words_are_refused(rt: HostRuntime) {
     for words in &refused {
         let mut input = fake_reader(b"[", NEVER);
         says(&rt, words, &mut input, "refused command words\n", "", 2);
-        assert_eq!(rt; input.reads, 0);
+        same(&rt, input.reads, 0);
     }
 }
 
@@ -113,9 +113,9 @@ fn a_document_is_read_by_its_name(rt: HostRuntime) {
     says(&rt, &["rules", "log.json"], &mut input, line, "", 2);
     says(&rt, &["rules", "x"], &mut input, "", "cannot read x\n", 3);
     says(&rt, &["rules", ""], &mut input, "", "cannot read \n", 3);
-    assert_eq!(rt; input.reads, 0);
+    same(&rt, input.reads, 0);
     says(&rt, &["rules", "-"], &mut input, line, "", 2);
-    assert_eq!(rt; input.reads, 1);
+    same(&rt, input.reads, 1);
     let mut bytes = fake_reader(&[b'"', 0xff, b'"'], NEVER);
     says(&rt, &["rules", "-"], &mut bytes, line, "", 2);
 }
@@ -126,7 +126,7 @@ fn each_read_fails_in_turn(rt: HostRuntime) {
         let mut input = fake_reader(ALLOWED[0].document.as_bytes(), number);
         input.piece = 100;
         says(&rt, &["rules", "-"], &mut input, "", "cannot read -\n", 3);
-        assert_eq!(rt; input.reads, number + 1);
+        same(&rt, input.reads, number + 1);
     }
     let mut input = fake_reader(ALLOWED[0].document.as_bytes(), 4);
     input.piece = 100;
@@ -138,7 +138,7 @@ fn an_endless_input_is_too_large(rt: HostRuntime) {
     let mut input = EndlessReader { reads: 0 };
     let line = "refused document TooLarge\n";
     says(&rt, &["rules", "-"], &mut input, line, "", 2);
-    assert_eq!(rt; input.reads, 8_388_609);
+    same(&rt, input.reads, 8_388_609);
 }
 
 /// Runs the program where a write to `out` and a write to `err` fail, and says how often `out` was written.
@@ -161,8 +161,8 @@ fn writes<R: Abort + AllocGlobal + Threads + Wait + Sync>(
         &mut out,
         &mut err,
     );
-    assert_eq!(rt; got, status);
-    assert_eq!(rt; err.bytes.as_slice(), error.as_bytes());
+    same(rt, got, status);
+    same(rt, err.bytes.as_slice(), error.as_bytes());
     out.writes
 }
 
@@ -172,7 +172,7 @@ fn each_write_fails_in_turn(rt: HostRuntime) {
     assert!(rt; all > 0);
     for number in 0..all {
         let made = writes(&rt, number, NEVER, "cannot write\n", 3);
-        assert_eq!(rt; made, number.saturating_add(1));
+        same(&rt, made, number.saturating_add(1));
         writes(&rt, number, 0, "", 3);
     }
     let mut input = fake_reader(b"", 0);
@@ -187,8 +187,8 @@ fn each_write_fails_in_turn(rt: HostRuntime) {
         &mut out,
         &mut err,
     );
-    assert_eq!(rt; status, 3);
-    assert_eq!(rt; out.writes, 0);
+    same(&rt, status, 3);
+    same(&rt, out.writes, 0);
 }
 
 #[test]
@@ -199,9 +199,10 @@ fn an_answer_is_flushed(rt: HostRuntime) {
     let mut err = fake_writer(rt.alloc(), NEVER);
     let words = ["rules", "log.json"];
     let status = serve(&rt, &words, &mut files, &mut input, &mut out, &mut err);
-    assert_eq!(rt; status, 2);
-    assert_eq!(rt;
+    same(&rt, status, 2);
+    same(
+        &rt,
         out.bytes.as_slice(),
-        b"refused document NotJson\n".as_slice()
+        b"refused document NotJson\n".as_slice(),
     );
 }

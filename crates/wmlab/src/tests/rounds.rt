@@ -1,6 +1,7 @@
 //! Rounds of store buffering, with gates that hold threads back.
 ghost use Rattle.std.specs.Prelude.{false};
 
+use super::fakes::same;
 use super::modules::{ARGUMENT, STORE_BUFFERING};
 use std::alloc::{AllocError, Global};
 use std::sync::Wait;
@@ -168,9 +169,10 @@ fn the_drainer_drains(rt: HostRuntime) -> Result<(), Fail> {
         drained: AtomicBool::new(false),
     };
     let plan = plan(rt.alloc(), &BOTH, 2)?;
-    assert_eq!(rt;
+    same(
+        &rt,
         round(&rt, &STORE_BUFFERING, &plan, &gate)[1],
-        Some(End::Done(Some(1)))
+        Some(End::Done(Some(1))),
     );
     Ok(())
 }
@@ -179,9 +181,10 @@ fn the_drainer_drains(rt: HostRuntime) -> Result<(), Fail> {
 fn a_worker_reads_back_what_it_stored(rt: HostRuntime) -> Result<(), Fail> {
     let plan = plan(rt.alloc(), &[("f", Some(0)), ("f", Some(4))], 256)?;
     for _round in 0..3u32 {
-        assert_eq!(rt;
+        same(
+            &rt,
             round(&rt, &ARGUMENT, &plan, &OpenGate),
-            [Some(End::Done(Some(7))); 2]
+            [Some(End::Done(Some(7))); 2],
         );
     }
     Ok(())

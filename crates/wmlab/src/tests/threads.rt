@@ -3,6 +3,7 @@ ghost use Rattle.std.specs.Prelude.{◌≡◌};
 ghost use Rattle.wm_event.specs.Op.{kind_finds};
 ghost use Rattle.wm_event.specs.Reply.{ReadAnswers};
 
+use super::fakes::same;
 use super::modules::{
     ARGUMENT, BRANCHES_AT_ONCE, CALLS_ITSELF, DATA_SEGMENT, OVERLAPPING_LOAD, SEGMENT_AT_THE_END,
     SPINS, STORE_BUFFERING, STORE_BUFFERING_ATOMIC, TRAPS,
@@ -34,16 +35,16 @@ fn six_modules_are_valid(rt: HostRuntime) {
         &SPINS,
     ];
     for bytes in &modules {
-        assert_eq!(rt; validated(&rt, bytes).pages(), 1);
+        same(&rt, validated(&rt, bytes).pages(), 1);
     }
 }
 
 #[test]
 fn the_initial_memory_has_the_data(rt: HostRuntime) {
-    assert_eq!(rt; validated(&rt, &DATA_SEGMENT).init_byte(4), Some(9));
+    same(&rt, validated(&rt, &DATA_SEGMENT).init_byte(4), Some(9));
     let last = validated(&rt, &SEGMENT_AT_THE_END);
-    assert_eq!(rt; last.init_byte(65_535), Some(1));
-    assert_eq!(rt; last.init_byte(65_536), None);
+    same(&rt, last.init_byte(65_535), Some(1));
+    same(&rt, last.init_byte(65_536), None);
 }
 
 /// The reply to an access that finds zeros.
@@ -109,7 +110,7 @@ fn a_loop_reads_at_its_steps(rt: HostRuntime) {
     };
     for number in 1..15u32 {
         let reads = number == 3 || number == 8 || number == 13;
-        assert_eq!(rt; step(&mut thread), Some(reads));
+        same(&rt, step(&mut thread), Some(reads));
     }
 }
 
@@ -121,11 +122,12 @@ fn refused<R: Abort + AllocGlobal>(rt: &R, name: &str, args: &[u64]) -> Option<S
 
 #[test]
 fn starts_are_refused(rt: HostRuntime) {
-    assert_eq!(rt; refused(&rt, "f", &[]), Some(StartFault::ArgCount));
-    assert_eq!(rt;
+    same(&rt, refused(&rt, "f", &[]), Some(StartFault::ArgCount));
+    same(
+        &rt,
         refused(&rt, "f", &[4_294_967_296]),
-        Some(StartFault::ArgRange)
+        Some(StartFault::ArgRange),
     );
-    assert_eq!(rt; refused(&rt, "g", &[]), Some(StartFault::NoExport));
-    assert_eq!(rt; refused(&rt, "f", &[4_294_967_295]), None);
+    same(&rt, refused(&rt, "g", &[]), Some(StartFault::NoExport));
+    same(&rt, refused(&rt, "f", &[4_294_967_295]), None);
 }
