@@ -6,7 +6,7 @@ use std::alloc::{AllocError, Global};
 use std::process::Abort;
 use std::test::Fail;
 use std::thread::Threads;
-use wm_event::{Candidate, EventId, EventKey, Initial};
+use wm_event::{Candidate, EventId, EventKey, Initial, Log, Witness};
 use wm_hb::{HappensBefore, Ordered, synchronizes};
 use wm_logfile::read_document;
 
@@ -91,16 +91,64 @@ fn ids_of(alloc: Global, candidate: &Candidate) -> Result<Vec<EventId>, AllocErr
     Ok(ids)
 }
 
-/// Compares what happens before what with the plain closure, for all pairs. Whether the order agrees.
+/// The log and the witness of a document.
+fn read<R: Abort + AllocGlobal>(rt: &R, document: &str) -> (Log, Witness) {
+    match read_document(rt.alloc(), document.as_bytes()) {
+        Ok(read) => read,
+        Err(_) => panic!(rt; "{document}"),
+    }
+}
+
+/// The rows of the edges from each id.
+fn edges_of(
+    alloc: Global,
+    candidate: &Candidate,
+    ids: &[EventId],
+) -> Result<Vec<Vec<bool>>, AllocError> {
+    let mut edges = Vec::new(alloc);
+    for from in ids {
+        edges.push(edges_from(alloc, candidate, ids, *from)?)?;
+    }
+    Ok(edges)
+}
+
+/// Compares what an id happens before with the row of the ids that it reaches.
+fn agrees_from<R: Abort>(
+    rt: &R,
+    relation: &HappensBefore,
+    start: EventId,
+    ids: &[EventId],
+    row: &[bool],
+) {
+    for (to, id) in ids.iter().enumerate() {
+        let is_before = relation.before(start, *id);
+        assert_eq!(rt; is_before, marks(row, to), "{start} {id}");
+    }
+}
+
+/// Compares what happens before what with the plain closure of the edges, for all pairs.
+fn agrees<R: Abort + AllocGlobal>(
+    rt: &R,
+    relation: &HappensBefore,
+    ids: &[EventId],
+    edges: &[Vec<bool>],
+) -> Result<(), AllocError> {
+    for (from, step) in edges.iter().enumerate() {
+        let row = reached_from(rt.alloc(), step.as_slice(), edges)?;
+        let start = ids.get(from).copied().unwrap_or(EventId::Init);
+        agrees_from(rt, relation, start, ids, row.as_slice());
+    }
+    Ok(())
+}
+
+/// Compares what happens before what in a document with the plain closure. Whether the order agrees.
 fn compares<R: Abort + AllocGlobal + Threads + Sync>(
     rt: &R,
     document: &str,
     initial: &Initial,
 ) -> Result<bool, AllocError> {
     let alloc = rt.alloc();
-    let Ok((log, witness)) = read_document(alloc, document.as_bytes()) else {
-        panic!(rt; "{document}")
-    };
+    let (log, witness) = read(rt, document);
     let Ok(candidate) = Candidate::new(alloc, log, witness, initial) else {
         panic!(rt; "{document}")
     };
@@ -109,22 +157,8 @@ fn compares<R: Abort + AllocGlobal + Threads + Sync>(
     };
     let relation = HappensBefore::of(rt, alloc, &ordered)?;
     let ids = ids_of(alloc, &candidate)?;
-    let mut edges = Vec::new(alloc);
-    for from in ids.as_slice() {
-        edges.push(edges_from(alloc, &candidate, ids.as_slice(), *from)?)?;
-    }
-    for (from, step) in edges.iter().enumerate() {
-        let row = reached_from(alloc, step.as_slice(), edges.as_slice())?;
-        for (to, id) in ids.iter().enumerate() {
-            let start = ids.as_slice().get(from).copied().unwrap_or(EventId::Init);
-            let is_before = relation.before(start, *id);
-            assert_eq!(rt;
-                is_before,
-                marks(row.as_slice(), to),
-                "{start} {id} {document}"
-            );
-        }
-    }
+    let edges = edges_of(alloc, &candidate, ids.as_slice())?;
+    agrees(rt, &relation, ids.as_slice(), edges.as_slice())?;
     Ok(true)
 }
 
@@ -166,51 +200,124 @@ fn writer(alloc: Global, state: u64, place: u64, threads: u64) -> Result<String,
     format!(in alloc; "[{},{}]", earlier % threads, earlier / threads)
 }
 
-/// A log whose threads take turns, of reads and writes of one or two bytes, most of them atomic.
+/// An event that was drawn: whether it reads, how many bytes, and the state that it was drawn from.
+#[derive(Clone, Copy)]
+struct Drawn {
+    pub reads: bool,
+    pub width: u64,
+    pub ordering: &'static str,
+    pub state: u64,
+}
+
+/// A read or write of one or two bytes, most of them atomic.
+fn draw(state: u64) -> Drawn {
+    Drawn {
+        reads: below(state >> 3, 2) != 0,
+        width: below(state >> 2, 2).wrapping_add(1),
+        ordering: if below(state, 4) == 0 { "un" } else { "sc" },
+        state,
+    }
+}
+
+/// An event, as a document of version 1 has it.
+fn event_text(alloc: Global, drawn: Drawn) -> Result<String, AllocError> {
+    let ordering = drawn.ordering;
+    let width = drawn.width;
+    if drawn.reads {
+        format!(in alloc; r#"["r","{ordering}",0,{width},0]"#)
+    } else {
+        format!(in alloc; r#"["w","{ordering}",0,{width},7]"#)
+    }
+}
+
+/// The writers of an event's bytes, as a document of version 1 has them.
+fn writers_text(
+    alloc: Global,
+    drawn: Drawn,
+    place: u64,
+    threads: u64,
+) -> Result<String, AllocError> {
+    if !drawn.reads {
+        return String::from_str(alloc, "[]");
+    }
+    let first = writer(alloc, next(drawn.state), place, threads)?;
+    if drawn.width == 1 {
+        return format!(in alloc; "[{first}]");
+    }
+    let second = writer(alloc, next(next(drawn.state)), place, threads)?;
+    format!(in alloc; "[{first},{second}]")
+}
+
+/// Adds the item with so many before it to a list.
+fn add_item(list: &mut String, number: u64, item: &str) -> Result<(), AllocError> {
+    if number != 0 {
+        list.push_str(",")?;
+    }
+    list.push_str(item)?;
+    Ok(())
+}
+
+/// The events of a thread and their writers, and the state behind them.
+#[derive(Drop)]
+struct ThreadText {
+    pub events: String,
+    pub writers: String,
+    pub state: u64,
+}
+
+fn thread_text(
+    alloc: Global,
+    thread: u64,
+    threads: u64,
+    before: u64,
+) -> Result<ThreadText, AllocError> {
+    let mut state = before;
+    let mut events = String::new(alloc);
+    let mut writers = String::new(alloc);
+    for number in 0..EACH {
+        state = next(state);
+        let drawn = draw(state);
+        let place = number.wrapping_mul(threads).wrapping_add(thread);
+        add_item(&mut events, number, event_text(alloc, drawn)?.as_str())?;
+        let sources = writers_text(alloc, drawn, place, threads)?;
+        add_item(&mut writers, number, sources.as_str())?;
+    }
+    Ok(ThreadText {
+        events,
+        writers,
+        state,
+    })
+}
+
+/// An order in which so many threads take turns.
+fn order_text(alloc: Global, threads: u64) -> Result<String, AllocError> {
+    let mut order = String::new(alloc);
+    for number in 0..EACH {
+        for thread in 0..threads {
+            let key = format!(in alloc; "[{thread},{number}]")?;
+            add_item(&mut order, number.wrapping_add(thread), key.as_str())?;
+        }
+    }
+    Ok(order)
+}
+
+/// A log whose threads take turns, of reads and writes.
 fn generated(alloc: Global, seed: u64) -> Result<String, AllocError> {
     let threads = seed % 5 + 1;
     let mut state = next(seed);
     let mut logs = String::new(alloc);
     let mut sources = String::new(alloc);
-    let mut order = String::new(alloc);
     for thread in 0..threads {
-        let mut events = String::new(alloc);
-        let mut writers = String::new(alloc);
-        for number in 0..EACH {
-            let comma = if number == 0 { "" } else { "," };
-            state = next(state);
-            let ordering = if below(state, 4) == 0 { "un" } else { "sc" };
-            let width = below(state >> 2, 2).wrapping_add(1);
-            if below(state >> 3, 2) == 0 {
-                events.push_str(format!(in alloc;
-                    r#"{comma}["w","{ordering}",0,{width},7]"#
-                )?.as_str())?;
-                writers.push_str(format!(in alloc; "{comma}[]")?.as_str())?;
-            } else {
-                let place = number.wrapping_mul(threads).wrapping_add(thread);
-                let first = writer(alloc, next(state), place, threads)?;
-                let second = writer(alloc, next(next(state)), place, threads)?;
-                events.push_str(format!(in alloc;
-                    r#"{comma}["r","{ordering}",0,{width},0]"#
-                )?.as_str())?;
-                let bytes = if width == 1 {
-                    format!(in alloc; "{comma}[{first}]")?
-                } else {
-                    format!(in alloc; "{comma}[{first},{second}]")?
-                };
-                writers.push_str(bytes.as_str())?;
-            }
-        }
-        let comma = if thread == 0 { "" } else { "," };
-        logs.push_str(format!(in alloc; r#"{comma}["t",[],["cut"],0,[{events}]]"#)?.as_str())?;
-        sources.push_str(format!(in alloc; "{comma}[{writers}]")?.as_str())?;
+        let made = thread_text(alloc, thread, threads, state)?;
+        state = made.state;
+        let events = made.events.as_str();
+        let log = format!(in alloc; r#"["t",[],["cut"],0,[{events}]]"#)?;
+        add_item(&mut logs, thread, log.as_str())?;
+        let writers = made.writers.as_str();
+        let source = format!(in alloc; "[{writers}]")?;
+        add_item(&mut sources, thread, source.as_str())?;
     }
-    for number in 0..EACH {
-        for thread in 0..threads {
-            let comma = if number == 0 && thread == 0 { "" } else { "," };
-            order.push_str(format!(in alloc; "{comma}[{thread},{number}]")?.as_str())?;
-        }
-    }
+    let order = order_text(alloc, threads)?;
     format!(in alloc; r#"["wasm-litmus-log",1,[{logs}],[[{sources}],[{order}]]]"#)
 }
 
@@ -233,9 +340,7 @@ fn at(thread: u32, number: u32) -> EventId {
 fn one_thread_of_16384_events_is_a_chain(rt: HostRuntime) -> Result<(), Fail> {
     let initial = Initial::zeros(rt.alloc(), 1)?;
     let document = reads(rt.alloc(), 16_384)?;
-    let Ok((log, witness)) = read_document(rt.alloc(), document.as_bytes()) else {
-        panic!(&rt; "no document")
-    };
+    let (log, witness) = read(&rt, document.as_str());
     let Ok(candidate) = Candidate::new(rt.alloc(), log, witness, &initial) else {
         panic!(&rt; "no candidate")
     };
@@ -259,9 +364,7 @@ const WRITES: &str =
 #[test]
 fn a_candidate_lists_the_writes_of_a_byte(rt: HostRuntime) -> Result<(), Fail> {
     let initial = Initial::zeros(rt.alloc(), 1)?;
-    let Ok((log, witness)) = read_document(rt.alloc(), WRITES.as_bytes()) else {
-        panic!(&rt; "no document")
-    };
+    let (log, witness) = read(&rt, WRITES);
     let Ok(candidate) = Candidate::new(rt.alloc(), log, witness, &initial) else {
         panic!(&rt; "no candidate")
     };
