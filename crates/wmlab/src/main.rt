@@ -53,7 +53,15 @@ fn run<R: FileSystem + AllocGlobal + Threads + Wait + Sync, I: Read, O: Write, E
     }
 }
 
+/// Lets the C library keep what is freed for later use. It gives freed memory back to the system where more than twice the
+/// largest block that was freed lies at the end of its heap; and each round of `run` and each call of many locals would
+/// take it from the system again. The block is freed unused, so it takes no memory.
+fn keep_freed_memory(alloc: Global) {
+    let _block: Result<Vec<u8>, AllocError> = Vec::with_capacity(alloc, 1 << 24);
+}
+
 fn main(rt: HostRuntime) -> ExitCode {
+    keep_freed_memory(rt.alloc());
     let status = run(
         &rt,
         arguments(&rt),
