@@ -10,6 +10,7 @@ use Rattle.wm_machine.specs.declared.value.TypedValue.{TypedValue}
 use Rattle.wm_machine.specs.declared.activation.Activation.{Activation}
 use Rattle.wm_machine.specs.declared.thread.Need.{Need}
 use Rattle.wm_machine.specs.declared.thread.Need.TheVariants as need
+use Rattle.wm_machine.specs.declared.thread.CodePosition.{CodePosition}
 use Rattle.wm_machine.specs.Term.{Config, Over}
 use Rattle.wm_machine.specs.Step.{step, access_of}
 use Rattle.wm_machine.specs.Configuration.{left_of, under}
@@ -38,6 +39,10 @@ config_of s = config_from s.ended s
 pub record Sound (s : State) : Type 0 where
   pub valid : Valid s.module
   pub fits : FitsConfig s.module (config_of s)
+
+-- where the innermost call stands: the code that it has still to run there is `todo` of these
+abbrev pub position_of : State → CodePosition
+position_of s = record { func = s.running.func; block = s.running.levels.block; at = s.running.levels.at }
 
 -- what a thread needs for its next step
 abbrev pub as_need : Option OpFields → Need

@@ -2,7 +2,7 @@
 ghost use Rattle.std.specs.Prelude.{◌≡◌, ◌⊎◌, ℕ, Some, Ok, Err, OnOk, OnErr, IfErr, IfOk};
 ghost use Rattle.wm_valid.specs.Valid.{Valid};
 ghost use Rattle.wm_machine.specs.Term.{Config};
-ghost use Rattle.wm_machine.specs.State.{config_of, need_of, read_in, Answers};
+ghost use Rattle.wm_machine.specs.State.{config_of, need_of, position_of, read_in, Answers};
 ghost use Rattle.wm_machine.specs.Step.{step, went, result_of};
 ghost use Rattle.wm_machine.specs.Start.{started, started_in};
 ghost use Rattle.wm_machine.specs.Functions.{callable as callable_in};
@@ -32,6 +32,17 @@ pub enum Need {
     Access(Op),
     /// There is no step: the thread has ended so.
     Ended(End),
+}
+
+/// Where a thread stands in its module's code.
+#[derive(Clone, Copy, Debug, PartialEq, Eq)]
+pub struct CodePosition {
+    /// The function of the innermost call, by its index.
+    pub func: usize,
+    /// The innermost block that it is in, by its number in that function.
+    pub block: usize,
+    /// The next instruction, by its number in that block; at the block's end, how many it has.
+    pub at: usize,
 }
 
 /// A thread of a module, which holds its calls and its own globals. Contracts see it as these, and as the module;
@@ -131,6 +142,18 @@ impl<'m> Thread<'m> {
                 Some(op) => Need::Access(op),
                 None => Need::Local,
             },
+        }
+    }
+
+    /// Where the next step is made: the next instruction of the innermost call, or the end of its innermost block. A thread
+    /// that has ended stands where it made its last step.
+    pub fn position(&self) -> CodePosition
+        ensures { result ≡ position_of self.now }
+    {
+        CodePosition {
+            func: self.running.func,
+            block: self.running.levels.block(),
+            at: self.running.levels.at(),
         }
     }
 
