@@ -21,7 +21,7 @@ fn run_answer<R: AllocGlobal + Threads + Sync>(
     ensures { IfOk result (λ answer.
         AnswersRun (run_over pages log witness) answer.status (string_bytes answer.text)) }
 {
-    let initial = Initial::zeros(rt.alloc(), pages)?;
+    let initial = Initial::zeros(rt.alloc(), pages);
     let candidate = match Candidate::new(rt.alloc(), log, witness, &initial) {
         Ok(candidate) => candidate,
         Err(fault) => return Answer::refused_shape(rt.alloc(), fault),

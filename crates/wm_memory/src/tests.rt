@@ -66,7 +66,7 @@ fn exchange(expected: u64, new: u64) -> Op {
 fn zeros(alloc: Global, threads: usize) -> Result<Memory, Fail>
     requires { threads ≤ 16 }
 {
-    let initial = Initial::zeros(alloc, 1)?;
+    let initial = Initial::zeros(alloc, 1);
     Ok(Memory::new(alloc, &initial, threads)?)
 }
 

@@ -49,7 +49,7 @@ fn same<R: Abort, T: PartialEq + Debug + Drop>(rt: &R, got: T, wanted: T) {
 
 /// A recorder of two threads over a page of zeros.
 fn two_threads(alloc: Global) -> Result<Recorder, Fail> {
-    let initial = Initial::zeros(alloc, 1)?;
+    let initial = Initial::zeros(alloc, 1);
     Ok(Recorder::new(alloc, &initial, 2)?)
 }
 

@@ -10,17 +10,10 @@ use crate::fault::RunFault;
 use crate::launch::copy_start;
 use crate::run::Run;
 use std::alloc::{AllocError, Global};
-use wm_event::{Event, Initial, Log, MAX_EVENTS, ThreadLog, Witness};
+use wm_event::{Event, Log, MAX_EVENTS, ThreadLog, Witness};
 use wm_list::List;
 use wm_recorder::Recorder;
 use wm_valid::ValidModule;
-
-/// Whether these are the same bytes.
-fn same_bytes(one: &Initial, other: &Initial) -> bool
-    ensures { IsTrue result ↔ (one.now ≡ other.now) }
-{
-    one.as_slice() == other.as_slice()
-}
 
 /// Whether these are the same events, in the same order.
 fn same_events(events: &[Event], others: &[Event]) -> bool
@@ -115,7 +108,7 @@ pub fn gather(
     ensures gathered { IfOk result (IsGathered «module».now recorder ends.items) }
     ensures refused { IfErr result (IsGatherFault «module».now recorder ends.items) }
 {
-    if !same_bytes(recorder.initial(), module.initial()) {
+    if !recorder.initial().is_same(module.initial()) {
         return Err(RunFault::Foreign);
     }
     let threads = recorder.threads();

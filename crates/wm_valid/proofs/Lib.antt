@@ -8,3 +8,4 @@ pub mod FuncLaws
 pub mod SectionFacts
 pub mod LabelLaws
 pub mod Initial
+pub mod DataEnds

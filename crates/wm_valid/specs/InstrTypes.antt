@@ -8,7 +8,6 @@ use Rattle.wm_num.specs.declared.operator.Width.{Width}
 use Rattle.wm_num.specs.declared.operator.Width.TheVariants.{W32, W64}
 use Rattle.wm_num.specs.Conversion.{source_of, target_of}
 use Rattle.wm_ast.specs.declared.module.Module.{Module}
-use Rattle.wm_ast.specs.declared.types.FuncType.{FuncType}
 use Rattle.wm_ast.specs.declared.types.ValType.{ValType}
 use Rattle.wm_ast.specs.declared.types.ValType.TheVariants.{I32, I64}
 use Rattle.wm_ast.specs.declared.types.Mutability.{Mutability}

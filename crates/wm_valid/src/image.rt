@@ -1,6 +1,6 @@
 //! The bytes that a memory begins with: zeros, over which the data segments are laid in order
 //! (Core 1.0, section 4.5.4).
-ghost use Rattle.std.specs.Prelude.{◌≡◌, ◌<◌, ℕ, IfOk, length, slice_index, All};
+ghost use Rattle.std.specs.Prelude.{◌≡◌, ◌<◌, ◌≤◌, ℕ, IfOk, length, slice_index, All};
 ghost use Rattle.wm_valid.specs.Memory.{Within, over, covered, start};
 
 use std::alloc::{AllocError, Global};
@@ -17,11 +17,25 @@ pub(crate) fn image(
     ensures size { IfOk result (λ bytes. length bytes ≡ size) }
     ensures bytes { IfOk result (λ bytes. (k : ℕ) → k < size → slice_index bytes k ≡ covered segments.now 0 k) }
 {
-    let mut bytes = vec![in alloc; 0u8; size]?;
+    let end = data_end(size, segments);
+    let mut bytes = vec![in alloc; 0u8; end]?;
     for segment in segments {
         lay(bytes.as_mut_slice(), segment);
     }
-    Initial::of(alloc, bytes.as_slice())
+    Ok(Initial::with_zeros(bytes, size))
+}
+
+/// Where the segments end, of a memory of so many bytes.
+fn data_end(size: usize, segments: &[DataSegment]) -> usize
+    requires { All (Within size) segments.now }
+    ensures within { All (Within result) segments.now }
+    ensures bound { result ≤ size }
+{
+    let mut end = 0usize;
+    for segment in segments {
+        end = end.max(start_of(segment.offset) + segment.bytes.len());
+    }
+    end
 }
 
 /// The address of a segment's first byte.

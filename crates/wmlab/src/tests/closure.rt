@@ -164,7 +164,7 @@ fn compares<R: Abort + AllocGlobal + Threads + Sync>(
 
 #[test]
 fn columns_are_the_plain_closure_on_the_examples(rt: HostRuntime) -> Result<(), Fail> {
-    let initial = Initial::zeros(rt.alloc(), 16)?;
+    let initial = Initial::zeros(rt.alloc(), 16);
     let mut ordered = 0u64;
     for row in ALLOWED {
         assert!(&rt; compares(&rt, row.document, &initial)?, "{}", row.shows);
@@ -323,7 +323,7 @@ fn generated(alloc: Global, seed: u64) -> Result<String, AllocError> {
 
 #[test]
 fn columns_are_the_plain_closure_on_generated_logs(rt: HostRuntime) -> Result<(), Fail> {
-    let initial = Initial::zeros(rt.alloc(), 1)?;
+    let initial = Initial::zeros(rt.alloc(), 1);
     for seed in 0..LOGS {
         let document = generated(rt.alloc(), seed)?;
         assert!(&rt; compares(&rt, document.as_str(), &initial)?);
@@ -338,7 +338,7 @@ fn at(thread: u32, number: u32) -> EventId {
 
 #[test]
 fn one_thread_of_16384_events_is_a_chain(rt: HostRuntime) -> Result<(), Fail> {
-    let initial = Initial::zeros(rt.alloc(), 1)?;
+    let initial = Initial::zeros(rt.alloc(), 1);
     let document = reads(rt.alloc(), 16_384)?;
     let (log, witness) = read(&rt, document.as_str());
     let Ok(candidate) = Candidate::new(rt.alloc(), log, witness, &initial) else {
@@ -363,7 +363,7 @@ const WRITES: &str =
 
 #[test]
 fn a_candidate_lists_the_writes_of_a_byte(rt: HostRuntime) -> Result<(), Fail> {
-    let initial = Initial::zeros(rt.alloc(), 1)?;
+    let initial = Initial::zeros(rt.alloc(), 1);
     let (log, witness) = read(&rt, WRITES);
     let Ok(candidate) = Candidate::new(rt.alloc(), log, witness, &initial) else {
         panic!(&rt; "no candidate")

@@ -71,7 +71,7 @@ fn fault(
     requires { pages ≤ 16 }
 {
     let ends = both_ends(alloc, module, threads)?;
-    let initial = Initial::zeros(alloc, pages)?;
+    let initial = Initial::zeros(alloc, pages);
     let recorder = Recorder::new(alloc, &initial, 2)?;
     match gather(alloc, module, recorder, ends) {
         Ok(_) => Ok(()),
@@ -177,7 +177,7 @@ fn pass_one<R: Abort, S: Shared>(rt: &R, shared: &S) -> Result<(), Fail> {
 
 #[test]
 fn the_drainer_takes_turns(rt: HostRuntime) -> Result<(), Fail> {
-    let initial = Initial::zeros(rt.alloc(), 1)?;
+    let initial = Initial::zeros(rt.alloc(), 1);
     let recorder = Recorder::new(rt.alloc(), &initial, 2)?;
     let shared = LockedMemory::new(&rt, recorder);
     take_turns(&rt, &shared)
@@ -186,7 +186,7 @@ fn the_drainer_takes_turns(rt: HostRuntime) -> Result<(), Fail> {
 /// The second time round the drainer takes the store behind the oldest one.
 #[test]
 fn the_drainer_passes_the_oldest_store(rt: HostRuntime) -> Result<(), Fail> {
-    let initial = Initial::zeros(rt.alloc(), 1)?;
+    let initial = Initial::zeros(rt.alloc(), 1);
     let recorder = Recorder::new(rt.alloc(), &initial, 2)?;
     let shared = LockedMemory::new(&rt, recorder);
     pass_one(&rt, &shared)

@@ -7,9 +7,9 @@ use Rattle.wm_valid.proofs.Initial.{one_init}
 use Rattle.wm_run.proofs.Together.{events_of_whole, whole}
 use Rattle.wm_run.proofs.gathering.gather.Goals as goal
 
-pub returns-then-not-same_bytes-clause-refused : goal.returns-then-not-same_bytes-clause-refused
-returns-then-not-same_bytes-clause-refused c =
-    λ is. absurd (cc (c.if-not-same_bytes.ensures.1 (c.initial.ensures ∙ one_init c.args.module.now (initial_of c.args.recorder) c.initial-2.result.now is c.initial-2.ensures)))
+pub returns-then-not-is_same-clause-refused : goal.returns-then-not-is_same-clause-refused
+returns-then-not-is_same-clause-refused c =
+    λ is. absurd (cc (c.if-not-is_same.ensures.1 (c.initial.ensures ∙ one_init c.args.module.now (initial_of c.args.recorder) c.initial-2.result.now is c.initial-2.ensures)))
 
 pub new-requires : goal.new-requires
 new-requires c =
@@ -34,7 +34,7 @@ returns-clause-gathered c =
     let logs = c.in_ok-logs.logs in
     let w = whole c.args.recorder c.args.ends.items c.as_slice.result.now c.as_slice-2.result.now c.as_slice-3.result.now c.threads-threads.result logs c.threads-threads.ensures c.as_slice.ensures.value
     c.as_slice-2.ensures.value c.as_slice-3.ensures.value c.in_default.ensures.none c.in_default-first_split.ensures.none c.in_ok-logs.ensures in
-    let same = sym c.initial.ensures ∙ c.if-not-same_bytes.ensures.0 refl in
+    let same = sym c.initial.ensures ∙ c.if-not-is_same.ensures.0 refl in
     record {
       is_init = subst (IsInit c.args.module.now) (sym same) c.initial-2.ensures;
       one_each = w.one_each;

@@ -4,6 +4,6 @@ use Rattle.wm_valid.proofs.image.image.Given as goal
 
 abbrev pub invariant-loop-segment : goal.invariant-loop-segment
 invariant-loop-segment l = record {
-  size : length l.bytes.items ≡ l.size;
-  bytes : (k : ℕ) → k < l.size → get_or l.bytes.items k 0 ≡ covered (take l.segment-index l.segments) 0 k;
+  size : length l.bytes.items ≡ l.end;
+  bytes : (k : ℕ) → k < l.end → get_or l.bytes.items k 0 ≡ covered (take l.segment-index l.segments) 0 k;
 }
