@@ -6,3 +6,4 @@ pub mod Comparing
 pub mod Logs
 pub mod Longest
 pub mod Completions
+pub mod Comparisons

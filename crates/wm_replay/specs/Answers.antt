@@ -1,5 +1,5 @@
 -- What the replay answers.
-use Rattle.std.specs.Prelude.{◌≡◌, ◌≢◌, ℕ, ◌+◌, ◌<◌, ◌⊎◌, List, Option, Some, None, Err, slice_get, nat_lt, if◌then◌else◌, ⊤}
+use Rattle.std.specs.Prelude.{◌≡◌, ◌≢◌, ℕ, ◌+◌, ◌<◌, ◌⊎◌, List, Option, Some, None, Result, Ok, Err, length, slice_get, nat_lt, if◌then◌else◌, ⊤}
 use Rattle.wm_ast.specs.declared.module.Module.{Module}
 use Rattle.wm_event.specs.declared.event.Event.{Event}
 use Rattle.wm_event.specs.declared.log.ThreadLog.{ThreadLog}
@@ -80,6 +80,15 @@ ComparesThread m k t None = IsRun m k t
 ComparesThread m k t (Some answer) = IsOther m k t answer × (¬ IsRun m k t)
 
 -- ---- the log
+
+-- how thread k of the log compares with its run
+abbrev pub ComparesAt : Module → List ThreadLog → ℕ → Option ReplayAnswer → Type 0
+ComparesAt m log k answer = (t : ThreadLog) → slice_get log k ≡ Some t → ComparesThread m k t answer
+
+-- and each of them, but where memory was refused
+pub record ComparesEach {E : Type 0} (m : Module) (log : List ThreadLog) (answers : List (Result (Option ReplayAnswer) E)) : Type 0 where
+  pub size : length answers ≡ length log
+  pub each : (k : ℕ) (answer : Option ReplayAnswer) → slice_get answers k ≡ Some (Ok answer) → ComparesAt m log k answer
 
 -- thread k is the first whose log isn't its run, for this reason
 pub record IsFirstOther (m : Module) (log : List ThreadLog) (k : ℕ) (answer : ReplayAnswer) : Type 0 where

@@ -8,7 +8,9 @@ ghost use Rattle.wm_replay.specs.Answers.{IsDifference, ComparesThread, HasPlace
 ghost use Rattle.wm_replay.specs.Replay.{start_of};
 
 use crate::answer::{Place, ReplayAnswer};
+use crate::parallel::{is_long, replay_in_parallel};
 use std::alloc::{AllocError, Global};
+use std::thread::Threads;
 use wm_event::{End, Event, EventId, Log, Op, Reply, ThreadLog};
 use wm_machine::{AdvanceFault, Need, StartFault, Thread};
 use wm_num::low_bytes;
@@ -143,7 +145,7 @@ fn differing_place(
 }
 
 /// Why the log of a thread isn't its run, None where it is.
-fn difference(
+pub(crate) fn difference(
     alloc: Global,
     module: &ValidModule,
     stated: &ThreadLog,
@@ -166,13 +168,12 @@ fn difference(
     }
 }
 
-/// Compares a log with the runs of its threads: each is started as its log says, and run for its stated steps on the
-/// values that its events read.
-///
-/// # Errors
-///
-/// Only where memory was refused.
-pub fn replay(alloc: Global, module: &ValidModule, log: &Log) -> Result<ReplayAnswer, AllocError>
+/// Compares a log with the runs of its threads, one after the other.
+fn replay_in_turn(
+    alloc: Global,
+    module: &ValidModule,
+    log: &Log,
+) -> Result<ReplayAnswer, AllocError>
     ensures { IfOk result (Replays «module».now log.now) }
 {
     for (number, stated) in log.threads().iter().enumerate() {
@@ -183,4 +184,24 @@ pub fn replay(alloc: Global, module: &ValidModule, log: &Log) -> Result<ReplayAn
         }
     }
     Ok(ReplayAnswer::Same)
+}
+
+/// Compares a log with the runs of its threads: each is started as its log says, and run for its stated steps on the
+/// values that its events read. Long threads are run at the same time, with the same answer.
+///
+/// # Errors
+///
+/// Only where memory was refused.
+pub fn replay<R: AllocGlobal + Threads + Sync>(
+    rt: &R,
+    module: &ValidModule,
+    log: &Log,
+) -> Result<ReplayAnswer, AllocError>
+    ensures { IfOk result (Replays «module».now log.now) }
+{
+    if is_long(log.threads()) {
+        replay_in_parallel(rt, module, log)
+    } else {
+        replay_in_turn(rt.alloc(), module, log)
+    }
 }

@@ -5,6 +5,7 @@
 mod answer;
 mod compare;
 mod completing;
+mod parallel;
 
 pub use answer::{Place, ReplayAnswer};
 pub use compare::replay;
