@@ -75,7 +75,7 @@ fn compare<R: AllocGlobal + Threads + Sync>(
 ) -> Result<Verdict, AllocError>
     ensures { IfOk result (ComparesLog «module».now candidate.now) }
 {
-    let answer = replay(rt.alloc(), module, candidate.log())?;
+    let answer = replay(rt, module, candidate.log())?;
     if answer != ReplayAnswer::Same {
         return Ok(Verdict::Broken(Breach::Replay(answer)));
     }
