@@ -12,7 +12,7 @@ pub returns-in-Err : goal.returns-in-Err
 unfolding zeros
 returns-in-Err g c =
     let run : List ℕ → LoggedRun = λ initial. record { log = c.args.log; witness = c.args.witness; initial = initial } in
-    let over : c.in_ok-initial.initial ≡ zeros c.args.pages = search rules in
+    let over : c.zeros-initial.result ≡ zeros c.args.pages = search rules in
     IfOk-weaker c.refused_shape.result _ _
     (λ answer prints. misshapen c.in-Err.fault
     (subst (λ m. IsFirst shape_rank (Misshapes (run m)) c.in-Err.fault) over (c.in-Err.ensures.fault prints.0))
@@ -23,8 +23,8 @@ pub returns : goal.returns
 unfolding zeros
 returns g c =
     let run : List ℕ → LoggedRun = λ initial. record { log = c.args.log; witness = c.args.witness; initial = initial } in
-    let over : c.in_ok-initial.initial ≡ zeros c.args.pages = search rules in
-    let same : c.in-Ok.candidate ≡ run c.in_ok-initial.initial = search rules in
+    let over : c.zeros-initial.result ≡ zeros c.args.pages = search rules in
+    let same : c.in-Ok.candidate ≡ run c.zeros-initial.result = search rules in
     let shape : IsWellShaped (run (zeros c.args.pages)) = subst (λ m. IsWellShaped (run m)) over c.in-Ok.ensures.shape in
     let judges : Judges (execution (run (zeros c.args.pages))) c.in_ok-judgement.judgement =
     subst (λ m. Judges (execution (run m)) c.in_ok-judgement.judgement) over
