@@ -1,5 +1,5 @@
 -- The threads of a log, completed one after the other.
-use Rattle.std.proofs.Common.{◌≡◌, ℕ, zero, suc, ◌+◌, ◌<◌, ◌≤◌, inl, inr, List, [], ◌∷◌, ◌++◌, length, get_or, Some, refl, sym, ap, subst, ◌∙◌, arith}
+use Rattle.std.proofs.Common.{◌≡◌, ℕ, zero, suc, ◌<◌, ◌≤◌, inl, inr, List, [], ◌∷◌, ◌++◌, length, get_or, Some, refl, sym, ap, subst, ◌∙◌, arith}
 use Rattle.std.specs.Prelude.{◌⊎◌, slice_get}
 use Rattle.std.proofs.lemmas.Option.{none-some, same_Some, slice_get-get_or, slice_get_within}
 use Rattle.wm_ast.specs.declared.module.Module.{Module}
@@ -9,7 +9,7 @@ use Rattle.wm_replay.specs.declared.answer.ReplayAnswer.{ReplayAnswer}
 use Rattle.wm_replay.specs.declared.answer.ReplayAnswer.TheVariants.{Same, StartRefused, Differs}
 use Rattle.wm_replay.specs.Answers.{IsOther}
 use Rattle.wm_replay.specs.Complete.{IsCompletion, IsFirstWithoutRun, IsLongestRun, IsWithoutRun, MakesEvents, ending}
-use Rattle.wm_replay.specs.Replay.{AreRuns, IsRun}
+use Rattle.wm_replay.specs.Replay.{IsRun}
 
 -- the item at a place of a list with one more
 get_more : {X : Type 0} (xs : List X) (x y : X) (k : ℕ) → slice_get (xs ++ x ∷ []) k ≡ Some y → (slice_get xs k ≡ Some y) ⊎ ((k ≡ length xs) × (x ≡ y))
