@@ -1,15 +1,15 @@
 //! A function that was called, and how far a step within it comes.
 
 use crate::levels::Levels;
+use crate::locals::Locals;
 use crate::value::TypedValue;
 use wm_event::{Op, TrapKind};
-use wm_list::List;
 
 /// A function that was called, as far as it has come.
 #[derive(Drop)]
-pub struct Activation {
+pub struct Activation<'m> {
     pub func: usize,
-    pub locals: List<TypedValue>,
+    pub locals: Locals<'m>,
     pub levels: Levels,
 }
 

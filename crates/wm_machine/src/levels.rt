@@ -83,6 +83,27 @@ impl Levels {
         }
     }
 
+    /// The topmost operands of the innermost block, the deepest first.
+    pub fn top(&self, count: usize) -> &[TypedValue]
+        requires { count ≤ length self.now.operands }
+        ensures { result.now ≡ reverse (take count self.now.operands) }
+    {
+        &self.values[self.values.len() - count..]
+    }
+
+    /// Goes back to the begin of the body of a function.
+    pub fn restart(&mut self)
+        ensures { self.new ≡ record { operands = []; block = 0; at = 0; outer = [] } }
+    {
+        self.values.clear();
+        self.outer.clear();
+        self.inner = Level {
+            block: 0,
+            at: 0,
+            base: 0,
+        };
+    }
+
     /// Goes on to an instruction of the innermost block.
     pub fn set_at(&mut self, at: usize)
         ensures { self.new ≡ record self.old { at = at } }

@@ -77,8 +77,10 @@ pub struct CodePosition {
 pub struct Thread<'m> {
     module: &'m Module,
     end: Option<End>,
-    running: Activation,
-    callers: Vec<Activation>,
+    running: Activation<'m>,
+    callers: Vec<Activation<'m>>,
+    /// Calls that were left, whose memory those to come take over.
+    spare: Vec<Activation<'m>>,
     globals: List<TypedValue>,
     alloc: Global,
 }
@@ -126,6 +128,7 @@ impl<'m> Thread<'m> {
                 levels: Levels::new(alloc, 0),
             },
             callers: Vec::new(alloc),
+            spare: Vec::new(alloc),
             globals,
             alloc,
         })
@@ -205,7 +208,12 @@ impl<'m> Thread<'m> {
                 self.end = Some(End::Trap(kind));
                 Ok(Gone::Made)
             }
-            Reached::Left(value) => match leave(&mut self.running, &mut self.callers, value) {
+            Reached::Left(value) => match leave(
+                &mut self.running,
+                &mut self.callers,
+                &mut self.spare,
+                value,
+            ) {
                 Err(_) => Err(AdvanceFault::OutOfMemory),
                 Ok(ReturnTo::Caller) => Ok(Gone::Made),
                 Ok(ReturnTo::Outside) => {
@@ -219,6 +227,7 @@ impl<'m> Thread<'m> {
                     self.alloc,
                     &mut self.running,
                     &mut self.callers,
+                    &mut self.spare,
                     callee as usize,
                 ) {
                     Err(StepFault::Stuck) => unreachable!(),

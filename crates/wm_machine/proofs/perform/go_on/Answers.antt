@@ -23,7 +23,7 @@ returns-in-Some-clause-goes c = λ depth.
     let a = c.args.running.now in
     let g = c.args.globals.now in
     let h : todo c.args.module.now a.func a.levels.block a.levels.at ≡ c.in-Some.instr.now ∷ todo c.args.module.now a.func a.levels.block (a.levels.at + 1) = rw (c.block.ensures, c.at-at.ensures) at c.in-Some.ensures.some in
-    let e = acts c.args.module.now (value_or_zero c.args.given) depth a.func (vars_of a g) a.levels c.in-Some.instr.now c.decide-action.result h (λ d r f rest. rw (c.as_slice.ensures, c.as_slice-in-Some.ensures) at (c.decide-action.ensures.means d r f rest)) in
+    let e = acts c.args.module.now (value_or_zero c.args.given) depth a.func (vars_of a g) a.levels c.in-Some.instr.now c.decide-action.result h (λ d r f rest. rw c.as_slice.ensures at (c.decide-action.ensures.means d r f rest)) in
     subst (λ (r : Reduced). Goes c.args.module.now depth r a g c.perform.new.running c.perform.new.globals c.perform.result) (sym e) (c.perform.ensures.performs depth c.in-Some.instr.now h)
 
 pub returns-else-depth-eq0-clause-asks : goal.returns-else-depth-eq0-clause-asks
@@ -40,6 +40,6 @@ returns-in-Some-clause-asks c = λ depth read.
     let i = c.in-Some.instr.now in
     let rest = todo m a.func a.levels.block (a.levels.at + 1) in
     let h : todo m a.func a.levels.block a.levels.at ≡ i ∷ rest = rw (c.block.ensures, c.at-at.ensures) at c.in-Some.ensures.some in
-    let e = rw (c.as_slice.ensures, c.as_slice-in-Some.ensures) at (c.decide-action.ensures.means depth read a.func rest) in
+    let e = rw c.as_slice.ensures at (c.decide-action.ensures.means depth read a.func rest) in
     let k : made_of (call_step m read depth a g) ≡ op_of c.decide-action.result = made_first m read depth a g i rest h ∙ ap made_of e ∙ made_does m depth read a.func (vars_of a g) a.levels.operands (i ∷ rest) c.decide-action.result in
     c.perform.ensures.asks ∙ sym (ap (unanswered c.args.given) k)
