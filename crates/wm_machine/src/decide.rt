@@ -139,6 +139,7 @@ fn set_global(levels: &Levels, globals: &[TypedValue], index: u32) -> Action
 }
 
 /// What an instruction does with these operands, locals and globals.
+#[inline(always)]
 pub fn decide(
     module: &Module,
     instr: &Instr,
