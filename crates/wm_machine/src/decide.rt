@@ -38,6 +38,7 @@ fn entered(levels: &Levels, ty: BlockType, first: usize, second: usize, other: E
 }
 
 /// `br_if`: branches where the topmost operand isn't 0.
+#[inline(always)]
 fn branch_if(levels: &Levels, label: u32) -> Action
     ensures means { (m : Module) (vars : Vars) → Acts m (Instr.BrIf label) vars levels.now.operands result }
     ensures room { popped_by result ≤ length levels.now.operands }
@@ -100,6 +101,7 @@ fn selected(levels: &Levels) -> Action
 }
 
 /// `local.get` and `global.get` of this variable, where it is there.
+#[inline(always)]
 fn got(variable: Option<TypedValue>) -> Action
     ensures local { (m : Module) (index : ℕ) (locals globals operands : List TypedValue) → variable ≡ slice_get locals index → Acts m (Instr.LocalGet index) record { locals = locals; globals = globals } operands result }
     ensures global { (m : Module) (index : ℕ) (locals globals operands : List TypedValue) → variable ≡ slice_get globals index → Acts m (Instr.GlobalGet index) record { locals = locals; globals = globals } operands result }
@@ -113,6 +115,7 @@ fn got(variable: Option<TypedValue>) -> Action
 }
 
 /// `local.set` and `local.tee`, which takes no operand.
+#[inline(always)]
 fn set_local(levels: &Levels, locals: &Locals, index: u32, popped: usize) -> Action
     requires { popped ≤ 1 }
     ensures set { popped ≡ 1 → (m : Module) (globals : List TypedValue) → Acts m (Instr.LocalSet index) record { locals = locals.now; globals = globals } levels.now.operands result }

@@ -52,6 +52,7 @@ impl Levels {
     }
 
     /// The block that is innermost.
+    #[inline(always)]
     pub fn block(&self) -> usize
         ensures { result ≡ self.now.block }
     {
@@ -59,6 +60,7 @@ impl Levels {
     }
 
     /// The place of the next instruction in it.
+    #[inline(always)]
     pub fn at(&self) -> usize
         ensures { result ≡ self.now.at }
     {
@@ -66,6 +68,7 @@ impl Levels {
     }
 
     /// How many operands the innermost block has.
+    #[inline(always)]
     pub fn count(&self) -> usize
         ensures { result ≡ length self.now.operands }
     {
@@ -73,6 +76,7 @@ impl Levels {
     }
 
     /// An operand of the innermost block, from the top.
+    #[inline(always)]
     pub fn operand(&self, depth: usize) -> Option<TypedValue>
         ensures { result ≡ slice_get self.now.operands depth }
     {
@@ -105,6 +109,7 @@ impl Levels {
     }
 
     /// Goes on to an instruction of the innermost block.
+    #[inline(always)]
     pub fn set_at(&mut self, at: usize)
         ensures { self.new ≡ record self.old { at = at } }
     {
@@ -112,6 +117,7 @@ impl Levels {
     }
 
     /// Takes the topmost operands off.
+    #[inline(always)]
     pub fn pop(&mut self, popped: usize)
         requires { popped ≤ length self.old.operands }
         ensures { self.new ≡ record self.old { operands = drop popped self.old.operands } }
@@ -121,6 +127,7 @@ impl Levels {
     }
 
     /// Puts a value in the place of the topmost operands. An `Err` changes nothing.
+    #[inline(always)]
     pub fn replace(&mut self, popped: usize, value: TypedValue) -> Result<(), AllocError>
         requires { popped ≤ length self.old.operands }
         ensures ok { OnOk result (self.new ≡ record self.old { operands = value ∷ drop popped self.old.operands }) }

@@ -48,6 +48,7 @@ impl<'m> Locals<'m> {
     }
 
     /// How many there are.
+    #[inline(always)]
     pub fn len(&self) -> usize
         ensures { result ≡ length self.now }
     {
@@ -55,6 +56,7 @@ impl<'m> Locals<'m> {
     }
 
     /// The local of this index.
+    #[inline(always)]
     pub fn get(&self, index: usize) -> Option<TypedValue>
         ensures { result ≡ slice_get self.now index }
     {
