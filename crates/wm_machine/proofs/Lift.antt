@@ -11,7 +11,7 @@ use Rattle.wm_machine.specs.declared.value.TypedValue.{TypedValue}
 use Rattle.wm_machine.specs.declared.action.Action.{Action}
 use Rattle.wm_machine.specs.declared.activation.Activation.{Activation}
 use Rattle.wm_machine.specs.declared.activation.Reached.{Reached}
-use Rattle.wm_machine.specs.declared.activation.Reached.TheVariants.{Within, Trapped, Left, Calling}
+use Rattle.wm_machine.specs.declared.activation.Reached.TheVariants.{Within, Trapped, Left, Calling, Asking}
 use Rattle.wm_machine.specs.declared.fault.StepFault.{StepFault}
 use Rattle.wm_machine.specs.declared.fault.StepFault.TheVariants.{Stuck as StuckFault, OutOfMemory}
 use Rattle.wm_machine.specs.Functions.{todo, from_place}
@@ -153,6 +153,7 @@ gives_back_goes m depth r old globals values (Ok (Left v)) e g = (e ∙ ap back 
 gives_back_goes m depth r old globals values (Ok Within) e g = absurd g
 gives_back_goes m depth r old globals values (Ok (Trapped kind)) e g = absurd g
 gives_back_goes m depth r old globals values (Ok (Calling f)) e g = absurd g
+gives_back_goes m depth r old globals values (Ok (Asking op)) e g = absurd g
 gives_back_goes m depth r old globals values (Err StuckFault) e g = (e ∙ ap back g, (refl, refl))
 gives_back_goes m depth r old globals values (Err OutOfMemory) e g = absurd g
 

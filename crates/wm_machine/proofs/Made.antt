@@ -1,10 +1,11 @@
 -- The access that a step makes, seen from outside.
-use Rattle.std.proofs.Common.{◌≡◌, ℕ, zero, suc, List, [], ◌∷◌, length, Option, Some, None, refl, ap, ◌∙◌, Bool, true, false}
+use Rattle.std.proofs.Common.{◌≡◌, ℕ, zero, suc, List, [], ◌∷◌, length, Option, Some, None, refl, sym, ap, ◌∙◌, Bool, true, false}
 use Rattle.std.specs.Prelude.{if◌then◌else◌, nat_lt}
 use Rattle.wm_ast.specs.declared.module.Module.{Module}
 use Rattle.wm_ast.specs.declared.instr.Instr.{Instr}
 use Rattle.wm_ast.specs.declared.instr.Instr.TheVariants.{Block, Loop, If}
 use Rattle.wm_ast.specs.Module.{block_in}
+use Rattle.wm_event.specs.declared.op.OpFields.{OpFields as Op}
 use Rattle.wm_machine.specs.declared.value.TypedValue.{TypedValue}
 use Rattle.wm_machine.specs.declared.activation.Activation.{Activation}
 use Rattle.wm_machine.specs.declared.action.Action.{Action}
@@ -15,7 +16,7 @@ use Rattle.wm_machine.specs.Step.{reduce, act, step, access_of, out_of_label, ou
 use Rattle.wm_machine.specs.Nest.{Position}
 use Rattle.wm_machine.specs.Action.{does, op_of}
 use Rattle.wm_machine.specs.Configuration.{left_of}
-use Rattle.wm_machine.specs.Inside.{out_of_labels, call_step, vars_of, made_of}
+use Rattle.wm_machine.specs.Inside.{out_of_labels, call_step, vars_of, made_of, unanswered}
 use Rattle.wm_machine.proofs.Lift.{labels_lift}
 use Rattle.wm_machine.proofs.Calls.{out_of_calls, calls_lift, running_in}
 
@@ -38,7 +39,7 @@ made_label vars operands instrs (Returns v) = refl
 made_label vars operands instrs (Traps k) = refl
 made_label vars operands instrs Stuck = refl
 
-made_labels : (m : Module) (func : ℕ) (vars : Vars) (ps : List Position) (r : Reduced) → made_of (out_of_labels m func vars ps r) ≡ made_of r
+pub made_labels : (m : Module) (func : ℕ) (vars : Vars) (ps : List Position) (r : Reduced) → made_of (out_of_labels m func vars ps r) ≡ made_of r
 made_labels m func vars [] r = refl
 made_labels m func vars (p ∷ ps) r = made_labels m func vars ps (out_of_label vars p.operands (todo m func p.block p.at) r) ∙ made_label vars p.operands (todo m func p.block p.at) r
 
@@ -98,9 +99,17 @@ made_does m depth read func vars operands instrs (action.Branch l n) = refl
 made_does m depth read func vars operands instrs action.Return = refl
 made_does m depth read func vars operands instrs (action.Call f) = made_invoke (callable m f) depth f vars operands _
 
+pub unanswered_none : (given : Option ℕ) → unanswered given None ≡ None
+unanswered_none None = refl
+unanswered_none (Some value) = refl
+
 -- a thread's step makes the access of its innermost call
 pub made_step : (m : Module) (read : ℕ) (globals : List TypedValue) (cs : List Activation) (a : Activation) → access_of (step m read (running_in m globals cs a)) ≡ made_of (call_step m read (suc (length cs)) a globals)
 made_step m read globals cs a = ap access_of (calls_lift m read cs a.func (vars_of a globals) (left_of m a.func a.levels)) ∙ made_calls m globals cs a.func (call_step m read (suc (length cs)) a globals)
+
+-- what a thread's step waits for is what its innermost call waits for
+pub waits_as : (m : Module) (read : ℕ) (globals : List TypedValue) (cs : List Activation) (a : Activation) (given : Option ℕ) (asked : Option Op) → asked ≡ unanswered given (made_of (call_step m read (suc (length cs)) a globals)) → asked ≡ unanswered given (access_of (step m read (running_in m globals cs a)))
+waits_as m read globals cs a given asked h = h ∙ ap (unanswered given) (sym (made_step m read globals cs a))
 
 pub made_at_end : (m : Module) (read depth : ℕ) (a : Activation) (globals : List TypedValue) → todo m a.func a.levels.block a.levels.at ≡ [] → made_of (call_step m read depth a globals) ≡ None
 made_at_end m read depth a globals h =

@@ -30,7 +30,8 @@ use Rattle.wm_machine.specs.Step.{carried_by, returned, ended, out_of_thread, st
 use Rattle.wm_machine.specs.Start.{any_past, arguments, started_with, started_in}
 use Rattle.wm_machine.specs.Configuration.{under, waiting}
 use Rattle.wm_event.specs.declared.op.Reply.{Reply}
-use Rattle.wm_machine.specs.State.{State, Sound, Answers, need_of, config_of, config_from}
+use Rattle.wm_machine.specs.State.{State, Sound, Answers, need_in, need_of, config_of, config_from}
+use Rattle.wm_machine.specs.declared.thread.Need.TheVariants.{Local}
 use Rattle.wm_machine.proofs.Going.{going}
 use Rattle.wm_machine.proofs.Calls.{running_in}
 use Rattle.wm_machine.specs.Fits.{val_type, types_of, global_type, IsFunc, here, Carries, Fine, FitsConfig}
@@ -154,6 +155,15 @@ module _ (m : Module) (read : ℕ) (a : Activation) (cs : List Activation) (glob
       let g = goes_on (state m None a cs globals) sound refl read in
       record { valid = sound.valid; fits = subst (FitsConfig m) (some_is g.0 (running_in m globals' cs' a') (sym g.1 ∙ e)) g.2 }
   sound_after (Some end) a' cs' globals' h sound e = absurd cc
+
+goes_none : (o : Option End) (s : State) (read : ℕ) → need_in o read s ≡ Local → o ≡ None
+goes_none None s read h = refl
+goes_none (Some end) s read h = cc
+
+pub steps_on : (s old : State) → Sound s → s ≡ old → (read : ℕ) → need_of read old ≡ Local → (c : Config) × (went (step old.module read (config_of old)) ≡ Some c)
+steps_on s old sound e read needs =
+    let g = goes_on old (subst Sound e sound) (goes_none old.ended old read needs) read in
+    (g.0, g.1)
 
 pub advances : (s old : State) (reply : Option Reply) → Sound s → s ≡ old → Answers (need_of 0 old) reply → (read : ℕ) → (c : Config) × (went (step old.module read (config_of old)) ≡ Some c)
 advances s old reply sound e answers read =

@@ -1,6 +1,6 @@
 -- Stacks in a list, seen from the top.
 use Rattle.std.proofs.Common.{◌≡◌, ℕ, ◌+◌, ◌≤◌, ◌<◌, ◌-◌, List, [], ◌∷◌, ◌++◌, length, take, drop, set, reverse, sym, ap, ◌∙◌, arith, length-drop}
-use Rattle.std.proofs.lemmas.List.{reverse-append, take-append-drop, length-reverse, drop-take, drop-append-le, take_more_set, length-take-le}
+use Rattle.std.proofs.lemmas.List.{reverse-append, reverse-reverse, drop-drop, take_all, take-append-drop, length-reverse, drop-take, drop-append-le, take_more_set, length-take-le}
 use Rattle.std.proofs.Math.Seq.{drop-append_seam}
 
 module _ {A : Type 0} where
@@ -28,6 +28,18 @@ module _ {A : Type 0} where
       ∙ ap reverse (drop-append-le b (take n xs) (v ∷ []) len)
       ∙ reverse-append (drop b (take n xs)) (v ∷ [])
       ∙ ap (λ (s : List A). v ∷ s) (reverse_cut xs b n p le h)
+
+  -- the topmost ones, the deepest first
+  pub top_of : (xs : List A) (b len count : ℕ) → len ≡ length xs → b ≤ length xs → count ≤ length (reverse (drop b xs)) → take (length xs - (len - count)) (drop (len - count) xs) ≡ reverse (take count (reverse (drop b xs)))
+  top_of xs b len count e le room =
+      let r : count ≤ length xs - b = omega (arith, room, length-reverse (drop b xs), length-drop b xs) in
+      let p = length xs - b - count in
+      let ds = reverse (drop b xs) in
+      let l : length (drop (len - count) xs) ≡ length xs - (len - count) = length-drop (len - count) xs in
+      let h : count + p ≡ length ds = omega (arith, length-reverse (drop b xs), length-drop b xs) in
+      let k : b + p ≡ len - count = omega arith in
+      take_all (length xs - (len - count)) (drop (len - count) xs) (omega (arith, l))
+      ∙ sym (reverse_take ds count p h ∙ ap (drop p) (reverse-reverse (drop b xs)) ∙ drop-drop p b xs ∙ ap (λ (n : ℕ). drop n xs) k)
 
   -- two parts of a list, from the top
   pub reverse_parts : (xs : List A) (b n : ℕ) → b ≤ n → n ≤ length xs → reverse (drop n xs) ++ reverse (drop b (take n xs)) ≡ reverse (drop b xs)

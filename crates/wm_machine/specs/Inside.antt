@@ -7,8 +7,10 @@ use Rattle.wm_machine.specs.declared.value.TypedValue.{TypedValue}
 use Rattle.wm_machine.specs.declared.activation.Activation.{Activation}
 use Rattle.wm_machine.specs.declared.activation.Invocation.{Invocation}
 use Rattle.wm_machine.specs.declared.activation.Invocation.TheVariants.{Entered, TooDeep}
+use Rattle.wm_machine.specs.declared.activation.Gone.{Gone}
+use Rattle.wm_machine.specs.declared.activation.Gone.TheVariants.{Made, Asks}
 use Rattle.wm_machine.specs.declared.activation.Reached.{Reached}
-use Rattle.wm_machine.specs.declared.activation.Reached.TheVariants.{Within, Trapped, Left, Calling}
+use Rattle.wm_machine.specs.declared.activation.Reached.TheVariants.{Within, Trapped, Left, Calling, Asking}
 use Rattle.wm_machine.specs.declared.fault.StepFault.{StepFault}
 use Rattle.wm_machine.specs.declared.fault.StepFault.TheVariants.{Stuck as StuckFault, OutOfMemory}
 use Rattle.wm_machine.specs.Functions.{Callable, callable, todo}
@@ -47,6 +49,15 @@ out_of_labels m func vars [] r = r
 out_of_labels m func vars (p ∷ ps) r =
     out_of_labels m func vars ps (out_of_label vars p.operands (todo m func p.block p.at) r)
 
+-- the access of a step within a call
+abbrev pub made_of : Reduced → Option OpFields
+made_of (Next made vars t) = made
+made_of (Ends values) = None
+made_of (Leaves l values) = None
+made_of (Returns values) = None
+made_of (Traps kind) = None
+made_of Stuck = None
+
 -- a call and the globals are what they were
 abbrev pub Same : Activation → List TypedValue → Activation → List TypedValue → Type 0
 Same old globals new globals' = (new ≡ old) × (globals' ≡ globals)
@@ -62,6 +73,7 @@ Reaches m depth r old globals new globals' (Calling callee) =
     (r ≡ out_of_labels m old.func (vars_of old globals) old.levels.outer
     (invoke (callable m callee) depth callee (vars_of old globals) old.levels.operands (todo m old.func old.levels.block (old.levels.at + 1))))
     × Same old globals new globals' × (old.levels.at + 1 < 2 ^ 64)
+Reaches m depth r old globals new globals' (Asking op) = (made_of r ≡ Some op) × Same old globals new globals'
 
 abbrev pub Refuses : Module → Reduced → Activation → List TypedValue → Activation → List TypedValue → StepFault → Type 0
 Refuses m r old globals new globals' StuckFault = (seen m old.func r ≡ Stuck) × Same old globals new globals'
@@ -70,6 +82,24 @@ Refuses m r old globals new globals' OutOfMemory = Same old globals new globals'
 abbrev pub Goes : Module → ℕ → Reduced → Activation → List TypedValue → Activation → List TypedValue → Result Reached StepFault → Type 0
 Goes m depth r old globals new globals' (Ok reached) = Reaches m depth r old globals new globals' reached
 Goes m depth r old globals new globals' (Err fault) = Refuses m r old globals new globals' fault
+
+-- the access that a step waits for
+abbrev pub asking : Result Reached StepFault → Option OpFields
+asking (Ok (Asking op)) = Some op
+asking (Ok Within) = None
+asking (Ok (Trapped kind)) = None
+asking (Ok (Left value)) = None
+asking (Ok (Calling callee)) = None
+asking (Err fault) = None
+
+abbrev pub asked_for : Gone → Option OpFields
+asked_for Made = None
+asked_for (Asks op) = Some op
+
+-- an access waits where the value that it reads isn't given
+abbrev pub unanswered : Option ℕ → Option OpFields → Option OpFields
+unanswered None op = op
+unanswered (Some value) op = None
 
 -- one step of a call's term
 abbrev pub call_step : Module → ℕ → ℕ → Activation → List TypedValue → Reduced
@@ -80,6 +110,7 @@ GivesBack values (Ok (Left value)) = values ≡ Some (as_list value)
 GivesBack values (Ok Within) = ⊥
 GivesBack values (Ok (Trapped kind)) = ⊥
 GivesBack values (Ok (Calling callee)) = ⊥
+GivesBack values (Ok (Asking op)) = ⊥
 GivesBack values (Err StuckFault) = values ≡ None
 GivesBack values (Err OutOfMemory) = ⊥
 
@@ -105,12 +136,3 @@ Called m callee r old globals callers new callers' (Ok Entered) =
 Called m callee r old globals callers new callers' (Ok TooDeep) = (r ≡ Traps Exhausted) × (new ≡ old) × (callers' ≡ callers)
 Called m callee r old globals callers new callers' (Err StuckFault) = (r ≡ Stuck) × (new ≡ old) × (callers' ≡ callers)
 Called m callee r old globals callers new callers' (Err OutOfMemory) = (new ≡ old) × (callers' ≡ callers)
-
--- the access of a step within a call
-abbrev pub made_of : Reduced → Option OpFields
-made_of (Next made vars t) = made
-made_of (Ends values) = None
-made_of (Leaves l values) = None
-made_of (Returns values) = None
-made_of (Traps kind) = None
-made_of Stuck = None

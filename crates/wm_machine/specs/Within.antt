@@ -14,6 +14,10 @@ use Rattle.wm_machine.specs.Inside.{Called, Goes, out_of_labels, vars_of}
 use Rattle.wm_machine.specs.Step.{invoke}
 use Rattle.wm_machine.specs.Term.{Leaves}
 
+-- the instruction is the one where the call stands
+abbrev pub StandsAt : Module → Activation → Instr → Type 0
+StandsAt m a i = todo m a.func a.levels.block a.levels.at ≡ i ∷ todo m a.func a.levels.block (a.levels.at + 1)
+
 -- the action of the instruction where the call stands, in each of the labels round it
 abbrev pub Performs : Module → ℕ → Action → Activation → List TypedValue → Activation → List TypedValue → Result Reached StepFault → Type 0
 Performs m read action old globals new globals' result =

@@ -1,15 +1,15 @@
 //! A function that was called, and how far a step within it comes.
 
 use crate::levels::Levels;
+use crate::locals::Locals;
 use crate::value::TypedValue;
-use wm_event::TrapKind;
-use wm_list::List;
+use wm_event::{Op, TrapKind};
 
 /// A function that was called, as far as it has come.
 #[derive(Drop)]
-pub struct Activation {
+pub struct Activation<'m> {
     pub func: usize,
-    pub locals: List<TypedValue>,
+    pub locals: Locals<'m>,
     pub levels: Levels,
 }
 
@@ -29,6 +29,14 @@ pub enum Invocation {
     TooDeep,
 }
 
+/// What became of a step that may have been given the value that its access reads.
+#[derive(Clone, Copy)]
+pub enum Gone {
+    Made,
+    /// It wasn't made: this access needs its value.
+    Asks(Op),
+}
+
 /// How far a step within a call has come.
 #[derive(Clone, Copy)]
 pub enum Reached {
@@ -39,4 +47,6 @@ pub enum Reached {
     Left(Option<TypedValue>),
     /// It stands before a call of this function.
     Calling(u32),
+    /// It stands before this access, whose value it wasn't given.
+    Asking(Op),
 }

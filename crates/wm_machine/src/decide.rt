@@ -1,5 +1,5 @@
 //! What an instruction does, decided from its operands before anything changes (Core 1.0, section 4.4).
-ghost use Rattle.std.specs.Prelude.{◌≡◌, ◌≤◌, List, length};
+ghost use Rattle.std.specs.Prelude.{◌≡◌, ◌≤◌, ℕ, List, length, slice_get};
 ghost use Rattle.wm_ast.specs.declared.module.Module.{Module};
 ghost use Rattle.wm_ast.specs.declared.instr.Instr.{Instr};
 ghost use Rattle.wm_ast.specs.Module.{pages_of};
@@ -9,6 +9,7 @@ ghost use Rattle.wm_machine.specs.Action.{Acts, popped_by, SetsWithin, SetsNothi
 
 use crate::action::Action;
 use crate::levels::Levels;
+use crate::locals::Locals;
 use crate::memory::access;
 use crate::numeric::{calculated, comparison, converted, counted, eqz, number};
 use crate::value::TypedValue;
@@ -37,6 +38,7 @@ fn entered(levels: &Levels, ty: BlockType, first: usize, second: usize, other: E
 }
 
 /// `br_if`: branches where the topmost operand isn't 0.
+#[inline(always)]
 fn branch_if(levels: &Levels, label: u32) -> Action
     ensures means { (m : Module) (vars : Vars) → Acts m (Instr.BrIf label) vars levels.now.operands result }
     ensures room { popped_by result ≤ length levels.now.operands }
@@ -98,21 +100,23 @@ fn selected(levels: &Levels) -> Action
     }
 }
 
-/// `local.get` and `global.get`: the variable of this index.
-fn got(variables: &[TypedValue], index: u32) -> Action
-    ensures local { (m : Module) (globals : List TypedValue) (operands : List TypedValue) → Acts m (Instr.LocalGet index) record { locals = variables.now; globals = globals } operands result }
-    ensures global { (m : Module) (locals : List TypedValue) (operands : List TypedValue) → Acts m (Instr.GlobalGet index) record { locals = locals; globals = variables.now } operands result }
+/// `local.get` and `global.get` of this variable, where it is there.
+#[inline(always)]
+fn got(variable: Option<TypedValue>) -> Action
+    ensures local { (m : Module) (index : ℕ) (locals globals operands : List TypedValue) → variable ≡ slice_get locals index → Acts m (Instr.LocalGet index) record { locals = locals; globals = globals } operands result }
+    ensures global { (m : Module) (index : ℕ) (locals globals operands : List TypedValue) → variable ≡ slice_get globals index → Acts m (Instr.GlobalGet index) record { locals = locals; globals = globals } operands result }
     ensures room { popped_by result ≡ 0 }
     ensures sets { SetsNothing result }
 {
-    match variables.get(index as usize) {
-        Some(value) => Action::Replace(0, Some(*value)),
+    match variable {
+        Some(value) => Action::Replace(0, Some(value)),
         None => Action::Stuck,
     }
 }
 
 /// `local.set` and `local.tee`, which takes no operand.
-fn set_local(levels: &Levels, locals: &[TypedValue], index: u32, popped: usize) -> Action
+#[inline(always)]
+fn set_local(levels: &Levels, locals: &Locals, index: u32, popped: usize) -> Action
     requires { popped ≤ 1 }
     ensures set { popped ≡ 1 → (m : Module) (globals : List TypedValue) → Acts m (Instr.LocalSet index) record { locals = locals.now; globals = globals } levels.now.operands result }
     ensures tee { popped ≡ 0 → (m : Module) (globals : List TypedValue) → Acts m (Instr.LocalTee index) record { locals = locals.now; globals = globals } levels.now.operands result }
@@ -138,11 +142,12 @@ fn set_global(levels: &Levels, globals: &[TypedValue], index: u32) -> Action
 }
 
 /// What an instruction does with these operands, locals and globals.
+#[inline(always)]
 pub fn decide(
     module: &Module,
     instr: &Instr,
     levels: &Levels,
-    locals: &[TypedValue],
+    locals: &Locals,
     globals: &[TypedValue],
 ) -> Action
     requires { pages_of «module».now.memory ≤ 65536 }
@@ -173,10 +178,10 @@ pub fn decide(
         Instr::Call(func) => Action::Call(*func),
         Instr::Drop => dropped(levels),
         Instr::Select => selected(levels),
-        Instr::LocalGet(index) => got(locals, *index),
+        Instr::LocalGet(index) => got(locals.get(*index as usize)),
         Instr::LocalSet(index) => set_local(levels, locals, *index, 1),
         Instr::LocalTee(index) => set_local(levels, locals, *index, 0),
-        Instr::GlobalGet(index) => got(globals, *index),
+        Instr::GlobalGet(index) => got(globals.get(*index as usize).copied()),
         Instr::GlobalSet(index) => set_global(levels, globals, *index),
         Instr::Access(kind, operands) => access(module, levels, *kind, *operands),
         Instr::MemorySize => Action::Replace(0, Some(TypedValue::I32(module.pages()))),

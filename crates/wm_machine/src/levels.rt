@@ -52,6 +52,7 @@ impl Levels {
     }
 
     /// The block that is innermost.
+    #[inline(always)]
     pub fn block(&self) -> usize
         ensures { result ≡ self.now.block }
     {
@@ -59,6 +60,7 @@ impl Levels {
     }
 
     /// The place of the next instruction in it.
+    #[inline(always)]
     pub fn at(&self) -> usize
         ensures { result ≡ self.now.at }
     {
@@ -66,6 +68,7 @@ impl Levels {
     }
 
     /// How many operands the innermost block has.
+    #[inline(always)]
     pub fn count(&self) -> usize
         ensures { result ≡ length self.now.operands }
     {
@@ -73,6 +76,7 @@ impl Levels {
     }
 
     /// An operand of the innermost block, from the top.
+    #[inline(always)]
     pub fn operand(&self, depth: usize) -> Option<TypedValue>
         ensures { result ≡ slice_get self.now.operands depth }
     {
@@ -83,7 +87,29 @@ impl Levels {
         }
     }
 
+    /// The topmost operands of the innermost block, the deepest first.
+    pub fn top(&self, count: usize) -> &[TypedValue]
+        requires { count ≤ length self.now.operands }
+        ensures { result.now ≡ reverse (take count self.now.operands) }
+    {
+        &self.values[self.values.len() - count..]
+    }
+
+    /// Goes back to the begin of the body of a function.
+    pub fn restart(&mut self)
+        ensures { self.new ≡ record { operands = []; block = 0; at = 0; outer = [] } }
+    {
+        self.values.clear();
+        self.outer.clear();
+        self.inner = Level {
+            block: 0,
+            at: 0,
+            base: 0,
+        };
+    }
+
     /// Goes on to an instruction of the innermost block.
+    #[inline(always)]
     pub fn set_at(&mut self, at: usize)
         ensures { self.new ≡ record self.old { at = at } }
     {
@@ -91,6 +117,7 @@ impl Levels {
     }
 
     /// Takes the topmost operands off.
+    #[inline(always)]
     pub fn pop(&mut self, popped: usize)
         requires { popped ≤ length self.old.operands }
         ensures { self.new ≡ record self.old { operands = drop popped self.old.operands } }
@@ -100,6 +127,7 @@ impl Levels {
     }
 
     /// Puts a value in the place of the topmost operands. An `Err` changes nothing.
+    #[inline(always)]
     pub fn replace(&mut self, popped: usize, value: TypedValue) -> Result<(), AllocError>
         requires { popped ≤ length self.old.operands }
         ensures ok { OnOk result (self.new ≡ record self.old { operands = value ∷ drop popped self.old.operands }) }

@@ -20,6 +20,7 @@ use wm_num::{
 };
 
 /// The operand at `depth`, counted from the top, where it is a number of so many bits.
+#[inline(always)]
 pub fn number(levels: &Levels, depth: usize, width: Width) -> Option<u64>
     ensures value { result ≡ number_at width levels.now.operands depth }
     ensures operand { IfSome result (IsOperand width) }
@@ -42,6 +43,7 @@ fn trap_of(trap: NumTrap) -> TrapKind
 }
 
 /// What a test leaves on the operands.
+#[inline(always)]
 fn truth(holds: bool) -> TypedValue
     ensures { result ≡ TypedValue.I32 (truth holds) }
 {
@@ -49,6 +51,7 @@ fn truth(holds: bool) -> TypedValue
 }
 
 /// `eqz`: whether the operand is 0.
+#[inline(always)]
 pub fn eqz(levels: &Levels, width: Width) -> Action
     ensures means { (m : Module) (vars : Vars) → Acts m (Instr.Eqz width) vars levels.now.operands result }
     ensures room { popped_by result ≤ length levels.now.operands }
@@ -64,6 +67,7 @@ pub fn eqz(levels: &Levels, width: Width) -> Action
 }
 
 /// A comparison of the two topmost operands, of which the right one is on top.
+#[inline(always)]
 pub fn comparison(levels: &Levels, op: Comparison, width: Width) -> Action
     ensures means { (m : Module) (vars : Vars) → Acts m (Instr.Compare op width) vars levels.now.operands result }
     ensures room { popped_by result ≤ length levels.now.operands }
@@ -91,6 +95,7 @@ pub fn counted(levels: &Levels, op: UnaryOperator, width: Width) -> Action
 }
 
 /// An operator on the two topmost operands, of which the right one is on top.
+#[inline(always)]
 pub fn calculated(levels: &Levels, op: BinaryOperator, width: Width) -> Action
     ensures means { (m : Module) (vars : Vars) → Acts m (Instr.Binary op width) vars levels.now.operands result }
     ensures room { popped_by result ≤ length levels.now.operands }

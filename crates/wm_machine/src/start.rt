@@ -5,6 +5,7 @@ ghost use Rattle.wm_ast.specs.Types.{width_of};
 ghost use Rattle.wm_machine.specs.Values.{zero_of, initial_of};
 ghost use Rattle.wm_machine.specs.Start.{func_of, any_past, arguments};
 
+use crate::locals::Locals;
 use crate::value::TypedValue;
 use std::alloc::{AllocError, Global};
 use wm_ast::{Export, ExportKind, Module, ValType};
@@ -44,23 +45,22 @@ pub fn any_past(params: &[ValType], args: &[u64]) -> bool
 }
 
 /// The locals of a started function: its arguments, and then zeros.
-pub fn first_locals(
+pub fn first_locals<'m>(
     alloc: Global,
     params: &[ValType],
-    others: &[ValType],
+    others: &'m [ValType],
     args: &[u64],
-) -> Result<List<TypedValue>, AllocError>
+) -> Result<Locals<'m>, AllocError>
     requires count { length args.now ≡ length params.now }
     requires range { any_past params.now args.now ≡ false }
     ensures { IfOk result (λ v. v ≡ arguments params.now args.now ++ map zero_of others.now) }
 {
-    let mut locals = List::new(alloc);
+    let mut values = Vec::new(alloc);
     for (index, ty) in params.iter().enumerate() {
-        locals.push(TypedValue::of(ty.width(), args[index]))?;
+        values.push(TypedValue::of(ty.width(), args[index]))?;
     }
-    for ty in others {
-        locals.push(TypedValue::zero(*ty))?;
-    }
+    let mut locals = Locals::new(alloc, others);
+    locals.restart(values.as_slice(), others)?;
     Ok(locals)
 }
 

@@ -1,14 +1,16 @@
 //! A thread, step by step.
-ghost use Rattle.std.specs.Prelude.{◌≡◌, ◌⊎◌, ℕ, Some, Ok, Err, OnOk, OnErr, IfErr, IfOk};
+ghost use Rattle.std.specs.Prelude.{◌≡◌, ◌⊎◌, ℕ, Some, Ok, None, Err, OnOk, OnErr, IfErr, IfOk};
 ghost use Rattle.wm_valid.specs.Valid.{Valid};
 ghost use Rattle.wm_machine.specs.Term.{Config};
-ghost use Rattle.wm_machine.specs.State.{config_of, need_of, position_of, read_in, Answers};
-ghost use Rattle.wm_machine.specs.Step.{step, went, result_of};
+ghost use Rattle.wm_machine.specs.State.{config_of, need_of, position_of, read_in, given_by, value_or_zero, Answers};
+ghost use Rattle.wm_machine.specs.Step.{step, went, access_of, result_of};
 ghost use Rattle.wm_machine.specs.Start.{started, started_in};
 ghost use Rattle.wm_machine.specs.Functions.{callable as callable_in};
-ghost use Rattle.wm_machine.specs.Inside.{as_list};
+ghost use Rattle.wm_machine.specs.Inside.{as_list, asked_for, unanswered};
+ghost use Rattle.wm_event.specs.declared.op.OpFields.{OpFields};
+ghost use Rattle.wm_event.specs.declared.log.End.{End as EndOf};
 
-use crate::activation::{Activation, Invocation, Reached, ReturnTo};
+use crate::activation::{Activation, Gone, Invocation, Reached, ReturnTo};
 use crate::call::{call, leave};
 use crate::fault::{AdvanceFault, StartFault, StepFault};
 use crate::functions::callable;
@@ -34,6 +36,30 @@ pub enum Need {
     Ended(End),
 }
 
+/// What a step without a reply did.
+#[derive(Clone, Copy, Debug, PartialEq, Eq)]
+pub enum Stepped {
+    /// It made the step: this makes no access, or traps.
+    Local,
+    /// It made none: this access needs a reply.
+    Access(Op),
+    /// It made none: the thread has ended so.
+    Ended(End),
+}
+
+impl Gone {
+    /// What a step without a value did of a thread that hadn't ended.
+    fn stepped(self) -> Stepped
+        ensures made { self ≡ Gone.Made → result ≡ Stepped.Local }
+        ensures asks { (op : OpFields) → self ≡ Gone.Asks op → result ≡ Stepped.Access op }
+    {
+        match self {
+            Gone::Made => Stepped::Local,
+            Gone::Asks(op) => Stepped::Access(op),
+        }
+    }
+}
+
 /// Where a thread stands in its module's code.
 #[derive(Clone, Copy, Debug, PartialEq, Eq)]
 pub struct CodePosition {
@@ -51,8 +77,10 @@ pub struct CodePosition {
 pub struct Thread<'m> {
     module: &'m Module,
     end: Option<End>,
-    running: Activation,
-    callers: Vec<Activation>,
+    running: Activation<'m>,
+    callers: Vec<Activation<'m>>,
+    /// Calls that were left, whose memory those to come take over.
+    spare: Vec<Activation<'m>>,
     globals: List<TypedValue>,
     alloc: Global,
 }
@@ -100,6 +128,7 @@ impl<'m> Thread<'m> {
                 levels: Levels::new(alloc, 0),
             },
             callers: Vec::new(alloc),
+            spare: Vec::new(alloc),
             globals,
             alloc,
         })
@@ -157,6 +186,87 @@ impl<'m> Thread<'m> {
         }
     }
 
+    /// Makes a step of a thread that hasn't ended, with the value that its access reads. Where none is given, an access isn't
+    /// made, but named.
+    #[inline(always)]
+    fn go(&mut self, given: Option<u64>) -> Result<Gone, AdvanceFault>
+        requires { self.old.ended ≡ None }
+        ensures asks { IfOk result (λ gone. (read : ℕ) → asked_for gone ≡ unanswered given (access_of (step self.old.module read (config_of self.old)))) }
+        ensures made { IfOk result (λ gone. gone ≡ Gone.Made → went (step self.old.module (value_or_zero given) (config_of self.old)) ≡ Some (config_of self.new)) }
+        ensures stays { IfOk result (λ gone. (op : OpFields) → gone ≡ Gone.Asks op → self.new ≡ self.old) }
+        ensures err { OnErr result (self.new ≡ self.old) }
+        ensures same { self.new.module ≡ self.old.module }
+    {
+        let reached = match go_on(self.module, &mut self.running, &mut self.globals, given) {
+            Err(StepFault::Stuck) => unreachable!(),
+            Err(StepFault::OutOfMemory) => return Err(AdvanceFault::OutOfMemory),
+            Ok(reached) => reached,
+        };
+        match reached {
+            Reached::Within => Ok(Gone::Made),
+            Reached::Asking(op) => Ok(Gone::Asks(op)),
+            Reached::Trapped(kind) => {
+                self.end = Some(End::Trap(kind));
+                Ok(Gone::Made)
+            }
+            Reached::Left(value) => match leave(
+                &mut self.running,
+                &mut self.callers,
+                &mut self.spare,
+                value,
+            ) {
+                Err(_) => Err(AdvanceFault::OutOfMemory),
+                Ok(ReturnTo::Caller) => Ok(Gone::Made),
+                Ok(ReturnTo::Outside) => {
+                    self.end = Some(End::Done(bits(value)));
+                    Ok(Gone::Made)
+                }
+            },
+            Reached::Calling(callee) => {
+                match call(
+                    self.module,
+                    self.alloc,
+                    &mut self.running,
+                    &mut self.callers,
+                    &mut self.spare,
+                    callee as usize,
+                ) {
+                    Err(StepFault::Stuck) => unreachable!(),
+                    Err(StepFault::OutOfMemory) => Err(AdvanceFault::OutOfMemory),
+                    Ok(Invocation::Entered) => Ok(Gone::Made),
+                    Ok(Invocation::TooDeep) => {
+                        self.end = Some(End::Trap(TrapKind::Exhausted));
+                        Ok(Gone::Made)
+                    }
+                }
+            }
+        }
+    }
+
+    /// Makes the next step, where it needs nothing; else says what it needs, and nothing changes. So it is `next`, and `advance`
+    /// without a reply where this may be called, in one. An `Err` changes nothing.
+    ///
+    /// # Errors
+    ///
+    /// `OutOfMemory` where memory was refused. For a thread that needs nothing there is a step: it is of a valid module.
+    pub fn step(&mut self) -> Result<Stepped, AdvanceFault>
+        ensures local { result ≡ Ok Stepped.Local → went (step self.old.module 0 (config_of self.old)) ≡ Some (config_of self.new) }
+        ensures needs_nothing { result ≡ Ok Stepped.Local → (read : ℕ) → need_of read self.old ≡ Need.Local }
+        ensures access { IfOk result (λ stepped. (op : OpFields) → stepped ≡ Stepped.Access op → ((read : ℕ) → need_of read self.old ≡ Need.Access op) × (self.new ≡ self.old)) }
+        ensures ended { IfOk result (λ stepped. (end : EndOf) → stepped ≡ Stepped.Ended end → ((read : ℕ) → need_of read self.old ≡ Need.Ended end) × (self.new ≡ self.old)) }
+        ensures never_stuck { (read : ℕ) → need_of read self.old ≡ Need.Local → (c : Config) × (went (step self.old.module read (config_of self.old)) ≡ Some c) }
+        ensures err { OnErr result (self.new ≡ self.old) }
+        ensures same { self.new.module ≡ self.old.module }
+    {
+        if let Some(end) = self.end {
+            return Ok(Stepped::Ended(end));
+        }
+        match self.go(None) {
+            Err(fault) => Err(fault),
+            Ok(gone) => Ok(gone.stepped()),
+        }
+    }
+
     /// Makes one step of a thread that hasn't ended, with the reply to its access exactly where `next` says `Access`. The
     /// reply has a value read exactly where the access reads, and it fits the width. An `Err` changes nothing.
     ///
@@ -170,44 +280,10 @@ impl<'m> Thread<'m> {
         ensures err { OnErr result (self.new ≡ self.old) }
         ensures same { self.new.module ≡ self.old.module }
     {
-        match go_on(
-            self.module,
-            &mut self.running,
-            &mut self.globals,
-            value_read(reply),
-        ) {
-            Err(StepFault::Stuck) => unreachable!(),
-            Err(StepFault::OutOfMemory) => Err(AdvanceFault::OutOfMemory),
-            Ok(Reached::Within) => Ok(()),
-            Ok(Reached::Trapped(kind)) => {
-                self.end = Some(End::Trap(kind));
-                Ok(())
-            }
-            Ok(Reached::Left(value)) => match leave(&mut self.running, &mut self.callers, value) {
-                Err(_) => Err(AdvanceFault::OutOfMemory),
-                Ok(ReturnTo::Caller) => Ok(()),
-                Ok(ReturnTo::Outside) => {
-                    self.end = Some(End::Done(bits(value)));
-                    Ok(())
-                }
-            },
-            Ok(Reached::Calling(callee)) => {
-                match call(
-                    self.module,
-                    self.alloc,
-                    &mut self.running,
-                    &mut self.callers,
-                    callee as usize,
-                ) {
-                    Err(StepFault::Stuck) => unreachable!(),
-                    Err(StepFault::OutOfMemory) => Err(AdvanceFault::OutOfMemory),
-                    Ok(Invocation::Entered) => Ok(()),
-                    Ok(Invocation::TooDeep) => {
-                        self.end = Some(End::Trap(TrapKind::Exhausted));
-                        Ok(())
-                    }
-                }
-            }
+        let _ = &self.module;
+        match self.go(given_by(reply)) {
+            Ok(_) => Ok(()),
+            Err(fault) => Err(fault),
         }
     }
 }
@@ -222,15 +298,15 @@ fn bits(value: Option<TypedValue>) -> Option<u64>
     }
 }
 
-/// The value that a reply brings, or 0.
-fn value_read(reply: Option<Reply>) -> u64
-    ensures { result ≡ read_in reply }
+/// The value that a reply gives to its access, 0 where this reads none.
+fn given_by(reply: Option<Reply>) -> Option<u64>
+    ensures { result ≡ given_by reply }
 {
     match reply {
-        None => 0,
+        None => None,
         Some(reply) => match reply.read {
-            None => 0,
-            Some(value) => value,
+            None => Some(0),
+            Some(value) => Some(value),
         },
     }
 }

@@ -17,6 +17,7 @@ impl TypedValue {
     ghost use Rattle.wm_machine.specs.Values.{number as number_of};
 
     /// The value that is this number, of so many bits.
+    #[inline(always)]
     pub fn of(width: Width, number: u64) -> Self
         requires { IsOperand width number }
         ensures { result ≡ typed width number }
@@ -28,6 +29,7 @@ impl TypedValue {
     }
 
     /// The number, where the value has so many bits.
+    #[inline(always)]
     pub fn number(self, width: Width) -> Option<u64>
         ensures value { result ≡ number_of width self }
         ensures operand { IfSome result (IsOperand width) }

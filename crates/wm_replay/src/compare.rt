@@ -12,7 +12,7 @@ use crate::parallel::{is_long, replay_in_parallel};
 use std::alloc::{AllocError, Global};
 use std::thread::Threads;
 use wm_event::{End, Event, EventId, Log, Op, Reply, ThreadLog};
-use wm_machine::{AdvanceFault, Need, StartFault, Thread};
+use wm_machine::{AdvanceFault, Need, StartFault, Stepped, Thread};
 use wm_num::low_bytes;
 use wm_valid::ValidModule;
 
@@ -84,13 +84,14 @@ pub(crate) fn step_on(
     ensures stays { IfOk result (Stays (config_of thread.old) (config_of thread.new)) }
     ensures same { thread.new.module ≡ thread.old.module }
 {
-    match thread.next() {
-        Need::Ended(_) => Ok(Progress::Rests),
-        Need::Access(op) => access_on(thread, &op, stated, made),
-        Need::Local => match thread.advance(None) {
-            Ok(()) => Ok(Progress::Made(made)),
-            Err(AdvanceFault::OutOfMemory) => Err(AllocError),
-        },
+    let stepped = match thread.step() {
+        Ok(stepped) => stepped,
+        Err(AdvanceFault::OutOfMemory) => return Err(AllocError),
+    };
+    match stepped {
+        Stepped::Local => Ok(Progress::Made(made)),
+        Stepped::Access(op) => access_on(thread, &op, stated, made),
+        Stepped::Ended(_) => Ok(Progress::Rests),
     }
 }
 

@@ -15,6 +15,6 @@ returns-in-Some-pop-clause-ok c = λ _.
           (let es = rw w.callers-is at p in
           let eb = w.in_ok-replace-in-Some.ensures.ok in
           let a = w.index_mut.result.now in
-          rw w.in-Some.is (back_valued old c.pop.new.self.items c.in-Some-pop.caller a (record a { levels = w.replace.new.self }) w.in-Some.value n el w.index_mut.ensures.value es (ap (λ (l : Nest). record a { levels = l }) eb)))
-      | in-None w ↦ (let es = rw w.callers-is at p in rw w.in-None.is (back_plain old c.pop.new.self.items c.in-Some-pop.caller es))
+          rw (w.in-Some.is, c.replace-left.ensures.after) (back_valued old c.pop.new.self.items c.in-Some-pop.caller a (record a { levels = w.replace.new.self }) w.in-Some.value n el w.index_mut.ensures.value es (ap (λ (l : Nest). record a { levels = l }) eb)))
+      | in-None w ↦ (let es = rw w.callers-is at p in rw (w.in-None.is, c.replace-left.ensures.after) (back_plain old c.pop.new.self.items c.in-Some-pop.caller es))
     ]

@@ -8,30 +8,30 @@ use Rattle.wm_machine.specs.Nest.{landed, carried_top}
 use Rattle.wm_machine.proofs.perform.branch.Goals as goal
 use Rattle.wm_machine.proofs.perform.branch.Goals.{else-carry-via-then-carry+else-count-popped, else-carry-via-else-carry}
 
-pub returns-then-depth-label : goal.returns-then-depth-label
-returns-then-depth-label c = λ _ globals. (branches_past c.args.module.now c.args.running.now.func (vars_of c.args.running.now globals) _ c.args.running.now.levels.outer c.args.label (omega arith), (refl, refl))
+pub returns-then-depth-label-clause-leads : goal.returns-then-depth-label-clause-leads
+returns-then-depth-label-clause-leads c = λ _ globals. (branches_past c.args.module.now c.args.running.now.func (vars_of c.args.running.now globals) _ c.args.running.now.levels.outer c.args.label (omega arith), (refl, refl))
 
-pub returns-then-depth-label-2 : goal.returns-then-depth-label-2
-returns-then-depth-label-2 c = λ depth globals.
+pub returns-then-depth-label-2-clause-leads : goal.returns-then-depth-label-2-clause-leads
+returns-then-depth-label-2-clause-leads c = λ depth globals.
     let a = c.args.running.now in
     let vs = drop c.args.popped a.levels.operands in
-    gives_back_goes c.args.module.now depth (out_of_labels c.args.module.now a.func (vars_of a globals) a.levels.outer (Leaves c.args.label vs)) a globals (returned c.args.module.now a.func vs) c.give_back.result (branches_out c.args.module.now a.func (vars_of a globals) vs a.levels.outer c.args.label (omega arith)) c.give_back.ensures
+    gives_back_goes c.args.module.now depth (out_of_labels c.args.module.now a.func (vars_of a globals) a.levels.outer (Leaves c.args.label vs)) a globals (returned c.args.module.now a.func vs) c.give_back.result (branches_out c.args.module.now a.func (vars_of a globals) vs a.levels.outer c.args.label (omega arith)) c.give_back.ensures.gives
 
-pub returns-then-count-popped : goal.returns-then-count-popped
-returns-then-count-popped c = λ depth globals.
+pub returns-then-count-popped-clause-leads : goal.returns-then-count-popped-clause-leads
+returns-then-count-popped-clause-leads c = λ depth globals.
     let a = c.args.running.now in
     let e : drop c.args.popped a.levels.operands ≡ [] = drop_past a.levels.operands c.args.popped (omega arith) in
     let lt : c.args.label < length a.levels.outer = omega arith in
     rw e (branches_stuck c.args.module.now a.func (vars_of a globals) [] a.levels.outer c.args.label _ _ lt c.place-block.ensures.place (λ ops. c.in-Some.ensures.empty (vars_of a globals) ops c.if-carry.true), (refl, refl))
 
-pub returns-in-None : goal.returns-in-None
-returns-in-None c = λ depth globals.
+pub returns-in-None-clause-leads : goal.returns-in-None-clause-leads
+returns-in-None-clause-leads c = λ depth globals.
     let a = c.args.running.now in
     let lt : c.args.label < length a.levels.outer = omega arith in
     (branches_stuck c.args.module.now a.func (vars_of a globals) (drop c.args.popped a.levels.operands) a.levels.outer c.args.label _ _ lt c.place-block.ensures.place (λ ops. c.in-None.ensures.none refl (vars_of a globals) ops (drop c.args.popped a.levels.operands)), (refl, refl))
 
-pub returns-else-carry : goal.returns-else-carry
-returns-else-carry c = λ depth globals.
+pub returns-else-carry-clause-leads : goal.returns-else-carry-clause-leads
+returns-else-carry-clause-leads c = λ depth globals.
     let a = c.args.running.now in
     let ops = drop c.args.popped a.levels.operands in
     let lt : c.args.label < length a.levels.outer = omega arith in

@@ -7,5 +7,5 @@ of-requires c = rw c.width.ensures (fits_here c.args.params.now c.args.args.now 
 
 pub loop-index-preserved : goal.loop-index-preserved
 loop-index-preserved c =
-    rw (c.in_ok-push.ensures.ok, c.of.ensures, c.width.ensures, c.loop-index.invariant)
+    rw (c.in_ok-push.ensures.items, c.of.ensures, c.width.ensures, c.loop-index.invariant)
     (sym (arguments_more c.args.params.now c.args.args.now c.loop-index.index _ c.loop-index-test.true c.requires.count))
