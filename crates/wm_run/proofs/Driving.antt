@@ -25,9 +25,9 @@ use Rattle.wm_run.specs.Launch.{AreLaunched}
 use Rattle.wm_run.specs.Own.{IsOwnRun, IsWithinPlan}
 use Rattle.wm_run.specs.Plan.{IsPlan}
 use Rattle.wm_run.specs.Run.{Record}
-use Rattle.wm_run.specs.Runner.{IsSet, PlaysTurns, scene_of, setting_of, standing_of}
-use Rattle.wm_run.specs.Script.{Scene, Setting, Standing, done}
-use Rattle.wm_run.specs.Scripted.{Begins, IsFirstScene, IsLogOf, IsScripted, thread_log}
+use Rattle.wm_run.specs.Runner.{IsSet, PlaysTurns, script_state, setting_of, runner_state}
+use Rattle.wm_run.specs.Script.{ScriptState, Setting, ThreadState, done}
+use Rattle.wm_run.specs.Scripted.{Begins, IsFirstState, IsLogOf, IsScripted, thread_log}
 use Rattle.wm_run.proofs.Limits.{AllWithin, first_within, turns_within}
 use Rattle.wm_run.proofs.Logging.{get_some, logged_events}
 use Rattle.wm_run.proofs.Runs.{AllRun, first_run, is_run, turns_run}
@@ -46,15 +46,15 @@ launched_set m starts xs init r are new is_init = record { programs = programs; 
         program k (get_or xs k d) (slice_get-get_or xs k d lt) (get_some starts k there)
 
 -- a thread of the list as it is seen
-seen_as : (xs : List Runner) (t : ℕ) (z : Standing) → slice_get (map standing_of xs) t ≡ Some z → (x : Runner) × (slice_get xs t ≡ Some x) × (standing_of x ≡ z)
+seen_as : (xs : List Runner) (t : ℕ) (z : ThreadState) → slice_get (map runner_state xs) t ≡ Some z → (x : Runner) × (slice_get xs t ≡ Some x) × (runner_state x ≡ z)
 seen_as xs t z at =
-    let within : t < length xs = omega (arith, slice_get_within (map standing_of xs) t z at, length-map xs standing_of) in
+    let within : t < length xs = omega (arith, slice_get_within (map runner_state xs) t z at, length-map xs runner_state) in
     let x = get_some xs t within in
-    (x.0, x.1, same_Some (standing_of x.0) z (sym (standing_at xs t x.0 x.1) ∙ at))
+    (x.0, x.1, same_Some (runner_state x.0) z (sym (standing_at xs t x.0 x.1) ∙ at))
 
-pub first_scene : (m : Module) (starts : List Start) (xs : List Runner) (init : List ℕ) (r : Recording) → AreLaunched m starts xs → IsNew (length xs) init r → IsFirstScene m starts (scene_of xs r)
+pub first_scene : (m : Module) (starts : List Start) (xs : List Runner) (init : List ℕ) (r : Recording) → AreLaunched m starts xs → IsNew (length xs) init r → IsFirstState m starts (script_state xs r)
 first_scene m starts xs init r are new = record {
-  count = length-map xs standing_of ∙ are.count;
+  count = length-map xs runner_state ∙ are.count;
   each = λ t start z of_start of_z. let x = seen_as xs t z of_z in subst (Begins m start) x.2 ((are.each t start x.0 of_start x.1).begins);
   history = new.history;
 }
@@ -64,8 +64,8 @@ own_events : (r : Recording) (t : ℕ) → IsRecording r → t < threads_of r �
 own_events r t k there =
     ap (λ (es : List (List Event)). unwrap_or (slice_get es t) []) k.events ∙ ap (λ o. unwrap_or o []) (get-by_thread (events_of (steps_of r)) (threads_of r) t there)
 
--- what was finished is the log of the last scene
-pub finished_log : (starts : List Start) (xs : List Runner) (r : Recording) (run : Record) → length xs ≡ length starts → threads_of r ≡ length starts → IsFinished starts xs r run → IsLogOf starts (map standing_of xs) (steps_of r) run
+-- what was finished is the log of the last state
+pub finished_log : (starts : List Start) (xs : List Runner) (r : Recording) (run : Record) → length xs ≡ length starts → threads_of r ≡ length starts → IsFinished starts xs r run → IsLogOf starts (map runner_state xs) (steps_of r) run
 finished_log starts xs r run same count f = record {
   count = f.logs.count;
   each = λ t start z of_start of_z.
@@ -78,8 +78,8 @@ finished_log starts xs r run same count f = record {
   order = f.order ∙ f.recording.order;
 }
 
--- the threads of a log of the last scene are their runs
-pub logged_runs : (g : Setting) (starts : List Start) (last : Scene) (run : Record) → length last.threads ≡ length starts → AllRun g starts last → IsLogOf starts last.threads (done g last.history) run → AreRuns g.program run.log
+-- the threads of a log of the last state are their runs
+pub logged_runs : (g : Setting) (starts : List Start) (last : ScriptState) (run : Record) → length last.threads ≡ length starts → AllRun g starts last → IsLogOf starts last.threads (done g last.history) run → AreRuns g.program run.log
 logged_runs g starts last run count runs logged k log at = named (get_some starts k in_starts) (get_some last.threads k in_threads)
   where
     in_starts : k < length starts
@@ -88,7 +88,7 @@ logged_runs g starts last run count runs logged k log at = named (get_some start
     in_threads : k < length last.threads
     in_threads = omega (arith, in_starts, count)
 
-    named : (start : Start) × (slice_get starts k ≡ Some start) → (z : Standing) × (slice_get last.threads k ≡ Some z) → IsRun g.program k log
+    named : (start : Start) × (slice_get starts k ≡ Some start) → (z : ThreadState) × (slice_get last.threads k ≡ Some z) → IsRun g.program k log
     named start z =
         let is : thread_log (done g last.history) k start.0 z.0 ≡ log = same_Some _ log (sym (logged.each k start.0 z.0 start.1 z.1) ∙ at) in
         subst (IsRun g.program k) is (is_run g.program k start.0 z.0 (done g last.history) (runs k start.0 z.0 start.1 z.1))
@@ -106,10 +106,10 @@ as_many : (m : Module) (plan : Plan) (turns : List Turn) (xs : List Runner) (r :
 as_many m plan turns xs r ys r' run d = d.plays.count ∙ d.launched.count
 
 logged : (m : Module) (plan : Plan) (turns : List Turn) (xs : List Runner) (r : Recording) (ys : List Runner) (r' : Recording) (run : Record) → Drives m plan turns xs r ys r' run
-    → IsLogOf plan.starts (map standing_of ys) (done (setting_of m r plan.steps) r'.history) run
+    → IsLogOf plan.starts (map runner_state ys) (done (setting_of m r plan.steps) r'.history) run
 logged m plan turns xs r ys r' run d =
     let count = as_many m plan turns xs r ys r' run d in
-    subst (λ init. IsLogOf plan.starts (map standing_of ys) (steps init (reverse r'.history)) run) d.plays.initial (finished_log plan.starts ys r' run count (d.plays.set.count ∙ count) d.finished)
+    subst (λ init. IsLogOf plan.starts (map runner_state ys) (steps init (reverse r'.history)) run) d.plays.initial (finished_log plan.starts ys r' run count (d.plays.set.count ∙ count) d.finished)
 
 pub is_scripted : (m : Module) (plan : Plan) (turns : List Turn) (xs : List Runner) (r : Recording) (ys : List Runner) (r' : Recording) (run : Record) → Drives m plan turns xs r ys r' run → IsScripted m plan turns run
 is_scripted m plan turns xs r ys r' run d = record {
@@ -117,8 +117,8 @@ is_scripted m plan turns xs r ys r' run d = record {
   program = refl;
   initial = subst (IsInit m) (sym d.new.initial) d.is_init;
   limit = refl;
-  first = scene_of xs r;
-  last = scene_of ys r';
+  first = script_state xs r;
+  last = script_state ys r';
   begins = first_scene m plan.starts xs d.initial r d.launched d.new;
   plays = d.plays.plays;
   logged = logged m plan turns xs r ys r' run d;
@@ -146,13 +146,13 @@ is_within m plan turns xs r ys r' run is d =
     let count = as_many m plan turns xs r ys r' run d in
     let few = is.threads.few in
     let logs = d.finished.logs.count in
-    let first : AllWithin g (scene_of xs r) = first_within g plan.starts (scene_of xs r) (first_scene m plan.starts xs d.initial r d.launched d.new) in
-    let last : AllWithin g (scene_of ys r') = turns_within g (scene_of xs r) (scene_of ys r') turns d.plays.plays first in
+    let first : AllWithin g (script_state xs r) = first_within g plan.starts (script_state xs r) (first_scene m plan.starts xs d.initial r d.launched d.new) in
+    let last : AllWithin g (script_state ys r') = turns_within g (script_state xs r) (script_state ys r') turns d.plays.plays first in
     record {
       threads = omega (arith, few, logs);
       steps = λ t log at.
           let l = logged_at plan.starts ys r' run.log t log count d.finished.logs at in
-          let made = last t (standing_of l.runner) (standing_at ys t l.runner l.at) in
+          let made = last t (runner_state l.runner) (standing_at ys t l.runner l.at) in
           let same = ap (λ (x : ThreadLog). x.steps) l.is in
           let most = is.steps in
           omega (arith, made, most, same);
@@ -169,8 +169,8 @@ is_own m plan turns xs r ys r' run d =
     let recorded : threads_of r' ≡ length run.log = d.plays.set.count ∙ count ∙ sym d.finished.logs.count in
     let by_events : length r'.events ≡ length plan.starts = ap length k.events ∙ length-by_thread (events_of (steps_of r')) (threads_of r') ∙ d.plays.set.count ∙ count in
     let bytes : All (λ b. b < 256) (initial_of r) = subst (All (λ b. b < 256)) d.plays.initial k.bytes in
-    let first : AllRun g plan.starts (scene_of xs r) = first_run g plan.starts (scene_of xs r) (first_scene m plan.starts xs d.initial r d.launched d.new) in
-    let last : AllRun g plan.starts (scene_of ys r') = turns_run g plan.starts (scene_of xs r) (scene_of ys r') turns bytes d.plays.plays first in
+    let first : AllRun g plan.starts (script_state xs r) = first_run g plan.starts (script_state xs r) (first_scene m plan.starts xs d.initial r d.launched d.new) in
+    let last : AllRun g plan.starts (script_state ys r') = turns_run g plan.starts (script_state xs r) (script_state ys r') turns bytes d.plays.plays first in
     record {
       initial = initial_of r';
       is_init = d.plays.set.initial;
@@ -183,5 +183,5 @@ is_own m plan turns xs r ys r' run d =
         order = d.finished.order ∙ k.order;
         memory = refl;
       };
-      runs = logged_runs g plan.starts (scene_of ys r') run (length-map ys standing_of ∙ count) last (logged m plan turns xs r ys r' run d);
+      runs = logged_runs g plan.starts (script_state ys r') run (length-map ys runner_state ∙ count) last (logged m plan turns xs r ys r' run d);
     }

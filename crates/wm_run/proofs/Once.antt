@@ -19,17 +19,17 @@ use Rattle.wm_run.specs.declared.plan.Plan.{Plan}
 use Rattle.wm_run.specs.declared.turn.Turn.{Turn}
 use Rattle.wm_run.specs.declared.turn.Turn.TheVariants as turn
 use Rattle.wm_run.specs.Run.{Record}
-use Rattle.wm_run.specs.Script.{MayDrain, Plays, Rests, Scene, Setting, Standing, StepsTo, Takes, access, done, drain_of, drains, ended, full, keeps, local, rests, spent, steps_on, value_read}
-use Rattle.wm_run.specs.Scripted.{Begins, IsFirstScene, IsLogOf, IsScripted, thread_log}
+use Rattle.wm_run.specs.Script.{MayDrain, TurnsLead, Rests, ScriptState, Setting, ThreadState, StepsTo, TurnLeads, access, done, drain_of, drains, ended, full, keeps, local, rests, spent, steps_on, value_read}
+use Rattle.wm_run.specs.Scripted.{Begins, IsFirstState, IsLogOf, IsScripted, thread_log}
 use Rattle.wm_run.proofs.Logging.{get_some}
 use Rattle.wm_run.proofs.Runs.{turns_count}
 
--- ---- a turn leads to one scene
+-- ---- a turn leads to one state
 
 no_access : (op : OpFields) (next : Config) (s : Outcome) → s ≡ Went None next → access_of s ≡ Some op → ⊥
 no_access op next s local_step asks = none-some op (sym (ap access_of local_step) ∙ asks)
 
-one_step : (g : Setting) (h : List Item) (t : ℕ) (old a b : Standing) (is js : List Item) → StepsTo g h t old a is → StepsTo g h t old b js → (a ≡ b) × (is ≡ js)
+one_step : (g : Setting) (h : List Item) (t : ℕ) (old a b : ThreadState) (is js : List Item) → StepsTo g h t old a is → StepsTo g h t old b js → (a ≡ b) × (is ≡ js)
 one_step g h t old _ _ _ _ (local {next = c} lt goes) (local {next = d} lt' goes') =
     let same : Went None c ≡ Went None d = sym goes ∙ goes' in
     let next : c ≡ d = cc in
@@ -44,7 +44,7 @@ one_step g h t old _ _ _ _ (access {op = p} {next = c} lt few asks goes) (access
     (ap (λ x. record { config = x; made = suc old.made }) next, ap (λ o. access_items (drains_first (done g h) t o) t o) same_op)
 
 -- a thread that rests makes no step
-no_rest : (g : Setting) (h : List Item) (t : ℕ) (old next : Standing) (items : List Item) → StepsTo g h t old next items → Rests g h old → ⊥
+no_rest : (g : Setting) (h : List Item) (t : ℕ) (old next : ThreadState) (items : List Item) → StepsTo g h t old next items → Rests g h old → ⊥
 no_rest g h t old _ _ (local lt goes) (ended end over) = let none : NoStep ≡ Went None _ = sym (ap (step g.program 0) over) ∙ goes in absurd cc
 no_rest g h t old _ _ (local lt goes) (spent all) = omega (arith, lt, all)
 no_rest g h t old _ _ (local {next = c} lt goes) (full op asks much) = no_access op c (step g.program 0 old.config) goes (asks 0)
@@ -52,11 +52,11 @@ no_rest g h t old _ _ (access {op = op} lt few asks goes) (ended end over) = non
 no_rest g h t old _ _ (access lt few asks goes) (spent all) = omega (arith, lt, all)
 no_rest g h t old _ _ (access lt few asks goes) (full op asks' much) = omega (arith, few, much)
 
--- the scene behind a step of thread t
-abbrev pub behind : Scene → ℕ → Standing → List Item → Scene
+-- the state behind a step of thread t
+abbrev pub behind : ScriptState → ℕ → ThreadState → List Item → ScriptState
 behind old t next items = record { threads = slice_set old.threads t next; history = old.history ++ items }
 
-step_turn : (g : Setting) (old b : Scene) (t : ℕ) (thread next : Standing) (items : List Item) → slice_get old.threads t ≡ Some thread → StepsTo g old.history t thread next items → Takes g old (turn.Step t) b
+step_turn : (g : Setting) (old b : ScriptState) (t : ℕ) (thread next : ThreadState) (items : List Item) → slice_get old.threads t ≡ Some thread → StepsTo g old.history t thread next items → TurnLeads g old (turn.Step t) b
     → behind old t next items ≡ b
 step_turn g old _ t thread next items at st (steps_on {thread = other} {next = next'} {items = items'} at' st') =
     let same : other ≡ thread = same_Some other thread (sym at' ∙ at) in
@@ -68,7 +68,7 @@ step_turn g old _ t thread next items at st (rests {thread = other} at' rest) =
 step_turn g old _ t thread next items at st (drains {drain = drain} is may) = absurd (none-some drain is)
 step_turn g old _ t thread next items at st (keeps {drain = drain} is cannot) = absurd (none-some drain is)
 
-rest_turn : (g : Setting) (old b : Scene) (t : ℕ) (thread : Standing) → slice_get old.threads t ≡ Some thread → Rests g old.history thread → Takes g old (turn.Step t) b → old ≡ b
+rest_turn : (g : Setting) (old b : ScriptState) (t : ℕ) (thread : ThreadState) → slice_get old.threads t ≡ Some thread → Rests g old.history thread → TurnLeads g old (turn.Step t) b → old ≡ b
 rest_turn g old _ t thread at rest (steps_on {thread = other} {next = next} {items = items} at' st) =
     let same : other ≡ thread = same_Some other thread (sym at' ∙ at) in
     absurd (no_rest g old.history t other next items st (subst (Rests g old.history) (sym same) rest))
@@ -76,17 +76,17 @@ rest_turn g old _ t thread at rest (rests at' rest') = refl
 rest_turn g old _ t thread at rest (drains {drain = drain} is may) = absurd (none-some drain is)
 rest_turn g old _ t thread at rest (keeps {drain = drain} is cannot) = absurd (none-some drain is)
 
--- the scene behind a drain
-abbrev pub drained : Scene → Item → Scene
+-- the state behind a drain
+abbrev pub drained : ScriptState → Item → ScriptState
 drained old drain = record { threads = old.threads; history = old.history ++ drain ∷ [] }
 
-drain_turn : (g : Setting) (old b : Scene) (t : Turn) (drain : Item) → drain_of t ≡ Some drain → MayDrain g old drain → Takes g old t b → drained old drain ≡ b
+drain_turn : (g : Setting) (old b : ScriptState) (t : Turn) (drain : Item) → drain_of t ≡ Some drain → MayDrain g old drain → TurnLeads g old t b → drained old drain ≡ b
 drain_turn g old _ _ drain is may (steps_on at st) = absurd (none-some drain is)
 drain_turn g old _ _ drain is may (rests at rest) = absurd (none-some drain is)
 drain_turn g old _ t drain is may (drains {drain = other} is' may') = ap (drained old) (same_Some drain other (sym is ∙ is'))
 drain_turn g old _ t drain is may (keeps {drain = other} is' cannot) = absurd (cannot (subst (MayDrain g old) (same_Some drain other (sym is ∙ is')) may))
 
-keep_turn : (g : Setting) (old b : Scene) (t : Turn) (drain : Item) → drain_of t ≡ Some drain → (MayDrain g old drain → ⊥) → Takes g old t b → old ≡ b
+keep_turn : (g : Setting) (old b : ScriptState) (t : Turn) (drain : Item) → drain_of t ≡ Some drain → (MayDrain g old drain → ⊥) → TurnLeads g old t b → old ≡ b
 keep_turn g old _ _ drain is cannot (steps_on at st) = refl_of_step drain is
   where
     refl_of_step : {A : Type 0} (d : Item) → None ≡ Some d → A
@@ -95,24 +95,24 @@ keep_turn g old _ _ drain is cannot (rests at rest) = refl
 keep_turn g old _ t drain is cannot (drains {drain = other} is' may) = absurd (cannot (subst (MayDrain g old) (same_Some other drain (sym is' ∙ is)) may))
 keep_turn g old _ t drain is cannot (keeps is' cannot') = refl
 
-one_turn : (g : Setting) (old a b : Scene) (t : Turn) → Takes g old t a → Takes g old t b → a ≡ b
+one_turn : (g : Setting) (old a b : ScriptState) (t : Turn) → TurnLeads g old t a → TurnLeads g old t b → a ≡ b
 one_turn g old _ b _ (steps_on {t = t} {thread = thread} {next = next} {items = items} at st) other = step_turn g old b t thread next items at st other
 one_turn g old _ b _ (rests {t = t} {thread = thread} at rest) other = rest_turn g old b t thread at rest other
 one_turn g old _ b t (drains {drain = drain} is may) other = drain_turn g old b t drain is may other
 one_turn g old _ b t (keeps {drain = drain} is cannot) other = keep_turn g old b t drain is cannot other
 
-one_play : (g : Setting) (first a b : Scene) (turns : List Turn) → Plays g first turns a → Plays g first turns b → a ≡ b
+one_play : (g : Setting) (first a b : ScriptState) (turns : List Turn) → TurnsLead g first turns a → TurnsLead g first turns b → a ≡ b
 one_play g first a b [] to_a to_b = sym to_a ∙ to_b
 one_play g first a b (t ∷ turns) to_a to_b =
     let same : to_b.0 ≡ to_a.0 = one_turn g first to_b.0 to_a.0 t to_b.1 to_a.1 in
-    one_play g to_a.0 a b turns to_a.2 (subst (λ s. Plays g s turns b) same to_b.2)
+    one_play g to_a.0 a b turns to_a.2 (subst (λ s. TurnsLead g s turns b) same to_b.2)
 
--- ---- the first scene, and what is logged of the last one
+-- ---- the first state, and what is logged of the last one
 
-one_first : (m : Module) (starts : List Start) (a b : Scene) → IsFirstScene m starts a → IsFirstScene m starts b → a ≡ b
+one_first : (m : Module) (starts : List Start) (a b : ScriptState) → IsFirstState m starts a → IsFirstState m starts b → a ≡ b
 one_first m starts a b first second = ap₂ (λ threads history. record { threads = threads; history = history }) same_threads (first.history ∙ sym second.history)
   where
-    item : (k : ℕ) (d : Standing) → k < length a.threads → get_or a.threads k d ≡ get_or b.threads k d
+    item : (k : ℕ) (d : ThreadState) → k < length a.threads → get_or a.threads k d ≡ get_or b.threads k d
     item k d lt =
         let in_starts : k < length starts = (let count = first.count in omega (arith, lt, count)) in
         let in_b : k < length b.threads = (let count = second.count in omega (arith, in_starts, count)) in
@@ -128,7 +128,7 @@ one_first m starts a b first second = ap₂ (λ threads history. record { thread
     same_threads : a.threads ≡ b.threads
     same_threads = same_lists a.threads b.threads (first.count ∙ sym second.count) item
 
-one_log : (starts : List Start) (threads : List Standing) (s : List Step) (a b : Record) → length threads ≡ length starts → IsLogOf starts threads s a → IsLogOf starts threads s b → a ≡ b
+one_log : (starts : List Start) (threads : List ThreadState) (s : List Step) (a b : Record) → length threads ≡ length starts → IsLogOf starts threads s a → IsLogOf starts threads s b → a ≡ b
 one_log starts threads s a b count first second =
     ap₂ (λ log witness. record { log = log; witness = witness }) same_logs
     (ap₂ (λ writers order. record { writers = writers; order = order }) (first.writers ∙ sym second.writers) (first.order ∙ sym second.order))
@@ -158,7 +158,7 @@ one_run m plan turns a b x y =
     let g : Setting = x.setting in
     let settings : y.setting ≡ g = sym (one_setting m plan turns a b x y) in
     let firsts : y.first ≡ x.first = one_first m plan.starts y.first x.first y.begins x.begins in
-    let played : Plays g x.first turns y.last = subst (λ s. Plays g s turns y.last) firsts (subst (λ k. Plays k y.first turns y.last) settings y.plays) in
+    let played : TurnsLead g x.first turns y.last = subst (λ s. TurnsLead g s turns y.last) firsts (subst (λ k. TurnsLead k y.first turns y.last) settings y.plays) in
     let lasts : y.last ≡ x.last = one_play g x.first y.last x.last turns played x.plays in
     let logged : IsLogOf plan.starts x.last.threads (done g x.last.history) b =
     subst (λ s. IsLogOf plan.starts s.threads (done g s.history) b) lasts (subst (λ k. IsLogOf plan.starts y.last.threads (done k y.last.history) b) settings y.logged) in

@@ -27,14 +27,14 @@ use Rattle.wm_recorder.proofs.Updates.{events_made, others_events}
 use Rattle.wm_replay.specs.Replay.{IsRun, reads_of}
 use Rattle.wm_run.specs.declared.turn.Turn.{Turn}
 use Rattle.wm_run.specs.declared.turn.Turn.TheVariants as turn
-use Rattle.wm_run.specs.Script.{Plays, Scene, Setting, Standing, StepsTo, Takes, access, done, drain_of, drains, keeps, local, rests, steps_on}
-use Rattle.wm_run.specs.Scripted.{Begins, IsFirstScene, thread_log}
+use Rattle.wm_run.specs.Script.{TurnsLead, ScriptState, Setting, ThreadState, StepsTo, TurnLeads, access, done, drain_of, drains, keeps, local, rests, steps_on}
+use Rattle.wm_run.specs.Scripted.{Begins, IsFirstState, thread_log}
 use Rattle.wm_run.proofs.Accesses.{added, finds, fits_after, made_again, no_read, one_added, ready_events}
 
 -- ---- one thread
 
 -- thread t has run from its start to where it stands, on the values that these events read, whatever would be read next
-pub record HasRun (m : Module) (t : ℕ) (start : Start) (thread : Standing) (es : List Event) : Type 0 where
+pub record HasRun (m : Module) (t : ℕ) (start : Start) (thread : ThreadState) (es : List Event) : Type 0 where
   pub first : Config
   pub is_first : started m start.name start.args ≡ Ok first
   pub ran : (more : List ℕ) → steps m t first (reads_of es ++ more) thread.made ≡ Some (record { events = es; config = thread.config; reads = more })
@@ -61,7 +61,7 @@ reads_last es e more =
     ∙ append_assoc (reads_of es) (own_read e) more
 
 -- a step without an access
-pub ran_local : (m : Module) (t : ℕ) (start : Start) (thread : Standing) (es : List Event) (next : Config) → HasRun m t start thread es → step m 0 thread.config ≡ Went None next
+pub ran_local : (m : Module) (t : ℕ) (start : Start) (thread : ThreadState) (es : List Event) (next : Config) → HasRun m t start thread es → step m 0 thread.config ≡ Went None next
     → HasRun m t start (record { config = next; made = suc thread.made }) es
 ran_local m t start thread es next h goes = record {
   first = h.first;
@@ -85,7 +85,7 @@ taken op e more true finds_so reads_so fits none = fitting op e.read more _ refl
 taken op e more false finds_so reads_so fits none = ap (λ v. Some (record { read = v; others = more })) (sym (none refl))
 
 -- an access that makes this event
-pub ran_access : (m : Module) (t : ℕ) (start : Start) (thread : Standing) (es : List Event) (op : OpFields) (e : Event) (next : Config) → HasRun m t start thread es
+pub ran_access : (m : Module) (t : ℕ) (start : Start) (thread : ThreadState) (es : List Event) (op : OpFields) (e : Event) (next : Config) → HasRun m t start thread es
     → access_of (step m 0 thread.config) ≡ Some op → step m e.read thread.config ≡ Went (Some op) next → reads e ≡ kind_finds op.kind → Fits op.width e.read → (kind_finds op.kind ≡ false → e.read ≡ 0)
     → event_made (record { thread = t; number = length es }) op e.read ≡ e → HasRun m t start (record { config = next; made = suc thread.made }) (es ++ e ∷ [])
 ran_access m t start thread es op e next h asks goes reads_so fits none is = record {
@@ -104,7 +104,7 @@ ran_access m t start thread es op e next h asks goes reads_so fits none is = rec
 }
 
 -- at the end nothing is left to be read
-pub is_run : (m : Module) (t : ℕ) (start : Start) (thread : Standing) (s : List Step) → HasRun m t start thread (events_of s t) → IsRun m t (thread_log s t start thread)
+pub is_run : (m : Module) (t : ℕ) (start : Start) (thread : ThreadState) (s : List Step) → HasRun m t start thread (events_of s t) → IsRun m t (thread_log s t start thread)
 is_run m t start thread s h =
     ap (λ r. run_from m t r (reads_of (events_of s t)) thread.made) h.is_first
     ∙ ap (λ rs. outcome_of (steps m t h.first rs thread.made)) (sym (append-nil (reads_of (events_of s t))))
@@ -112,23 +112,23 @@ is_run m t start thread s h =
 
 -- ---- all threads
 
--- each thread of a scene has run so
-abbrev pub AllRun : Setting → List Start → Scene → Type 0
-AllRun g starts scene = (t : ℕ) (start : Start) (thread : Standing) → slice_get starts t ≡ Some start → slice_get scene.threads t ≡ Some thread
-    → HasRun g.program t start thread (events_of (done g scene.history) t)
+-- each thread of a state has run so
+abbrev pub AllRun : Setting → List Start → ScriptState → Type 0
+AllRun g starts state = (t : ℕ) (start : Start) (thread : ThreadState) → slice_get starts t ≡ Some start → slice_get state.threads t ≡ Some thread
+    → HasRun g.program t start thread (events_of (done g state.history) t)
 
-pub first_run : (g : Setting) (starts : List Start) (scene : Scene) → IsFirstScene g.program starts scene → AllRun g starts scene
-first_run g starts scene f t start thread of_start of_thread =
+pub first_run : (g : Setting) (starts : List Start) (state : ScriptState) → IsFirstState g.program starts state → AllRun g starts state
+first_run g starts state f t start thread of_start of_thread =
     let begins : Begins g.program start thread = f.each t start thread of_start of_thread in
     let at_once : HasRun g.program t start thread [] = record { first = thread.config; is_first = begins.config; ran = λ more. ap (steps g.program t thread.config more) begins.made } in
     subst (λ h. HasRun g.program t start thread (events_of (done g h) t)) (sym f.history) at_once
 
 -- the thread of a number is the new one there, or another as it was
-pub data IsSetAt (xs : List Standing) (u : ℕ) (y : Standing) (t : ℕ) (z : Standing) : Type 0 where
+pub data IsSetAt (xs : List ThreadState) (u : ℕ) (y : ThreadState) (t : ℕ) (z : ThreadState) : Type 0 where
   new : t ≡ u → y ≡ z → IsSetAt xs u y t z
   other : (t ≡ u → ⊥) → slice_get xs t ≡ Some z → IsSetAt xs u y t z
 
-pub set_at : (xs : List Standing) (u t : ℕ) (x y z : Standing) → slice_get xs u ≡ Some x → slice_get (set xs u y) t ≡ Some z → IsSetAt xs u y t z
+pub set_at : (xs : List ThreadState) (u t : ℕ) (x y z : ThreadState) → slice_get xs u ≡ Some x → slice_get (set xs u y) t ≡ Some z → IsSetAt xs u y t z
 set_at xs u t x y z there at = elim (cases_Bool (t == u)) [
   | inl same ↦
       let is : t ≡ u = eqb-true t u same in
@@ -160,7 +160,7 @@ drain_events g h t (turn.DrainAt u k) drain is =
     ap (λ s. events_of s t) (one_added g.initial h drain) ∙ ap (λ d. events_of (step_of g.initial (done g h) d ∷ done g h) t) (sym (same_Some (item.DrainAt u k) drain is))
 
 -- a step of thread u
-stepped_run : (g : Setting) (h : List Item) (u : ℕ) (start : Start) (thread next : Standing) (items : List Item) → All (λ b. b < 256) g.initial → StepsTo g h u thread next items
+stepped_run : (g : Setting) (h : List Item) (u : ℕ) (start : Start) (thread next : ThreadState) (items : List Item) → All (λ b. b < 256) g.initial → StepsTo g h u thread next items
     → HasRun g.program u start thread (events_of (done g h) u) → HasRun g.program u start next (events_of (done g (h ++ items)) u)
 stepped_run g h u start thread _ _ bytes (local {next = next} lt goes) run =
     subst (λ k. HasRun g.program u start (record { config = next; made = suc thread.made }) (events_of (done g k) u)) (sym (append-nil h)) (ran_local g.program u start thread (events_of (done g h) u) next run goes)
@@ -173,13 +173,13 @@ stepped_run g h u start thread _ _ bytes (access {op = op} {next = next} lt few 
     subst (HasRun g.program u start (record { config = next; made = suc thread.made })) (sym (own_events g h u op))
     (ran_access g.program u start thread (events_of (done g h) u) op e next run (asks 0) goes (finds op.kind _) (fits_after g.initial s u op bytes) (no_read g.initial s u op) is)
 
-others_run : (g : Setting) (h : List Item) (u t : ℕ) (start : Start) (thread next z : Standing) (items : List Item) → (t ≡ u → ⊥) → StepsTo g h u thread next items
+others_run : (g : Setting) (h : List Item) (u t : ℕ) (start : Start) (thread next z : ThreadState) (items : List Item) → (t ≡ u → ⊥) → StepsTo g h u thread next items
     → HasRun g.program t start z (events_of (done g h) t) → HasRun g.program t start z (events_of (done g (h ++ items)) t)
 others_run g h u t start thread _ z _ not (local lt goes) run = subst (λ k. HasRun g.program t start z (events_of (done g k) t)) (sym (append-nil h)) run
 others_run g h u t start thread _ z _ not (access {op = op} lt few asks goes) run = subst (HasRun g.program t start z) (sym (same_events g h u t op not)) run
 
 -- a turn
-pub turn_run : (g : Setting) (starts : List Start) (old new : Scene) (turn : Turn) → All (λ b. b < 256) g.initial → Takes g old turn new → AllRun g starts old → AllRun g starts new
+pub turn_run : (g : Setting) (starts : List Start) (old new : ScriptState) (turn : Turn) → All (λ b. b < 256) g.initial → TurnLeads g old turn new → AllRun g starts old → AllRun g starts new
 turn_run g starts old _ _ bytes (steps_on {t = u} {thread = thread} {next = next} {items = items} at st) run t start z of_start of_z =
     elim (set_at old.threads u t thread next z at of_z) [
       | new same is ↦
@@ -194,18 +194,18 @@ turn_run g starts old _ turn bytes (drains {drain = drain} is may) run t start z
 turn_run g starts old _ turn bytes (keeps is cannot) run t start z of_start of_z = run t start z of_start of_z
 
 -- as many threads
-pub turn_count : (g : Setting) (old new : Scene) (turn : Turn) → Takes g old turn new → length new.threads ≡ length old.threads
+pub turn_count : (g : Setting) (old new : ScriptState) (turn : Turn) → TurnLeads g old turn new → length new.threads ≡ length old.threads
 turn_count g old _ _ (steps_on {t = u} {next = next} at st) = length-set old.threads u next
 turn_count g old _ _ (rests at rest) = refl
 turn_count g old _ turn (drains is may) = refl
 turn_count g old _ turn (keeps is cannot) = refl
 
 -- all turns
-pub turns_run : (g : Setting) (starts : List Start) (first last : Scene) (turns : List Turn) → All (λ b. b < 256) g.initial → Plays g first turns last → AllRun g starts first → AllRun g starts last
+pub turns_run : (g : Setting) (starts : List Start) (first last : ScriptState) (turns : List Turn) → All (λ b. b < 256) g.initial → TurnsLead g first turns last → AllRun g starts first → AllRun g starts last
 turns_run g starts first last [] bytes plays run = subst (AllRun g starts) plays run
 turns_run g starts first last (turn ∷ turns) bytes plays run =
     turns_run g starts plays.0 last turns bytes plays.2 (turn_run g starts first plays.0 turn bytes plays.1 run)
 
-pub turns_count : (g : Setting) (first last : Scene) (turns : List Turn) → Plays g first turns last → length last.threads ≡ length first.threads
-turns_count g first last [] plays = ap (λ (s : Scene). length s.threads) (sym plays)
+pub turns_count : (g : Setting) (first last : ScriptState) (turns : List Turn) → TurnsLead g first turns last → length last.threads ≡ length first.threads
+turns_count g first last [] plays = ap (λ (s : ScriptState). length s.threads) (sym plays)
 turns_count g first last (turn ∷ turns) plays = turns_count g plays.0 last turns plays.2 ∙ turn_count g first plays.0 turn plays.1

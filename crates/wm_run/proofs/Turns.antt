@@ -14,9 +14,9 @@ use Rattle.wm_run.specs.declared.runner.Moved.TheVariants.{Rested}
 use Rattle.wm_run.specs.declared.runner.Runner.{Runner}
 use Rattle.wm_run.specs.declared.turn.Turn.{Turn}
 use Rattle.wm_run.specs.declared.turn.Turn.TheVariants.{Step}
-use Rattle.wm_run.specs.Runner.{Advances, DrainsBy, Goes, IsSet, MayDrainFrom, Moves, TakesTurn, goes, leaves, scene_of, setting_of, standing_of}
+use Rattle.wm_run.specs.Runner.{Advances, DrainsBy, Goes, IsSet, MayDrainFrom, Moves, TakesTurn, goes, leaves, script_state, setting_of, runner_state}
 use Rattle.wm_run.specs.Runner as runner
-use Rattle.wm_run.specs.Script.{Rests, Takes, drain_of, drains, keeps, rests, steps_on}
+use Rattle.wm_run.specs.Script.{Rests, TurnLeads, drain_of, drains, keeps, rests, steps_on}
 
 -- a thread that rests stays as it was
 pub rested : (t limit : ℕ) (old : Runner) (r : Recording) (new : State) (r' : Recording) → Advances t old.thread r new r' Rested
@@ -35,8 +35,8 @@ program_at m xs t x all is = subst (IsOf m) (get_or_from_slice_get xs t x x is) 
 pub all_set : (m : Module) (xs : List Runner) (t : ℕ) (x : Runner) → All (IsOf m) xs → IsOf m x → All (IsOf m) (set xs t x)
 all_set m xs t x all is = All-set (IsOf m) xs t x is all
 
-pub standing_at : (xs : List Runner) (t : ℕ) (x : Runner) → slice_get xs t ≡ Some x → slice_get (map standing_of xs) t ≡ Some (standing_of x)
-standing_at xs t x is = slice_get-map standing_of xs t ∙ ap (option_map standing_of) is
+pub standing_at : (xs : List Runner) (t : ℕ) (x : Runner) → slice_get xs t ≡ Some x → slice_get (map runner_state xs) t ≡ Some (runner_state x)
+standing_at xs t x is = slice_get-map runner_state xs t ∙ ap (option_map runner_state) is
 
 set_same : (xs : List Runner) (t : ℕ) (x : Runner) → slice_get xs t ≡ Some x → set xs t x ≡ xs
 set_same xs t x is = ap (set xs t) (sym (get_or_from_slice_get xs t x x is)) ∙ set-get_or xs t x
@@ -46,13 +46,13 @@ pub turn_stepped : (m : Module) (limit t : ℕ) (xs : List Runner) (r r' : Recor
     → All (IsOf m) (set xs t new) → Moves t limit old r new r' → TakesTurn m limit (Step t) xs r (set xs t new) r'
 turn_stepped m limit t xs r r' old new is-set at all (runner.goes g) =
     let is = program_at m xs t old is-set.programs at in
-    let g' : Goes m t limit (standing_of old) r (standing_of new) r' = subst (λ p. Goes p t limit (standing_of old) r (standing_of new) r') is g in
+    let g' : Goes m t limit (runner_state old) r (runner_state new) r' = subst (λ p. Goes p t limit (runner_state old) r (runner_state new) r') is g in
     let count : length (set xs t new) ≡ length xs = length-set xs t new in
-    let scene : record { threads = set (map standing_of xs) t (standing_of new); history = r.history ++ g'.items } ≡ scene_of (set xs t new) r' =
-    ap (λ ths. record { threads = ths; history = r.history ++ g'.items }) (sym (map-set standing_of xs t new))
-    ∙ ap (λ h. record { threads = map standing_of (set xs t new); history = h }) (sym g'.adds.history) in
+    let state : record { threads = set (map runner_state xs) t (runner_state new); history = r.history ++ g'.items } ≡ script_state (set xs t new) r' =
+    ap (λ ths. record { threads = ths; history = r.history ++ g'.items }) (sym (map-set runner_state xs t new))
+    ∙ ap (λ h. record { threads = map runner_state (set xs t new); history = h }) (sym g'.adds.history) in
     record {
-      takes = subst (Takes (setting_of m r limit) (scene_of xs r) (Step t)) scene (steps_on (standing_at xs t old at) g'.steps);
+      takes = subst (TurnLeads (setting_of m r limit) (script_state xs r) (Step t)) state (steps_on (standing_at xs t old at) g'.steps);
       set = record { programs = all; count = g'.adds.threads ∙ is-set.count ∙ sym count; initial = subst (IsInit m) (sym g'.adds.initial) is-set.initial };
       count = count;
       initial = g'.adds.initial;
@@ -60,11 +60,11 @@ turn_stepped m limit t xs r r' old new is-set at all (runner.goes g) =
 turn_stepped m limit t xs r r' old new is-set at all (runner.stays same same' rest) =
     let is = program_at m xs t old is-set.programs at in
     let unchanged : set xs t new ≡ xs = ap (set xs t) same ∙ set_same xs t old at in
-    let scene : scene_of xs r ≡ scene_of (set xs t new) r' =
-    ap (λ ys. scene_of ys r) (sym unchanged) ∙ ap (scene_of (set xs t new)) (sym same') in
-    let rest' = subst (λ p. Rests (setting_of p r limit) r.history (standing_of old)) is rest in
+    let state : script_state xs r ≡ script_state (set xs t new) r' =
+    ap (λ ys. script_state ys r) (sym unchanged) ∙ ap (script_state (set xs t new)) (sym same') in
+    let rest' = subst (λ p. Rests (setting_of p r limit) r.history (runner_state old)) is rest in
     record {
-      takes = subst (Takes (setting_of m r limit) (scene_of xs r) (Step t)) scene (rests (standing_at xs t old at) rest');
+      takes = subst (TurnLeads (setting_of m r limit) (script_state xs r) (Step t)) state (rests (standing_at xs t old at) rest');
       set = subst (IsSet m (set xs t new)) (sym same') (subst (λ ys. IsSet m ys r) (sym unchanged) is-set);
       count = length-set xs t new;
       initial = ap initial_of same';
@@ -74,18 +74,18 @@ turn_stepped m limit t xs r r' old new is-set at all (runner.stays same same' re
 pub turn_drained : (m : Module) (limit : ℕ) (turn : Turn) (drain : Item) (xs : List Runner) (r r' : Recording) → IsSet m xs r → drain_of turn ≡ Some drain
     → DrainsBy drain r r' → TakesTurn m limit turn xs r xs r'
 turn_drained m limit turn drain xs r r' is-set is (runner.leaves may adds) =
-    let count : threads_of r ≡ length (map standing_of xs) = is-set.count ∙ sym (length-map xs standing_of) in
+    let count : threads_of r ≡ length (map runner_state xs) = is-set.count ∙ sym (length-map xs runner_state) in
     let may' = subst (λ n. MayFollow n (length (initial_of r)) (steps_of r) drain) count may in
     record {
-      takes = subst (λ h. Takes (setting_of m r limit) (scene_of xs r) turn (record { threads = map standing_of xs; history = h })) (sym adds.history) (drains is may');
+      takes = subst (λ h. TurnLeads (setting_of m r limit) (script_state xs r) turn (record { threads = map runner_state xs; history = h })) (sym adds.history) (drains is may');
       set = record { programs = is-set.programs; count = adds.threads ∙ is-set.count; initial = subst (IsInit m) (sym adds.initial) is-set.initial };
       count = refl;
       initial = adds.initial;
     }
 turn_drained m limit turn drain xs r r' is-set is (runner.stays cannot same) =
-    let count : length (map standing_of xs) ≡ threads_of r = length-map xs standing_of ∙ sym is-set.count in
+    let count : length (map runner_state xs) ≡ threads_of r = length-map xs runner_state ∙ sym is-set.count in
     record {
-      takes = subst (λ x. Takes (setting_of m r limit) (scene_of xs r) turn (scene_of xs x)) (sym same)
+      takes = subst (λ x. TurnLeads (setting_of m r limit) (script_state xs r) turn (script_state xs x)) (sym same)
           (keeps is (λ may. cannot (subst (λ n. MayFollow n (length (initial_of r)) (steps_of r) drain) count may)));
       set = subst (IsSet m xs) (sym same) is-set;
       count = refl;

@@ -6,13 +6,13 @@ use Rattle.wm_run.specs.declared.fault.RunFault.{RunFault}
 use Rattle.wm_run.specs.declared.fault.RunFault.TheVariants as run
 use Rattle.wm_run.specs.declared.runner.Runner.{Runner}
 use Rattle.wm_run.specs.Refusal.{IsFirstRefused}
-use Rattle.wm_run.specs.Runner.{standing_of}
+use Rattle.wm_run.specs.Runner.{runner_state}
 use Rattle.wm_run.specs.Scripted.{Begins}
 
 -- a thread of the module that begins with this start
 pub record IsLaunched (m : Module) (start : Start) (runner : Runner) : Type 0 where
   pub program : runner.thread.module ≡ m
-  pub begins : Begins m start (standing_of runner)
+  pub begins : Begins m start (runner_state runner)
 
 -- one for each start
 pub record AreLaunched (m : Module) (starts : List Start) (runners : List Runner) : Type 0 where

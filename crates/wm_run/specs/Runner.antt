@@ -10,19 +10,19 @@ use Rattle.wm_run.specs.declared.runner.Moved.{Moved}
 use Rattle.wm_run.specs.declared.runner.Moved.TheVariants.{Stepped, Rested}
 use Rattle.wm_run.specs.declared.runner.Runner.{Runner}
 use Rattle.wm_run.specs.declared.turn.Turn.{Turn}
-use Rattle.wm_run.specs.Script.{Plays, Rests, Scene, Setting, Standing, StepsTo, Takes}
+use Rattle.wm_run.specs.Script.{TurnsLead, Rests, ScriptState, Setting, ThreadState, StepsTo, TurnLeads}
 
-abbrev pub standing : State → ℕ → Standing
-standing thread made = record { config = config_of thread; made = made }
+abbrev pub thread_state : State → ℕ → ThreadState
+thread_state thread made = record { config = config_of thread; made = made }
 
-abbrev pub standing_of : Runner → Standing
-standing_of runner = standing runner.thread runner.made
+abbrev pub runner_state : Runner → ThreadState
+runner_state runner = thread_state runner.thread runner.made
 
 abbrev pub setting_of : Module → Recording → ℕ → Setting
 setting_of m recorder limit = record { program = m; initial = initial_of recorder; limit = limit }
 
-abbrev pub scene_of : List Runner → Recording → Scene
-scene_of runners recorder = record { threads = map standing_of runners; history = recorder.history }
+abbrev pub script_state : List Runner → Recording → ScriptState
+script_state runners recorder = record { threads = map runner_state runners; history = recorder.history }
 
 -- the threads are of the module, and the recorder is of as many over its initial memory
 pub record IsSet (m : Module) (runners : List Runner) (recorder : Recording) : Type 0 where
@@ -31,7 +31,7 @@ pub record IsSet (m : Module) (runners : List Runner) (recorder : Recording) : T
   pub initial : IsInit m (initial_of recorder)
 
 -- a step of thread t led from the one to the other
-pub record Goes (m : Module) (t limit : ℕ) (old : Standing) (recorder : Recording) (new : Standing) (recorder' : Recording) : Type 0 where
+pub record Goes (m : Module) (t limit : ℕ) (old : ThreadState) (recorder : Recording) (new : ThreadState) (recorder' : Recording) : Type 0 where
   pub items : List Item
   pub steps : StepsTo (setting_of m recorder limit) recorder.history t old new items
   pub adds : Adds items recorder recorder'
@@ -39,15 +39,15 @@ pub record Goes (m : Module) (t limit : ℕ) (old : Standing) (recorder : Record
 -- whatever limit it is below, and however many steps it made
 abbrev pub Advances : ℕ → State → Recording → State → Recording → Moved → Type 0
 Advances t old recorder new recorder' Stepped =
-    (made limit : ℕ) → suc made ≤ limit → Goes old.module t limit (standing old made) recorder (standing new (suc made)) recorder'
+    (made limit : ℕ) → suc made ≤ limit → Goes old.module t limit (thread_state old made) recorder (thread_state new (suc made)) recorder'
 Advances t old recorder new recorder' Rested =
-    (new ≡ old) × (recorder' ≡ recorder) × ((made limit : ℕ) → Rests (setting_of old.module recorder limit) recorder.history (standing old made))
+    (new ≡ old) × (recorder' ≡ recorder) × ((made limit : ℕ) → Rests (setting_of old.module recorder limit) recorder.history (thread_state old made))
 
 -- it made a step, or rests as it was
 -- a step of thread t, or none where it rests
 pub data Moves (t limit : ℕ) (old : Runner) (recorder : Recording) (new : Runner) (recorder' : Recording) : Type 0 where
-  goes : Goes old.thread.module t limit (standing_of old) recorder (standing_of new) recorder' → Moves t limit old recorder new recorder'
-  stays : new ≡ old → recorder' ≡ recorder → Rests (setting_of old.thread.module recorder limit) recorder.history (standing_of old) → Moves t limit old recorder new recorder'
+  goes : Goes old.thread.module t limit (runner_state old) recorder (runner_state new) recorder' → Moves t limit old recorder new recorder'
+  stays : new ≡ old → recorder' ≡ recorder → Rests (setting_of old.thread.module recorder limit) recorder.history (runner_state old) → Moves t limit old recorder new recorder'
 
 -- the drain may follow what the recorder holds
 abbrev pub MayDrainFrom : Recording → Item → Type 0
@@ -60,14 +60,14 @@ pub data DrainsBy (drain : Item) (old new : Recording) : Type 0 where
 
 -- the turn was taken, and as many threads go on over the same memory
 pub record TakesTurn (m : Module) (limit : ℕ) (turn : Turn) (old : List Runner) (recorder : Recording) (new : List Runner) (recorder' : Recording) : Type 0 where
-  pub takes : Takes (setting_of m recorder limit) (scene_of old recorder) turn (scene_of new recorder')
+  pub takes : TurnLeads (setting_of m recorder limit) (script_state old recorder) turn (script_state new recorder')
   pub set : IsSet m new recorder'
   pub count : length new ≡ length old
   pub initial : initial_of recorder' ≡ initial_of recorder
 
 -- the same of turns one after the other
 pub record PlaysTurns (m : Module) (limit : ℕ) (turns : List Turn) (old : List Runner) (recorder : Recording) (new : List Runner) (recorder' : Recording) : Type 0 where
-  pub plays : Plays (setting_of m recorder limit) (scene_of old recorder) turns (scene_of new recorder')
+  pub plays : TurnsLead (setting_of m recorder limit) (script_state old recorder) turns (script_state new recorder')
   pub set : IsSet m new recorder'
   pub count : length new ≡ length old
   pub initial : initial_of recorder' ≡ initial_of recorder

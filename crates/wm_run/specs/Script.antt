@@ -21,13 +21,13 @@ pub record Setting : Type 0 where
   pub limit : ℕ
 
 -- where a thread stands, behind so many steps
-pub record Standing : Type 0 where
+pub record ThreadState : Type 0 where
   pub config : Config
   pub made : ℕ
 
 -- the threads, and what they did to memory, the oldest first
-pub record Scene : Type 0 where
-  pub threads : List Standing
+pub record ScriptState : Type 0 where
+  pub threads : List ThreadState
   pub history : List Item
 
 -- what the history did, the newest first
@@ -35,7 +35,7 @@ abbrev pub done : Setting → List Item → List Done
 done g history = steps g.initial (reverse history)
 
 -- the thread makes no further step: it has ended, has made its steps, or stands before an access where the log is full
-pub data Rests (g : Setting) (history : List Item) (thread : Standing) : Type 0 where
+pub data Rests (g : Setting) (history : List Item) (thread : ThreadState) : Type 0 where
   ended : (end : End) → thread.config ≡ Over end → Rests g history thread
   spent : g.limit ≤ thread.made → Rests g history thread
   full : (op : OpFields) → ((read : ℕ) → access_of (step g.program read thread.config) ≡ Some op) → 16384 ≤ length (events (done g history))
@@ -46,7 +46,7 @@ abbrev pub value_read : Setting → List Item → ℕ → OpFields → ℕ
 value_read g history t op = (made_after g.initial (ready (done g history) t op) t op).read
 
 -- the next step of thread t leads to there, and adds these items to the history
-pub data StepsTo (g : Setting) (history : List Item) (t : ℕ) (thread : Standing) : Standing → List Item → Type 0 where
+pub data StepsTo (g : Setting) (history : List Item) (t : ℕ) (thread : ThreadState) : ThreadState → List Item → Type 0 where
   local : {next : Config} → thread.made < g.limit → step g.program 0 thread.config ≡ Went None next
       → StepsTo g history t thread (record { config = next; made = suc thread.made }) []
   access : {op : OpFields} {next : Config} → thread.made < g.limit → length (events (done g history)) < 16384
@@ -60,21 +60,21 @@ drain_of (Drain t) = Some (item.Drain t)
 drain_of (DrainAt t k) = Some (item.DrainAt t k)
 
 -- the drain may follow the history
-abbrev pub MayDrain : Setting → Scene → Item → Type 0
-MayDrain g scene drain = MayFollow (length scene.threads) (length g.initial) (done g scene.history) drain
+abbrev pub MayDrain : Setting → ScriptState → Item → Type 0
+MayDrain g state drain = MayFollow (length state.threads) (length g.initial) (done g state.history) drain
 
--- what a turn makes of a scene
-pub data Takes (g : Setting) (old : Scene) : Turn → Scene → Type 0 where
-  steps_on : {t : ℕ} {thread next : Standing} {items : List Item} → slice_get old.threads t ≡ Some thread → StepsTo g old.history t thread next items
-      → Takes g old (Step t) (record { threads = slice_set old.threads t next; history = old.history ++ items })
+-- the state that a turn leads to
+pub data TurnLeads (g : Setting) (old : ScriptState) : Turn → ScriptState → Type 0 where
+  steps_on : {t : ℕ} {thread next : ThreadState} {items : List Item} → slice_get old.threads t ≡ Some thread → StepsTo g old.history t thread next items
+      → TurnLeads g old (Step t) (record { threads = slice_set old.threads t next; history = old.history ++ items })
   -- a step of a thread that rests does nothing
-  rests : {t : ℕ} {thread : Standing} → slice_get old.threads t ≡ Some thread → Rests g old.history thread → Takes g old (Step t) old
+  rests : {t : ℕ} {thread : ThreadState} → slice_get old.threads t ≡ Some thread → Rests g old.history thread → TurnLeads g old (Step t) old
   drains : {turn : Turn} {drain : Item} → drain_of turn ≡ Some drain → MayDrain g old drain
-      → Takes g old turn (record { threads = old.threads; history = old.history ++ drain ∷ [] })
+      → TurnLeads g old turn (record { threads = old.threads; history = old.history ++ drain ∷ [] })
   -- a drain that may not follow does nothing
-  keeps : {turn : Turn} {drain : Item} → drain_of turn ≡ Some drain → (MayDrain g old drain → ⊥) → Takes g old turn old
+  keeps : {turn : Turn} {drain : Item} → drain_of turn ≡ Some drain → (MayDrain g old drain → ⊥) → TurnLeads g old turn old
 
--- what the turns make of a scene, one after the other
-abbrev pub Plays : Setting → Scene → List Turn → Scene → Type 0
-Plays g first [] last = first ≡ last
-Plays g first (turn ∷ turns) last = (next : Scene) × Takes g first turn next × Plays g next turns last
+-- the state that the turns lead to, one after the other
+abbrev pub TurnsLead : Setting → ScriptState → List Turn → ScriptState → Type 0
+TurnsLead g first [] last = first ≡ last
+TurnsLead g first (turn ∷ turns) last = (next : ScriptState) × TurnLeads g first turn next × TurnsLead g next turns last

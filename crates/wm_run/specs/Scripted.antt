@@ -11,27 +11,27 @@ use Rattle.wm_valid.specs.Valid.{IsInit}
 use Rattle.wm_run.specs.declared.plan.Plan.{Plan}
 use Rattle.wm_run.specs.declared.turn.Turn.{Turn}
 use Rattle.wm_run.specs.Run.{Record}
-use Rattle.wm_run.specs.Script.{Plays, Scene, Setting, Standing, done}
+use Rattle.wm_run.specs.Script.{TurnsLead, ScriptState, Setting, ThreadState, done}
 
 -- a thread that begins with this start, before its first step
-pub record Begins (m : Module) (start : Start) (thread : Standing) : Type 0 where
+pub record Begins (m : Module) (start : Start) (thread : ThreadState) : Type 0 where
   pub config : started m start.name start.args ≡ Ok thread.config
   pub made : thread.made ≡ 0
 
 -- each thread begins with its start, and nothing was done to memory
-pub record IsFirstScene (m : Module) (starts : List Start) (scene : Scene) : Type 0 where
-  pub count : length scene.threads ≡ length starts
-  pub each : (t : ℕ) (start : Start) (thread : Standing) → slice_get starts t ≡ Some start → slice_get scene.threads t ≡ Some thread → Begins m start thread
-  pub history : scene.history ≡ []
+pub record IsFirstState (m : Module) (starts : List Start) (state : ScriptState) : Type 0 where
+  pub count : length state.threads ≡ length starts
+  pub each : (t : ℕ) (start : Start) (thread : ThreadState) → slice_get starts t ≡ Some start → slice_get state.threads t ≡ Some thread → Begins m start thread
+  pub history : state.history ≡ []
 
 -- what is logged of thread t: its events are those of the steps, the newest first, and it is cut where it hasn't ended
-abbrev pub thread_log : List Step → ℕ → Start → Standing → ThreadLog
+abbrev pub thread_log : List Step → ℕ → Start → ThreadState → ThreadLog
 thread_log s t start thread = record { start = start; end = end_of thread.config; steps = thread.made; events = events_of s t }
 
--- the log and the witness of the last scene
-pub record IsLogOf (starts : List Start) (threads : List Standing) (s : List Step) (run : Record) : Type 0 where
+-- the log and the witness of the last state
+pub record IsLogOf (starts : List Start) (threads : List ThreadState) (s : List Step) (run : Record) : Type 0 where
   pub count : length run.log ≡ length starts
-  pub each : (t : ℕ) (start : Start) (thread : Standing) → slice_get starts t ≡ Some start → slice_get threads t ≡ Some thread → slice_get run.log t ≡ Some (thread_log s t start thread)
+  pub each : (t : ℕ) (start : Start) (thread : ThreadState) → slice_get starts t ≡ Some start → slice_get threads t ≡ Some thread → slice_get run.log t ≡ Some (thread_log s t start thread)
   pub writers : run.witness.writers ≡ by_thread (writers_of s) (length starts)
   pub order : run.witness.order ≡ order_of s
 
@@ -41,10 +41,10 @@ pub record IsScripted (m : Module) (plan : Plan) (turns : List Turn) (run : Reco
   pub program : setting.program ≡ m
   pub initial : IsInit m setting.initial
   pub limit : setting.limit ≡ plan.steps
-  pub first : Scene
-  pub last : Scene
-  pub begins : IsFirstScene m plan.starts first
-  pub plays : Plays setting first turns last
+  pub first : ScriptState
+  pub last : ScriptState
+  pub begins : IsFirstState m plan.starts first
+  pub plays : TurnsLead setting first turns last
   pub logged : IsLogOf plan.starts last.threads (done setting last.history) run
 
 -- a module, a plan and turns have one scripted run
