@@ -1,5 +1,5 @@
 //! Exports by name, in the order of the file (Core 1.0, section 2.5.10).
-ghost use Rattle.std.specs.Prelude.{◌≡◌, [], ◌∷◌, ◌++◌, length, slice_get, option_map, OnOk, OnErr, None, string_bytes};
+ghost use Rattle.std.specs.Prelude.{◌≡◌, [], ◌∷◌, ◌++◌, length, slice_get, option_copied, option_map, OnOk, OnErr, None, string_bytes};
 ghost use Rattle.wm_ast.specs.Exports.{export_at};
 
 use indexmap::IndexMap;
@@ -68,6 +68,14 @@ impl Exports {
     {
         let (_, export) = self.by_name.get_index(position)?;
         Some(*export)
+    }
+
+    /// The name of the export at `position` in the order of the file, counted from 0; None at the length and past it.
+    pub fn name_at(&self, position: usize) -> Option<&str>
+        ensures { option_copied result ≡ option_map (λ e. e.0) (slice_get self.now position) }
+    {
+        let (name, _) = self.by_name.get_index(position)?;
+        Some(name.as_str())
     }
 
     /// Adds an export under a new name behind the others. Nothing is changed where memory is refused.

@@ -1,3 +1,4 @@
 pub mod Invalid
 pub mod Alone
 pub mod CompletedFits
+pub mod Candidates

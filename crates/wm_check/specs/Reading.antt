@@ -1,5 +1,5 @@
 -- What the parts of a check find.
-use Rattle.std.specs.Prelude.{ℕ, List}
+use Rattle.std.specs.Prelude.{◌≡◌, ℕ, List, Option, Some, None}
 use Rattle.wm_ast.specs.declared.module.Module.{Module}
 use Rattle.wm_event.specs.declared.log.ThreadLog.{ThreadLog}
 use Rattle.wm_event.specs.declared.witness.Witness.{Witness}
@@ -10,9 +10,12 @@ use Rattle.wm_check.specs.declared.checker.Unread.{Unread}
 use Rattle.wm_check.specs.declared.checker.Unread.TheVariants.{Refused, OutOfMemory}
 use Rattle.wm_check.specs.declared.verdict.Refusal.{Refusal}
 use Rattle.wm_check.specs.declared.verdict.Refusal.TheVariants as refusal
+use Rattle.wm_check.specs.declared.verdict.Breach.{Breach}
+use Rattle.wm_check.specs.declared.verdict.Certificate.{Certificate}
 use Rattle.wm_check.specs.declared.verdict.Verdict.{Verdict}
+use Rattle.wm_check.specs.declared.verdict.Verdict.TheVariants as verdict
 use Rattle.wm_valid.specs.Valid.{IsInit}
-use Rattle.wm_check.specs.Run.{IsModuleOf}
+use Rattle.wm_check.specs.Run.{IsCandidateOf, IsModuleOf}
 use Rattle.wm_check.specs.Verdicts.{IsInvalid, IsNoModule, Says}
 
 -- why the bytes of a module give none
@@ -47,3 +50,32 @@ abbrev pub ComparesLog : Module → LoggedRun → Verdict → Type 0
 ComparesLog «module» run verdict =
     (module_bytes document_bytes : List ℕ) → IsModuleOf module_bytes «module» → IsDocumentOf document_bytes run.log run.witness → IsInit «module» run.initial
     → IsWellShaped run → Says module_bytes document_bytes verdict
+
+-- what the verdict says of these bytes of a document and all bytes that spell the module
+abbrev pub SaysOver : Module → List ℕ → Verdict → Type 0
+SaysOver «module» document_bytes verdict =
+    (module_bytes : List ℕ) → IsModuleOf module_bytes «module» → Says module_bytes document_bytes verdict
+
+-- a candidate of this log and this witness over the module's initial memory
+pub record IsCandidateOver («module» : Module) (log : List ThreadLog) (witness : Witness) (run : LoggedRun) : Type 0 where
+  pub log_is : run.log ≡ log
+  pub witness_is : run.witness ≡ witness
+  pub initial : IsInit «module» run.initial
+  pub shape : IsWellShaped run
+
+-- the candidate that these bytes of a document spell over the module's initial memory
+abbrev pub IsRecordedOver : Module → List ℕ → LoggedRun → Type 0
+IsRecordedOver «module» document_bytes run =
+    (module_bytes : List ℕ) → IsModuleOf module_bytes «module» → IsCandidateOf module_bytes document_bytes «module» run
+
+-- the verdict is no refusal
+abbrev pub IsJudged : Verdict → Type 0
+IsJudged (verdict.Refused refusal) = ⊥
+IsJudged (verdict.Allowed certificate) = Unit {0}
+IsJudged (verdict.Broken breach) = Unit {0}
+
+-- there is a candidate just where the verdict is no refusal
+abbrev pub HasCandidate : {X : Type 0} → Verdict → Option X → Type 0
+HasCandidate (verdict.Refused refusal) candidate = candidate ≡ None
+HasCandidate {X} (verdict.Allowed certificate) candidate = (run : X) × (candidate ≡ Some run)
+HasCandidate {X} (verdict.Broken breach) candidate = (run : X) × (candidate ≡ Some run)

@@ -1,10 +1,10 @@
 //! The check of a log against a module.
-ghost use Rattle.std.specs.Prelude.{◌≡◌, ◌≤◌, IfErr, IfOk};
+ghost use Rattle.std.specs.Prelude.{◌≡◌, ◌≤◌, IfErr, IfOk, IfSome};
 ghost use Rattle.wm_event.specs.Shape.{event_count};
 ghost use Rattle.wm_event.specs.Shape.{IsWellShaped};
 ghost use Rattle.wm_logfile.specs.DocumentBytes.{IsDocumentOf};
 ghost use Rattle.wm_check.specs.Run.{IsModuleOf};
-ghost use Rattle.wm_check.specs.Reading.{ComparesLog, ComparesOver, IsUnreadDocument, IsUnreadModule};
+ghost use Rattle.wm_check.specs.Reading.{ComparesLog, ComparesOver, HasCandidate, IsCandidateOver, IsJudged, IsRecordedOver, IsUnreadDocument, IsUnreadModule, SaysOver};
 ghost use Rattle.wm_check.specs.Verdicts.{IfAllowed, IfBroken, IfRefused, IsAllowed, IsBrokenBy, IsRefusedFor, Says};
 ghost use Rattle.wm_check.specs.declared.checker.Unread.TheVariants.{OutOfMemory};
 
@@ -73,7 +73,8 @@ fn compare<R: AllocGlobal + Threads + Sync>(
     module: &ValidModule,
     candidate: &Candidate,
 ) -> Result<Verdict, AllocError>
-    ensures { IfOk result (ComparesLog «module».now candidate.now) }
+    ensures says { IfOk result (ComparesLog «module».now candidate.now) }
+    ensures judged { IfOk result IsJudged }
 {
     let answer = replay(rt, module, candidate.log())?;
     if answer != ReplayAnswer::Same {
@@ -91,19 +92,59 @@ fn compare<R: AllocGlobal + Threads + Sync>(
     }
 }
 
+/// A verdict on a document, with the candidate that it speaks of.
+#[derive(Drop)]
+pub struct CheckedLog<'m> {
+    pub verdict: Verdict,
+    /// The log with its witness over the module's initial memory; None where they are refused.
+    pub candidate: Option<Candidate<'m>>,
+}
+
 /// The verdict on a log with a witness over the initial memory of a module.
-fn compare_log<R: AllocGlobal + Threads + Sync>(
+fn compare_log<'m, R: AllocGlobal + Threads + Sync>(
     rt: &R,
-    module: &ValidModule,
+    module: &'m ValidModule,
     log: Log,
     witness: Witness,
-) -> Result<Verdict, AllocError>
-    ensures { IfOk result (ComparesOver «module».now log witness) }
+) -> Result<CheckedLog<'m>, AllocError>
+    ensures verdict { IfOk result (λ checked. ComparesOver «module».now log witness checked.verdict) }
+    ensures candidate { IfOk result (λ checked. IfSome checked.candidate (IsCandidateOver «module».now log witness)) }
+    ensures refused { IfOk result (λ checked. HasCandidate checked.verdict checked.candidate) }
 {
     match Candidate::new(rt.alloc(), log, witness, module.initial()) {
-        Ok(candidate) => compare(rt, module, &candidate),
+        Ok(candidate) => Ok(CheckedLog {
+            verdict: compare(rt, module, &candidate)?,
+            candidate: Some(candidate),
+        }),
         Err(ShapeFault::OutOfMemory) => Err(AllocError),
-        Err(fault) => Ok(Verdict::Refused(Refusal::Shape(fault))),
+        Err(fault) => Ok(CheckedLog {
+            verdict: Verdict::Refused(Refusal::Shape(fault)),
+            candidate: None,
+        }),
+    }
+}
+
+/// Checks the bytes of a log against a valid module, as [`check`] does, and keeps the candidate.
+///
+/// # Errors
+///
+/// Only where memory was refused.
+pub fn check_log<'m, R: AllocGlobal + Threads + Sync>(
+    rt: &R,
+    module: &'m ValidModule,
+    document_bytes: &[u8],
+) -> Result<CheckedLog<'m>, AllocError>
+    ensures verdict { IfOk result (λ checked. SaysOver «module».now document_bytes.now checked.verdict) }
+    ensures candidate { IfOk result (λ checked. IfSome checked.candidate (IsRecordedOver «module».now document_bytes.now)) }
+    ensures refused { IfOk result (λ checked. HasCandidate checked.verdict checked.candidate) }
+{
+    match read_log(rt.alloc(), document_bytes) {
+        Ok((log, witness)) => compare_log(rt, module, log, witness),
+        Err(Unread::Refused(refusal)) => Ok(CheckedLog {
+            verdict: Verdict::Refused(refusal),
+            candidate: None,
+        }),
+        Err(Unread::OutOfMemory) => Err(AllocError),
     }
 }
 
@@ -120,11 +161,8 @@ fn verdict_of<R: AllocGlobal + Threads + Sync>(
         Err(Unread::Refused(refusal)) => return Ok(Verdict::Refused(refusal)),
         Err(Unread::OutOfMemory) => return Err(AllocError),
     };
-    match read_log(rt.alloc(), document_bytes) {
-        Ok((log, witness)) => compare_log(rt, &module, log, witness),
-        Err(Unread::Refused(refusal)) => Ok(Verdict::Refused(refusal)),
-        Err(Unread::OutOfMemory) => Err(AllocError),
-    }
+    let checked = check_log(rt, &module, document_bytes)?;
+    Ok(checked.verdict)
 }
 
 /// Checks the bytes of a log against the bytes of a module, whoever made them: in the order decode, valid, document,

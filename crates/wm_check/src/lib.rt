@@ -6,7 +6,7 @@ mod completed;
 mod law;
 mod verdict;
 
-pub use checker::{Unread, check, read_module};
+pub use checker::{CheckedLog, Unread, check, check_log, read_module};
 pub use completed::{CompletedDocument, complete_document};
 pub use law::one_verdict;
 pub use verdict::{Breach, Certificate, Refusal, Verdict};

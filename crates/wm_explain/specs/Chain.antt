@@ -1,11 +1,12 @@
 -- Chains of happens-before whose links say which edges they are.
-use Rattle.std.specs.Prelude.{◌≡◌, ◌+◌, ◌<◌, ◌≤◌, List, [], ◌∷◌, IsSome, length}
+use Rattle.std.specs.Prelude.{◌≡◌, ◌+◌, ◌<◌, ◌≤◌, List, [], ◌∷◌, All, IsSome, length}
 use Rattle.wm_event.specs.declared.event.EventKey.{EventKey}
 use Rattle.wm_event.specs.declared.event.EventId.{EventId}
 use Rattle.wm_event.specs.declared.event.EventId.TheVariants.{Init, At}
 use Rattle.wm_event.specs.Execution.{Execution}
 use Rattle.wm_event.specs.HappensBefore.{SequencedBefore, SynchronizesWith, Chain}
 use Rattle.wm_explain.specs.declared.chain.Link.{Link}
+use Rattle.wm_explain.specs.declared.fault_chain.FaultChain.{FaultChain}
 use Rattle.wm_explain.specs.declared.chain.LinkKind.{LinkKind}
 use Rattle.wm_explain.specs.declared.chain.LinkKind.TheVariants.{Initial, Sequenced, Synchronizes}
 
@@ -29,3 +30,7 @@ pub record IsShortestChain (x : Execution) (a : EventId) (links : List Link) (b 
   pub leads : Leads x a links b
   pub some : 0 < length links
   pub shortest : (between : List EventId) → Chain x a between b → length links ≤ length between + 1
+
+-- each of these is a shortest chain between its two events
+abbrev pub AreChains : Execution → List FaultChain → Type 0
+AreChains x chains = All (λ chain. IsShortestChain x chain.from chain.links chain.to) chains

@@ -1,2 +1,3 @@
 pub mod Chain
 pub mod Table
+pub mod Difference

@@ -3,9 +3,13 @@
 
 mod allowed;
 mod chain;
+mod document_part;
+mod fault_chain;
+mod instr;
 mod log_refusal;
 mod module_refusal;
 mod phrase;
+mod position;
 mod reasons;
 mod replay;
 mod row;
@@ -13,7 +17,8 @@ mod rule;
 mod table;
 
 pub use chain::{Link, LinkKind, shortest_chain};
-pub use reasons::explain;
+pub use fault_chain::{FaultChain, fault_chains};
+pub use reasons::{explain, explain_refusal, explain_run};
 pub use rule::grounds;
 
 #[cfg(test)]

@@ -1,10 +1,10 @@
 //! Why a document or its log is refused.
 
-use crate::phrase::Count;
+use crate::document_part::{PartPhrase, count_threads};
 use std::alloc::{AllocError, Global};
 use std::fmt;
 use wm_event::{EventKey, Log, ShapeFault, Witness};
-use wm_logfile::{DocFault, Path};
+use wm_logfile::{DocFault, MAX_DOCUMENT_BYTES};
 
 /// What the format wants at a path.
 #[derive(Clone, Copy)]
@@ -49,6 +49,40 @@ impl fmt::Display for WantedPhrase<'_> {
     }
 }
 
+/// What stands in a document where a fault is, and what is wanted there.
+#[derive(Clone, Copy)]
+struct FoundAndWanted<'a>(PartPhrase<'a>);
+
+impl fmt::Display for FoundAndWanted<'_> {
+    fn fmt<W: fmt::Write>(&self, f: &mut fmt::Formatter<W>) -> fmt::Result {
+        let wanted = WantedPhrase(self.0.path);
+        write!(f, "Found is {}\nWanted is {wanted}.", self.0)
+    }
+}
+
+/// Of what a document has too much.
+#[derive(Clone, Copy)]
+struct TooLargeSentence<'a>(&'a [u8]);
+
+impl fmt::Display for TooLargeSentence<'_> {
+    fn fmt<W: fmt::Write>(&self, f: &mut fmt::Formatter<W>) -> fmt::Result {
+        let size = self.0.len();
+        if size > MAX_DOCUMENT_BYTES {
+            return write!(
+                f,
+                "The document has more than 8388608 bytes, the most that are read; {size} of them were looked at."
+            );
+        }
+        match count_threads(self.0) {
+            Some(threads) => write!(
+                f,
+                "The document has {threads} threads, and at most 16 are read."
+            ),
+            None => f.write_str("The document has too many threads, and at most 16 are read."),
+        }
+    }
+}
+
 /// Why the bytes are no document.
 ///
 /// # Errors
@@ -66,26 +100,31 @@ pub(crate) fn document_reason(
             )
         }
         DocFault::BadVersion => {
+            let part = PartPhrase {
+                document: bytes,
+                path: &[1],
+            };
             format!(in alloc;
-                "The document's version, its second item, is a number other than 1 and 2.\n"
+                "The document's version, its second item, is a number other than 1 and 2.\nFound is {part}\n"
             )
         }
-        DocFault::TooLarge => {
-            let size = Count(bytes.len() as u64, "byte");
-            format!(in alloc;
-                "The document has more than 8388608 bytes or more than 16 threads; {size} of it were read.\n"
-            )
-        }
+        DocFault::TooLarge => format!(in alloc; "{}\n", TooLargeSentence(bytes)),
         DocFault::BadShape(path) => {
-            let wanted = WantedPhrase(path.indices());
+            let parts = FoundAndWanted(PartPhrase {
+                document: bytes,
+                path: path.indices(),
+            });
             format!(in alloc;
-                "At {path} the document has another kind of value than is wanted there, a list of another length, or an unknown word.\nWanted is {wanted}.\n"
+                "At {path} the document has another kind of value than is wanted there, a list of another length, or an unknown word.\n{parts}\n"
             )
         }
         DocFault::NumberRange(path) => {
-            let wanted = WantedPhrase(path.indices());
+            let parts = FoundAndWanted(PartPhrase {
+                document: bytes,
+                path: path.indices(),
+            });
             format!(in alloc;
-                "At {path} the document has a number that is out of its range, or with a sign, a fraction or an exponent.\nWanted is {wanted}.\n"
+                "At {path} the document has a number that is out of its range, or with a sign, a fraction or an exponent.\n{parts}\n"
             )
         }
         DocFault::Misplaced => {

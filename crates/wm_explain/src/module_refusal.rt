@@ -8,61 +8,117 @@ use wm_valid::{FaultKind as ValidKind, Location, ValidFault};
 /// How many bytes are shown before a faulty one, and how many from it on.
 const AROUND: usize = 8;
 
+/// A number that passes a limit, where it is known.
+#[derive(Clone, Copy)]
+struct Found(Option<u64>);
+
+impl fmt::Display for Found {
+    fn fmt<W: fmt::Write>(&self, f: &mut fmt::Formatter<W>) -> fmt::Result {
+        match self.0 {
+            Some(number) => write!(f, "{number}"),
+            None => f.write_str("too many"),
+        }
+    }
+}
+
 /// What there is too much of.
 #[derive(Clone, Copy)]
-struct LimitSentence(Limit);
+struct LimitSentence {
+    limit: Limit,
+    found: Found,
+}
 
 impl fmt::Display for LimitSentence {
     fn fmt<W: fmt::Write>(&self, f: &mut fmt::Formatter<W>) -> fmt::Result {
-        match self.0 {
-            Limit::ModuleBytes => f.write_str("The module has more than 1048576 bytes."),
-            Limit::Pages => f.write_str("The memory has more than 16 pages at first."),
-            Limit::Functions => f.write_str("The module has more than 1000 functions."),
-            Limit::Locals => {
-                f.write_str("A function has more than 1000 parameters and locals together.")
-            }
-            Limit::Nesting => {
-                f.write_str("In a function's body more than 64 blocks stand inside one another.")
-            }
+        let found = self.found;
+        match self.limit {
+            Limit::ModuleBytes => write!(
+                f,
+                "The module has more than 1048576 bytes, the most that are read; {found} of them were looked at."
+            ),
+            Limit::Pages => write!(
+                f,
+                "The memory has {found} pages at first, and at most 16 are read."
+            ),
+            Limit::Functions => write!(
+                f,
+                "The module has {found} functions, and at most 1000 are read."
+            ),
+            Limit::Locals => f.write_str(
+                "A function has more than 1000 parameters and locals together, the most that are read.",
+            ),
+            Limit::Nesting => f.write_str(
+                "This is the 65th block inside one another in a function's body, and at most 64 are read.",
+            ),
         }
     }
 }
 
 /// What is wrong with the bytes of a module.
 #[derive(Clone, Copy)]
-pub(crate) struct DecodeSentence(pub FaultKind);
+pub(crate) struct DecodeSentence {
+    pub kind: FaultKind,
+    /// The number that passes a limit, where it is known.
+    pub found: Option<u64>,
+}
 
 impl fmt::Display for DecodeSentence {
     fn fmt<W: fmt::Write>(&self, f: &mut fmt::Formatter<W>) -> fmt::Result {
-        match self.0 {
-            FaultKind::Magic => f.write_str("A binary module begins with the bytes 00 61 73 6d."),
+        let text = match self.kind {
+            FaultKind::Magic => "A binary module begins with the bytes 00 61 73 6d.",
             FaultKind::Version => {
-                f.write_str(
-                    "Behind its first four bytes a binary module has 01 00 00 00, the version.",
-                )
+                "Behind its first four bytes a binary module has 01 00 00 00, the version."
             }
-            FaultKind::Truncated => f.write_str("The bytes end where more have to come."),
-            FaultKind::BadNumber => f.write_str(
+            FaultKind::Truncated => "The bytes end where more have to come.",
+            FaultKind::BadNumber =>
                 "A number is too long or too large here, or a byte isn't one of those that may stand here.",
-            ),
-            FaultKind::BadName => f.write_str("A name isn't UTF-8."),
-            FaultKind::SectionOrder => f.write_str(
-                "A section stands twice, or behind one that it has to stand before.",
-            ),
-            FaultKind::SectionSize => f.write_str(
-                "An item runs past the size of its section or body, or bytes are left over there.",
-            ),
-            FaultKind::CountMismatch => f.write_str("Two counts that have to agree don't agree."),
-            FaultKind::UnknownOpcode(opcode) => {
-                write!(f, "No instruction has the opcode {opcode:02x}.")
+            FaultKind::BadName => "A name isn't UTF-8.",
+            FaultKind::SectionOrder => {
+                "A section stands twice, or behind one that it has to stand before."
             }
-            FaultKind::Unsupported(feature) => write!(
-                f,
-                "The module uses a part of WebAssembly that is left out here: {feature}."
-            ),
-            FaultKind::Limit(limit) => write!(f, "{}", LimitSentence(limit)),
-            FaultKind::DuplicateExport => f.write_str("Two exports have one name."),
+            FaultKind::SectionSize =>
+                "An item runs past the size of its section or body, or bytes are left over there.",
+            FaultKind::CountMismatch => "Two counts that have to agree don't agree.",
+            FaultKind::DuplicateExport => "Two exports have one name.",
+            FaultKind::UnknownOpcode(opcode) => {
+                return write!(f, "No instruction has the opcode {opcode:02x}.");
+            }
+            FaultKind::Unsupported(feature) => {
+                return write!(
+                    f,
+                    "The module uses a part of WebAssembly that is left out here: {feature}."
+                );
+            }
+            FaultKind::Limit(limit) => {
+                let found = Found(self.found);
+                return write!(f, "{}", LimitSentence { limit, found });
+            }
+        };
+        f.write_str(text)
+    }
+}
+
+/// The unsigned number that begins at an offset (Core 1.0, section 5.2.2), where one of at most 32 bits ends there.
+fn number_at(bytes: &[u8], offset: usize) -> Option<u64> {
+    let mut number = 0u64;
+    let mut scale = 1u64;
+    for place in 0..5usize {
+        let byte = bytes.get(offset.saturating_add(place))?;
+        number = number.saturating_add(u64::from(*byte & 127).saturating_mul(scale));
+        scale = scale.saturating_mul(128);
+        if *byte < 128 {
+            return Some(number);
         }
+    }
+    None
+}
+
+/// The number that passes a limit, where the bytes say it at the fault.
+fn found_at(kind: FaultKind, bytes: &[u8], offset: usize) -> Option<u64> {
+    match kind {
+        FaultKind::Limit(Limit::ModuleBytes) => Some(bytes.len() as u64),
+        FaultKind::Limit(Limit::Pages | Limit::Functions) => number_at(bytes, offset),
+        _ => None,
     }
 }
 
@@ -102,7 +158,10 @@ pub(crate) fn decode_reason(
     match fault {
         DecodeFault::OutOfMemory => Err(AllocError),
         DecodeFault::At(kind, offset) => {
-            let sentence = DecodeSentence(*kind);
+            let sentence = DecodeSentence {
+                kind: *kind,
+                found: found_at(*kind, bytes, *offset),
+            };
             let around = BytesAround(bytes, *offset);
             let size = bytes.len();
             format!(in alloc;

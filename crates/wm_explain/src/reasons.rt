@@ -10,7 +10,6 @@ use std::thread::Threads;
 use wm_check::{Breach, Refusal, Unread, Verdict, read_module};
 use wm_event::{Candidate, Log, Witness};
 use wm_logfile::{DocFault, read_document};
-use wm_rules::judge;
 use wm_valid::ValidModule;
 
 /// A log with its witness, None where the bytes spell none.
@@ -22,8 +21,13 @@ fn read_log(alloc: Global, bytes: &[u8]) -> Result<Option<(Log, Witness)>, Alloc
     }
 }
 
-/// Why a refusal comes.
-fn refusal_reason(
+/// What stands behind the line of a refusal of the bytes of a module and of a document: where it is, what was found and
+/// what was wanted, each line ended by a newline.
+///
+/// # Errors
+///
+/// Only where memory was refused.
+pub fn explain_refusal(
     alloc: Global,
     refusal: &Refusal,
     module_bytes: &[u8],
@@ -47,8 +51,14 @@ fn refusal_reason(
     }
 }
 
-/// Why a candidate has its verdict.
-fn candidate_reason<R: AllocGlobal + Threads + Sync>(
+/// What stands behind the line of the verdict that a check gave on a candidate over the initial
+/// memory of a module: in sentences and a table, each line ended by a newline. Nothing stands behind a refusal here: it has
+/// no candidate, and [`explain_refusal`] has its reason.
+///
+/// # Errors
+///
+/// Only where memory was refused.
+pub fn explain_run<R: AllocGlobal + Threads + Sync>(
     rt: &R,
     verdict: &Verdict,
     module: &ValidModule,
@@ -58,10 +68,7 @@ fn candidate_reason<R: AllocGlobal + Threads + Sync>(
         Verdict::Refused(_) => Ok(String::new(rt.alloc())),
         Verdict::Allowed(_) => allowed_reason(rt.alloc(), candidate),
         Verdict::Broken(Breach::Rule(fault)) => rule_reason(rt.alloc(), candidate, fault),
-        Verdict::Broken(Breach::Replay(answer)) => {
-            let judgement = judge(rt, candidate)?;
-            replay_reason(rt.alloc(), module, candidate, *answer, &judgement)
-        }
+        Verdict::Broken(Breach::Replay(answer)) => replay_reason(rt, module, candidate, *answer),
     }
 }
 
@@ -74,13 +81,13 @@ fn log_reason<R: AllocGlobal + Threads + Sync>(
     witness: Witness,
 ) -> Result<String, AllocError> {
     match Candidate::new(rt.alloc(), log, witness, module.initial()) {
-        Ok(candidate) => candidate_reason(rt, verdict, module, &candidate),
+        Ok(candidate) => explain_run(rt, verdict, module, &candidate),
         Err(_) => Err(AllocError),
     }
 }
 
 /// What stands behind the line of the verdict that [`check`](wm_check::check) gave on the bytes of a module and of a
-/// document: in sentences and a table, each line ended by a newline.
+/// document, which are read once more: in sentences and a table, each line ended by a newline.
 ///
 /// # Errors
 ///
@@ -92,7 +99,7 @@ pub fn explain<R: AllocGlobal + Threads + Sync>(
     document_bytes: &[u8],
 ) -> Result<String, AllocError> {
     if let Verdict::Refused(refusal) = verdict {
-        return refusal_reason(rt.alloc(), refusal, module_bytes, document_bytes);
+        return explain_refusal(rt.alloc(), refusal, module_bytes, document_bytes);
     }
     let module = match read_module(rt.alloc(), module_bytes) {
         Ok(module) => module,

@@ -1,40 +1,57 @@
 //! Why a thread's log isn't its run.
-ghost use Rattle.std.specs.Prelude.{◌≡◌, ℕ};
+ghost use Rattle.std.specs.Prelude.{◌≡◌, ℕ, IfOk, slice_get};
 ghost use Rattle.wm_event.specs.Op.{kind_finds};
 ghost use Rattle.wm_event.specs.Reply.{ReadAnswers};
+ghost use Rattle.wm_explain.specs.Difference.{IsFollowed, next_by_log, next_by_module};
+ghost use Rattle.wm_machine.specs.State.{need_of};
 
 use crate::phrase::{Count, EndPhrase, EventPhrase, OpPhrase};
+use crate::position::position_phrase;
 use std::alloc::{AllocError, Global};
+use std::cmp::Ordering;
 use std::fmt;
+use std::thread::Threads;
 use wm_event::{Candidate, End, Event, EventId, Judgement, Op, OpFields, Reply, ThreadLog};
-use wm_machine::{AdvanceFault, Need, StartFault, Thread};
+use wm_machine::{AdvanceFault, CodePosition, Need, StartFault, Thread};
 use wm_num::low_bytes;
 use wm_replay::{Place, ReplayAnswer};
+use wm_rules::judge;
 use wm_valid::ValidModule;
 
 /// How many steps a thread is run for at most.
 const MAX_STEPS: u32 = 1_000_000;
 
-/// Where a thread stands that can't go on by its log.
+/// What comes next in a thread, by its log or by its module.
 #[derive(Clone, Copy)]
-enum Stop {
-    /// It doesn't start.
-    Unstarted,
-    /// It has ended.
-    Ended(End),
-    /// It makes an access that isn't the log's next event.
+pub(crate) enum Next {
+    /// This event of the log.
+    Event(Event),
+    /// No event: the log has no further one.
+    NoEvent,
+    /// This access of the module.
     Access(OpFields),
-    /// It has made [`MAX_STEPS`] steps.
+    /// No access: the thread has ended so.
+    Ended(End),
+    /// No access yet: it has made [`MAX_STEPS`] steps.
     Limit,
+}
+
+/// What the log has next of a thread, and what the module makes there.
+#[derive(Clone, Copy)]
+pub(crate) struct Difference {
+    pub logged: Next,
+    pub made: Next,
 }
 
 /// How far a thread goes on the values of its log.
 #[derive(Clone, Copy)]
-struct Followed {
+pub(crate) struct Followed {
     pub steps: u32,
     /// How many of the log's events it made.
-    pub made: usize,
-    pub stop: Stop,
+    pub events: usize,
+    pub difference: Difference,
+    /// Where it stands then.
+    pub position: CodePosition,
 }
 
 /// The reply to an access that reads as the event does.
@@ -59,69 +76,115 @@ fn is_made(op: &Op, event: &Event) -> bool {
     low_bytes(event.read, width) == event.read && op.event(event.key(), event.read) == *event
 }
 
-/// Makes the next step of a thread where it can be made by the log's next event; else where it stops.
-fn step_on(thread: &mut Thread, next: Option<&Event>) -> Result<Option<Stop>, AllocError> {
-    let reply = match thread.next() {
-        Need::Ended(end) => return Ok(Some(Stop::Ended(end))),
-        Need::Local => None,
-        Need::Access(op) => match next {
-            None => return Ok(Some(Stop::Access(op.fields()))),
-            Some(event) => {
-                if !is_made(&op, event) {
-                    return Ok(Some(Stop::Access(op.fields())));
-                }
-                Some(reply_of(&op, event))
-            }
-        },
+/// What the next step of a thread is beside its log.
+#[derive(Clone, Copy)]
+enum Progress {
+    /// It was made, and makes no access.
+    Local,
+    /// It was made, and makes the log's next event.
+    Event,
+    /// It can't be made by the log.
+    Stands,
+}
+
+/// Makes an access where it is the log's next event.
+fn access_on(thread: &mut Thread, op: &Op, next: Option<&Event>) -> Result<Progress, AllocError>
+    requires { (read : ℕ) → need_of read thread.old ≡ Need.Access op.now }
+{
+    let Some(event) = next else {
+        return Ok(Progress::Stands);
     };
-    match thread.advance(reply) {
-        Ok(()) => Ok(None),
+    if !is_made(op, event) {
+        return Ok(Progress::Stands);
+    }
+    match thread.advance(Some(reply_of(op, event))) {
+        Ok(()) => Ok(Progress::Event),
         Err(AdvanceFault::OutOfMemory) => Err(AllocError),
     }
 }
 
-/// Runs a thread on the values that its log read, as far as it goes.
-fn go(thread: &mut Thread, events: &[Event]) -> Result<Followed, AllocError> {
-    let mut made = 0usize;
-    for steps in 0..MAX_STEPS {
-        let access = match thread.next() {
-            Need::Access(_) => true,
-            Need::Local | Need::Ended(_) => false,
-        };
-        if let Some(stop) = step_on(thread, events.get(made))? {
-            return Ok(Followed { steps, made, stop });
-        }
-        if access {
-            made = made.saturating_add(1);
-        }
+/// Makes the next step of a thread, where an access has to be the log's next event.
+fn step_on(thread: &mut Thread, next: Option<&Event>) -> Result<Progress, AllocError> {
+    match thread.next() {
+        Need::Ended(_) => Ok(Progress::Stands),
+        Need::Access(op) => access_on(thread, &op, next),
+        Need::Local => match thread.advance(None) {
+            Ok(()) => Ok(Progress::Local),
+            Err(AdvanceFault::OutOfMemory) => Err(AllocError),
+        },
     }
-    Ok(Followed {
-        steps: MAX_STEPS,
-        made,
-        stop: Stop::Limit,
-    })
 }
 
-/// Starts a thread as its log says, and runs it on the values that its log read, as far as it goes.
+/// What the log has next behind so many events.
+fn logged_next(stated: &[Event], events: usize) -> Next
+    ensures { result ≡ next_by_log (slice_get stated.now events) }
+{
+    match stated.get(events) {
+        Some(event) => Next::Event(*event),
+        None => Next::NoEvent,
+    }
+}
+
+/// What the module makes next of a thread.
+fn made_next(thread: &Thread) -> Next
+    ensures { (read : ℕ) → result ≡ next_by_module (need_of read thread.now) }
+{
+    match thread.next() {
+        Need::Access(op) => Next::Access(op.fields()),
+        Need::Ended(end) => Next::Ended(end),
+        Need::Local => Next::Limit,
+    }
+}
+
+/// How far a thread has gone that made so many steps and so many of the log's events.
+fn standing(thread: &Thread, stated: &[Event], steps: u32, events: usize) -> Followed
+    ensures { IsFollowed thread.now stated.now result }
+{
+    Followed {
+        steps,
+        events,
+        difference: Difference {
+            logged: logged_next(stated, events),
+            made: made_next(thread),
+        },
+        position: thread.position(),
+    }
+}
+
+/// Runs a thread on the values that its log read, as far as it goes.
+fn go(thread: &mut Thread, stated: &[Event]) -> Result<Followed, AllocError>
+    ensures { IfOk result (IsFollowed thread.new stated.now) }
+{
+    let mut events = 0usize;
+    for steps in 0..MAX_STEPS {
+        match step_on(thread, stated.get(events))? {
+            Progress::Local => {}
+            Progress::Event => events = events.saturating_add(1),
+            Progress::Stands => return Ok(standing(thread, stated, steps, events)),
+        }
+    }
+    Ok(standing(thread, stated, MAX_STEPS, events))
+}
+
+/// Starts a thread as its log says, and runs it on the values that its log read, as far as it goes; None where it doesn't
+/// start.
 ///
 /// # Errors
 ///
 /// Only where memory was refused.
-fn follow(alloc: Global, module: &ValidModule, stated: &ThreadLog) -> Result<Followed, AllocError> {
+fn follow(
+    alloc: Global,
+    module: &ValidModule,
+    stated: &ThreadLog,
+) -> Result<Option<Followed>, AllocError> {
     let name = stated.start.name.as_str();
     let args = stated.start.args.as_slice();
     let mut thread = match Thread::start(alloc, module, name, args) {
         Ok(thread) => thread,
         Err(StartFault::OutOfMemory) => return Err(AllocError),
-        Err(_) => {
-            return Ok(Followed {
-                steps: 0,
-                made: 0,
-                stop: Stop::Unstarted,
-            });
-        }
+        Err(_) => return Ok(None),
     };
-    go(&mut thread, stated.events.as_slice())
+    Ok(Some(go(&mut thread, stated.events.as_slice())?))
 }
 
 /// Why a thread doesn't start.
@@ -156,51 +219,26 @@ impl fmt::Display for StartSentence<'_> {
     }
 }
 
-/// What the log has at an event.
-#[derive(Clone, Copy)]
-struct LoggedPhrase<'a>(Option<&'a Event>);
-
-impl fmt::Display for LoggedPhrase<'_> {
+impl fmt::Display for Next {
     fn fmt<W: fmt::Write>(&self, f: &mut fmt::Formatter<W>) -> fmt::Result {
-        match self.0 {
-            None => f.write_str("no further event"),
-            Some(event) => write!(f, "{} ({})", EventPhrase(event), event.key()),
-        }
-    }
-}
-
-/// What the module makes of a thread that can't go on by its log.
-#[derive(Clone, Copy)]
-struct StopPhrase(Stop);
-
-impl fmt::Display for StopPhrase {
-    fn fmt<W: fmt::Write>(&self, f: &mut fmt::Formatter<W>) -> fmt::Result {
-        match self.0 {
-            Stop::Unstarted => f.write_str("no access, as it doesn't start"),
-            Stop::Ended(end) => write!(f, "no further access: it {}", EndPhrase(end)),
-            Stop::Access(op) => write!(f, "{}", OpPhrase(op)),
-            Stop::Limit => f.write_str("no further access within 1000000 steps"),
+        match self {
+            Next::Event(event) => write!(f, "{} ({})", EventPhrase(event), event.key()),
+            Next::NoEvent => f.write_str("no further event"),
+            Next::Access(op) => write!(f, "{}", OpPhrase(*op)),
+            Next::Ended(end) => write!(f, "no further access: it {}", EndPhrase(*end)),
+            Next::Limit => f.write_str("no further access within 1000000 steps"),
         }
     }
 }
 
 /// Adds what the log and the module have at the place where a thread differs.
-fn add_difference(
-    alloc: Global,
-    text: &mut String,
-    stated: &ThreadLog,
-    followed: Followed,
-) -> Result<(), AllocError> {
-    let events = stated.events.as_slice();
+fn add_difference(alloc: Global, text: &mut String, followed: &Followed) -> Result<(), AllocError> {
     let steps = Count(u64::from(followed.steps), "step");
-    let made = Count(followed.made as u64, "event");
-    let head = format!(in alloc;
-        "Run again on the values that the log says it read, it makes {steps} and {made} as the log has them. Then\n"
+    let events = Count(followed.events as u64, "event");
+    let Difference { logged, made } = followed.difference;
+    let lines = format!(in alloc;
+        "Run again on the values that the log says it read, it makes {steps} and {events} as the log has them. Then\n  the log has     {logged}\n  the module has  {made}\n"
     )?;
-    text.push_str(head.as_str())?;
-    let logged = LoggedPhrase(events.get(followed.made));
-    let stop = StopPhrase(followed.stop);
-    let lines = format!(in alloc; "  the log has     {logged}\n  the module has  {stop}\n")?;
     text.push_str(lines.as_str())?;
     Ok(())
 }
@@ -210,23 +248,45 @@ fn add_ends(
     alloc: Global,
     text: &mut String,
     stated: &ThreadLog,
-    followed: Followed,
+    followed: &Followed,
 ) -> Result<(), AllocError> {
     let said = Count(u64::from(stated.steps), "step");
     let end = EndPhrase(stated.end);
     let steps = Count(u64::from(followed.steps), "step");
-    let made = Count(followed.made as u64, "event");
-    let stop = StopPhrase(followed.stop);
+    let events = Count(followed.events as u64, "event");
+    let made = followed.difference.made;
     let lines = format!(in alloc;
-        "  the log has     {said}, and then it {end}\n  the module has  {steps} with {made} as the log has them, and then {stop}\n"
+        "  the log has     {said}, and then it {end}\n  the module has  {steps} with {events} as the log has them, and then {made}\n"
     )?;
     text.push_str(lines.as_str())?;
-    if stated.steps < followed.steps {
-        text.push_str("The log's steps are short.\n")?;
-    }
-    if stated.steps > followed.steps {
-        text.push_str("The log's steps are long.\n")?;
-    }
+    let word = match stated.steps.cmp(&followed.steps) {
+        Ordering::Less => "short",
+        Ordering::Greater => "long",
+        Ordering::Equal => return Ok(()),
+    };
+    let line = format!(in alloc;
+        "The log's steps are {word}: it has {}, and the run has {}.\n",
+        stated.steps, followed.steps
+    )?;
+    text.push_str(line.as_str())?;
+    Ok(())
+}
+
+/// Adds where the thread stands that was run again.
+fn add_position(
+    alloc: Global,
+    text: &mut String,
+    module: &ValidModule,
+    stated: &ThreadLog,
+    followed: &Followed,
+) -> Result<(), AllocError> {
+    let start = stated.start.name.as_str();
+    let place = position_phrase(alloc, module.module(), start, followed.position)?;
+    let line = match followed.difference.made {
+        Next::Ended(_) => format!(in alloc; "The thread ended at {place}.\n")?,
+        _ => format!(in alloc; "The thread stands before {place}.\n")?,
+    };
+    text.push_str(line.as_str())?;
     Ok(())
 }
 
@@ -256,60 +316,80 @@ fn add_place(
     alloc: Global,
     text: &mut String,
     stated: &ThreadLog,
-    followed: Followed,
+    followed: &Followed,
     place: Place,
 ) -> Result<(), AllocError> {
     let is_made = match place {
         Place::End => true,
-        Place::Event(event) => event < followed.made,
+        Place::Event(event) => event < followed.events,
     };
     if is_made {
         add_ends(alloc, text, stated, followed)
     } else {
-        add_difference(alloc, text, stated, followed)
+        add_difference(alloc, text, followed)
     }
 }
 
-/// Why a thread's log isn't its run: what the log has and what the module makes there, steps that are short or long, and
-/// what the memory rules say.
+/// Why a thread doesn't start.
+fn start_reason(
+    alloc: Global,
+    number: usize,
+    stated: &ThreadLog,
+    fault: StartFault,
+) -> Result<String, AllocError> {
+    let sentence = StartSentence {
+        name: stated.start.name.as_str(),
+        args: stated.start.args.len(),
+        fault,
+    };
+    format!(in alloc; "Thread {number} doesn't start. {sentence}\n")
+}
+
+/// Why the log of a thread that starts isn't its run.
+fn thread_reason(
+    alloc: Global,
+    module: &ValidModule,
+    number: usize,
+    stated: &ThreadLog,
+    place: Place,
+) -> Result<String, AllocError> {
+    let name = stated.start.name.as_str();
+    let mut text = format!(in alloc;
+        "Thread {number} runs the exported function {name:?}, and its log isn't what the module makes of it.\n"
+    )?;
+    if let Some(followed) = follow(alloc, module, stated)? {
+        add_place(alloc, &mut text, stated, &followed, place)?;
+        add_position(alloc, &mut text, module, stated, &followed)?;
+    }
+    Ok(text)
+}
+
+/// Why a thread's log isn't its run: what the log has and what the module makes there, and at which instruction; steps that
+/// are short or long; and what the memory rules say.
 ///
 /// # Errors
 ///
 /// Only where memory was refused.
-pub(crate) fn replay_reason(
-    alloc: Global,
+pub(crate) fn replay_reason<R: AllocGlobal + Threads + Sync>(
+    rt: &R,
     module: &ValidModule,
     candidate: &Candidate,
     answer: ReplayAnswer,
-    judgement: &Judgement,
 ) -> Result<String, AllocError> {
     let threads = candidate.log().threads();
-    let mut text = String::new(alloc);
-    let (number, place) = match answer {
-        ReplayAnswer::Same => return Ok(text),
-        ReplayAnswer::StartRefused(number, fault) => {
+    match answer {
+        ReplayAnswer::Same => Ok(String::new(rt.alloc())),
+        ReplayAnswer::StartRefused(number, fault) => match threads.get(number) {
+            Some(stated) => start_reason(rt.alloc(), number, stated, fault),
+            None => Ok(String::new(rt.alloc())),
+        },
+        ReplayAnswer::Differs(number, place) => {
             let Some(stated) = threads.get(number) else {
-                return Ok(text);
+                return Ok(String::new(rt.alloc()));
             };
-            let sentence = StartSentence {
-                name: stated.start.name.as_str(),
-                args: stated.start.args.len(),
-                fault,
-            };
-            return format!(in alloc; "Thread {number} doesn't start. {sentence}\n");
+            let mut text = thread_reason(rt.alloc(), module, number, stated, place)?;
+            add_judgement(rt.alloc(), &mut text, number, &judge(rt, candidate)?)?;
+            Ok(text)
         }
-        ReplayAnswer::Differs(number, place) => (number, place),
-    };
-    let Some(stated) = threads.get(number) else {
-        return Ok(text);
-    };
-    let name = stated.start.name.as_str();
-    let head = format!(in alloc;
-        "Thread {number} runs the exported function {name:?}, and its log isn't what the module makes of it.\n"
-    )?;
-    text.push_str(head.as_str())?;
-    let followed = follow(alloc, module, stated)?;
-    add_place(alloc, &mut text, stated, followed, place)?;
-    add_judgement(alloc, &mut text, number, judgement)?;
-    Ok(text)
+    }
 }

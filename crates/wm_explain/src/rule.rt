@@ -1,13 +1,11 @@
 //! Why a memory rule is broken.
-ghost use Rattle.wm_event.specs.LoggedRun.{execution};
-ghost use Rattle.wm_event.specs.Rules.{KeepsOrder};
 
-use crate::chain::{Link, LinkKind, shortest_chain};
+use crate::chain::{Link, LinkKind};
+use crate::fault_chain::{FaultChain, fault_chains};
 use crate::row::{HEAD, add_row};
 use std::alloc::{AllocError, Global};
 use std::fmt;
 use wm_event::{Candidate, EventId, Rule, RuleFault, byte_of};
-use wm_hb::Ordered;
 
 /// A fault with what is said of its byte.
 #[derive(Clone, Copy)]
@@ -264,45 +262,15 @@ impl fmt::Display for LinkSentence {
 }
 
 /// Adds why one event happens before another.
-fn add_chain(
-    alloc: Global,
-    text: &mut String,
-    candidate: &Candidate,
-    from: EventId,
-    to: EventId,
-) -> Result<(), AllocError>
-    requires { KeepsOrder (execution candidate.now) }
-{
-    let Some(links) = shortest_chain(alloc, candidate, from, to)? else {
-        return Ok(());
-    };
-    let head = format!(in alloc; "Why {from} happens before {to}:\n")?;
+fn add_chain(alloc: Global, text: &mut String, chain: &FaultChain) -> Result<(), AllocError> {
+    let head = format!(in alloc; "Why {} happens before {}:\n", chain.from, chain.to)?;
     text.push_str(head.as_str())?;
-    let mut last = from;
-    for link in links.as_slice() {
+    let mut last = chain.from;
+    for link in chain.links.as_slice() {
         let sentence = LinkSentence(last, *link);
         let line = format!(in alloc; "  {sentence}\n")?;
         text.push_str(line.as_str())?;
         last = EventId::At(link.event);
-    }
-    Ok(())
-}
-
-/// Adds the chains that a fault stands on.
-fn add_grounds(
-    alloc: Global,
-    text: &mut String,
-    candidate: &Candidate,
-    fault: &RuleFault,
-) -> Result<(), AllocError> {
-    let Ok(ordered) = Ordered::of(candidate) else {
-        return Ok(());
-    };
-    for ground in grounds(fault) {
-        let Some((from, to)) = ground else {
-            continue;
-        };
-        add_chain(alloc, text, ordered.candidate(), from, to)?;
     }
     Ok(())
 }
@@ -341,7 +309,9 @@ pub(crate) fn rule_reason(
     let sentence = RuleSentence::of(candidate, fault);
     let mut text = format!(in alloc; "{rule}\n{sentence}\n")?;
     add_events(alloc, &mut text, candidate, fault)?;
-    add_grounds(alloc, &mut text, candidate, fault)?;
+    for chain in fault_chains(alloc, candidate, fault)?.as_slice() {
+        add_chain(alloc, &mut text, chain)?;
+    }
     text.push_str(
         "With another order of the events, or other writers, the same accesses may be allowed.\n",
     )?;

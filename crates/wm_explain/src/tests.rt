@@ -1,27 +1,43 @@
 //! The exact texts of each kind of verdict.
-use crate::explain;
 use crate::rule::rule_reason;
+use crate::{explain_refusal, explain_run};
 use std::alloc::{AllocError, Global};
 use std::process::Abort;
 use std::sync::Wait;
 use std::test::Fail;
 use std::thread::Threads;
-use wm_check::{Verdict, check};
+use wm_check::{Unread, Verdict, check_log, read_module};
 use wm_event::{Candidate, Initial, Judgement, Log, Witness};
 use wm_logfile::{DocFault, read_document};
 use wm_rules::judge;
 
+mod instructions;
 mod rows;
 mod sentences;
 
 use rows::{ALLOWED_AND_RULES, CheckRow, REFUSED, REPLAYS, RULES, RuleRow};
 
-/// The verdict on a row. What a check promises of it is of no use to a test, and would cost its proof minutes.
-fn verdict_on<R: Abort + AllocGlobal + Threads + Sync>(
+/// What is said of a row. What a check promises of it is of no use to a test, and would cost its proof minutes.
+fn reasons_of<R: Abort + AllocGlobal + Threads + Sync>(
     rt: &R,
     row: &CheckRow,
-) -> Result<Verdict, AllocError> {
-    check(rt, row.module, row.document.as_bytes())
+) -> Result<String, AllocError> {
+    let document = row.document.as_bytes();
+    let module = match read_module(rt.alloc(), row.module) {
+        Ok(module) => module,
+        Err(Unread::Refused(refusal)) => {
+            return explain_refusal(rt.alloc(), &refusal, row.module, document);
+        }
+        Err(Unread::OutOfMemory) => return Err(AllocError),
+    };
+    let checked = check_log(rt, &module, document)?;
+    match (&checked.verdict, &checked.candidate) {
+        (verdict, Some(candidate)) => explain_run(rt, verdict, &module, candidate),
+        (Verdict::Refused(refusal), None) => {
+            explain_refusal(rt.alloc(), refusal, row.module, document)
+        }
+        (_, None) => Ok(String::new(rt.alloc())),
+    }
 }
 
 /// Explains the verdict on each row.
@@ -30,8 +46,7 @@ fn explains<R: Abort + AllocGlobal + Threads + Sync>(
     rows: &[CheckRow],
 ) -> Result<(), Fail> {
     for row in rows {
-        let verdict = verdict_on(rt, row)?;
-        let text = explain(rt, &verdict, row.module, row.document.as_bytes())?;
+        let text = reasons_of(rt, row)?;
         assert_eq!(rt; text.as_str(), row.text, "{}", row.shows);
     }
     Ok(())

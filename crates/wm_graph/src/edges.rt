@@ -1,13 +1,12 @@
 //! The arrows of a picture.
-ghost use Rattle.wm_event.specs.LoggedRun.{execution};
-ghost use Rattle.wm_event.specs.Rules.{KeepsOrder};
 
+use crate::arrows::{ReadArrow, read_arrows};
 use crate::label::{ByteLabel, FAULT_COLOUR, NodeName};
 use std::alloc::{AllocError, Global};
 use std::fmt;
 use wm_event::{Candidate, Event, EventId, EventKey, RuleFault, ThreadLog};
-use wm_explain::{LinkKind, grounds, shortest_chain};
-use wm_hb::{Ordered, synchronizes};
+use wm_explain::{FaultChain, LinkKind, fault_chains};
+use wm_hb::synchronizes;
 
 /// What an arrow says.
 #[derive(Clone, Copy)]
@@ -104,30 +103,35 @@ fn is_synchronized(candidate: &Candidate, writer: EventId, reader: EventKey) -> 
     }
 }
 
-/// Adds the arrows to a read from the writers of its bytes, one for bytes in a row that have one writer.
+/// What an arrow of reads-from says of a read of so many bytes.
+fn read_kind(
+    candidate: &Candidate,
+    arrow: &ReadArrow,
+    reader: EventKey,
+    bytes: usize,
+) -> ArrowKind {
+    if arrow.bytes.first == 0 && arrow.bytes.last.saturating_add(1) == bytes {
+        ArrowKind::Reads {
+            synchronizes: is_synchronized(candidate, arrow.writer, reader),
+        }
+    } else {
+        ArrowKind::ReadsBytes(arrow.bytes)
+    }
+}
+
+/// Adds the arrows to a read from the writers of its bytes.
 fn add_reads(
     alloc: Global,
     text: &mut String,
     candidate: &Candidate,
     reader: EventKey,
 ) -> Result<(), AllocError> {
-    let writers = candidate.writers(reader);
-    let mut first = 0usize;
-    for (last, writer) in writers.iter().enumerate() {
-        let behind = last.saturating_add(1);
-        if writers.get(behind) == Some(writer) {
-            continue;
-        }
-        let kind = if first == 0 && behind == writers.len() {
-            ArrowKind::Reads {
-                synchronizes: is_synchronized(candidate, *writer, reader),
-            }
-        } else {
-            ArrowKind::ReadsBytes(ByteLabel { first, last })
-        };
-        add_arrow(alloc, text, *writer, EventId::At(reader), kind)?;
-        add_order(alloc, text, candidate, *writer, EventId::At(reader))?;
-        first = behind;
+    let bytes = candidate.writers(reader).len();
+    let arrows = read_arrows(alloc, candidate, reader)?;
+    for arrow in arrows.as_slice() {
+        let kind = read_kind(candidate, arrow, reader, bytes);
+        add_arrow(alloc, text, arrow.writer, EventId::At(reader), kind)?;
+        add_order(alloc, text, candidate, arrow.writer, EventId::At(reader))?;
     }
     Ok(())
 }
@@ -165,21 +169,10 @@ pub(crate) fn add_edges(
     Ok(())
 }
 
-/// Adds the links of a shortest chain.
-fn add_chain(
-    alloc: Global,
-    text: &mut String,
-    candidate: &Candidate,
-    from: EventId,
-    to: EventId,
-) -> Result<(), AllocError>
-    requires { KeepsOrder (execution candidate.now) }
-{
-    let Some(links) = shortest_chain(alloc, candidate, from, to)? else {
-        return Ok(());
-    };
-    let mut last = from;
-    for link in links.as_slice() {
+/// Adds the links of a chain.
+fn add_chain(alloc: Global, text: &mut String, chain: &FaultChain) -> Result<(), AllocError> {
+    let mut last = chain.from;
+    for link in chain.links.as_slice() {
         let next = EventId::At(link.event);
         add_arrow(alloc, text, last, next, ArrowKind::Chain(link.kind))?;
         last = next;
@@ -194,14 +187,8 @@ pub(crate) fn add_chains(
     candidate: &Candidate,
     fault: &RuleFault,
 ) -> Result<(), AllocError> {
-    let Ok(ordered) = Ordered::of(candidate) else {
-        return Ok(());
-    };
-    for ground in grounds(fault) {
-        let Some((from, to)) = ground else {
-            continue;
-        };
-        add_chain(alloc, text, ordered.candidate(), from, to)?;
+    for chain in fault_chains(alloc, candidate, fault)?.as_slice() {
+        add_chain(alloc, text, chain)?;
     }
     Ok(())
 }

@@ -112,8 +112,17 @@ fn add_init(alloc: Global, text: &mut String, log: &Log, mark: Mark) -> Result<(
     Ok(())
 }
 
-/// The picture of a candidate.
-fn draw(alloc: Global, candidate: &Candidate, mark: Mark) -> Result<String, AllocError> {
+/// The execution that a candidate is, as text for Graphviz, where `verdict` is what
+/// a check gave on it. A column for each thread, a node for each event and for Init; arrows for
+/// sequenced-before (`sb`), reads-from (`rf`, with the bytes where a read has several writers), synchronizes-with (`sw`),
+/// and for the order where it goes against one of these; in red the events of a fault and the chains of happens-before that
+/// it stands on, or the event at which a thread differs from its log.
+///
+/// # Errors
+///
+/// Only where memory was refused.
+pub fn draw(alloc: Global, verdict: &Verdict, candidate: &Candidate) -> Result<String, AllocError> {
+    let mark = mark_of(verdict);
     let log = candidate.log();
     let mut text = String::new(alloc);
     text.push_str(
@@ -139,20 +148,16 @@ fn draw_log(
     module: &ValidModule,
     log: Log,
     witness: Witness,
-    mark: Mark,
+    verdict: &Verdict,
 ) -> Result<Option<String>, AllocError> {
     match Candidate::new(alloc, log, witness, module.initial()) {
-        Ok(candidate) => Ok(Some(draw(alloc, &candidate, mark)?)),
+        Ok(candidate) => Ok(Some(draw(alloc, verdict, &candidate)?)),
         Err(_) => Err(AllocError),
     }
 }
 
-/// The execution that the bytes of a document record over the initial memory of a module, as text for Graphviz, where
-/// `verdict` is what [`check`](wm_check::check) gave on these bytes; None where they are refused. A column for each
-/// thread, a node for each event and for Init; arrows for sequenced-before (`sb`), reads-from (`rf`, with the bytes where
-/// a read has several writers), synchronizes-with (`sw`), and for the order where it goes against one of these; in red the
-/// events of a fault and the chains of happens-before that it stands on, or the event at which a thread differs from its
-/// log.
+/// The execution that the bytes of a document record over the initial memory of a module, as [`draw`] has it, where
+/// `verdict` is what [`check`](wm_check::check) gave on these bytes, which are read once more; None where they are refused.
 ///
 /// # Errors
 ///
@@ -174,7 +179,7 @@ pub fn graph(
         Err(Unread::Refused(_)) => return Ok(None),
     };
     match read_document(alloc, document_bytes) {
-        Ok((log, witness)) => draw_log(alloc, &module, log, witness, mark_of(verdict)),
+        Ok((log, witness)) => draw_log(alloc, &module, log, witness, verdict),
         Err(DocFault::OutOfMemory) => Err(AllocError),
         Err(_) => Ok(None),
     }

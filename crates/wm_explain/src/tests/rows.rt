@@ -18,6 +18,18 @@ const MESSAGE_PASSING_ATOMIC: [u8; 76] = [
     0x04, 0xFE, 0x10, 0x02, 0x00, 0x1A, 0x41, 0x00, 0x28, 0x02, 0x00, 0x0B,
 ];
 
+/// `spin-lock.wasm` of the examples.
+const SPIN_LOCK: [u8; 113] = [
+    0x00, 0x61, 0x73, 0x6D, 0x01, 0x00, 0x00, 0x00, 0x01, 0x09, 0x02, 0x60, 0x00, 0x00, 0x60, 0x01,
+    0x7F, 0x01, 0x7F, 0x03, 0x04, 0x03, 0x00, 0x00, 0x01, 0x05, 0x04, 0x01, 0x03, 0x01, 0x01, 0x07,
+    0x08, 0x01, 0x04, 0x77, 0x6F, 0x72, 0x6B, 0x00, 0x02, 0x0A, 0x46, 0x03, 0x11, 0x00, 0x03, 0x40,
+    0x41, 0x00, 0x41, 0x00, 0x41, 0x01, 0xFE, 0x48, 0x02, 0x00, 0x0D, 0x00, 0x0B, 0x0B, 0x0A, 0x00,
+    0x41, 0x00, 0x41, 0x00, 0xFE, 0x17, 0x02, 0x00, 0x0B, 0x27, 0x00, 0x03, 0x40, 0x10, 0x00, 0x41,
+    0xC0, 0x00, 0x41, 0xC0, 0x00, 0x28, 0x02, 0x00, 0x41, 0x01, 0x6A, 0x36, 0x02, 0x00, 0x10, 0x01,
+    0x20, 0x00, 0x41, 0x01, 0x6B, 0x22, 0x00, 0x0D, 0x00, 0x0B, 0x41, 0xC0, 0x00, 0x28, 0x02, 0x00,
+    0x0B,
+];
+
 /// `floats.wasm` of the examples.
 const FLOATS: [u8; 36] = [
     0x00, 0x61, 0x73, 0x6D, 0x01, 0x00, 0x00, 0x00, 0x01, 0x04, 0x01, 0x60, 0x00, 0x00, 0x03, 0x02,
@@ -92,7 +104,7 @@ With another order of the events, or other writers, the same accesses may be all
     },
 ];
 
-pub(super) const REPLAYS: [CheckRow; 10] = [
+pub(super) const REPLAYS: [CheckRow; 11] = [
     CheckRow {
         shows: "other value",
         module: &STORE_BUFFERING,
@@ -101,6 +113,7 @@ pub(super) const REPLAYS: [CheckRow; 10] = [
 Run again on the values that the log says it read, it makes 2 steps and 0 events as the log has them. Then
   the log has     plain write of 4 bytes at address 0, which writes 2 (0.0)
   the module has  plain write of 4 bytes at address 0, which writes 1
+The thread stands before i32.store, instruction 2 of the exported function "a" (counted from 0 in the order of the text, each else and end too).
 The memory rules permit the events as they stand in the log.
 "#,
     },
@@ -126,6 +139,7 @@ The memory rules permit the events as they stand in the log.
 Run again on the values that the log says it read, it makes 4 steps and 1 event as the log has them. Then
   the log has     no further event
   the module has  plain read of 4 bytes at address 4
+The thread stands before i32.load, instruction 4 of the exported function "a" (counted from 0 in the order of the text, each else and end too).
 The memory rules permit the events as they stand in the log.
 "#,
     },
@@ -137,6 +151,7 @@ The memory rules permit the events as they stand in the log.
 Run again on the values that the log says it read, it makes 6 steps and 2 events as the log has them. Then
   the log has     plain write of 4 bytes at address 0, which writes 1 (0.2)
   the module has  no further access: it returns 0
+The thread ended at the end of the body, instruction 5 of the exported function "a" (counted from 0 in the order of the text, each else and end too).
 The memory rules permit the events as they stand in the log.
 "#,
     },
@@ -147,7 +162,8 @@ The memory rules permit the events as they stand in the log.
         text: r#"Thread 0 runs the exported function "a", and its log isn't what the module makes of it.
   the log has     3 steps, and then it has not ended
   the module has  6 steps with 2 events as the log has them, and then no further access: it returns 0
-The log's steps are short.
+The log's steps are short: it has 3, and the run has 6.
+The thread ended at the end of the body, instruction 5 of the exported function "a" (counted from 0 in the order of the text, each else and end too).
 The memory rules permit the events as they stand in the log.
 "#,
     },
@@ -158,6 +174,7 @@ The memory rules permit the events as they stand in the log.
         text: r#"Thread 0 runs the exported function "a", and its log isn't what the module makes of it.
   the log has     6 steps, and then it returns 1
   the module has  6 steps with 2 events as the log has them, and then no further access: it returns 0
+The thread ended at the end of the body, instruction 5 of the exported function "a" (counted from 0 in the order of the text, each else and end too).
 The memory rules permit the events as they stand in the log.
 "#,
     },
@@ -168,7 +185,8 @@ The memory rules permit the events as they stand in the log.
         text: r#"Thread 0 runs the exported function "a", and its log isn't what the module makes of it.
   the log has     7 steps, and then it returns 0
   the module has  6 steps with 2 events as the log has them, and then no further access: it returns 0
-The log's steps are long.
+The log's steps are long: it has 7, and the run has 6.
+The thread ended at the end of the body, instruction 5 of the exported function "a" (counted from 0 in the order of the text, each else and end too).
 The memory rules permit the events as they stand in the log.
 "#,
     },
@@ -179,7 +197,8 @@ The memory rules permit the events as they stand in the log.
         text: r#"Thread 0 runs the exported function "a", and its log isn't what the module makes of it.
   the log has     5 steps, and then it returns 0
   the module has  6 steps with 2 events as the log has them, and then no further access: it returns 0
-The log's steps are short.
+The log's steps are short: it has 5, and the run has 6.
+The thread ended at the end of the body, instruction 5 of the exported function "a" (counted from 0 in the order of the text, each else and end too).
 The memory rules permit the events as they stand in the log.
 "#,
     },
@@ -190,13 +209,26 @@ The memory rules permit the events as they stand in the log.
         text: r#"Thread 0 runs the exported function "a", and its log isn't what the module makes of it.
   the log has     6 steps, and then it returns 0
   the module has  6 steps with 2 events as the log has them, and then no further access: it returns 3
+The thread ended at the end of the body, instruction 5 of the exported function "a" (counted from 0 in the order of the text, each else and end too).
 The memory rules are broken too, first so: V1 case 3 at 0.1 byte 0 writer init.
 That is a read of this thread: a wrong value that was read often shows as a difference later.
 "#,
     },
+    CheckRow {
+        shows: "a function without a name",
+        module: &SPIN_LOCK,
+        document: r#"["wasm-litmus-log",2,[["work",[1],["cut"],7,[["w","un",64,4,1]]]],[[0,0]]]"#,
+        text: r#"Thread 0 runs the exported function "work", and its log isn't what the module makes of it.
+Run again on the values that the log says it read, it makes 6 steps and 0 events as the log has them. Then
+  the log has     plain write of 4 bytes at address 64, which writes 1 (0.0)
+  the module has  atomic compare-exchange of 4 bytes at address 0, which writes 1 where it reads 0
+The thread stands before i32.atomic.rmw.cmpxchg, instruction 4 of function 0 (counted from 0 in the order of the text, each else and end too).
+The memory rules permit the events as they stand in the log.
+"#,
+    },
 ];
 
-pub(super) const REFUSED: [CheckRow; 9] = [
+pub(super) const REFUSED: [CheckRow; 11] = [
     CheckRow {
         shows: "floats",
         module: &FLOATS,
@@ -224,6 +256,7 @@ The bytes there, the one at 29 in brackets: 03 01 01 0a 0a 01 08 00 [43] 00 00 0
         module: &STORE_BUFFERING,
         document: r#"["wasm-litmus-log",2,[["a",[],["done",[0]],6,[["w","acq",0,4,1],["r","un",4,4,0,[[],[],[],[]]]]],["b",[],["done",[0]],6,[["w","un",4,4,1],["r","un",0,4,0,[[],[],[],[]]]]]],[[0,0],[1,0],[0,1],[1,1]]]"#,
         text: r#"At /2/0/4/0/1 the document has another kind of value than is wanted there, a list of another length, or an unknown word.
+Found is "acq"
 Wanted is the order of an event: "un" or "sc", of an update "sc".
 "#,
     },
@@ -232,6 +265,7 @@ Wanted is the order of an event: "un" or "sc", of an update "sc".
         module: &STORE_BUFFERING,
         document: r#"["wasm-litmus-log",2,[["a",[],["done",[0]],6,[["w","un",0,3,1],["r","un",4,4,0,[[],[],[],[]]]]],["b",[],["done",[0]],6,[["w","un",4,4,1],["r","un",0,4,0,[[],[],[],[]]]]]],[[0,0],[1,0],[0,1],[1,1]]]"#,
         text: r#"At /2/0/4/0/3 the document has a number that is out of its range, or with a sign, a fraction or an exponent.
+Found is 3
 Wanted is a width: 1, 2, 4 or 8.
 "#,
     },
@@ -240,6 +274,23 @@ Wanted is a width: 1, 2, 4 or 8.
         module: &STORE_BUFFERING,
         document: r#"["wasm-litmus-log",3,[],[]]"#,
         text: r#"The document's version, its second item, is a number other than 1 and 2.
+Found is 3
+"#,
+    },
+    CheckRow {
+        shows: "a long part",
+        module: &STORE_BUFFERING,
+        document: r#"["wasm-litmus-log",2,[["a",[],["done",[0]],6,[["w","un",0,4,1],["r","un",4,4,0,[[],[],[],[]]]]]],[[0,0],[0,1]],[]]"#,
+        text: r#"At / the document has another kind of value than is wanted there, a list of another length, or an unknown word.
+Found is ["wasm-litmus-log",2,[["a",[],["done",[0]],6,[["w","un",0,4,.. (114 bytes)
+Wanted is a list of "wasm-litmus-log", the version, the threads and the order.
+"#,
+    },
+    CheckRow {
+        shows: "too many threads",
+        module: &STORE_BUFFERING,
+        document: r#"["wasm-litmus-log",2,[["a",[],["cut"],0,[]],["a",[],["cut"],0,[]],["a",[],["cut"],0,[]],["a",[],["cut"],0,[]],["a",[],["cut"],0,[]],["a",[],["cut"],0,[]],["a",[],["cut"],0,[]],["a",[],["cut"],0,[]],["a",[],["cut"],0,[]],["a",[],["cut"],0,[]],["a",[],["cut"],0,[]],["a",[],["cut"],0,[]],["a",[],["cut"],0,[]],["a",[],["cut"],0,[]],["a",[],["cut"],0,[]],["a",[],["cut"],0,[]],["a",[],["cut"],0,[]]],[]]"#,
+        text: r#"The document has 17 threads, and at most 16 are read.
 "#,
     },
     CheckRow {

@@ -1,10 +1,11 @@
 //! Each sentence on a fault of the bytes, of the module, of the log and of a start.
+use crate::document_part::PartPhrase;
 use crate::log_refusal::{ShapeSentence, WantedPhrase};
-use crate::module_refusal::{DecodeSentence, ValidSentence};
+use crate::module_refusal::{DecodeSentence, ValidSentence, decode_reason};
 use crate::phrase::EndPhrase;
 use crate::replay::StartSentence;
 use std::test::Fail;
-use wm_decode::{FaultKind, Feature, Limit};
+use wm_decode::{DecodeFault, FaultKind, Feature, Limit};
 use wm_event::{End, EventKey, ShapeFault, TrapKind};
 use wm_machine::StartFault;
 use wm_valid::FaultKind as ValidKind;
@@ -50,30 +51,34 @@ const DECODE: [(FaultKind, &str); 16] = [
     (FaultKind::DuplicateExport, "Two exports have one name."),
     (
         FaultKind::Limit(Limit::ModuleBytes),
-        "The module has more than 1048576 bytes.",
+        "The module has more than 1048576 bytes, the most that are read; 1048577 of them were looked at.",
     ),
     (
         FaultKind::Limit(Limit::Pages),
-        "The memory has more than 16 pages at first.",
+        "The memory has 1048577 pages at first, and at most 16 are read.",
     ),
     (
         FaultKind::Limit(Limit::Functions),
-        "The module has more than 1000 functions.",
+        "The module has 1048577 functions, and at most 1000 are read.",
     ),
     (
         FaultKind::Limit(Limit::Locals),
-        "A function has more than 1000 parameters and locals together.",
+        "A function has more than 1000 parameters and locals together, the most that are read.",
     ),
     (
         FaultKind::Limit(Limit::Nesting),
-        "In a function's body more than 64 blocks stand inside one another.",
+        "This is the 65th block inside one another in a function's body, and at most 64 are read.",
     ),
 ];
 
 #[test]
 fn each_fault_of_the_bytes(rt: HostRuntime) -> Result<(), Fail> {
     for (kind, text) in &DECODE {
-        let got = format!(in rt.alloc(); "{}", DecodeSentence(*kind))?;
+        let sentence = DecodeSentence {
+            kind: *kind,
+            found: Some(1_048_577),
+        };
+        let got = format!(in rt.alloc(); "{sentence}")?;
         assert_eq!(rt; got.as_str(), *text);
     }
     Ok(())
@@ -247,6 +252,65 @@ const WANTED: [(&[u32], &str); 6] = [
 fn what_is_wanted_at_a_path(rt: HostRuntime) -> Result<(), Fail> {
     for (path, text) in &WANTED {
         let got = format!(in rt.alloc(); "{}", WantedPhrase(path))?;
+        assert_eq!(rt; got.as_str(), *text);
+    }
+    Ok(())
+}
+
+/// A fault, the bytes at it, and what is said.
+const LIMITS: [(Limit, &[u8], &str); 4] = [
+    (
+        Limit::Pages,
+        &[0x03, 0x11],
+        "The memory has 17 pages at first, and at most 16 are read.",
+    ),
+    (
+        Limit::Functions,
+        &[0x00, 0xE9, 0x07],
+        "The module has 1001 functions, and at most 1000 are read.",
+    ),
+    (
+        Limit::Functions,
+        &[0x00, 0x80, 0x80, 0x80, 0x80, 0x80, 0x01],
+        "The module has too many functions, and at most 1000 are read.",
+    ),
+    (
+        Limit::Nesting,
+        &[0x02, 0x02],
+        "This is the 65th block inside one another in a function's body, and at most 64 are read.",
+    ),
+];
+
+#[test]
+fn each_count_that_passes_a_limit(rt: HostRuntime) -> Result<(), Fail> {
+    for (limit, bytes, text) in &LIMITS {
+        let fault = DecodeFault::At(FaultKind::Limit(*limit), 1);
+        let got = decode_reason(rt.alloc(), &fault, bytes)?;
+        assert!(rt; got.as_str().contains(*text), "{got}");
+    }
+    Ok(())
+}
+
+const PARTS: [(&str, &[u32], &str); 5] = [
+    ("[1, [2,  {\"a\":[3,4]} ], 5]", &[1, 1], "{\"a\":[3,4]}"),
+    ("[\"a,]\\\"b\", 7]", &[1], "7"),
+    ("[1,\n[2,\n3]]", &[1], "[2,3]"),
+    ("[1]", &[1], ""),
+    (
+        "[\"ééééééééééééééééééééééééééééééééé\"]",
+        &[0],
+        "\"ééééééééééééééééééééééééééééé.. (68 bytes)",
+    ),
+];
+
+#[test]
+fn parts_of_documents(rt: HostRuntime) -> Result<(), Fail> {
+    for (document, path, text) in &PARTS {
+        let part = PartPhrase {
+            document: document.as_bytes(),
+            path,
+        };
+        let got = format!(in rt.alloc(); "{part}")?;
         assert_eq!(rt; got.as_str(), *text);
     }
     Ok(())

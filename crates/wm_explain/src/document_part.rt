@@ -1,0 +1,151 @@
+//! The part of a document at a path, as it stands in the bytes.
+ghost use Rattle.std.specs.Prelude.{◌≤◌, length};
+
+use std::fmt;
+
+/// How many bytes of a part are shown at most.
+const SHOWN: usize = 60;
+
+/// Whether a byte is white space of JSON (RFC 8259, section 2).
+fn is_space(byte: u8) -> bool {
+    matches!(byte, b' ' | b'\t' | b'\n' | b'\r')
+}
+
+/// Where the value ends with which these bytes of a JSON text begin: at a comma or a closing bracket that isn't in it.
+fn value_end(bytes: &[u8]) -> usize
+    ensures inside { result ≤ length bytes.now }
+{
+    let mut depth = 0usize;
+    let mut in_text = false;
+    let mut is_escaped = false;
+    for (position, byte) in bytes.iter().enumerate() {
+        if in_text {
+            in_text = is_escaped || *byte != b'"';
+            is_escaped = !is_escaped && *byte == b'\\';
+            continue;
+        }
+        match *byte {
+            b'"' => in_text = true,
+            b'[' | b'{' => depth = depth.saturating_add(1),
+            b']' | b'}' if depth > 0 => depth = depth.saturating_sub(1),
+            b']' | b'}' => return position,
+            b',' if depth == 0 => return position,
+            _ => {}
+        }
+    }
+    bytes.len()
+}
+
+/// The bytes from the first one on that isn't white space.
+fn without_front(bytes: &[u8]) -> &[u8] {
+    for (position, byte) in bytes.iter().enumerate() {
+        if !is_space(*byte) {
+            return &bytes[position..];
+        }
+    }
+    &[]
+}
+
+/// The bytes up to the last one that isn't white space.
+fn without_back(bytes: &[u8]) -> &[u8] {
+    let mut end = 0usize;
+    for (position, byte) in bytes.iter().enumerate() {
+        if !is_space(*byte) {
+            end = position + 1;
+        }
+    }
+    &bytes[..end]
+}
+
+/// What stands behind the opening bracket of a list; None where the bytes begin with no list.
+fn inside(bytes: &[u8]) -> Option<&[u8]> {
+    match without_front(bytes) {
+        [b'[', rest @ ..] => Some(rest),
+        _ => None,
+    }
+}
+
+/// The item of a list with which these bytes begin, counted from 0; None where there is none.
+fn item(bytes: &[u8], index: u32) -> Option<&[u8]> {
+    let mut rest = inside(bytes)?;
+    for _ in 0..index {
+        match &rest[value_end(rest)..] {
+            [b',', behind @ ..] => rest = behind,
+            _ => return None,
+        }
+    }
+    Some(&rest[..value_end(rest)])
+}
+
+/// How many items a list has with which these bytes begin, at least 1.
+fn count_items(bytes: &[u8]) -> Option<u64> {
+    let mut rest = inside(bytes)?;
+    let mut count = 1u64;
+    for _ in 0..bytes.len() {
+        match &rest[value_end(rest)..] {
+            [b',', behind @ ..] => {
+                rest = behind;
+                count = count.saturating_add(1);
+            }
+            _ => return Some(count),
+        }
+    }
+    Some(count)
+}
+
+/// The bytes of the value at a path of a JSON text; None where there is none.
+fn value_at<'a>(bytes: &'a [u8], path: &[u32]) -> Option<&'a [u8]> {
+    let mut value = bytes;
+    for index in path {
+        value = item(value, *index)?;
+    }
+    Some(value)
+}
+
+/// How many threads a document has.
+pub(crate) fn count_threads(bytes: &[u8]) -> Option<u64> {
+    count_items(item(bytes, 2)?)
+}
+
+/// The value at a path of a document, cut where it is long.
+#[derive(Clone, Copy)]
+pub(crate) struct PartPhrase<'a> {
+    pub document: &'a [u8],
+    pub path: &'a [u32],
+}
+
+/// How many of these bytes are shown: no more than [`SHOWN`], and no part of a character.
+fn shown(bytes: &[u8]) -> usize
+    ensures inside { result ≤ length bytes.now }
+{
+    if bytes.len() <= SHOWN {
+        return bytes.len();
+    }
+    for length in 0..SHOWN {
+        let end = SHOWN.saturating_sub(length);
+        if bytes[end] & 0xC0 != 0x80 {
+            return end;
+        }
+    }
+    0
+}
+
+impl fmt::Display for PartPhrase<'_> {
+    fn fmt<W: fmt::Write>(&self, f: &mut fmt::Formatter<W>) -> fmt::Result {
+        let value = match value_at(self.document, self.path) {
+            Some(value) => without_back(without_front(value)),
+            None => &[],
+        };
+        let length = shown(value);
+        for piece in str::from_utf8(&value[..length])
+            .unwrap_or("")
+            .split(['\n', '\r', '\t'])
+        {
+            f.write_str(piece)?;
+        }
+        if length < value.len() {
+            write!(f, ".. ({} bytes)", value.len())?;
+        }
+        Ok(())
+    }
+}

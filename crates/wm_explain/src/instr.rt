@@ -1,0 +1,240 @@
+//! Instructions as the text format writes them (Core 1.0, section 6.5, and the threads proposal).
+
+use std::fmt;
+use wm_access::RmwOperator;
+use wm_ast::{AccessKind, BlockType, Instr, MemArg, Narrow, Storage, ValType};
+use wm_num::{BinaryOperator, Comparison, Conversion, UnaryOperator, Width};
+
+/// The name of a type.
+fn type_word(ty: ValType) -> &'static str {
+    match ty {
+        ValType::I32 => "i32",
+        ValType::I64 => "i64",
+    }
+}
+
+/// The type whose values have this width.
+fn width_word(width: Width) -> &'static str {
+    match width {
+        Width::W32 => "i32",
+        Width::W64 => "i64",
+    }
+}
+
+/// How many bits are in memory, where that is fewer than the type has.
+fn bits_word(storage: Storage) -> &'static str {
+    match storage {
+        Storage::I32 | Storage::I64 => "",
+        Storage::I32As8 | Storage::I64As8 => "8",
+        Storage::I32As16 | Storage::I64As16 => "16",
+        Storage::I64As32 => "32",
+    }
+}
+
+/// What stands behind a load or an update whose upper bits are 0.
+fn zeros_word(storage: Storage) -> &'static str {
+    match storage {
+        Storage::I32 | Storage::I64 => "",
+        Storage::I32As8
+        | Storage::I32As16
+        | Storage::I64As8
+        | Storage::I64As16
+        | Storage::I64As32 => "_u",
+    }
+}
+
+/// The name of an update's operator.
+fn update_word(operator: RmwOperator) -> &'static str {
+    match operator {
+        RmwOperator::Add => "add",
+        RmwOperator::Sub => "sub",
+        RmwOperator::And => "and",
+        RmwOperator::Or => "or",
+        RmwOperator::Xor => "xor",
+        RmwOperator::Xchg => "xchg",
+    }
+}
+
+/// The name of an operator on one operand.
+fn unary_word(operator: UnaryOperator) -> &'static str {
+    match operator {
+        UnaryOperator::Clz => "clz",
+        UnaryOperator::Ctz => "ctz",
+        UnaryOperator::Popcnt => "popcnt",
+    }
+}
+
+/// The name of an operator on two operands.
+fn binary_word(operator: BinaryOperator) -> &'static str {
+    match operator {
+        BinaryOperator::Add => "add",
+        BinaryOperator::Sub => "sub",
+        BinaryOperator::Mul => "mul",
+        BinaryOperator::DivS => "div_s",
+        BinaryOperator::DivU => "div_u",
+        BinaryOperator::RemS => "rem_s",
+        BinaryOperator::RemU => "rem_u",
+        BinaryOperator::And => "and",
+        BinaryOperator::Or => "or",
+        BinaryOperator::Xor => "xor",
+        BinaryOperator::Shl => "shl",
+        BinaryOperator::ShrS => "shr_s",
+        BinaryOperator::ShrU => "shr_u",
+        BinaryOperator::Rotl => "rotl",
+        BinaryOperator::Rotr => "rotr",
+    }
+}
+
+/// The name of a comparison.
+fn comparison_word(comparison: Comparison) -> &'static str {
+    match comparison {
+        Comparison::Eq => "eq",
+        Comparison::Ne => "ne",
+        Comparison::LtS => "lt_s",
+        Comparison::LtU => "lt_u",
+        Comparison::GtS => "gt_s",
+        Comparison::GtU => "gt_u",
+        Comparison::LeS => "le_s",
+        Comparison::LeU => "le_u",
+        Comparison::GeS => "ge_s",
+        Comparison::GeU => "ge_u",
+    }
+}
+
+/// The name of a conversion.
+fn conversion_word(conversion: Conversion) -> &'static str {
+    match conversion {
+        Conversion::WrapI64 => "i32.wrap_i64",
+        Conversion::ExtendI32S => "i64.extend_i32_s",
+        Conversion::ExtendI32U => "i64.extend_i32_u",
+    }
+}
+
+/// The result that a block gives, behind its word.
+#[derive(Clone, Copy)]
+struct ResultPhrase(BlockType);
+
+impl fmt::Display for ResultPhrase {
+    fn fmt<W: fmt::Write>(&self, f: &mut fmt::Formatter<W>) -> fmt::Result {
+        match self.0 {
+            None => Ok(()),
+            Some(ty) => write!(f, " (result {})", type_word(ty)),
+        }
+    }
+}
+
+/// The name of a memory instruction.
+#[derive(Clone, Copy)]
+struct AccessName(AccessKind);
+
+impl fmt::Display for AccessName {
+    fn fmt<W: fmt::Write>(&self, f: &mut fmt::Formatter<W>) -> fmt::Result {
+        let storage = self.0.storage();
+        let ty = type_word(storage.operand());
+        let bits = bits_word(storage);
+        let zeros = zeros_word(storage);
+        match self.0 {
+            AccessKind::Read(_) => write!(f, "{ty}.load{bits}{zeros}"),
+            AccessKind::ReadSigned(_) => write!(f, "{ty}.load{bits}_s"),
+            AccessKind::Write(_) => write!(f, "{ty}.store{bits}"),
+            AccessKind::AtomicRead(_) => write!(f, "{ty}.atomic.load{bits}{zeros}"),
+            AccessKind::AtomicWrite(_) => write!(f, "{ty}.atomic.store{bits}"),
+            AccessKind::Rmw(operator, _) => {
+                let word = update_word(operator);
+                write!(f, "{ty}.atomic.rmw{bits}.{word}{zeros}")
+            }
+            AccessKind::CmpXchg(_) => write!(f, "{ty}.atomic.rmw.cmpxchg"),
+        }
+    }
+}
+
+/// The offset where it isn't 0, and the alignment where it isn't the width.
+#[derive(Clone, Copy)]
+struct MemArgPhrase(AccessKind, MemArg);
+
+impl fmt::Display for MemArgPhrase {
+    fn fmt<W: fmt::Write>(&self, f: &mut fmt::Formatter<W>) -> fmt::Result {
+        let MemArgPhrase(kind, MemArg { alignment, offset }) = *self;
+        if offset != 0 {
+            write!(f, " offset={offset}")?;
+        }
+        let bytes = match alignment {
+            0 => 1,
+            1 => 2,
+            2 => 4,
+            _ => 8,
+        };
+        if bytes != kind.width().bytes() {
+            write!(f, " align={bytes}")?;
+        }
+        Ok(())
+    }
+}
+
+/// An instruction with its immediates, and without the instructions of its blocks.
+#[derive(Clone, Copy)]
+pub(crate) struct InstrPhrase<'a>(pub &'a Instr);
+
+impl InstrPhrase<'_> {
+    /// Writes an instruction that computes.
+    fn write_numeric<W: fmt::Write>(&self, f: &mut fmt::Formatter<W>) -> fmt::Result {
+        match self.0 {
+            Instr::I32Const(value) => write!(f, "i32.const {value}"),
+            Instr::I64Const(value) => write!(f, "i64.const {value}"),
+            Instr::Eqz(width) => write!(f, "{}.eqz", width_word(*width)),
+            Instr::Compare(comparison, width) => {
+                write!(f, "{}.{}", width_word(*width), comparison_word(*comparison))
+            }
+            Instr::Unary(operator, width) => {
+                write!(f, "{}.{}", width_word(*width), unary_word(*operator))
+            }
+            Instr::Binary(operator, width) => {
+                write!(f, "{}.{}", width_word(*width), binary_word(*operator))
+            }
+            Instr::Convert(conversion) => f.write_str(conversion_word(*conversion)),
+            Instr::Drop => f.write_str("drop"),
+            Instr::Select => f.write_str("select"),
+            Instr::LocalGet(index) => write!(f, "local.get {index}"),
+            Instr::LocalSet(index) => write!(f, "local.set {index}"),
+            Instr::LocalTee(index) => write!(f, "local.tee {index}"),
+            Instr::GlobalGet(index) => write!(f, "global.get {index}"),
+            Instr::GlobalSet(index) => write!(f, "global.set {index}"),
+            Instr::Access(kind, operands) => {
+                write!(f, "{}{}", AccessName(*kind), MemArgPhrase(*kind, *operands))
+            }
+            Instr::MemorySize => f.write_str("memory.size"),
+            _ => Ok(()),
+        }
+    }
+
+    /// Writes the labels of a table.
+    fn write_table<W: fmt::Write>(
+        f: &mut fmt::Formatter<W>,
+        labels: &[u32],
+        last: u32,
+    ) -> fmt::Result {
+        f.write_str("br_table")?;
+        for label in labels {
+            write!(f, " {label}")?;
+        }
+        write!(f, " {last}")
+    }
+}
+
+impl fmt::Display for InstrPhrase<'_> {
+    fn fmt<W: fmt::Write>(&self, f: &mut fmt::Formatter<W>) -> fmt::Result {
+        match self.0 {
+            Instr::Unreachable => f.write_str("unreachable"),
+            Instr::Nop => f.write_str("nop"),
+            Instr::Block(result, _) => write!(f, "block{}", ResultPhrase(*result)),
+            Instr::Loop(result, _) => write!(f, "loop{}", ResultPhrase(*result)),
+            Instr::If { result, .. } => write!(f, "if{}", ResultPhrase(*result)),
+            Instr::Br(label) => write!(f, "br {label}"),
+            Instr::BrIf(label) => write!(f, "br_if {label}"),
+            Instr::BrTable(labels, last) => InstrPhrase::write_table(f, labels.as_slice(), *last),
+            Instr::Return => f.write_str("return"),
+            Instr::Call(function) => write!(f, "call {function}"),
+            _ => self.write_numeric(f),
+        }
+    }
+}
