@@ -1,0 +1,235 @@
+//! A small module by hand: each public call once where it succeeds, and each refusal of a start.
+ghost use Rattle.std.specs.Prelude.{◌≡◌};
+ghost use Rattle.wm_event.specs.Op.{kind_finds};
+ghost use Rattle.wm_event.specs.Reply.{ReadAnswers};
+
+use super::*;
+use std::alloc::Global;
+use std::fmt::Debug;
+use std::process::Abort;
+use std::test::Fail;
+use wm_access::{AccessWidth, MemoryOrder};
+use wm_ast::{
+    AccessKind, Export, ExportKind, Exports, Func, FuncType, Instr, Limits, MemArg, Memory, Module,
+    Storage, ValType,
+};
+use wm_event::{End, EventId, Op, OpFields, OpKind, Reply, TrapKind};
+use wm_list::List;
+use wm_num::{BinaryOperator, Width, low_bytes};
+use wm_valid::{ValidModule, validate};
+
+/// Stops the test where the two differ. Each `assert_eq!` of a test would lengthen its proof by some seconds.
+fn same<R: Abort, T: PartialEq + Debug + Drop>(rt: &R, got: T, wanted: T) {
+    assert_eq!(rt; got, wanted);
+}
+
+/// The functions of the module below.
+fn funcs(alloc: Global) -> Result<Vec<Func>, Fail> {
+    let operands = MemArg {
+        alignment: 2,
+        offset: 0,
+    };
+    let body = vec![in alloc;
+        Instr::LocalGet(0),
+        Instr::Access(AccessKind::AtomicRead(Storage::I32), operands),
+        Instr::I32Const(5),
+        Instr::Binary(BinaryOperator::Add, Width::W32),
+    ]?;
+    let blocks = vec![in alloc; List::from_vec(body)]?;
+    let func = Func {
+        type_index: 0,
+        locals: List::new(alloc),
+        blocks: List::from_vec(blocks),
+    };
+    Ok(vec![in alloc; func]?)
+}
+
+/// The exports of the module below.
+fn exports(alloc: Global) -> Result<Exports, Fail> {
+    let mut exports = Exports::new(alloc);
+    let load = Export {
+        kind: ExportKind::Func,
+        index: 0,
+    };
+    exports.push(String::from_str(alloc, "load")?, load)?;
+    let memory = Export {
+        kind: ExportKind::Memory,
+        index: 0,
+    };
+    exports.push(String::from_str(alloc, "memory")?, memory)?;
+    Ok(exports)
+}
+
+/// The module
+///
+/// ```text
+/// (module
+///   (memory (export "memory") 1 1 shared)
+///   (func (export "load") (param i32) (result i32)
+///     local.get 0
+///     i32.atomic.load
+///     i32.const 5
+///     i32.add))
+/// ```
+fn loads_and_adds(alloc: Global) -> Result<ValidModule, Fail> {
+    let params = vec![in alloc; ValType::I32]?;
+    let types = vec![in alloc;
+        FuncType {
+            params: List::from_vec(params),
+            result: Some(ValType::I32),
+        },
+    ]?;
+    let module = Module {
+        types: List::from_vec(types),
+        funcs: List::from_vec(funcs(alloc)?),
+        memory: Some(Memory {
+            limits: Limits {
+                minimum: 1,
+                maximum: 1,
+            },
+            import: None,
+        }),
+        globals: List::new(alloc),
+        exports: exports(alloc)?,
+        data: List::new(alloc),
+    };
+    Ok(validate(alloc, module).ok().ok_or("valid")?)
+}
+
+// Each call of a thread stands in a function of its own, which hands none of its contract on: so a test is proved in
+// seconds, and not in a minute.
+
+/// A thread that loads at this address.
+fn started<'m>(alloc: Global, module: &'m ValidModule, address: u64) -> Result<Thread<'m>, Fail> {
+    Ok(
+        Thread::start(alloc, module, "load", &[address])
+            .ok()
+            .ok_or("starts")?,
+    )
+}
+
+/// Why a thread doesn't start, None where it does.
+fn refusal(alloc: Global, name: &str, args: &[u64]) -> Result<Option<StartFault>, Fail> {
+    let module = loads_and_adds(alloc)?;
+    Ok(Thread::start(alloc, &module, name, args).err())
+}
+
+fn stepped(thread: &mut Thread) -> Option<Stepped> {
+    thread.step().ok()
+}
+
+fn next(thread: &Thread) -> Need {
+    thread.next()
+}
+
+fn position(thread: &Thread) -> CodePosition {
+    thread.position()
+}
+
+/// The reply that brings this value, cut to the width of the access.
+fn reply(op: &Op, value: u64) -> Reply
+    ensures { ReadAnswers (kind_finds op.now.kind) op.now.width result.read }
+{
+    Reply {
+        read: if op.reads() {
+            Some(low_bytes(value, op.fields().width))
+        } else {
+            None
+        },
+        stored: !op.reads(),
+        writers: [EventId::Init; 8],
+    }
+}
+
+/// Makes a step, whose access reads this value where it makes one. False where none is made.
+fn advanced(thread: &mut Thread, value: u64) -> bool {
+    match thread.next() {
+        Need::Ended(_) => false,
+        Need::Local => thread.advance(None).is_ok(),
+        Need::Access(op) => thread.advance(Some(reply(&op, value))).is_ok(),
+    }
+}
+
+/// An instruction of the function's body, or its end.
+fn body_at(at: usize) -> CodePosition {
+    CodePosition {
+        func: 0,
+        block: 0,
+        at,
+    }
+}
+
+/// The atomic load of an i32 at this address.
+fn load(address: u32) -> Op {
+    Op::new(OpFields {
+        kind: OpKind::Read,
+        address,
+        width: AccessWidth::Four,
+        order: MemoryOrder::SeqCst,
+    })
+}
+
+#[test]
+fn a_thread_returns_what_it_read_and_five(rt: HostRuntime) -> Result<(), Fail> {
+    never_stuck();
+    let module = loads_and_adds(rt.alloc())?;
+    let mut thread = started(rt.alloc(), &module, 8)?;
+    same(&rt, position(&thread), body_at(0));
+    same(&rt, stepped(&mut thread), Some(Stepped::Local));
+    same(&rt, next(&thread), Need::Access(load(8)));
+    same(&rt, stepped(&mut thread), Some(Stepped::Access(load(8))));
+    same(&rt, position(&thread), body_at(1));
+    same(&rt, advanced(&mut thread, 7), true);
+    same(&rt, position(&thread), body_at(2));
+    same(&rt, advanced(&mut thread, 0), true);
+    same(&rt, stepped(&mut thread), Some(Stepped::Local));
+    same(&rt, position(&thread), body_at(4));
+    same(&rt, stepped(&mut thread), Some(Stepped::Local));
+    let end = End::Done(Some(12));
+    same(&rt, next(&thread), Need::Ended(end));
+    same(&rt, stepped(&mut thread), Some(Stepped::Ended(end)));
+    Ok(())
+}
+
+#[test]
+fn an_unaligned_access_needs_no_reply(rt: HostRuntime) -> Result<(), Fail> {
+    let module = loads_and_adds(rt.alloc())?;
+    let mut thread = started(rt.alloc(), &module, 2)?;
+    same(&rt, stepped(&mut thread), Some(Stepped::Local));
+    same(&rt, next(&thread), Need::Local);
+    same(&rt, stepped(&mut thread), Some(Stepped::Local));
+    same(
+        &rt,
+        next(&thread),
+        Need::Ended(End::Trap(TrapKind::Unaligned)),
+    );
+    Ok(())
+}
+
+#[test]
+fn a_name_that_nothing_has_is_no_export(rt: HostRuntime) -> Result<(), Fail> {
+    let fault = refusal(rt.alloc(), "store", &[8])?;
+    same(&rt, fault, Some(StartFault::NoExport));
+    Ok(())
+}
+
+#[test]
+fn a_memory_is_no_function(rt: HostRuntime) -> Result<(), Fail> {
+    let fault = refusal(rt.alloc(), "memory", &[8])?;
+    same(&rt, fault, Some(StartFault::NotFunction));
+    Ok(())
+}
+
+#[test]
+fn another_number_of_arguments_is_refused(rt: HostRuntime) -> Result<(), Fail> {
+    let fault = refusal(rt.alloc(), "load", &[8, 9])?;
+    same(&rt, fault, Some(StartFault::ArgCount));
+    Ok(())
+}
+
+#[test]
+fn an_i32_is_below_its_limit(rt: HostRuntime) -> Result<(), Fail> {
+    let fault = refusal(rt.alloc(), "load", &[0x1_0000_0000])?;
+    same(&rt, fault, Some(StartFault::ArgRange));
+    Ok(())
+}
