@@ -34,10 +34,13 @@ returns-clause-bytes c = λ k lt. ap (λ (l : List ℕ). get_or l k 0) c.with_ze
   where
     ended : length c.args.segments.now ≤ c.loop-segment.segment-index
     ended = c.loop-segment-test.false
+
     all : take c.loop-segment.segment-index c.args.segments.now ≡ c.args.segments.now
     all = take_all c.loop-segment.segment-index c.args.segments.now ended
+
     size : length c.loop-segment.bytes.items ≡ c.data_end-end.result
     size = c.loop-segment.invariant.size
+
     go : (k : ℕ) → k < c.args.size → (p : Bool) → ltb k c.data_end-end.result ≡ p → get_or (with_zeros c.loop-segment.bytes.items c.args.size) k 0 ≡ covered c.args.segments.now 0 k
     go k lt true p =
         let before : k < c.data_end-end.result = ltb-true k c.data_end-end.result p in
