@@ -1,10 +1,9 @@
 //! The exact texts of pictures.
-use crate::{draw, graph};
-use std::alloc::AllocError;
+use crate::graph;
 use std::process::Abort;
 use std::test::Fail;
 use std::thread::Threads;
-use wm_check::{check, check_log, read_module};
+use wm_check::check;
 
 /// A module, a document and the picture of its execution.
 #[derive(Clone, Copy)]
@@ -178,24 +177,11 @@ const ROWS: [Row; 5] = [
     },
 ];
 
-/// The picture of a row. What a check promises of it is of no use to a test.
-fn picture_of<R: Abort + AllocGlobal + Threads + Sync>(
-    rt: &R,
-    row: &Row,
-) -> Result<Option<String>, AllocError> {
-    let Ok(module) = read_module(rt.alloc(), row.module) else {
-        return Ok(None);
-    };
-    let checked = check_log(rt, &module, row.document.as_bytes())?;
-    match &checked.candidate {
-        Some(candidate) => Ok(Some(draw(rt.alloc(), &checked.verdict, candidate)?)),
-        None => Ok(None),
-    }
-}
-
 /// Draws the execution of a row.
 fn draws<R: Abort + AllocGlobal + Threads + Sync>(rt: &R, row: &Row) -> Result<(), Fail> {
-    let Some(picture) = picture_of(rt, row)? else {
+    let document = row.document.as_bytes();
+    let verdict = check(rt, row.module, document)?;
+    let Some(picture) = graph(rt.alloc(), &verdict, row.module, document)? else {
         panic!(rt; "{}", row.shows);
     };
     assert_eq!(rt; picture.as_str(), row.picture, "{}", row.shows);
