@@ -191,7 +191,7 @@ def cut_modules():
     cases = []
     for path in sorted(glob.glob(f"{TOP}/examples/*.wasm") + glob.glob(f"{TOP}/examples/c/*.wasm")):
         name = os.path.relpath(path, f"{TOP}/examples")
-        if name in ("floats.wasm", "misaligned.wasm"):
+        if name in ("floats.wasm", "misaligned.wasm", "too-many-locals.wasm"):
             continue
         module = example(name)
         sections, end = sections_of(module)

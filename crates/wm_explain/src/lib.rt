@@ -7,6 +7,7 @@ mod document_part;
 mod fault_chain;
 mod instr;
 mod log_refusal;
+mod module_count;
 mod module_refusal;
 mod phrase;
 mod position;
@@ -18,7 +19,7 @@ mod table;
 
 pub use chain::{Link, LinkKind, shortest_chain};
 pub use fault_chain::{FaultChain, fault_chains};
-pub use reasons::{explain, explain_refusal, explain_run};
+pub use reasons::{explain_refusal, explain_run};
 pub use rule::grounds;
 
 #[cfg(test)]

@@ -1,5 +1,6 @@
 //! Why a module is refused.
 
+use crate::module_count::{number_at, parameters_and_locals};
 use std::alloc::{AllocError, Global};
 use std::fmt;
 use wm_decode::{DecodeFault, FaultKind, Limit};
@@ -44,8 +45,9 @@ impl fmt::Display for LimitSentence {
                 f,
                 "The module has {found} functions, and at most 1000 are read."
             ),
-            Limit::Locals => f.write_str(
-                "A function has more than 1000 parameters and locals together, the most that are read.",
+            Limit::Locals => write!(
+                f,
+                "A function has {found} parameters and locals together up to here, and at most 1000 are read."
             ),
             Limit::Nesting => f.write_str(
                 "This is the 65th block inside one another in a function's body, and at most 64 are read.",
@@ -98,26 +100,12 @@ impl fmt::Display for DecodeSentence {
     }
 }
 
-/// The unsigned number that begins at an offset (Core 1.0, section 5.2.2), where one of at most 32 bits ends there.
-fn number_at(bytes: &[u8], offset: usize) -> Option<u64> {
-    let mut number = 0u64;
-    let mut scale = 1u64;
-    for place in 0..5usize {
-        let byte = bytes.get(offset.saturating_add(place))?;
-        number = number.saturating_add(u64::from(*byte & 127).saturating_mul(scale));
-        scale = scale.saturating_mul(128);
-        if *byte < 128 {
-            return Some(number);
-        }
-    }
-    None
-}
-
-/// The number that passes a limit, where the bytes say it at the fault.
+/// The number that passes a limit, where the bytes say it.
 fn found_at(kind: FaultKind, bytes: &[u8], offset: usize) -> Option<u64> {
     match kind {
         FaultKind::Limit(Limit::ModuleBytes) => Some(bytes.len() as u64),
         FaultKind::Limit(Limit::Pages | Limit::Functions) => number_at(bytes, offset),
+        FaultKind::Limit(Limit::Locals) => parameters_and_locals(bytes, offset),
         _ => None,
     }
 }

@@ -1,1 +1,2 @@
 pub mod ArrowLaws
+mod ColumnLaws

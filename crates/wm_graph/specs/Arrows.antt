@@ -1,5 +1,5 @@
 -- The arrows of reads-from to a read.
-use Rattle.std.specs.Prelude.{◌≡◌, ℕ, ◌≤◌, List, Option, Some, slice_get}
+use Rattle.std.specs.Prelude.{◌≡◌, ℕ, ◌≤◌, List, Some, slice_get}
 use Rattle.wm_event.specs.declared.event.EventId.{EventId}
 use Rattle.wm_graph.specs.declared.arrows.ReadArrow.{ReadArrow}
 

@@ -2,11 +2,12 @@
 #![tactic(auto)]
 
 mod arrows;
+mod columns;
 mod edges;
 mod label;
 mod picture;
 
-pub use picture::{draw, graph};
+pub use picture::draw;
 
 #[cfg(test)]
 mod tests;

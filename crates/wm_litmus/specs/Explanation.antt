@@ -1,15 +1,26 @@
 -- What the commands `explain` and `graph` answer.
 use Rattle.std.specs.Prelude.{◌≡◌, ℕ, List, ◌++◌, string_bytes}
+use Rattle.wm_ast.specs.declared.module.Module.{Module}
+use Rattle.wm_check.specs.declared.verdict.Refusal.{Refusal}
 use Rattle.wm_check.specs.declared.verdict.Verdict.{Verdict}
-use Rattle.wm_check.specs.Verdicts.{Says}
+use Rattle.wm_check.specs.declared.verdict.Verdict.TheVariants.{Allowed, Refused, Broken}
+use Rattle.wm_check.specs.Reading.{IsJudged}
+use Rattle.wm_check.specs.Run.{IsModuleOf}
+use Rattle.wm_check.specs.Verdicts.{IsRefusedFor, Says}
 use Rattle.wm_litmus.specs.declared.answer.Answer.{Answer}
-use Rattle.wm_litmus.specs.Lines.{verdict_status, verdict_text}
-use Rattle.wm_litmus.specs.Prints.{ended}
+use Rattle.wm_litmus.specs.Lines.{refusal_text, verdict_status, verdict_text}
+use Rattle.wm_litmus.specs.Prints.{Prints, ended}
+
+-- ---- the command `explain`
 
 -- an answer prints the line of the verdict, and these sentences
 pub record PrintsReasons (verdict : Verdict) (reasons : List ℕ) (answer : Answer) : Type 0 where
   pub status_is : answer.status ≡ verdict_status verdict
   pub text_is : string_bytes answer.text ≡ ended (verdict_text verdict) ++ reasons
+
+-- an answer prints the line of the verdict, and sentences of which nothing more is said
+abbrev pub Explains : Verdict → Answer → Type 0
+Explains verdict answer = (reasons : List ℕ) × PrintsReasons verdict reasons answer
 
 -- the status and the text that answer a module and a document: those of `check`, and sentences of which nothing more is said
 pub record AnswersExplain (module_bytes document_bytes : List ℕ) (status : ℕ) (text : List ℕ) : Type 0 where
@@ -19,8 +30,28 @@ pub record AnswersExplain (module_bytes document_bytes : List ℕ) (status : ℕ
   pub status_is : status ≡ verdict_status verdict
   pub text_is : text ≡ ended (verdict_text verdict) ++ reasons
 
--- the status of `check` with a picture, of which nothing more is said; or its answer
+-- an answer to these bytes of a document, and to all bytes that spell the module
+abbrev pub ExplainsOver : Module → List ℕ → Answer → Type 0
+ExplainsOver «module» document_bytes answer =
+    (module_bytes : List ℕ) → IsModuleOf module_bytes «module» → AnswersExplain module_bytes document_bytes answer.status (string_bytes answer.text)
+
+-- ---- the command `graph`
+
+-- an answer has the status of the verdict with a picture, of which nothing more is said; or it prints the line of a refusal
+abbrev pub Shows : Verdict → Answer → Type 0
+Shows (Allowed certificate) answer = answer.status ≡ 0
+Shows (Refused refusal) answer = Prints 2 (refusal_text refusal) answer
+Shows (Broken breach) answer = answer.status ≡ 1
+
+-- the status and the text that answer a module and a document: the status of `check` with a picture, of which nothing more is said, where
+-- there is a candidate; else the line of the refusal
 pub data AnswersGraph (module_bytes document_bytes : List ℕ) (status : ℕ) (text : List ℕ) : Type 0 where
-  pictured : (verdict : Verdict) → Says module_bytes document_bytes verdict → status ≡ verdict_status verdict → AnswersGraph module_bytes document_bytes status text
-  told : (verdict : Verdict) → Says module_bytes document_bytes verdict
-      → status ≡ verdict_status verdict → text ≡ ended (verdict_text verdict) → AnswersGraph module_bytes document_bytes status text
+  pictured : (verdict : Verdict) → Says module_bytes document_bytes verdict → IsJudged verdict
+      → status ≡ verdict_status verdict → AnswersGraph module_bytes document_bytes status text
+  told : (refusal : Refusal) → IsRefusedFor module_bytes document_bytes refusal
+      → status ≡ 2 → text ≡ ended (verdict_text (Refused refusal)) → AnswersGraph module_bytes document_bytes status text
+
+-- an answer to these bytes of a document, and to all bytes that spell the module
+abbrev pub GraphsOver : Module → List ℕ → Answer → Type 0
+GraphsOver «module» document_bytes answer =
+    (module_bytes : List ℕ) → IsModuleOf module_bytes «module» → AnswersGraph module_bytes document_bytes answer.status (string_bytes answer.text)

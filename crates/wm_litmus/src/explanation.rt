@@ -1,13 +1,74 @@
-//! The commands `explain` and `graph`: why a check answers what it answers, in sentences and as a picture.
+//! The commands `explain` and `graph`: why a check answers what it answers, in sentences and as a picture. Module and
+//! document are read and checked once, and what is said is said of the candidate of that check.
 ghost use Rattle.std.specs.Prelude.{◌≡◌, IfOk, string_bytes};
-ghost use Rattle.wm_litmus.specs.Explanation.{AnswersExplain, AnswersGraph};
+ghost use Rattle.wm_check.specs.Reading.{HasCandidate};
+ghost use Rattle.wm_check.specs.declared.verdict.Verdict.TheVariants.{Refused};
+ghost use Rattle.wm_litmus.specs.Explanation.{AnswersExplain, AnswersGraph, Explains, ExplainsOver, GraphsOver, Shows};
 
 use crate::answer::Answer;
-use std::alloc::AllocError;
+use std::alloc::{AllocError, Global};
 use std::thread::Threads;
-use wm_check::check;
-use wm_explain::explain;
-use wm_graph::graph;
+use wm_check::{CheckedLog, Refusal, Unread, Verdict, check_log, read_module};
+use wm_explain::{explain_refusal, explain_run};
+use wm_graph::draw;
+use wm_valid::ValidModule;
+
+/// What stands behind the verdict on a document: of its candidate, or of what was refused.
+fn reasons_of<R: AllocGlobal + Threads + Sync>(
+    rt: &R,
+    module: &ValidModule,
+    checked: &CheckedLog,
+    module_bytes: &[u8],
+    document_bytes: &[u8],
+) -> Result<String, AllocError> {
+    match (&checked.candidate, &checked.verdict) {
+        (Some(candidate), verdict) => explain_run(rt, verdict, module, candidate),
+        (None, Verdict::Refused(refusal)) => {
+            explain_refusal(rt.alloc(), refusal, module_bytes, document_bytes)
+        }
+        (None, _) => Ok(String::new(rt.alloc())),
+    }
+}
+
+/// The line of the verdict on a document, and what stands behind it.
+fn explain_checked<R: AllocGlobal + Threads + Sync>(
+    rt: &R,
+    module: &ValidModule,
+    checked: &CheckedLog,
+    module_bytes: &[u8],
+    document_bytes: &[u8],
+) -> Result<Answer, AllocError>
+    ensures { IfOk result (Explains checked.now.verdict) }
+{
+    let reasons = reasons_of(rt, module, checked, module_bytes, document_bytes)?;
+    Answer::explained(rt.alloc(), &checked.verdict, reasons.as_str())
+}
+
+/// The answer to a document over a module.
+fn explain_log<R: AllocGlobal + Threads + Sync>(
+    rt: &R,
+    module: &ValidModule,
+    module_bytes: &[u8],
+    document_bytes: &[u8],
+) -> Result<Answer, AllocError>
+    ensures { IfOk result (ExplainsOver «module».now document_bytes.now) }
+{
+    let checked = check_log(rt, module, document_bytes)?;
+    explain_checked(rt, module, &checked, module_bytes, document_bytes)
+}
+
+/// The answer to the bytes of a module that are refused.
+fn explain_unread(
+    alloc: Global,
+    refusal: Refusal,
+    module_bytes: &[u8],
+    document_bytes: &[u8],
+) -> Result<Answer, AllocError>
+    ensures { IfOk result (Explains (Refused refusal)) }
+{
+    let reasons = explain_refusal(alloc, &refusal, module_bytes, document_bytes)?;
+    Answer::explained(alloc, &Verdict::Refused(refusal), reasons.as_str())
+}
 
 /// The line of the check of these bytes, and what stands behind it.
 ///
@@ -22,9 +83,39 @@ pub(crate) fn explain_answer<R: AllocGlobal + Threads + Sync>(
     ensures { IfOk result (λ answer.
         AnswersExplain module_bytes.now document_bytes.now answer.status (string_bytes answer.text)) }
 {
-    let verdict = check(rt, module_bytes, document_bytes)?;
-    let reasons = explain(rt, &verdict, module_bytes, document_bytes)?;
-    Answer::explained(rt.alloc(), &verdict, reasons.as_str())
+    match read_module(rt.alloc(), module_bytes) {
+        Ok(module) => explain_log(rt, &module, module_bytes, document_bytes),
+        Err(Unread::Refused(refusal)) => {
+            explain_unread(rt.alloc(), refusal, module_bytes, document_bytes)
+        }
+        Err(Unread::OutOfMemory) => Err(AllocError),
+    }
+}
+
+/// The picture of what was checked; where it is refused, the line of that.
+fn show_checked(alloc: Global, checked: &CheckedLog) -> Result<Answer, AllocError>
+    requires { HasCandidate checked.now.verdict checked.now.candidate }
+    ensures { IfOk result (Shows checked.now.verdict) }
+{
+    match &checked.candidate {
+        Some(candidate) => {
+            let picture = draw(alloc, &checked.verdict, candidate)?;
+            Ok(Answer::pictured(&checked.verdict, picture))
+        }
+        None => Answer::of_verdict(alloc, &checked.verdict),
+    }
+}
+
+/// The answer to a document over a module.
+fn show_log<R: AllocGlobal + Threads + Sync>(
+    rt: &R,
+    module: &ValidModule,
+    document_bytes: &[u8],
+) -> Result<Answer, AllocError>
+    ensures { IfOk result (GraphsOver «module».now document_bytes.now) }
+{
+    let checked = check_log(rt, module, document_bytes)?;
+    show_checked(rt.alloc(), &checked)
 }
 
 /// The execution that these bytes record, for Graphviz; where they are refused, the line of that.
@@ -40,9 +131,9 @@ pub(crate) fn graph_answer<R: AllocGlobal + Threads + Sync>(
     ensures { IfOk result (λ answer.
         AnswersGraph module_bytes.now document_bytes.now answer.status (string_bytes answer.text)) }
 {
-    let verdict = check(rt, module_bytes, document_bytes)?;
-    match graph(rt.alloc(), &verdict, module_bytes, document_bytes)? {
-        Some(text) => Ok(Answer::pictured(&verdict, text)),
-        None => Answer::of_verdict(rt.alloc(), &verdict),
+    match read_module(rt.alloc(), module_bytes) {
+        Ok(module) => show_log(rt, &module, document_bytes),
+        Err(Unread::Refused(refusal)) => Answer::of_verdict(rt.alloc(), &Verdict::Refused(refusal)),
+        Err(Unread::OutOfMemory) => Err(AllocError),
     }
 }

@@ -42,3 +42,7 @@ argument_there ops count k lt le h =
     let e = slice_get-get_or ops (count - 1 - k) (I32 0) j in
     let q : None ≡ Some (get_or ops (count - 1 - k) (I32 0)) = sym h ∙ e in
     cc
+
+-- one more caller
+pub pushed : (old new : List Activation) (a : Activation) → new ≡ old ++ a ∷ [] → reverse new ≡ a ∷ reverse old
+pushed old new a e = ap reverse e ∙ reverse_last old a

@@ -124,7 +124,7 @@ fn set_local(levels: &Levels, locals: &Locals, index: u32, popped: usize) -> Act
     ensures sets { (globals : List TypedValue) → SetsWithin result locals.now globals }
 {
     match levels.operand(0) {
-        Some(value) if (index as usize) < locals.len() => Action::SetLocal(index, value, popped),
+        Some(value) if locals.has(index as usize) => Action::SetLocal(index, value, popped),
         _ => Action::Stuck,
     }
 }

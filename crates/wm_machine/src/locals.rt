@@ -1,71 +1,90 @@
 //! The locals of a call (Core 1.0, section 4.4.7).
-ghost use Rattle.std.specs.Prelude.{◌≡◌, ◌<◌, ◌++◌, length, map, slice_get, slice_set, OnOk, OnErr, IfOk};
+ghost use Rattle.std.specs.Prelude.{◌≡◌, ◌<◌, ◌+◌, ◌++◌, length, map, slice_get, slice_set, nat_lt, OnOk, OnErr, IfOk};
+ghost use Rattle.wm_machine.specs.LateLocals.{all_late};
 ghost use Rattle.wm_machine.specs.Values.{zero_of};
 
+use crate::late::Late;
 use crate::value::TypedValue;
 use std::alloc::{AllocError, Global};
 use std::marker::Model;
 use wm_ast::ValType;
 
-/// The locals of a call. The zeros behind the last one that was set aren't held, so that a call costs no more than its
-/// arguments and the locals up to that one.
+/// How many locals are held in their order, besides the arguments: most functions have no more.
+const NEAR: usize = 16;
+
+/// The locals of a call: the arguments and the first of the others, of which the zeros behind the last one that was set aren't
+/// held, and the late ones, of which only those that were set are held. So a call costs no more than its arguments and what
+/// it sets.
 #[derive(Drop)]
 pub struct Locals<'m> {
     held: Vec<TypedValue>,
-    /// The types of those that aren't held.
+    /// The types of the first ones that aren't held.
     unset: &'m [ValType],
+    /// The late ones, where there are or were any: their memory is kept for calls to come.
+    late: Option<Box<Late<'m>>>,
 }
 
 impl<'m> Model for Locals<'m> {
     ghost use Rattle.std.specs.Prelude.{List, ◌++◌, map};
+    ghost use Rattle.wm_machine.specs.LateLocals.{all_late};
     ghost use Rattle.wm_machine.specs.Values.{zero_of};
     ghost use Rattle.wm_machine.specs.declared.value.TypedValue.{TypedValue};
 
     ghost Value = { List TypedValue };
 
-    ghost view = { λ l. l.held.items ++ map zero_of l.unset.now };
+    ghost view = { λ l. (l.held.items ++ map zero_of l.unset.now) ++ all_late l.late };
 }
 
 impl<'m> Locals<'m> {
     /// Zeros of these types.
-    pub fn new(alloc: Global, unset: &'m [ValType]) -> Self
-        ensures { result ≡ map zero_of unset.now }
+    #[tactic(auto, using(crate::proofs::Held::zeros_split))]
+    pub fn new(alloc: Global, unset: &'m [ValType]) -> Result<Self, AllocError>
+        ensures { IfOk result (λ l. l ≡ map zero_of unset.now) }
     {
-        Locals {
+        let (near, late) = split(unset);
+        Ok(Locals {
             held: Vec::new(alloc),
-            unset,
-        }
+            unset: near,
+            late: new_late(alloc, late)?,
+        })
     }
 
     /// These values, and then zeros of these types. Where memory is refused, they may be any.
-    pub fn restart(&mut self, values: &[TypedValue], unset: &'m [ValType]) -> Result<(), AllocError>
+    #[tactic(auto, using(crate::proofs::Held::values_split))]
+    pub fn restart(
+        &mut self,
+        alloc: Global,
+        values: &[TypedValue],
+        unset: &'m [ValType],
+    ) -> Result<(), AllocError>
         ensures { OnOk result (self.new ≡ values.now ++ map zero_of unset.now) }
     {
+        let (near, late) = split(unset);
         self.held.clear();
         self.held.extend_from_slice(values)?;
-        self.unset = unset;
-        Ok(())
+        self.unset = near;
+        restart_late(alloc, &mut self.late, late)
     }
 
-    /// How many there are.
+    /// Whether there is a local of this index.
     #[inline(always)]
-    pub fn len(&self) -> usize
-        ensures { result ≡ length self.now }
+    #[tactic(auto, using(crate::proofs::Held::length_parts))]
+    pub fn has(&self, index: usize) -> bool
+        ensures { result ≡ nat_lt index (length self.now) }
     {
-        self.held.len() + self.unset.len()
+        index < self.held.len() || has_unheld(self.unset, &self.late, index - self.held.len())
     }
 
     /// The local of this index.
     #[inline(always)]
+    #[tactic(auto, using(crate::proofs::Held::get_held, crate::proofs::Held::get_unheld))]
     pub fn get(&self, index: usize) -> Option<TypedValue>
         ensures { result ≡ slice_get self.now index }
     {
         if index < self.held.len() {
-            return Some(self.held[index]);
-        }
-        match self.unset.get(index - self.held.len()) {
-            Some(ty) => Some(TypedValue::zero(*ty)),
-            None => None,
+            Some(self.held[index])
+        } else {
+            get_unheld(self.unset, &self.late, index - self.held.len())
         }
     }
 
@@ -79,11 +98,96 @@ impl<'m> Locals<'m> {
             self.held[index] = value;
             return Ok(());
         }
-        let count = index - self.held.len() + 1;
-        hold(&mut self.held, &self.unset[..count])?;
-        self.unset = &self.unset[count..];
-        self.held[index] = value;
-        Ok(())
+        let beyond = index - self.held.len();
+        if beyond < self.unset.len() {
+            hold(&mut self.held, &self.unset[..beyond + 1])?;
+            self.unset = &self.unset[beyond + 1..];
+            self.held[index] = value;
+            return Ok(());
+        }
+        set_late(&mut self.late, beyond - self.unset.len(), value)
+    }
+}
+
+/// The types of the first locals, and of the late ones.
+fn split(types: &[ValType]) -> (&[ValType], &[ValType])
+    ensures { result.0.now ++ result.1.now ≡ types.now }
+{
+    types.split_at(types.len().min(NEAR))
+}
+
+/// Whether there is a local of this index behind those that are held.
+fn has_unheld(unset: &[ValType], late: &Option<Box<Late>>, index: usize) -> bool
+    ensures { result ≡ nat_lt index (length unset.now + length (all_late late.now)) }
+{
+    index < unset.len() || has_late(late, index - unset.len())
+}
+
+/// The local of this index behind those that are held.
+#[tactic(auto, using(crate::proofs::Held::get_near, crate::proofs::Held::get_late))]
+fn get_unheld(unset: &[ValType], late: &Option<Box<Late>>, index: usize) -> Option<TypedValue>
+    ensures { result ≡ slice_get (map zero_of unset.now ++ all_late late.now) index }
+{
+    match unset.get(index) {
+        Some(ty) => Some(TypedValue::zero(*ty)),
+        None => get_late(late, index - unset.len()),
+    }
+}
+
+/// Late locals of these types, if there are any.
+fn new_late<'m>(alloc: Global, types: &'m [ValType]) -> Result<Option<Box<Late<'m>>>, AllocError>
+    ensures { IfOk result (λ late. all_late late ≡ map zero_of types.now) }
+{
+    if types.is_empty() {
+        return Ok(None);
+    }
+    Ok(Some(Box::new(alloc, Late::new(alloc, types))?))
+}
+
+/// Late locals of these types, in the memory of what was there.
+fn restart_late<'m>(
+    alloc: Global,
+    late: &mut Option<Box<Late<'m>>>,
+    types: &'m [ValType],
+) -> Result<(), AllocError>
+    ensures { OnOk result (all_late late.new ≡ map zero_of types.now) }
+{
+    match late {
+        Some(late) => late.restart(types),
+        None => *late = new_late(alloc, types)?,
+    }
+    Ok(())
+}
+
+/// Whether there is a late local of this index.
+fn has_late(late: &Option<Box<Late>>, index: usize) -> bool
+    ensures { result ≡ nat_lt index (length (all_late late.now)) }
+{
+    match late {
+        Some(late) => late.has(index),
+        None => false,
+    }
+}
+
+/// The late local of this index.
+fn get_late(late: &Option<Box<Late>>, index: usize) -> Option<TypedValue>
+    ensures { result ≡ slice_get (all_late late.now) index }
+{
+    match late {
+        Some(late) => late.get(index),
+        None => None,
+    }
+}
+
+/// Sets a late local. An `Err` changes nothing.
+fn set_late(late: &mut Option<Box<Late>>, index: usize, value: TypedValue) -> Result<(), AllocError>
+    requires { index < length (all_late late.old) }
+    ensures ok { OnOk result (all_late late.new ≡ slice_set (all_late late.old) index value) }
+    ensures err { OnErr result (all_late late.new ≡ all_late late.old) }
+{
+    match late {
+        Some(late) => late.set(index, value),
+        None => unreachable!(),
     }
 }
 

@@ -37,6 +37,13 @@ const FLOATS: [u8; 36] = [
     0x00, 0x00, 0x1A, 0x0B,
 ];
 
+/// `too-many-locals.wasm` of the examples.
+pub(super) const TOO_MANY_LOCALS: [u8; 44] = [
+    0x00, 0x61, 0x73, 0x6D, 0x01, 0x00, 0x00, 0x00, 0x01, 0x06, 0x01, 0x60, 0x02, 0x7F, 0x7F, 0x00,
+    0x03, 0x02, 0x01, 0x00, 0x05, 0x04, 0x01, 0x03, 0x01, 0x01, 0x07, 0x05, 0x01, 0x01, 0x61, 0x00,
+    0x00, 0x0A, 0x09, 0x01, 0x07, 0x02, 0x01, 0x7E, 0xE6, 0x07, 0x7F, 0x0B,
+];
+
 /// `misaligned.wasm` of the examples.
 const MISALIGNED: [u8; 70] = [
     0x00, 0x61, 0x73, 0x6D, 0x01, 0x00, 0x00, 0x00, 0x01, 0x05, 0x01, 0x60, 0x00, 0x01, 0x7F, 0x03,
@@ -228,13 +235,21 @@ The memory rules permit the events as they stand in the log.
     },
 ];
 
-pub(super) const REFUSED: [CheckRow; 11] = [
+pub(super) const REFUSED: [CheckRow; 12] = [
     CheckRow {
         shows: "floats",
         module: &FLOATS,
         document: r#"["wasm-litmus-log",2,[["a",[],["done",[0]],6,[["w","un",0,4,1],["r","un",4,4,0,[[],[],[],[]]]]],["b",[],["done",[0]],6,[["w","un",4,4,1],["r","un",0,4,0,[[],[],[],[]]]]]],[[0,0],[1,0],[0,1],[1,1]]]"#,
         text: r#"The bytes are no module that is read here, from byte 29 of 36 on. The module uses a part of WebAssembly that is left out here: Floats.
 The bytes there, the one at 29 in brackets: 03 01 01 0a 0a 01 08 00 [43] 00 00 00 00 1a 0b
+"#,
+    },
+    CheckRow {
+        shows: "too many locals",
+        module: &TOO_MANY_LOCALS,
+        document: r#"["wasm-litmus-log",2,[["a",[],["done",[0]],6,[["w","un",0,4,1],["r","un",4,4,0,[[],[],[],[]]]]],["b",[],["done",[0]],6,[["w","un",4,4,1],["r","un",0,4,0,[[],[],[],[]]]]]],[[0,0],[1,0],[0,1],[1,1]]]"#,
+        text: r#"The bytes are no module that is read here, from byte 40 of 44 on. A function has 1001 parameters and locals together up to here, and at most 1000 are read.
+The bytes there, the one at 40 in brackets: 00 0a 09 01 07 02 01 7e [e6] 07 7f 0b
 "#,
     },
     CheckRow {

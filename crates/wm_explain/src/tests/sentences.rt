@@ -1,6 +1,8 @@
 //! Each sentence on a fault of the bytes, of the module, of the log and of a start.
+use super::rows::TOO_MANY_LOCALS;
 use crate::document_part::PartPhrase;
 use crate::log_refusal::{ShapeSentence, WantedPhrase};
+use crate::module_count::parameters_and_locals;
 use crate::module_refusal::{DecodeSentence, ValidSentence, decode_reason};
 use crate::phrase::EndPhrase;
 use crate::replay::StartSentence;
@@ -63,7 +65,7 @@ const DECODE: [(FaultKind, &str); 16] = [
     ),
     (
         FaultKind::Limit(Limit::Locals),
-        "A function has more than 1000 parameters and locals together, the most that are read.",
+        "A function has 1048577 parameters and locals together up to here, and at most 1000 are read.",
     ),
     (
         FaultKind::Limit(Limit::Nesting),
@@ -287,6 +289,26 @@ fn each_count_that_passes_a_limit(rt: HostRuntime) -> Result<(), Fail> {
         let fault = DecodeFault::At(FaultKind::Limit(*limit), 1);
         let got = decode_reason(rt.alloc(), &fault, bytes)?;
         assert!(rt; got.as_str().contains(*text), "{got}");
+    }
+    Ok(())
+}
+
+/// A place in `too-many-locals.wasm`, and how many parameters and locals its function has up to there.
+const COUNTS: [(usize, Option<u64>); 4] = [
+    (36, Some(2)),
+    (38, Some(3)),
+    (40, Some(1001)),
+    (41, None),
+];
+
+#[test]
+fn parameters_and_locals_up_to_a_place(rt: HostRuntime) -> Result<(), Fail> {
+    for (offset, count) in &COUNTS {
+        assert_eq!(rt;
+            parameters_and_locals(&TOO_MANY_LOCALS, *offset),
+            *count,
+            "{offset}"
+        );
     }
     Ok(())
 }

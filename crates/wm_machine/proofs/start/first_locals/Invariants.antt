@@ -1,5 +1,4 @@
-use Rattle.std.proofs.Common.{◌≡◌, ◌++◌, take, map}
-use Rattle.wm_machine.specs.Values.{zero_of}
+use Rattle.std.proofs.Common.{◌≡◌, take}
 use Rattle.wm_machine.specs.Start.{arguments}
 use Rattle.wm_machine.proofs.start.first_locals.Given as goal
 

@@ -1,0 +1,34 @@
+-- The nodes of a picture.
+use Rattle.std.specs.Prelude.{◌≡◌, ◌↔◌, ◌⊎◌, List, Some, IsTrue, map}
+use Rattle.wm_event.specs.declared.event.Event.{Event}
+use Rattle.wm_event.specs.declared.event.EventId.{EventId}
+use Rattle.wm_event.specs.declared.event.EventId.TheVariants.{Init, At}
+use Rattle.wm_event.specs.declared.log.ThreadLog.{ThreadLog}
+use Rattle.wm_event.specs.Event.{key_of}
+use Rattle.wm_graph.specs.declared.columns.Column.{Column}
+use Rattle.wm_check.specs.declared.verdict.Verdict.{Verdict}
+use Rattle.wm_check.specs.declared.verdict.Verdict.TheVariants.{Allowed, Refused, Broken}
+use Rattle.wm_check.specs.declared.verdict.Breach.TheVariants.{Replay, Rule}
+use Rattle.wm_replay.specs.declared.answer.ReplayAnswer.TheVariants.{Differs}
+use Rattle.wm_replay.specs.declared.answer.Place.TheVariants as place
+use Rattle.wm_graph.specs.declared.columns.Node.{Node}
+
+-- the events that have a node in a column, from above
+abbrev pub events_of : Column → List Event
+events_of column = map (λ node. node.event) column.nodes
+
+-- each thread has a column, and each of its events a node there, both in turn and once; there is no other node
+abbrev pub AreColumnsOf : List ThreadLog → List Column → Type 0
+AreColumnsOf log columns = map events_of columns ≡ map (λ thread. thread.events) log
+
+-- the events that a verdict speaks of, which are drawn in another colour: those of a fault, or the one at which a thread differs from its log
+abbrev pub IsMarked : Verdict → EventId → Type 0
+IsMarked (Allowed certificate) id = ⊥
+IsMarked (Refused refusal) id = ⊥
+IsMarked (Broken (Rule fault)) id = (id ≡ At fault.event) ⊎ ((id ≡ fault.writer) ⊎ (fault.other ≡ Some id))
+IsMarked (Broken (Replay answer)) Init = ⊥
+IsMarked (Broken (Replay answer)) (At key) = answer ≡ Differs key.thread (place.Event key.number)
+
+-- a node is drawn so just where its event is
+abbrev pub IsMarkedBy : Verdict → Node → Type 0
+IsMarkedBy verdict node = IsTrue node.is_marked ↔ IsMarked verdict (At (key_of node.event))

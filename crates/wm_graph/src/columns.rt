@@ -1,0 +1,80 @@
+//! The columns of a picture: each thread with the nodes of its events.
+ghost use Rattle.std.specs.Prelude.{◌≡◌, ◌↔◌, All, IfOk, IsTrue, map};
+ghost use Rattle.wm_graph.specs.Columns.{AreColumnsOf, IsMarked, IsMarkedBy, events_of};
+
+use std::alloc::{AllocError, Global};
+use wm_check::{Breach, Verdict};
+use wm_event::{Event, EventId, Log, ThreadLog};
+use wm_list::List;
+use wm_replay::{Place, ReplayAnswer};
+
+/// Whether a verdict speaks of an event: one of a fault of a memory rule, or the one at which a thread differs from its log.
+pub(crate) fn is_marked(verdict: &Verdict, id: EventId) -> bool
+    ensures { IsTrue result ↔ IsMarked verdict.now id }
+{
+    match verdict {
+        Verdict::Broken(Breach::Rule(fault)) => {
+            id == EventId::At(fault.event) || id == fault.writer || fault.other == Some(id)
+        }
+        Verdict::Broken(Breach::Replay(ReplayAnswer::Differs(thread, Place::Event(number)))) => {
+            match id {
+                EventId::Init => false,
+                EventId::At(key) => key.thread as usize == *thread
+                    && key.number as usize == *number,
+            }
+        }
+        _ => false,
+    }
+}
+
+/// The node of an event.
+#[derive(Clone, Copy)]
+pub(crate) struct Node {
+    pub event: Event,
+    pub is_marked: bool,
+}
+
+/// The node of an event.
+fn node_of(event: &Event, verdict: &Verdict) -> Node
+    ensures event { result.event ≡ event.now }
+    ensures marked { IsMarkedBy verdict.now result }
+{
+    Node {
+        event: *event,
+        is_marked: is_marked(verdict, EventId::At(event.key())),
+    }
+}
+
+/// The nodes of a thread's events.
+#[derive(Drop)]
+pub(crate) struct Column {
+    pub nodes: List<Node>,
+}
+
+/// The column of a thread: a node for each of its events, in turn.
+fn column_of(alloc: Global, thread: &ThreadLog, verdict: &Verdict) -> Result<Column, AllocError>
+    ensures events { IfOk result (λ column. events_of column ≡ thread.now.events) }
+    ensures marks { IfOk result (λ column. All (IsMarkedBy verdict.now) column.nodes) }
+{
+    let mut nodes = List::new(alloc);
+    for event in thread.events.as_slice() {
+        nodes.push(node_of(event, verdict))?;
+    }
+    Ok(Column { nodes })
+}
+
+/// The columns of a log: one for each thread, in turn.
+pub(crate) fn columns(
+    alloc: Global,
+    log: &Log,
+    verdict: &Verdict,
+) -> Result<List<Column>, AllocError>
+    ensures columns { IfOk result (AreColumnsOf log.now) }
+    ensures marks { IfOk result (All (λ column. All (IsMarkedBy verdict.now) column.nodes)) }
+{
+    let mut columns = List::new(alloc);
+    for thread in log.threads() {
+        columns.push(column_of(alloc, thread, verdict)?)?;
+    }
+    Ok(columns)
+}
