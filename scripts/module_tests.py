@@ -56,6 +56,16 @@ STORE_BUFFERING_ATOMIC = """
     (i32.atomic.store (i32.const 4) (i32.const 1))
     (i32.atomic.load (i32.const 0))))
 """
+MESSAGE_PASSING_ATOMIC = """
+(module
+  (memory 1 1 shared)
+  (func (export "a")
+    (i32.store (i32.const 0) (i32.const 1))
+    (i32.atomic.store (i32.const 4) (i32.const 1)))
+  (func (export "b") (result i32)
+    (drop (i32.atomic.load (i32.const 4)))
+    (i32.load (i32.const 0))))
+"""
 TRAPS = """
 (module
   (memory 1 1 shared)
@@ -125,6 +135,7 @@ DECODED = [
 RUN = [
     ("Two threads, each of which stores and then loads what the other stores; plain.", "STORE_BUFFERING", STORE_BUFFERING),
     ("The same with atomic accesses.", "STORE_BUFFERING_ATOMIC", STORE_BUFFERING_ATOMIC),
+    ("A thread that stores data and then, atomically, a flag; and one that loads both.", "MESSAGE_PASSING_ATOMIC", MESSAGE_PASSING_ATOMIC),
     ("Three functions: an unaligned atomic load, a load past the memory, and one that is both.", "TRAPS", TRAPS),
     ("A store of eight bytes, and a load of four in its middle.", "OVERLAPPING_LOAD", OVERLAPPING_LOAD),
     ("A function that stores 7 at its argument and loads it.", "ARGUMENT", ARGUMENT),

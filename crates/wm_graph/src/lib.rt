@@ -8,6 +8,3 @@ mod label;
 mod picture;
 
 pub use picture::draw;
-
-#[cfg(test)]
-mod tests;

@@ -12,6 +12,7 @@ mod migration;
 mod modules;
 mod numeric_instructions;
 mod other_instructions;
+mod pictures;
 mod program;
 mod recordings;
 mod rounds;

@@ -10,15 +10,20 @@ use std::sync::Wait;
 use std::thread::Threads;
 use wm_litmus::serve;
 
-/// Runs `check` over the files of each row, and looks at its line and its status.
-fn checks<R: Abort + AllocGlobal + Threads + Wait + Sync>(rt: &R, rows: &[Row], status: u8) {
+/// Runs a command over the files of each row, and looks at what it prints and its status.
+pub(super) fn answers<R: Abort + AllocGlobal + Threads + Wait + Sync>(
+    rt: &R,
+    command: &str,
+    rows: &[Row],
+    status: u8,
+) {
     for row in rows {
         let document = row.document.as_bytes();
         let mut files = fake_files(rt.alloc(), Some(row.module), Some(document));
         let mut input = fake_reader(b"", NEVER);
         let mut out = fake_writer(rt.alloc(), NEVER);
         let mut err = fake_writer(rt.alloc(), NEVER);
-        let words = ["check", "module.wasm", "log.json"];
+        let words = [command, "module.wasm", "log.json"];
         let got = serve(rt, &words, &mut files, &mut input, &mut out, &mut err);
         assert_eq!(rt; out.bytes.as_slice(), row.line.as_bytes(), "{}", row.shows);
         assert_eq!(rt; err.bytes.len(), 0, "{}", row.shows);
@@ -28,34 +33,34 @@ fn checks<R: Abort + AllocGlobal + Threads + Wait + Sync>(rt: &R, rows: &[Row], 
 
 #[test]
 fn an_allowed_run_has_its_line(rt: HostRuntime) {
-    checks(&rt, &ALLOWED, 0);
+    answers(&rt, "check", &ALLOWED, 0);
 }
 
 #[test]
 fn each_instruction_gives_its_value(rt: HostRuntime) {
-    checks(&rt, &NUMERIC, 0);
-    checks(&rt, &MEMORY, 0);
-    checks(&rt, &CONTROL, 0);
+    answers(&rt, "check", &NUMERIC, 0);
+    answers(&rt, "check", &MEMORY, 0);
+    answers(&rt, "check", &CONTROL, 0);
 }
 
 #[test]
 fn a_broken_run_has_its_line(rt: HostRuntime) {
-    checks(&rt, &BROKEN, 1);
+    answers(&rt, "check", &BROKEN, 1);
 }
 
 #[test]
 fn refused_bytes_have_their_line(rt: HostRuntime) {
-    checks(&rt, &REFUSED_BYTES, 2);
+    answers(&rt, "check", &REFUSED_BYTES, 2);
 }
 
 #[test]
 fn an_invalid_module_has_its_line(rt: HostRuntime) {
-    checks(&rt, &REFUSED_MODULES, 2);
+    answers(&rt, "check", &REFUSED_MODULES, 2);
 }
 
 #[test]
 fn a_misshapen_run_has_its_line(rt: HostRuntime) {
-    checks(&rt, &REFUSED_SHAPES, 2);
+    answers(&rt, "check", &REFUSED_SHAPES, 2);
 }
 
 /// Runs `check` over one module and the input, and looks at its lines and its status.

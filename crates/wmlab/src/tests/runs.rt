@@ -2,7 +2,7 @@
 
 use super::modules::*;
 
-/// A module, a document and the line that they have.
+/// A module, a document and what a command prints of them.
 #[derive(Clone, Copy)]
 pub(super) struct Row {
     pub shows: &'static str,
