@@ -1,5 +1,7 @@
 -- Reading sections and modules.
 use Rattle.std.specs.Prelude.{ℕ, zero, suc, List, [], ◌∷◌, length, Option, Some, None, is_some, Result, Ok, Err, nat_lt, ◌==◌, if◌then◌else◌}
+use Rattle.wm_ast.specs.declared.module.DataSegment.{DataSegment}
+use Rattle.wm_ast.specs.declared.module.Func.{Func}
 use Rattle.wm_ast.specs.declared.module.Module.{Module}
 use Rattle.std.specs.Option.{option_flatten}
 use Rattle.wm_decode.specs.Bounds.{Bounds, profile}
@@ -60,17 +62,22 @@ declared_at bounds bytes = do
   elements ← section_at no_items_at 9 exports.1
   Ok (record { types = front.0.types; indices = front.0.indices; memory = memory_of front.0.imported (option_flatten defined.0); globals = items_of globals.0; exports = items_of exports.0 }, elements.1)
 
+-- the module of what stands in the sections, where nothing stands behind them and the counts agree
+abbrev pub agreed_module : Declared → Option ℕ → Option (List Func) → Option (List DataSegment) → List ℕ → Result Module Stop
+agreed_module declared count funcs segments rest =
+    if length rest == 0 then (
+    if length (items_of funcs) == length declared.indices then (
+    if agrees count (length (items_of segments)) then
+    Ok (record { types = declared.types; funcs = items_of funcs; memory = declared.memory; globals = declared.globals; exports = declared.exports; «data» = items_of segments })
+    else Err bad) else Err bad) else Err bad
+
 unfoldable pub module_at : Bounds → List ℕ → Result Module Stop
 module_at bounds bytes = do
   declared ← declared_at bounds bytes
   count ← section_at u32_at 12 declared.1
   code ← section_at (code_at bounds declared.0.types declared.0.indices) 10 count.1
   segments ← section_at (segments_at count.0) 11 code.1
-  if length segments.1 == 0 then (
-      if length (items_of code.0) == length declared.0.indices then (
-      if agrees count.0 (length (items_of segments.0)) then
-      Ok (record { types = declared.0.types; funcs = items_of code.0; memory = declared.0.memory; globals = declared.0.globals; exports = declared.0.exports; «data» = items_of segments.0 })
-      else Err bad) else Err bad) else Err bad
+  agreed_module declared.0 count.0 code.0 segments.0 segments.1
 
 -- a module of no more bytes than are allowed
 unfoldable pub whole_at : List ℕ → Result Module Stop

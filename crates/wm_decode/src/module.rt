@@ -6,7 +6,7 @@ ghost use Rattle.wm_decode.specs.Stop.{bad};
 ghost use Rattle.wm_decode.specs.Bounds.{profile};
 ghost use Rattle.wm_decode.specs.Answers.{Answers, Decodes, IsUnlessMemory, RefusedBy, stop_of, IsBad};
 ghost use Rattle.wm_decode.specs.Module.{items_of, memory_of, SpellsWithin, IsPast, spells};
-ghost use Rattle.wm_decode.specs.ReadingModule.{header_at, front_at, declared_at, module_at, whole_at};
+ghost use Rattle.wm_decode.specs.ReadingModule.{agreed_module, header_at, front_at, declared_at, module_at, whole_at};
 
 use crate::bounds::MAX_MODULE_BYTES;
 use crate::code::Code;
@@ -22,7 +22,7 @@ use crate::section::{SectionId, customs, section};
 use crate::segments::Segments;
 use crate::type_indices::TypeIndices;
 use std::alloc::Global;
-use wm_ast::{Exports, FuncType, Global as GlobalEntry, Limits, Memory, Module};
+use wm_ast::{DataSegment, Exports, Func, FuncType, Global as GlobalEntry, Limits, Memory, Module};
 use wm_list::List;
 
 /// Why bytes don't begin with the header.
@@ -168,24 +168,22 @@ fn section_fault(id: u8) -> FaultKind
     }
 }
 
-/// Reads a module.
-#[tactic(auto, unfolding(crate::specs::ReadingModule::module_at))]
-pub(crate) fn read_module(alloc: Global, bytes: &[u8]) -> Result<Module, ItemFault>
-    ensures { Answers (λ x. x) result (module_at profile bytes.now) }
+/// The module of what stands in the sections, unless something stands behind them or the counts differ.
+fn agreed_module(
+    alloc: Global,
+    declared: Declared,
+    count: Option<u32>,
+    funcs: Option<List<Func>>,
+    segments: Option<List<DataSegment>>,
+    rest: &[u8],
+) -> Result<Module, ItemFault>
+    ensures { Answers (λ x. x) result (agreed_module declared count funcs segments rest.now) }
 {
-    let (declared, rest) = read_declared(alloc, bytes)?;
-    let (count, rest) = section(alloc, SectionId::DataCount, &DataCount, rest)?;
-    let code = Code {
-        types: declared.types.as_slice(),
-        indices: declared.indices.as_slice(),
-    };
-    let (funcs, rest) = section(alloc, SectionId::Code, &code, rest)?;
-    let (data, rest) = section(alloc, SectionId::Data, &Segments { declared: count }, rest)?;
     if let [id, ..] = rest {
         return Err(ItemFault::WithLeft(section_fault(*id), rest.len()));
     }
     let funcs = items_or_none(alloc, funcs);
-    let data = items_or_none(alloc, data);
+    let data = items_or_none(alloc, segments);
     if funcs.len() != declared.indices.len() || !is_agreed(count, data.len()) {
         return Err(ItemFault::WithLeft(FaultKind::CountMismatch, 0));
     }
@@ -204,6 +202,22 @@ pub(crate) fn read_module(alloc: Global, bytes: &[u8]) -> Result<Module, ItemFau
         exports,
         data,
     })
+}
+
+/// Reads a module.
+#[tactic(auto, unfolding(crate::specs::ReadingModule::module_at))]
+pub(crate) fn read_module(alloc: Global, bytes: &[u8]) -> Result<Module, ItemFault>
+    ensures { Answers (λ x. x) result (module_at profile bytes.now) }
+{
+    let (declared, rest) = read_declared(alloc, bytes)?;
+    let (count, rest) = section(alloc, SectionId::DataCount, &DataCount, rest)?;
+    let code = Code {
+        types: declared.types.as_slice(),
+        indices: declared.indices.as_slice(),
+    };
+    let (funcs, rest) = section(alloc, SectionId::Code, &code, rest)?;
+    let (segments, rest) = section(alloc, SectionId::Data, &Segments { declared: count }, rest)?;
+    agreed_module(alloc, declared, count, funcs, segments, rest)
 }
 
 /// Reads a module of no more bytes than are allowed.

@@ -8,7 +8,7 @@ use crate::rule::rule_reason;
 use std::alloc::{AllocError, Global};
 use std::thread::Threads;
 use wm_check::{Breach, Refusal, Unread, Verdict, read_module};
-use wm_event::{Candidate, Log, Witness};
+use wm_event::{Candidate, Log, ShapeFault, Witness};
 use wm_logfile::{DocFault, read_document};
 use wm_valid::ValidModule;
 
@@ -18,6 +18,35 @@ fn read_log(alloc: Global, bytes: &[u8]) -> Result<Option<(Log, Witness)>, Alloc
         Ok(read) => Ok(Some(read)),
         Err(DocFault::OutOfMemory) => Err(AllocError),
         Err(_) => Ok(None),
+    }
+}
+
+/// What stands behind the refusal of a log's shape over a module.
+fn refused_log(
+    alloc: Global,
+    fault: ShapeFault,
+    module: &ValidModule,
+    document_bytes: &[u8],
+) -> Result<String, AllocError> {
+    match read_log(alloc, document_bytes)? {
+        Some((log, witness)) => {
+            shape_reason(alloc, fault, &log, &witness, module.initial().len())
+        }
+        None => Ok(String::new(alloc)),
+    }
+}
+
+/// What stands behind the refusal of a log's shape: module and document are read once more, since nothing of them was kept.
+fn refused_shape(
+    alloc: Global,
+    fault: ShapeFault,
+    module_bytes: &[u8],
+    document_bytes: &[u8],
+) -> Result<String, AllocError> {
+    match read_module(alloc, module_bytes) {
+        Ok(module) => refused_log(alloc, fault, &module, document_bytes),
+        Err(Unread::OutOfMemory) => Err(AllocError),
+        Err(Unread::Refused(_)) => Ok(String::new(alloc)),
     }
 }
 
@@ -37,17 +66,7 @@ pub fn explain_refusal(
         Refusal::Decode(fault) => decode_reason(alloc, fault, module_bytes),
         Refusal::Valid(fault) => valid_reason(alloc, fault),
         Refusal::Document(fault) => document_reason(alloc, fault, document_bytes),
-        Refusal::Shape(fault) => {
-            let module = match read_module(alloc, module_bytes) {
-                Ok(module) => module,
-                Err(Unread::OutOfMemory) => return Err(AllocError),
-                Err(Unread::Refused(_)) => return Ok(String::new(alloc)),
-            };
-            let Some((log, witness)) = read_log(alloc, document_bytes)? else {
-                return Ok(String::new(alloc));
-            };
-            shape_reason(alloc, *fault, &log, &witness, module.initial().len())
-        }
+        Refusal::Shape(fault) => refused_shape(alloc, *fault, module_bytes, document_bytes),
     }
 }
 

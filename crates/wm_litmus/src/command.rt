@@ -1,7 +1,7 @@
 //! The command line.
 ghost use Rattle.std.specs.Prelude.{◌≡◌, false, Err, IfOk, IfSome, None, map};
-ghost use Rattle.clap.specs.Words.{app_of, kind_of, rule_of, subcommand_rows_of};
-ghost use Rattle.wm_litmus.specs.Commands.{IsCommand, IsNoCommand, Means, any_words_rule, fault_of_kind, with_checks, with_reasons, with_runs, wmlab_app, word_rule};
+ghost use Rattle.clap.specs.Words.{app_of, kind_of, rule_of, subcommand_rows_of, with_subcommand};
+ghost use Rattle.wm_litmus.specs.Commands.{AddsAs, IsCommand, IsNoCommand, Means, any_words_rule, both_app, document_app, fault_of_kind, start_app, with_checks, with_reasons, with_runs, wmlab_app, word_rule};
 ghost use Rattle.wm_litmus.specs.declared.command.Command.{Command};
 ghost use Rattle.wm_litmus.specs.declared.command.CommandFault.TheVariants.{OutOfMemory, Words};
 
@@ -74,51 +74,86 @@ fn any_words<'a>(alloc: Global, name: &'a str) -> Arg<'a>
         .action(ArgAction::Append)
 }
 
+/// A command of a document.
+fn document_parser<'a>(alloc: Global, name: &'a str) -> Result<Parser<'a>, AllocError>
+    ensures { IfOk result (AddsAs (document_app name.now)) }
+{
+    Parser::new(alloc, name).arg(word(alloc, "document"))
+}
+
+/// A command of a module and a document.
+fn both_parser<'a>(alloc: Global, name: &'a str) -> Result<Parser<'a>, AllocError>
+    ensures { IfOk result (AddsAs (both_app name.now)) }
+{
+    Parser::new(alloc, name)
+        .arg(word(alloc, "module"))?
+        .arg(word(alloc, "document"))
+}
+
+/// A command of a module, a word of this name, and what threads start with.
+fn start_parser<'a>(alloc: Global, name: &'a str, how: &'a str) -> Result<Parser<'a>, AllocError>
+    ensures { IfOk result (AddsAs (start_app name.now how.now)) }
+{
+    Parser::new(alloc, name)
+        .arg(word(alloc, "module"))?
+        .arg(word(alloc, how))?
+        .arg(any_words(alloc, "start"))
+}
+
+/// Adds a command of a document.
+fn with_document<'a>(
+    alloc: Global,
+    parser: Parser<'a>,
+    name: &'a str,
+) -> Result<Parser<'a>, AllocError>
+    ensures { IfOk result (λ more. app_of more ≡ with_subcommand (app_of parser.entry) (document_app name.now).top) }
+{
+    parser.subcommand(document_parser(alloc, name)?)
+}
+
+/// Adds a command of a module and a document.
+fn with_both<'a>(alloc: Global, parser: Parser<'a>, name: &'a str) -> Result<Parser<'a>, AllocError>
+    ensures { IfOk result (λ more. app_of more ≡ with_subcommand (app_of parser.entry) (both_app name.now).top) }
+{
+    parser.subcommand(both_parser(alloc, name)?)
+}
+
+/// Adds a command of a module, a word of this name, and what threads start with.
+fn with_start<'a>(
+    alloc: Global,
+    parser: Parser<'a>,
+    name: &'a str,
+    how: &'a str,
+) -> Result<Parser<'a>, AllocError>
+    ensures { IfOk result (λ more. app_of more ≡ with_subcommand (app_of parser.entry) (start_app name.now how.now).top) }
+{
+    parser.subcommand(start_parser(alloc, name, how)?)
+}
+
 /// Adds the commands that look at a document.
 fn with_checks<'a>(alloc: Global, parser: Parser<'a>) -> Result<Parser<'a>, AllocError>
     ensures { IfOk result (λ more. app_of more ≡ with_checks (app_of parser.entry)) }
 {
-    let rules = Parser::new(alloc, "rules").arg(word(alloc, "document"))?;
-    let check = Parser::new(alloc, "check")
-        .arg(word(alloc, "module"))?
-        .arg(word(alloc, "document"))?;
-    let migrate = Parser::new(alloc, "migrate").arg(word(alloc, "document"))?;
-    let complete = Parser::new(alloc, "complete")
-        .arg(word(alloc, "module"))?
-        .arg(word(alloc, "document"))?;
-    parser
-        .subcommand(rules)?
-        .subcommand(check)?
-        .subcommand(migrate)?
-        .subcommand(complete)
+    let parser = with_document(alloc, parser, "rules")?;
+    let parser = with_both(alloc, parser, "check")?;
+    let parser = with_document(alloc, parser, "migrate")?;
+    with_both(alloc, parser, "complete")
 }
 
 /// Adds the commands that run a module.
 fn with_runs<'a>(alloc: Global, parser: Parser<'a>) -> Result<Parser<'a>, AllocError>
     ensures { IfOk result (λ more. app_of more ≡ with_runs (app_of parser.entry)) }
 {
-    let drive = Parser::new(alloc, "drive")
-        .arg(word(alloc, "module"))?
-        .arg(word(alloc, "turns"))?
-        .arg(any_words(alloc, "start"))?;
-    let run = Parser::new(alloc, "run")
-        .arg(word(alloc, "module"))?
-        .arg(word(alloc, "rounds"))?
-        .arg(any_words(alloc, "start"))?;
-    parser.subcommand(drive)?.subcommand(run)
+    let parser = with_start(alloc, parser, "drive", "turns")?;
+    with_start(alloc, parser, "run", "rounds")
 }
 
 /// Adds the commands that say why a check answers what it answers.
 fn with_reasons<'a>(alloc: Global, parser: Parser<'a>) -> Result<Parser<'a>, AllocError>
     ensures { IfOk result (λ more. app_of more ≡ with_reasons (app_of parser.entry)) }
 {
-    let explain = Parser::new(alloc, "explain")
-        .arg(word(alloc, "module"))?
-        .arg(word(alloc, "document"))?;
-    let graph = Parser::new(alloc, "graph")
-        .arg(word(alloc, "module"))?
-        .arg(word(alloc, "document"))?;
-    parser.subcommand(explain)?.subcommand(graph)
+    let parser = with_both(alloc, parser, "explain")?;
+    with_both(alloc, parser, "graph")
 }
 
 /// The commands and their words.
