@@ -11,7 +11,8 @@ ghost use Rattle.wm_event.specs.declared.op.OpFields.{OpFields};
 ghost use Rattle.wm_event.specs.declared.log.End.{End as EndOf};
 
 use crate::activation::{Activation, Gone, Invocation, Reached, ReturnTo};
-use crate::call::{call, leave};
+use crate::call::call;
+use crate::callers::Callers;
 use crate::fault::{AdvanceFault, StartFault, StepFault};
 use crate::functions::callable;
 use crate::levels::Levels;
@@ -78,22 +79,19 @@ pub struct Thread<'m> {
     module: &'m Module,
     end: Option<End>,
     running: Activation<'m>,
-    callers: Vec<Activation<'m>>,
-    /// Calls that were left, whose memory those to come take over.
-    spare: Vec<Activation<'m>>,
+    callers: Callers<'m>,
     globals: List<TypedValue>,
     alloc: Global,
 }
 
 impl<'m> Model for Thread<'m> {
-    ghost use Rattle.std.specs.Prelude.{reverse};
     ghost use Rattle.wm_machine.specs.State.{State, Sound};
 
     ghost Value = { State };
 
-    ghost view = { λ t. record { «module» = t.module.now; ended = t.end; running = t.running; callers = reverse t.callers.items; globals = t.globals } };
+    ghost view = { λ t. record { «module» = t.module.now; ended = t.end; running = t.running; callers = t.callers; globals = t.globals } };
 
-    ghost invariant = { λ t. Sound record { «module» = t.module.now; ended = t.end; running = t.running; callers = reverse t.callers.items; globals = t.globals } };
+    ghost invariant = { λ t. Sound record { «module» = t.module.now; ended = t.end; running = t.running; callers = t.callers; globals = t.globals } };
 }
 
 impl<'m> Thread<'m> {
@@ -127,8 +125,7 @@ impl<'m> Thread<'m> {
                 locals,
                 levels: Levels::new(alloc, 0),
             },
-            callers: Vec::new(alloc),
-            spare: Vec::new(alloc),
+            callers: Callers::new(alloc),
             globals,
             alloc,
         })
@@ -209,12 +206,7 @@ impl<'m> Thread<'m> {
                 self.end = Some(End::Trap(kind));
                 Ok(Gone::Made)
             }
-            Reached::Left(value) => match leave(
-                &mut self.running,
-                &mut self.callers,
-                &mut self.spare,
-                value,
-            ) {
+            Reached::Left(value) => match self.callers.leave(&mut self.running, value) {
                 Err(_) => Err(AdvanceFault::OutOfMemory),
                 Ok(ReturnTo::Caller) => Ok(Gone::Made),
                 Ok(ReturnTo::Outside) => {
@@ -228,7 +220,6 @@ impl<'m> Thread<'m> {
                     self.alloc,
                     &mut self.running,
                     &mut self.callers,
-                    &mut self.spare,
                     callee as usize,
                 ) {
                     Err(StepFault::Stuck) => unreachable!(),
