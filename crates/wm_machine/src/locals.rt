@@ -83,6 +83,7 @@ impl<'m> Locals<'m> {
     }
 
     /// Sets a local. An `Err` changes nothing.
+    #[inline(always)]
     pub fn set(&mut self, index: usize, value: TypedValue) -> Result<(), AllocError>
         requires { index < length self.old }
         ensures ok { OnOk result (self.new ≡ slice_set self.old index value) }
