@@ -185,7 +185,6 @@ impl<'m> Thread<'m> {
 
     /// Makes a step of a thread that hasn't ended, with the value that its access reads. Where none is given, an access isn't
     /// made, but named.
-    #[inline(always)]
     fn go(&mut self, given: Option<u64>) -> Result<Gone, AdvanceFault>
         requires { self.old.ended ≡ None }
         ensures asks { IfOk result (λ gone. (read : ℕ) → asked_for gone ≡ unanswered given (access_of (step self.old.module read (config_of self.old)))) }
