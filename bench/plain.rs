@@ -30,9 +30,15 @@ enum Instr {
     /// Its labels, and the default.
     BrTable(Box<(Vec<u32>, u32)>),
     Call(usize),
+    /// An i32 at this offset from the address.
+    Load(u32),
+    Store(u32),
     Drop,
     Nop,
 }
+
+/// The bytes of a page.
+const PAGE: usize = 65_536;
 
 /// A block that is left for a nested one: its number, the position of the instruction that entered the nested one, and
 /// where its operands begin; and where a branch to it goes on.
@@ -69,6 +75,7 @@ struct Machine<'m> {
     block: usize,
     at: usize,
     base: usize,
+    memory: Vec<u8>,
     done: bool,
 }
 
@@ -123,6 +130,32 @@ impl<'m> Machine<'m> {
 
     fn set(&mut self, local: u32, value: Value) -> Result<(), Stuck> {
         *self.locals.get_mut(local as usize).ok_or(Stuck)? = value;
+        Ok(())
+    }
+
+    /// The four bytes at this offset from the address on the stack.
+    fn cell(&mut self, offset: u32) -> Result<&mut [u8], Stuck> {
+        match self.pop()? {
+            Value::I32(address) => {
+                let start = address as usize + offset as usize;
+                self.memory.get_mut(start..start + 4).ok_or(Stuck)
+            }
+            Value::I64(_) => Err(Stuck),
+        }
+    }
+
+    fn load(&mut self, offset: u32) -> Result<(), Stuck> {
+        let mut bytes = [0; 4];
+        bytes.copy_from_slice(self.cell(offset)?);
+        self.values.push(Value::I32(u32::from_le_bytes(bytes)));
+        Ok(())
+    }
+
+    fn store(&mut self, offset: u32) -> Result<(), Stuck> {
+        let Value::I32(number) = self.pop()? else {
+            return Err(Stuck);
+        };
+        self.cell(offset)?.copy_from_slice(&number.to_le_bytes());
         Ok(())
     }
 
@@ -184,6 +217,8 @@ impl<'m> Machine<'m> {
                 Value::I64(_) => return Err(Stuck),
             },
             Instr::Call(callee) => self.call(*callee)?,
+            Instr::Load(offset) => self.load(*offset)?,
+            Instr::Store(offset) => self.store(*offset)?,
             Instr::BrIf(label) => match self.pop()? {
                 Value::I32(0) => {}
                 Value::I32(_) => self.branch(*label)?,
@@ -216,17 +251,39 @@ fn binary(operator: Operator, left: Value, right: Value) -> Result<Value, Stuck>
     }
 }
 
+/// Counts a local down, and then does the last instruction.
+fn counted(local: u32, last: Instr) -> Vec<Instr> {
+    vec![
+        Instr::LocalGet(local),
+        Instr::I32Const(1),
+        Instr::Binary(Operator::Sub),
+        Instr::LocalTee(local),
+        last,
+    ]
+}
+
+/// A loop that adds 1 to a cell of the memory and then counts a local down from `turns`.
+fn counting_in_memory(turns: u32) -> Function {
+    let around = vec![
+        Instr::LocalGet(0),
+        Instr::LocalGet(0),
+        Instr::Load(0),
+        Instr::I32Const(1),
+        Instr::Binary(Operator::Add),
+        Instr::Store(0),
+        Instr::I32Const(turns),
+        Instr::LocalSet(1),
+        Instr::Loop(2),
+        Instr::Br(0),
+    ];
+    Function {
+        blocks: vec![vec![Instr::Loop(1)], around, counted(1, Instr::BrIf(0))],
+        locals: 2,
+    }
+}
+
 /// The functions of the loop of this name. The same loops stand in `run`.
 fn functions_of(name: &str) -> Vec<Function> {
-    let counted = |last: Instr| {
-        vec![
-            Instr::LocalGet(0),
-            Instr::I32Const(1),
-            Instr::Binary(Operator::Sub),
-            Instr::LocalTee(0),
-            last,
-        ]
-    };
     let calls = |locals| {
         vec![
             Function {
@@ -242,14 +299,15 @@ fn functions_of(name: &str) -> Vec<Function> {
                 vec![Instr::Loop(1)],
                 vec![Instr::Block(2), Instr::Br(0)],
                 vec![Instr::Block(3)],
-                counted(Instr::BrTable(Box::new((vec![0, 1], 2)))),
+                counted(0, Instr::BrTable(Box::new((vec![0, 1], 2)))),
             ],
             locals: 1,
         }],
         "calls" => calls(0),
         "locals" => calls(999),
+        "memory" => vec![counting_in_memory(324)],
         _ => vec![Function {
-            blocks: vec![vec![Instr::Loop(1)], counted(Instr::BrIf(0))],
+            blocks: vec![vec![Instr::Loop(1)], counted(0, Instr::BrIf(0))],
             locals: 1,
         }],
     }
@@ -278,6 +336,7 @@ fn main() -> Result<(), Stuck> {
         block: 0,
         at: 0,
         base: 0,
+        memory: vec![0; PAGE],
         done: false,
     };
     let mut steps = 0u64;

@@ -1,5 +1,5 @@
 -- Locals of which those that were set are held, as they came.
-use Rattle.std.specs.Prelude.{Box, box_value, ℕ, List, [], ◌∷◌, ◌≡◌, ◌≢◌, Option, Some, None, slice_get, option_and_then, ◌==◌, if◌then◌else◌, suc}
+use Rattle.std.specs.Prelude.{ℕ, List, [], ◌∷◌, ◌≡◌, ◌≢◌, Option, Some, None, slice_get, option_and_then, ◌==◌, if◌then◌else◌, suc}
 use Rattle.wm_ast.specs.declared.types.ValType.{ValType}
 use Rattle.wm_machine.specs.declared.late.Kept.{Kept}
 use Rattle.wm_machine.specs.declared.value.TypedValue.{TypedValue}
@@ -23,8 +23,3 @@ locals_from places held index (ty ∷ types) = value_of index ty (found places h
 pub record Sets (places : List ℕ) (held : List Kept) (index : ℕ) (value : TypedValue) (places_now : List ℕ) (held_now : List Kept) : Type 0 where
   pub set : (ty : ValType) → value_of index ty (found places_now held_now index) ≡ value
   pub others : (other : ℕ) → (ty : ValType) → other ≢ index → value_of other ty (found places_now held_now other) ≡ value_of other ty (found places held other)
-
--- all of them, where there are any
-abbrev pub all_late : {Z : Type 0} → Option (Box (List TypedValue) Z) → List TypedValue
-all_late None = []
-all_late (Some late) = box_value late

@@ -1,5 +1,5 @@
 //! Locals of which few are set.
-ghost use Rattle.std.specs.Prelude.{◌≡◌, ◌≢◌, ◌<◌, ◌^◌, ◌+◌, ◌≤◌, ℕ, length, map, slice_get, slice_index_or, slice_set, nat_lt, OnOk, OnErr, IfSome, Some, None};
+ghost use Rattle.std.specs.Prelude.{◌≡◌, ◌≢◌, ◌<◌, ◌^◌, ◌+◌, ◌≤◌, ℕ, [], length, map, slice_get, slice_index_or, slice_set, nat_lt, OnOk, OnErr, IfSome, Some, None};
 ghost use Rattle.wm_ast.specs.declared.types.ValType.{ValType as ValTypeOf};
 ghost use Rattle.wm_machine.specs.declared.late.Kept.{Kept as KeptAt};
 ghost use Rattle.wm_machine.specs.LateLocals.{found, value_of, Sets};
@@ -37,13 +37,12 @@ impl<'m> Model for Late<'m> {
 }
 
 impl<'m> Late<'m> {
-    /// Zeros of these types.
-    #[tactic(auto, using(crate::proofs::LateLocals::none_held))]
-    pub fn new(alloc: Global, types: &'m [ValType]) -> Self
-        ensures { result ≡ map zero_of types.now }
+    /// No local.
+    pub fn new(alloc: Global) -> Self
+        ensures { result ≡ [] }
     {
         Late {
-            types,
+            types: &[],
             places: Vec::new(alloc),
             held: Vec::new(alloc),
         }

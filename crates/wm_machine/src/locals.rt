@@ -1,6 +1,5 @@
 //! The locals of a call (Core 1.0, section 4.4.7).
-ghost use Rattle.std.specs.Prelude.{◌≡◌, ◌<◌, ◌+◌, ◌++◌, length, map, slice_get, slice_set, nat_lt, OnOk, OnErr, IfOk};
-ghost use Rattle.wm_machine.specs.LateLocals.{all_late};
+ghost use Rattle.std.specs.Prelude.{◌≡◌, ◌<◌, ◌+◌, ◌++◌, length, map, slice_get, slice_set, nat_lt, [], OnOk, OnErr, IfOk};
 ghost use Rattle.wm_machine.specs.Values.{zero_of};
 
 use crate::late::Late;
@@ -20,50 +19,45 @@ pub struct Locals<'m> {
     held: Vec<TypedValue>,
     /// The types of the first ones that aren't held.
     unset: &'m [ValType],
-    /// The late ones, where there are or were any: their memory is kept for calls to come.
-    late: Option<Box<Late<'m>>>,
+    /// The others. They stand in a box so that a call is small: it is moved where a function is entered or left.
+    late: Box<Late<'m>>,
 }
 
 impl<'m> Model for Locals<'m> {
-    ghost use Rattle.std.specs.Prelude.{List, ◌++◌, map};
-    ghost use Rattle.wm_machine.specs.LateLocals.{all_late};
+    ghost use Rattle.std.specs.Prelude.{List, ◌++◌, map, box_value};
     ghost use Rattle.wm_machine.specs.Values.{zero_of};
     ghost use Rattle.wm_machine.specs.declared.value.TypedValue.{TypedValue};
 
     ghost Value = { List TypedValue };
 
-    ghost view = { λ l. (l.held.items ++ map zero_of l.unset.now) ++ all_late l.late };
+    ghost view = { λ l. (l.held.items ++ map zero_of l.unset.now) ++ box_value l.late };
 }
 
 impl<'m> Locals<'m> {
-    /// Zeros of these types.
-    #[tactic(auto, using(crate::proofs::Held::zeros_split))]
-    pub fn new(alloc: Global, unset: &'m [ValType]) -> Result<Self, AllocError>
-        ensures { IfOk result (λ l. l ≡ map zero_of unset.now) }
+    /// No local.
+    pub fn new(alloc: Global) -> Result<Self, AllocError>
+        ensures { IfOk result (λ l. l ≡ []) }
     {
-        let (near, late) = split(unset);
         Ok(Locals {
             held: Vec::new(alloc),
-            unset: near,
-            late: new_late(alloc, late)?,
+            unset: &[],
+            late: Box::new(alloc, Late::new(alloc))?,
         })
     }
 
     /// These values, and then zeros of these types. Where memory is refused, they may be any.
     #[tactic(auto, using(crate::proofs::Held::values_split))]
-    pub fn restart(
-        &mut self,
-        alloc: Global,
-        values: &[TypedValue],
-        unset: &'m [ValType],
-    ) -> Result<(), AllocError>
+    pub fn restart(&mut self, values: &[TypedValue], unset: &'m [ValType]) -> Result<(), AllocError>
         ensures { OnOk result (self.new ≡ values.now ++ map zero_of unset.now) }
     {
         let (near, late) = split(unset);
         self.held.clear();
-        self.held.extend_from_slice(values)?;
+        if !values.is_empty() {
+            self.held.extend_from_slice(values)?;
+        }
         self.unset = near;
-        restart_late(alloc, &mut self.late, late)
+        self.late.restart(late);
+        Ok(())
     }
 
     /// Whether there is a local of this index.
@@ -89,6 +83,7 @@ impl<'m> Locals<'m> {
     }
 
     /// Sets a local. An `Err` changes nothing.
+    #[inline(always)]
     pub fn set(&mut self, index: usize, value: TypedValue) -> Result<(), AllocError>
         requires { index < length self.old }
         ensures ok { OnOk result (self.new ≡ slice_set self.old index value) }
@@ -105,7 +100,7 @@ impl<'m> Locals<'m> {
             self.held[index] = value;
             return Ok(());
         }
-        set_late(&mut self.late, beyond - self.unset.len(), value)
+        self.late.set(beyond - self.unset.len(), value)
     }
 }
 
@@ -117,77 +112,20 @@ fn split(types: &[ValType]) -> (&[ValType], &[ValType])
 }
 
 /// Whether there is a local of this index behind those that are held.
-fn has_unheld(unset: &[ValType], late: &Option<Box<Late>>, index: usize) -> bool
-    ensures { result ≡ nat_lt index (length unset.now + length (all_late late.now)) }
+fn has_unheld(unset: &[ValType], late: &Late, index: usize) -> bool
+    ensures { result ≡ nat_lt index (length unset.now + length late.now) }
 {
-    index < unset.len() || has_late(late, index - unset.len())
+    index < unset.len() || late.has(index - unset.len())
 }
 
 /// The local of this index behind those that are held.
 #[tactic(auto, using(crate::proofs::Held::get_near, crate::proofs::Held::get_late))]
-fn get_unheld(unset: &[ValType], late: &Option<Box<Late>>, index: usize) -> Option<TypedValue>
-    ensures { result ≡ slice_get (map zero_of unset.now ++ all_late late.now) index }
+fn get_unheld(unset: &[ValType], late: &Late, index: usize) -> Option<TypedValue>
+    ensures { result ≡ slice_get (map zero_of unset.now ++ late.now) index }
 {
     match unset.get(index) {
         Some(ty) => Some(TypedValue::zero(*ty)),
-        None => get_late(late, index - unset.len()),
-    }
-}
-
-/// Late locals of these types, if there are any.
-fn new_late<'m>(alloc: Global, types: &'m [ValType]) -> Result<Option<Box<Late<'m>>>, AllocError>
-    ensures { IfOk result (λ late. all_late late ≡ map zero_of types.now) }
-{
-    if types.is_empty() {
-        return Ok(None);
-    }
-    Ok(Some(Box::new(alloc, Late::new(alloc, types))?))
-}
-
-/// Late locals of these types, in the memory of what was there.
-fn restart_late<'m>(
-    alloc: Global,
-    late: &mut Option<Box<Late<'m>>>,
-    types: &'m [ValType],
-) -> Result<(), AllocError>
-    ensures { OnOk result (all_late late.new ≡ map zero_of types.now) }
-{
-    match late {
-        Some(late) => late.restart(types),
-        None => *late = new_late(alloc, types)?,
-    }
-    Ok(())
-}
-
-/// Whether there is a late local of this index.
-fn has_late(late: &Option<Box<Late>>, index: usize) -> bool
-    ensures { result ≡ nat_lt index (length (all_late late.now)) }
-{
-    match late {
-        Some(late) => late.has(index),
-        None => false,
-    }
-}
-
-/// The late local of this index.
-fn get_late(late: &Option<Box<Late>>, index: usize) -> Option<TypedValue>
-    ensures { result ≡ slice_get (all_late late.now) index }
-{
-    match late {
-        Some(late) => late.get(index),
-        None => None,
-    }
-}
-
-/// Sets a late local. An `Err` changes nothing.
-fn set_late(late: &mut Option<Box<Late>>, index: usize, value: TypedValue) -> Result<(), AllocError>
-    requires { index < length (all_late late.old) }
-    ensures ok { OnOk result (all_late late.new ≡ slice_set (all_late late.old) index value) }
-    ensures err { OnErr result (all_late late.new ≡ all_late late.old) }
-{
-    match late {
-        Some(late) => late.set(index, value),
-        None => unreachable!(),
+        None => late.get(index - unset.len()),
     }
 }
 

@@ -59,8 +59,8 @@ pub fn first_locals<'m>(
     for (index, ty) in params.iter().enumerate() {
         values.push(TypedValue::of(ty.width(), args[index]))?;
     }
-    let mut locals = Locals::new(alloc, others)?;
-    locals.restart(alloc, values.as_slice(), others)?;
+    let mut locals = Locals::new(alloc)?;
+    locals.restart(values.as_slice(), others)?;
     Ok(locals)
 }
 

@@ -11,7 +11,8 @@ ghost use Rattle.wm_event.specs.declared.op.OpFields.{OpFields};
 ghost use Rattle.wm_event.specs.declared.log.End.{End as EndOf};
 
 use crate::activation::{Activation, Gone, Invocation, Reached, ReturnTo};
-use crate::call::{call, leave};
+use crate::call::call;
+use crate::callers::Callers;
 use crate::fault::{AdvanceFault, StartFault, StepFault};
 use crate::functions::callable;
 use crate::levels::Levels;
@@ -78,22 +79,19 @@ pub struct Thread<'m> {
     module: &'m Module,
     end: Option<End>,
     running: Activation<'m>,
-    callers: Vec<Activation<'m>>,
-    /// Calls that were left, whose memory those to come take over.
-    spare: Vec<Activation<'m>>,
+    callers: Callers<'m>,
     globals: List<TypedValue>,
     alloc: Global,
 }
 
 impl<'m> Model for Thread<'m> {
-    ghost use Rattle.std.specs.Prelude.{reverse};
     ghost use Rattle.wm_machine.specs.State.{State, Sound};
 
     ghost Value = { State };
 
-    ghost view = { λ t. record { «module» = t.module.now; ended = t.end; running = t.running; callers = reverse t.callers.items; globals = t.globals } };
+    ghost view = { λ t. record { «module» = t.module.now; ended = t.end; running = t.running; callers = t.callers; globals = t.globals } };
 
-    ghost invariant = { λ t. Sound record { «module» = t.module.now; ended = t.end; running = t.running; callers = reverse t.callers.items; globals = t.globals } };
+    ghost invariant = { λ t. Sound record { «module» = t.module.now; ended = t.end; running = t.running; callers = t.callers; globals = t.globals } };
 }
 
 impl<'m> Thread<'m> {
@@ -127,8 +125,7 @@ impl<'m> Thread<'m> {
                 locals,
                 levels: Levels::new(alloc, 0),
             },
-            callers: Vec::new(alloc),
-            spare: Vec::new(alloc),
+            callers: Callers::new(alloc),
             globals,
             alloc,
         })
@@ -188,7 +185,6 @@ impl<'m> Thread<'m> {
 
     /// Makes a step of a thread that hasn't ended, with the value that its access reads. Where none is given, an access isn't
     /// made, but named.
-    #[inline(always)]
     fn go(&mut self, given: Option<u64>) -> Result<Gone, AdvanceFault>
         requires { self.old.ended ≡ None }
         ensures asks { IfOk result (λ gone. (read : ℕ) → asked_for gone ≡ unanswered given (access_of (step self.old.module read (config_of self.old)))) }
@@ -209,12 +205,7 @@ impl<'m> Thread<'m> {
                 self.end = Some(End::Trap(kind));
                 Ok(Gone::Made)
             }
-            Reached::Left(value) => match leave(
-                &mut self.running,
-                &mut self.callers,
-                &mut self.spare,
-                value,
-            ) {
+            Reached::Left(value) => match self.callers.leave(&mut self.running, value) {
                 Err(_) => Err(AdvanceFault::OutOfMemory),
                 Ok(ReturnTo::Caller) => Ok(Gone::Made),
                 Ok(ReturnTo::Outside) => {
@@ -228,7 +219,6 @@ impl<'m> Thread<'m> {
                     self.alloc,
                     &mut self.running,
                     &mut self.callers,
-                    &mut self.spare,
                     callee as usize,
                 ) {
                     Err(StepFault::Stuck) => unreachable!(),

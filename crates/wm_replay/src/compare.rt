@@ -75,6 +75,7 @@ fn access_on(
 }
 
 /// Makes the next step of a thread, where an access has to be the log's next event, behind so many that are made.
+#[inline(always)]
 pub(crate) fn step_on(
     thread: &mut Thread,
     stated: &[Event],

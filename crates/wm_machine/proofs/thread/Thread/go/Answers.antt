@@ -1,5 +1,4 @@
-use Rattle.std.proofs.Common.{arith, ap, ◌≡◌, ◌+◌, suc, length, None, Some, ◌∙◌, reverse}
-use Rattle.std.proofs.lemmas.List.{length-reverse}
+use Rattle.std.proofs.Common.{arith, ap, ◌≡◌, ◌+◌, suc, length, None, Some, ◌∙◌}
 use Rattle.wm_machine.specs.State.{State, Sound, value_or_zero}
 use Rattle.wm_machine.specs.Functions.{callable, todo}
 use Rattle.wm_machine.specs.Step.{invoke}
@@ -12,7 +11,7 @@ use Rattle.wm_machine.proofs.thread.Thread.go.Goals as goal
 pub returns-in-Within-clause-made : goal.returns-in-Within-clause-made
 returns-in-Within-clause-made c =
     let s = c.self.inside in
-    let cs = reverse s.callers.items in
+    let cs = s.callers in
     let e : s.end ≡ None = ap (λ (x : State). x.ended) c.self.view_is ∙ c.requires in
     let h = rw c.in-Within.is at (c.in-Ok.ensures.goes (suc (length cs))) in
     let t = thread_within s.module.now (value_or_zero c.args.given) s.globals cs s.running c.go_on.new.running c.go_on.new.globals h in
@@ -21,7 +20,7 @@ returns-in-Within-clause-made c =
 pub returns-in-Trapped-clause-made : goal.returns-in-Trapped-clause-made
 returns-in-Trapped-clause-made c =
     let s = c.self.inside in
-    let cs = reverse s.callers.items in
+    let cs = s.callers in
     let e : s.end ≡ None = ap (λ (x : State). x.ended) c.self.view_is ∙ c.requires in
     let h = rw c.in-Trapped.is at (c.in-Ok.ensures.goes (suc (length cs))) in
     let t = thread_trapped s.module.now (value_or_zero c.args.given) s.globals cs s.running c.in-Trapped.kind c.go_on.new.running c.go_on.new.globals h in
@@ -30,21 +29,21 @@ returns-in-Trapped-clause-made c =
 pub returns-in-Ok-Caller-clause-made : goal.returns-in-Ok-Caller-clause-made
 returns-in-Ok-Caller-clause-made c =
     let s = c.self.inside in
-    let cs = reverse s.callers.items in
+    let cs = s.callers in
     let e : s.end ≡ None = ap (λ (x : State). x.ended) c.self.view_is ∙ c.requires in
     let h = rw c.in-Left.is at (c.in-Ok.ensures.goes (suc (length cs))) in
     let g = c.in-Ok-Caller.ensures.ok c.in-Ok-Caller.field-0-is in
-    let t = thread_back s.module.now (value_or_zero c.args.given) s.globals s.running c.in-Left.value cs c.leave.new.running (reverse c.leave.new.callers.items) g h.0 in
+    let t = thread_back s.module.now (value_or_zero c.args.given) s.globals s.running c.in-Left.value cs c.leave.new.running c.leave.new.self g h.0 in
     rw (← c.self.view_is, e, h.1.1) (λ _. t)
 
 pub returns-in-Ok-Outside-clause-made : goal.returns-in-Ok-Outside-clause-made
 returns-in-Ok-Outside-clause-made c =
     let s = c.self.inside in
-    let cs = reverse s.callers.items in
+    let cs = s.callers in
     let e : s.end ≡ None = ap (λ (x : State). x.ended) c.self.view_is ∙ c.requires in
     let h = rw c.in-Left.is at (c.in-Ok.ensures.goes (suc (length cs))) in
     let n = c.in-Ok-Outside.ensures.none c.in-Ok-Outside.field-0-is in
-    let t = thread_done s.module.now (value_or_zero c.args.given) s.globals s.running c.in-Left.value cs (ap reverse n.0) h.0 in
+    let t = thread_done s.module.now (value_or_zero c.args.given) s.globals s.running c.in-Left.value cs n.0 h.0 in
     rw (← c.self.view_is, e, c.bits.ensures) (λ _. t)
 
 pub call-requires : goal.call-requires
@@ -55,33 +54,33 @@ call-requires c =
 pub returns-in-Ok-Entered-clause-made : goal.returns-in-Ok-Entered-clause-made
 returns-in-Ok-Entered-clause-made c =
     let s = c.self.inside in
-    let cs = reverse s.callers.items in
+    let cs = s.callers in
     let e : s.end ≡ None = ap (λ (x : State). x.ended) c.self.view_is ∙ c.requires in
-    let d = 1 + length s.callers.items in
-    let dq : d ≡ suc (length cs) = omega (arith, length-reverse s.callers.items) in
+    let d = 1 + length s.callers in
+    let dq : d ≡ suc (length cs) = omega arith in
     let k = c.in-Calling.callee in
     let h = rw c.in-Calling.is at (c.in-Ok.ensures.goes d) in
     let g = rw (c.in-Ok-Entered.field-0-is, h.1.0) at (c.in-Ok-Entered.ensures s.globals) in
-    let t = thread_called s.module.now (value_or_zero c.args.given) s.globals cs s.running d k dq (invoke (callable s.module.now k) d k (vars_of s.running s.globals) s.running.levels.operands (todo s.module.now s.running.func s.running.levels.block (s.running.levels.at + 1))) c.call.new.running (reverse c.call.new.callers.items) h.0 g in
+    let t = thread_called s.module.now (value_or_zero c.args.given) s.globals cs s.running d k dq (invoke (callable s.module.now k) d k (vars_of s.running s.globals) s.running.levels.operands (todo s.module.now s.running.func s.running.levels.block (s.running.levels.at + 1))) c.call.new.running c.call.new.callers h.0 g in
     rw (← c.self.view_is, e, h.1.1) (λ _. t)
 
 pub returns-in-Ok-TooDeep-clause-made : goal.returns-in-Ok-TooDeep-clause-made
 returns-in-Ok-TooDeep-clause-made c =
     let s = c.self.inside in
-    let cs = reverse s.callers.items in
+    let cs = s.callers in
     let e : s.end ≡ None = ap (λ (x : State). x.ended) c.self.view_is ∙ c.requires in
-    let d = 1 + length s.callers.items in
-    let dq : d ≡ suc (length cs) = omega (arith, length-reverse s.callers.items) in
+    let d = 1 + length s.callers in
+    let dq : d ≡ suc (length cs) = omega arith in
     let k = c.in-Calling.callee in
     let h = rw c.in-Calling.is at (c.in-Ok.ensures.goes d) in
     let g = rw (c.in-Ok-TooDeep.field-0-is, h.1.0) at (c.in-Ok-TooDeep.ensures s.globals) in
-    let t = thread_exhausted s.module.now (value_or_zero c.args.given) s.globals cs s.running d k dq (invoke (callable s.module.now k) d k (vars_of s.running s.globals) s.running.levels.operands (todo s.module.now s.running.func s.running.levels.block (s.running.levels.at + 1))) c.call.new.running (reverse c.call.new.callers.items) h.0 g in
+    let t = thread_exhausted s.module.now (value_or_zero c.args.given) s.globals cs s.running d k dq (invoke (callable s.module.now k) d k (vars_of s.running s.globals) s.running.levels.operands (todo s.module.now s.running.func s.running.levels.block (s.running.levels.at + 1))) c.call.new.running c.call.new.callers h.0 g in
     rw (← c.self.view_is, e) (λ _. t)
 
 pub unreachable-requires : goal.unreachable-requires
 unreachable-requires c =
     let s = c.self.inside in
-    let cs = reverse s.callers.items in
+    let cs = s.callers in
     let e : s.end ≡ None = ap (λ (x : State). x.ended) c.self.view_is ∙ c.requires in
     let h = rw c.in-Err-Stuck.field-0-is at (c.in-Err-Stuck.ensures.goes (suc (length cs))) in
     has_step s.module.now (value_or_zero c.args.given) s.running cs s.globals s.end e c.self.invariant (thread_stuck s.module.now (value_or_zero c.args.given) s.globals cs s.running c.go_on.new.running c.go_on.new.globals h)
@@ -89,20 +88,20 @@ unreachable-requires c =
 pub unreachable-requires-in-Err-Stuck-call : goal.unreachable-requires-in-Err-Stuck-call
 unreachable-requires-in-Err-Stuck-call c =
     let s = c.self.inside in
-    let cs = reverse s.callers.items in
+    let cs = s.callers in
     let e : s.end ≡ None = ap (λ (x : State). x.ended) c.self.view_is ∙ c.requires in
-    let d = 1 + length s.callers.items in
-    let dq : d ≡ suc (length cs) = omega (arith, length-reverse s.callers.items) in
+    let d = 1 + length s.callers in
+    let dq : d ≡ suc (length cs) = omega arith in
     let k = c.in-Calling.callee in
     let h = rw c.in-Calling.is at (c.in-Ok.ensures.goes d) in
     let g = rw (c.in-Err-Stuck-call.field-0-is, h.1.0) at (c.in-Err-Stuck-call.ensures s.globals) in
     has_step s.module.now (value_or_zero c.args.given) s.running cs s.globals s.end e c.self.invariant
-    (thread_uncalled s.module.now (value_or_zero c.args.given) s.globals cs s.running d k dq (invoke (callable s.module.now k) d k (vars_of s.running s.globals) s.running.levels.operands (todo s.module.now s.running.func s.running.levels.block (s.running.levels.at + 1))) c.call.new.running (reverse c.call.new.callers.items) h.0 g)
+    (thread_uncalled s.module.now (value_or_zero c.args.given) s.globals cs s.running d k dq (invoke (callable s.module.now k) d k (vars_of s.running s.globals) s.running.levels.operands (todo s.module.now s.running.func s.running.levels.block (s.running.levels.at + 1))) c.call.new.running c.call.new.callers h.0 g)
 
-within : (c : goal.In-Within) → c.self.inside.end ≡ None → Sound record { «module» = c.self.inside.module.now; ended = c.self.inside.end; running = c.go_on.new.running; callers = reverse c.self.inside.callers.items; globals = c.go_on.new.globals }
+within : (c : goal.In-Within) → c.self.inside.end ≡ None → Sound record { «module» = c.self.inside.module.now; ended = c.self.inside.end; running = c.go_on.new.running; callers = c.self.inside.callers; globals = c.go_on.new.globals }
 within c e =
     let s = c.self.inside in
-    let cs = reverse s.callers.items in
+    let cs = s.callers in
     let h = rw c.in-Within.is at (c.in-Ok.ensures.goes (suc (length cs))) in
     let t = thread_within s.module.now (value_or_zero c.args.given) s.globals cs s.running c.go_on.new.running c.go_on.new.globals h in
     sound_after s.module.now (value_or_zero c.args.given) s.running cs s.globals s.end c.go_on.new.running cs c.go_on.new.globals e c.self.invariant t
@@ -137,12 +136,12 @@ returns-in-Err-clause-err c =
 pub invariant_of-self-in-Ok-Caller : goal.invariant_of-self-in-Ok-Caller
 invariant_of-self-in-Ok-Caller c =
     let s = c.self.inside in
-    let cs = reverse s.callers.items in
+    let cs = s.callers in
     let e : s.end ≡ None = ap (λ (x : State). x.ended) c.self.view_is ∙ c.requires in
     let h = rw c.in-Left.is at (c.in-Ok.ensures.goes (suc (length cs))) in
     let g = c.in-Ok-Caller.ensures.ok c.in-Ok-Caller.field-0-is in
-    let t = thread_back s.module.now (value_or_zero c.args.given) s.globals s.running c.in-Left.value cs c.leave.new.running (reverse c.leave.new.callers.items) g h.0 in
-    rw h.1.1 (sound_after s.module.now (value_or_zero c.args.given) s.running cs s.globals s.end c.leave.new.running (reverse c.leave.new.callers.items) s.globals e c.self.invariant t)
+    let t = thread_back s.module.now (value_or_zero c.args.given) s.globals s.running c.in-Left.value cs c.leave.new.running c.leave.new.self g h.0 in
+    rw h.1.1 (sound_after s.module.now (value_or_zero c.args.given) s.running cs s.globals s.end c.leave.new.running c.leave.new.self s.globals e c.self.invariant t)
 
 pub invariant_of-self-in-Err-OutOfMemory-call : goal.invariant_of-self-in-Err-OutOfMemory-call
 invariant_of-self-in-Err-OutOfMemory-call c =
@@ -151,7 +150,7 @@ invariant_of-self-in-Err-OutOfMemory-call c =
     let k = c.in-Calling.callee in
     let b = c.go_on.new.running in
     let h = rw c.in-Calling.is at (c.in-Ok.ensures.goes 0) in
-    let n = called_same m k (invoke (callable m k) (1 + length s.callers.items) k (vars_of b s.globals) b.levels.operands (todo m b.func b.levels.block (b.levels.at + 1))) b s.globals c.call.new.running (reverse s.callers.items) (reverse c.call.new.callers.items) c.in-Err-OutOfMemory-call.field-0 (c.in-Err-OutOfMemory-call.ensures s.globals) in
+    let n = called_same m k (invoke (callable m k) (1 + length s.callers) k (vars_of b s.globals) b.levels.operands (todo m b.func b.levels.block (b.levels.at + 1))) b s.globals c.call.new.running s.callers c.call.new.callers c.in-Err-OutOfMemory-call.field-0 (c.in-Err-OutOfMemory-call.ensures s.globals) in
     rw (n.0, h.1.0, h.1.1, n.1) c.self.invariant
 
 pub returns-in-Err-OutOfMemory-call-clause-err : goal.returns-in-Err-OutOfMemory-call-clause-err
@@ -161,26 +160,26 @@ returns-in-Err-OutOfMemory-call-clause-err c =
     let k = c.in-Calling.callee in
     let b = c.go_on.new.running in
     let h = rw c.in-Calling.is at (c.in-Ok.ensures.goes 0) in
-    let n = called_same m k (invoke (callable m k) (1 + length s.callers.items) k (vars_of b s.globals) b.levels.operands (todo m b.func b.levels.block (b.levels.at + 1))) b s.globals c.call.new.running (reverse s.callers.items) (reverse c.call.new.callers.items) c.in-Err-OutOfMemory-call.field-0 (c.in-Err-OutOfMemory-call.ensures s.globals) in
+    let n = called_same m k (invoke (callable m k) (1 + length s.callers) k (vars_of b s.globals) b.levels.operands (todo m b.func b.levels.block (b.levels.at + 1))) b s.globals c.call.new.running s.callers c.call.new.callers c.in-Err-OutOfMemory-call.field-0 (c.in-Err-OutOfMemory-call.ensures s.globals) in
     rw (n.0, h.1.0, h.1.1, n.1) c.self.view_is
 
 pub invariant_of-self-in-Ok-Entered : goal.invariant_of-self-in-Ok-Entered
 invariant_of-self-in-Ok-Entered c =
     let s = c.self.inside in
-    let cs = reverse s.callers.items in
+    let cs = s.callers in
     let e : s.end ≡ None = ap (λ (x : State). x.ended) c.self.view_is ∙ c.requires in
-    let d = 1 + length s.callers.items in
-    let dq : d ≡ suc (length cs) = omega (arith, length-reverse s.callers.items) in
+    let d = 1 + length s.callers in
+    let dq : d ≡ suc (length cs) = omega arith in
     let k = c.in-Calling.callee in
     let h = rw c.in-Calling.is at (c.in-Ok.ensures.goes d) in
     let g = rw (c.in-Ok-Entered.field-0-is, h.1.0) at (c.in-Ok-Entered.ensures s.globals) in
-    let t = thread_called s.module.now (value_or_zero c.args.given) s.globals cs s.running d k dq (invoke (callable s.module.now k) d k (vars_of s.running s.globals) s.running.levels.operands (todo s.module.now s.running.func s.running.levels.block (s.running.levels.at + 1))) c.call.new.running (reverse c.call.new.callers.items) h.0 g in
-    rw h.1.1 (sound_after s.module.now (value_or_zero c.args.given) s.running cs s.globals s.end c.call.new.running (reverse c.call.new.callers.items) s.globals e c.self.invariant t)
+    let t = thread_called s.module.now (value_or_zero c.args.given) s.globals cs s.running d k dq (invoke (callable s.module.now k) d k (vars_of s.running s.globals) s.running.levels.operands (todo s.module.now s.running.func s.running.levels.block (s.running.levels.at + 1))) c.call.new.running c.call.new.callers h.0 g in
+    rw h.1.1 (sound_after s.module.now (value_or_zero c.args.given) s.running cs s.globals s.end c.call.new.running c.call.new.callers s.globals e c.self.invariant t)
 
 pub returns-in-Within-clause-asks : goal.returns-in-Within-clause-asks
 returns-in-Within-clause-asks c = λ read.
     let s = c.self.inside in
-    let cs = reverse s.callers.items in
+    let cs = s.callers in
     let e : s.end ≡ None = ap (λ (x : State). x.ended) c.self.view_is ∙ c.requires in
     let h = rw c.in-Within.is at (c.in-Ok.ensures.asks (suc (length cs)) read) in
     let t = waits_as s.module.now read s.globals cs s.running c.args.given None h in
@@ -189,7 +188,7 @@ returns-in-Within-clause-asks c = λ read.
 pub returns-in-Trapped-clause-asks : goal.returns-in-Trapped-clause-asks
 returns-in-Trapped-clause-asks c = λ read.
     let s = c.self.inside in
-    let cs = reverse s.callers.items in
+    let cs = s.callers in
     let e : s.end ≡ None = ap (λ (x : State). x.ended) c.self.view_is ∙ c.requires in
     let h = rw c.in-Trapped.is at (c.in-Ok.ensures.asks (suc (length cs)) read) in
     let t = waits_as s.module.now read s.globals cs s.running c.args.given None h in
@@ -198,7 +197,7 @@ returns-in-Trapped-clause-asks c = λ read.
 pub returns-in-Ok-Caller-clause-asks : goal.returns-in-Ok-Caller-clause-asks
 returns-in-Ok-Caller-clause-asks c = λ read.
     let s = c.self.inside in
-    let cs = reverse s.callers.items in
+    let cs = s.callers in
     let e : s.end ≡ None = ap (λ (x : State). x.ended) c.self.view_is ∙ c.requires in
     let h = rw c.in-Left.is at (c.in-Ok.ensures.asks (suc (length cs)) read) in
     let t = waits_as s.module.now read s.globals cs s.running c.args.given None h in
@@ -207,7 +206,7 @@ returns-in-Ok-Caller-clause-asks c = λ read.
 pub returns-in-Ok-Outside-clause-asks : goal.returns-in-Ok-Outside-clause-asks
 returns-in-Ok-Outside-clause-asks c = λ read.
     let s = c.self.inside in
-    let cs = reverse s.callers.items in
+    let cs = s.callers in
     let e : s.end ≡ None = ap (λ (x : State). x.ended) c.self.view_is ∙ c.requires in
     let h = rw c.in-Left.is at (c.in-Ok.ensures.asks (suc (length cs)) read) in
     let t = waits_as s.module.now read s.globals cs s.running c.args.given None h in
@@ -216,7 +215,7 @@ returns-in-Ok-Outside-clause-asks c = λ read.
 pub returns-in-Ok-Entered-clause-asks : goal.returns-in-Ok-Entered-clause-asks
 returns-in-Ok-Entered-clause-asks c = λ read.
     let s = c.self.inside in
-    let cs = reverse s.callers.items in
+    let cs = s.callers in
     let e : s.end ≡ None = ap (λ (x : State). x.ended) c.self.view_is ∙ c.requires in
     let h = rw c.in-Calling.is at (c.in-Ok.ensures.asks (suc (length cs)) read) in
     let t = waits_as s.module.now read s.globals cs s.running c.args.given None h in
@@ -225,7 +224,7 @@ returns-in-Ok-Entered-clause-asks c = λ read.
 pub returns-in-Ok-TooDeep-clause-asks : goal.returns-in-Ok-TooDeep-clause-asks
 returns-in-Ok-TooDeep-clause-asks c = λ read.
     let s = c.self.inside in
-    let cs = reverse s.callers.items in
+    let cs = s.callers in
     let e : s.end ≡ None = ap (λ (x : State). x.ended) c.self.view_is ∙ c.requires in
     let h = rw c.in-Calling.is at (c.in-Ok.ensures.asks (suc (length cs)) read) in
     let t = waits_as s.module.now read s.globals cs s.running c.args.given None h in
@@ -234,7 +233,7 @@ returns-in-Ok-TooDeep-clause-asks c = λ read.
 pub returns-in-Asking-clause-asks : goal.returns-in-Asking-clause-asks
 returns-in-Asking-clause-asks c = λ read.
     let s = c.self.inside in
-    let cs = reverse s.callers.items in
+    let cs = s.callers in
     let e : s.end ≡ None = ap (λ (x : State). x.ended) c.self.view_is ∙ c.requires in
     let h = rw c.in-Asking.is at (c.in-Ok.ensures.asks (suc (length cs)) read) in
     let t = waits_as s.module.now read s.globals cs s.running c.args.given (Some c.in-Asking.op) h in
