@@ -11,6 +11,7 @@ use Rattle.wm_logfile.specs.Faults.{DocGives}
 use Rattle.wm_event.specs.Log.{IsLog}
 use Rattle.wm_logfile.specs.Document.{IsWithinLimits, Spells}
 use Rattle.wm_logfile.specs.Reading.{document_at}
+use Rattle.wm_logfile.specs.Taking.{TakenDocument}
 use Rattle.wm_logfile.proofs.Whole.{is_document, only_one, none_spelled, refusal, placed}
 
 abbrev pub shown : List ThreadLog × Witness → List ThreadLog × Witness
@@ -21,6 +22,10 @@ pub record Answers (bytes : List ℕ) (d : Data) (r : Result (List ThreadLog × 
   pub utf8 : IsUtf8 bytes
   pub text : read bytes ≡ Some d
   pub given : DocGives shown r (document_at d)
+
+-- what quick reading takes is the answer to the value of the text
+pub taken : (bytes : List ℕ) (p : List ThreadLog × Witness) → (h : TakenDocument bytes p.0 p.1) → Answers bytes h.value (Ok p)
+taken bytes p h = record { utf8 = h.utf8; text = h.text; given = h.given }
 
 pub spelled : (bytes : List ℕ) (d : Data) (r : Result (List ThreadLog × Witness) DocFault) → Answers bytes d r → IfOk r (λ p. Spells bytes p.0 p.1)
 spelled bytes d (Ok p) h = record { utf8 = h.utf8; value = d; text = h.text; spelled = (is_document d p.0 p.1 h.given).0 }

@@ -16,3 +16,7 @@ pub mod Plain
 pub mod Again
 pub mod Once
 pub mod Documents
+pub mod Taking
+pub mod TakingEvents
+pub mod TakingThreads
+pub mod TakingDocuments

@@ -7,3 +7,4 @@ pub mod Texts
 pub mod DocumentBytes
 pub mod Migration
 pub mod Tokens
+pub mod Taking

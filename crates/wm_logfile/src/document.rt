@@ -13,6 +13,7 @@ use crate::fault::{DocFault, ReadFault};
 use crate::fields::list_of;
 use crate::items::{ItemReader, each_of, unzipped};
 use crate::path::Path;
+use crate::quick::{TakeFault, take_document};
 use crate::thread::{ThreadByReader, ThreadReader};
 use crate::witness::{order_keys_of, witness_of};
 use crate::{MAX_DOCUMENT_BYTES, MAX_THREADS};
@@ -23,7 +24,7 @@ use wm_list::List;
 
 /// How a document is written.
 #[derive(Clone, Copy)]
-enum Version {
+pub(crate) enum Version {
     /// The witness stands behind the threads.
     First,
     /// The writers of the bytes that an event read stand in the event, and the order behind the threads.
@@ -167,6 +168,12 @@ pub fn read_document(alloc: Global, bytes: &[u8]) -> Result<(Log, Witness), DocF
 {
     if bytes.len() > MAX_DOCUMENT_BYTES {
         return Err(DocFault::TooLarge);
+    }
+    match take_document(alloc, bytes) {
+        Ok(pair) => return Ok(pair),
+        Err(TakeFault::Memory) => return Err(DocFault::OutOfMemory),
+        // The value of the text says where it falls short.
+        Err(TakeFault::Other) => {}
     }
     match Value::from_slice(alloc, bytes) {
         Ok(value) => document_of(alloc, &value),

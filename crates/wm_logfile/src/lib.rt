@@ -33,6 +33,7 @@ mod fields;
 mod items;
 mod migration;
 mod path;
+mod quick;
 mod text;
 mod thread;
 mod witness;

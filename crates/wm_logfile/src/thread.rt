@@ -103,15 +103,15 @@ fn start_of(alloc: Global, name: &Value, args: &Value, path: &Path) -> Result<St
 
 /// What stands before the events of a thread.
 #[derive(Drop)]
-struct ThreadHead {
-    start: Start,
-    end: End,
-    steps: u32,
+pub(crate) struct ThreadHead {
+    pub(crate) start: Start,
+    pub(crate) end: End,
+    pub(crate) steps: u32,
 }
 
 impl ThreadHead {
     /// The log of the thread with these events.
-    fn with_events(self, events: List<Event>) -> ThreadLog
+    pub(crate) fn with_events(self, events: List<Event>) -> ThreadLog
         ensures { result ≡ with_events self events }
     {
         let ThreadHead { start, end, steps } = self;

@@ -1,0 +1,165 @@
+//! Quick reading: what a document spells is taken from the front of its tokens, and no value is made in between. Where that
+//! fails, nothing is said of the text.
+ghost use Rattle.std.specs.Prelude.{◌≡◌, ◌≤◌, ◌∷◌, ℕ, suc, Option, Some, IfOk, IfSome, OnOk};
+ghost use Rattle.json.specs.Json.{after_end_array};
+ghost use Rattle.json.specs.Token.{begin_array};
+ghost use Rattle.serde_json.specs.Data.{Data, unsigned};
+ghost use Rattle.serde_json.specs.Find.{as_str};
+ghost use Rattle.serde_json.specs.Read.{number_of};
+ghost use Rattle.wm_logfile.specs.Reading.{items_at, number_at, traverse};
+ghost use Rattle.wm_logfile.specs.Taking.{Taken, TakenOn};
+
+mod document;
+mod event;
+mod thread;
+
+use crate::MAX_DOCUMENT_BYTES;
+pub(crate) use document::take_document;
+use fast_float::Numeral;
+use json::{Reader, Token};
+use std::alloc::{AllocError, AllocFailed, Global};
+use wm_list::List;
+
+/// Why nothing was taken.
+#[derive(Clone, Copy)]
+pub(crate) enum TakeFault {
+    /// The text is no document, or isn't seen to be one.
+    Other,
+    /// Memory was refused.
+    Memory,
+}
+
+impl From<AllocError> for TakeFault {
+    fn from(_refused: AllocError) -> TakeFault {
+        TakeFault::Memory
+    }
+}
+
+impl<T: Drop> From<AllocFailed<T>> for TakeFault {
+    fn from(_refused: AllocFailed<T>) -> TakeFault {
+        TakeFault::Memory
+    }
+}
+
+/// Takes the bracket that opens a list.
+pub(crate) fn open_list(reader: &mut Reader<'_>) -> Result<(), TakeFault>
+    ensures { OnOk result (reader.old ≡ begin_array ∷ reader.new) }
+{
+    match reader.next() {
+        Some(Token::BeginArray) => Ok(()),
+        _ => Err(TakeFault::Other),
+    }
+}
+
+/// Takes the bracket that closes a list.
+pub(crate) fn close_list(reader: &mut Reader<'_>) -> Result<(), TakeFault>
+    ensures { OnOk result (after_end_array reader.old ≡ Some reader.new) }
+{
+    if reader.take_end_array() {
+        Ok(())
+    } else {
+        Err(TakeFault::Other)
+    }
+}
+
+/// Takes a text.
+#[tactic(auto, using(crate::proofs::Taking::text_taken))]
+pub(crate) fn take_text<'a>(reader: &mut Reader<'a>) -> Result<&'a str, TakeFault>
+    ensures { IfOk result (λ s. Taken 0 as_str reader.old s.now reader.new) }
+{
+    match reader.next() {
+        Some(Token::String(text)) => Ok(text),
+        _ => Err(TakeFault::Other),
+    }
+}
+
+/// The whole number of 64 bits that a number's text writes, where it has no sign.
+fn natural_of(text: &str) -> Option<u64>
+    ensures { IfSome result (λ n. number_of text.now ≡ Some (unsigned n)) }
+{
+    let bytes = text.as_bytes();
+    if bytes.is_empty() || bytes[0] == b'-' {
+        return None;
+    }
+    Numeral::scan(bytes).to_u64()
+}
+
+/// Takes a whole number that is at most the limit.
+#[tactic(auto, using(crate::proofs::Taking::number_taken))]
+pub(crate) fn take_number(reader: &mut Reader<'_>, limit: u64) -> Result<u64, TakeFault>
+    ensures taken { IfOk result (λ n. Taken 0 (number_at limit) reader.old n reader.new) }
+    ensures bound { IfOk result (λ n. n ≤ limit) }
+{
+    let Some(Token::Number(text)) = reader.next() else {
+        return Err(TakeFault::Other);
+    };
+    match natural_of(text) {
+        Some(n) if n <= limit => Ok(n),
+        _ => Err(TakeFault::Other),
+    }
+}
+
+/// Takes one item of a list, by its index.
+pub(crate) trait ItemTaker<T> {
+    ghost reads: { Self → ℕ → Data → Option T };
+
+    ghost levels: { Self → ℕ };
+
+    fn take(&self, alloc: Global, reader: &mut Reader<'_>, index: usize) -> Result<T, TakeFault>
+        ensures { IfOk result (λ x.
+            Taken (levels self.now) (reads self.now index) reader.old x reader.new) };
+}
+
+/// Takes the items of a list up to its end.
+fn take_items<T: Drop, R: ItemTaker<T>>(
+    alloc: Global,
+    taker: &R,
+    reader: &mut Reader<'_>,
+) -> Result<List<T>, TakeFault>
+    ensures { IfOk result (λ xs.
+        TakenOn (R.levels taker.now) (traverse (R.reads taker.now) 0) reader.old xs reader.new) }
+{
+    let mut found = Vec::new(alloc);
+    for index in 0..MAX_DOCUMENT_BYTES {
+        if reader.take_end_array() {
+            return Ok(List::from_vec(found));
+        }
+        let item = taker.take(alloc, reader, index)?;
+        found.push(item)?;
+    }
+    Err(TakeFault::Other)
+}
+
+/// Takes a list.
+pub(crate) fn take_list<T: Drop, R: ItemTaker<T>>(
+    alloc: Global,
+    taker: &R,
+    reader: &mut Reader<'_>,
+) -> Result<List<T>, TakeFault>
+    ensures { IfOk result (λ xs.
+        Taken (suc (R.levels taker.now)) (items_at (R.reads taker.now)) reader.old xs reader.new) }
+{
+    open_list(reader)?;
+    take_items(alloc, taker, reader)
+}
+
+/// Takes a number of 64 bits.
+#[derive(Clone, Copy)]
+pub(crate) struct NumberTaker;
+
+impl ItemTaker<u64> for NumberTaker {
+    ghost use Rattle.wm_logfile.specs.Reading.{u64_max};
+
+    ghost reads = { λ _ _ d. number_at u64_max d };
+
+    ghost levels = { λ _. 0 };
+
+    fn take(
+        &self,
+        _alloc: Global,
+        reader: &mut Reader<'_>,
+        _index: usize,
+    ) -> Result<u64, TakeFault> {
+        take_number(reader, u64::MAX)
+    }
+}
