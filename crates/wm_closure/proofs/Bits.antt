@@ -1,5 +1,5 @@
 -- One bit of a word.
-use Rattle.std.proofs.Common.{◌≡◌, ◌≢◌, ℕ, ◌+◌, ◌*◌, ◌-◌, ◌^◌, ◌%◌, ◌<◌, ◌≤◌, max, arith, ◌⊎◌, inl, inr, ⊎_elim, ◌↔◌, bit_or}
+use Rattle.std.proofs.Common.{◌≡◌, ◌≢◌, ℕ, ◌*◌, ◌^◌, ◌%◌, ◌<◌, max, arith, ◌⊎◌, inl, inr, ⊎_elim, ◌↔◌, bit_or}
 use Rattle.std.specs.Int.{bit_at, w64}
 use Rattle.std.specs.Int.Bits.{or_zero_l}
 use Rattle.std.proofs.lemmas.Bool.{cases_eq}
@@ -15,11 +15,6 @@ shifted_bit k s kn sn =
     let other : bit_at (1 * 2 ^ k % 18446744073709551616) s ≡ 0 = rw (or_zero_l, bit_at-zero) at (bit_at_set_other w64 0 k kn s d) in
     ((λ h. absurd (omega (arith, h, other))), (λ e. absurd (d e))))
     (cases_eq s k)
-
-pub own_shifted : (node first : ℕ) → first ≤ node → node - first < 64 → (s : ℕ) → s < 64 → HasBit (1 * 2 ^ (node - first) % 18446744073709551616) s ↔ (first + s ≡ node)
-own_shifted node first le lt s sn =
-    let bit = shifted_bit (node - first) s lt sn in
-    ((λ h. let e : s ≡ node - first = bit.0 h in omega arith), (λ e. let d : s ≡ node - first = omega arith in bit.1 d))
 
 pub either_bit : (a b s : ℕ) → HasBit (bit_or a b) s ↔ (HasBit a s ⊎ HasBit b s)
 either_bit a b s =

@@ -10,37 +10,42 @@ use std::marker::Model;
 use std::thread::Threads;
 use wm_list::List;
 
-/// The word with the one bit of a node among the 64 from `first` on, or 0.
-fn own_bit(node: usize, first: usize) -> u64
-    ensures { (s : ℕ) → s < 64 → HasBit result s ↔ (first + s ≡ node) }
+/// The word with the one bit of this number, or 0 past the 64 of a word.
+fn own_bit(number: usize) -> u64
+    ensures { (s : ℕ) → s < 64 → HasBit result s ↔ (s ≡ number) }
 {
-    if first <= node && node - first < 64 {
-        1u64 << (node - first)
-    } else {
-        0
-    }
+    if number < 64 { 1u64 << number } else { 0 }
 }
 
-/// The bits of `own` and those of each of these nodes.
-fn joined(column: &[u64], sources: &[usize], own: u64) -> u64
-    requires { All (λ p. p < length column.now) sources.now }
-    ensures { (s : ℕ) → HasBit result s ↔ IsOneSet column.now sources.now own s (length sources.now) }
+/// The bits of `own` and those of each of these nodes. The column has words from the node `first` on; a node before it has no bits.
+fn joined(column: &[u64], first: usize, sources: &[usize], own: u64) -> u64
+    requires { All (λ p. p < first + length column.now) sources.now }
+    ensures { (s : ℕ) → HasBit result s ↔ IsOneSet column.now first sources.now own s (length sources.now) }
 {
     let mut mask = own;
     for source in sources {
-        mask |= column[*source];
+        if *source >= first {
+            mask |= column[*source - first];
+        }
     }
     mask
 }
 
-/// For each node which of the 64 from `first` on reach it or are it.
+/// For each node from `first` on which of the 64 from there on reach it or are it. None of them reaches a node before them.
 fn column(alloc: Global, graph: &[List<usize>], first: usize) -> Result<List<u64>, AllocError>
-    requires { IsOrdered graph.now }
+    requires ordered { IsOrdered graph.now }
+    requires inside { first ≤ length graph.now }
     ensures { IfOk result (λ c. IsColumn graph.now first c) }
 {
-    let mut column = Vec::with_capacity(alloc, graph.len())?;
-    for (node, sources) in graph.iter().enumerate() {
-        let mask = joined(column.as_slice(), sources.as_slice(), own_bit(node, first));
+    let nodes = &graph[first..];
+    let mut column = Vec::with_capacity(alloc, nodes.len())?;
+    for (number, sources) in nodes.iter().enumerate() {
+        let mask = joined(
+            column.as_slice(),
+            first,
+            sources.as_slice(),
+            own_bit(number),
+        );
         column.push_reserved(mask);
     }
     Ok(List::from_vec(column))
@@ -60,7 +65,7 @@ fn columns(
         .with_min_len(1)
         .map(
             |index: usize| -> Result<List<u64>, AllocError>
-                requires index { index * 64 < 2 ^ 64 }
+                requires index { index * 64 < length graph.now }
                 requires ordered { IsOrdered graph.now }
                 ensures { IfOk result (λ c. IsColumn graph.entry.now (index * 64) c) }
             { column(alloc, graph, index * 64) },
@@ -109,7 +114,8 @@ impl Closure {
         if to >= graph.len() || from >= to {
             return false;
         }
-        has_bit(self.columns[from / 64].as_slice()[to], from % 64)
+        let first = from / 64 * 64;
+        has_bit(self.columns[from / 64].as_slice()[to - first], from - first)
     }
 }
 

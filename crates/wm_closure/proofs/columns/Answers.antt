@@ -1,4 +1,4 @@
-use Rattle.std.proofs.Common.{◌≡◌, ◌<◌, ◌+◌, ◌-◌, ◌^◌, ◌*◌, ◌/◌, ℕ, List, length, Result, arith, ◌∙◌, ap, subst, sym}
+use Rattle.std.proofs.Common.{◌≡◌, ◌<◌, ◌+◌, ◌-◌, ◌*◌, ◌/◌, ℕ, List, length, Result, arith, ◌∙◌, ap, subst, sym}
 use Rattle.wm_closure.specs.Graph.{IsOrdered, IsColumn, AreColumns}
 use Rattle.std.specs.List.{AllZip, range_with_len}
 use Rattle.std.specs.Prelude.{IfOk}
@@ -13,7 +13,7 @@ pub collect-requires-clause-ready : goal.collect-requires-clause-ready
 collect-requires-clause-ready g c κs within =
     let ends = c.into_par_iter.ensures in
     let ordered : IsOrdered c.args.graph.now = c.requires in
-    let inside = nat_range-All (λ i. (i * 64 < 2 ^ 64) × IsOrdered c.args.graph.now) 0 ((length c.args.graph.now + 63) / 64) (λ i low high. (omega arith, ordered)) in
+    let inside = nat_range-All (λ i. (i * 64 < length c.args.graph.now) × IsOrdered c.args.graph.now) 0 ((length c.args.graph.now + 63) / 64) (λ i low high. (omega arith, ordered)) in
     rw (c.map.ensures.base, c.map.ensures.f, c.with_min_len.ensures.base, ends.0, ends.1) (λ k d lt. (inside k d lt, λ y p. tt))
 
 pub returns : goal.returns
