@@ -6,22 +6,16 @@ use std::alloc::{AllocError, Global};
 use wm_event::{Candidate, ThreadLog};
 
 /// Adds how a thread starts and ends.
-fn add_thread(
-    alloc: Global,
-    text: &mut String,
-    number: usize,
-    thread: &ThreadLog,
-) -> Result<(), AllocError> {
+fn add_thread(text: &mut String, number: usize, thread: &ThreadLog) -> Result<(), AllocError> {
     let name = thread.start.name.as_str();
     let args = Count(thread.start.args.len() as u64, "argument");
     let steps = Count(u64::from(thread.steps), "step");
     let events = Count(thread.events.len() as u64, "event");
     let end = EndPhrase(thread.end);
-    let line = format!(in alloc;
-        "  thread {number} runs {name:?} on {args}: {steps}, {events}, and then it {end}\n"
-    )?;
-    text.push_str(line.as_str())?;
-    Ok(())
+    writeln!(
+        text,
+        "  thread {number} runs {name:?} on {args}: {steps}, {events}, and then it {end}"
+    )
 }
 
 /// What an allowed run rests on: its threads, and its events in their order with who wrote what was read.
@@ -36,9 +30,9 @@ pub(crate) fn allowed_reason(alloc: Global, candidate: &Candidate) -> Result<Str
     )?;
     text.push_str("The threads:\n")?;
     for (number, thread) in candidate.log().threads().iter().enumerate() {
-        add_thread(alloc, &mut text, number, thread)?;
+        add_thread(&mut text, number, thread)?;
     }
     text.push_str("The events in their order, with who wrote what was read:\n")?;
-    add_rows(alloc, &mut text, candidate)?;
+    add_rows(&mut text, candidate)?;
     Ok(text)
 }

@@ -237,8 +237,7 @@ pub(crate) fn shape_reason(
     let mut text = format!(in alloc; "{sentence}\n")?;
     if let Some(key) = event_of(fault) {
         let event = event_phrase(alloc, log, key)?;
-        let line = format!(in alloc; "{key} is a {event}.\n")?;
-        text.push_str(line.as_str())?;
+        writeln!(text, "{key} is a {event}.")?;
     }
     Ok(text)
 }

@@ -232,44 +232,37 @@ impl fmt::Display for Next {
 }
 
 /// Adds what the log and the module have at the place where a thread differs.
-fn add_difference(alloc: Global, text: &mut String, followed: &Followed) -> Result<(), AllocError> {
+fn add_difference(text: &mut String, followed: &Followed) -> Result<(), AllocError> {
     let steps = Count(u64::from(followed.steps), "step");
     let events = Count(followed.events as u64, "event");
     let Difference { logged, made } = followed.difference;
-    let lines = format!(in alloc;
-        "Run again on the values that the log says it read, it makes {steps} and {events} as the log has them. Then\n  the log has     {logged}\n  the module has  {made}\n"
-    )?;
-    text.push_str(lines.as_str())?;
-    Ok(())
+    writeln!(
+        text,
+        "Run again on the values that the log says it read, it makes {steps} and {events} as the log has them. Then\n  the log has     {logged}\n  the module has  {made}"
+    )
 }
 
 /// Adds how the log's steps and end compare with those of the run.
-fn add_ends(
-    alloc: Global,
-    text: &mut String,
-    stated: &ThreadLog,
-    followed: &Followed,
-) -> Result<(), AllocError> {
+fn add_ends(text: &mut String, stated: &ThreadLog, followed: &Followed) -> Result<(), AllocError> {
     let said = Count(u64::from(stated.steps), "step");
     let end = EndPhrase(stated.end);
     let steps = Count(u64::from(followed.steps), "step");
     let events = Count(followed.events as u64, "event");
     let made = followed.difference.made;
-    let lines = format!(in alloc;
-        "  the log has     {said}, and then it {end}\n  the module has  {steps} with {events} as the log has them, and then {made}\n"
+    writeln!(
+        text,
+        "  the log has     {said}, and then it {end}\n  the module has  {steps} with {events} as the log has them, and then {made}"
     )?;
-    text.push_str(lines.as_str())?;
     let word = match stated.steps.cmp(&followed.steps) {
         Ordering::Less => "short",
         Ordering::Greater => "long",
         Ordering::Equal => return Ok(()),
     };
-    let line = format!(in alloc;
-        "The log's steps are {word}: it has {}, and the run has {}.\n",
+    writeln!(
+        text,
+        "The log's steps are {word}: it has {}, and the run has {}.",
         stated.steps, followed.steps
-    )?;
-    text.push_str(line.as_str())?;
-    Ok(())
+    )
 }
 
 /// Adds where the thread stands that was run again.
@@ -282,17 +275,14 @@ fn add_position(
 ) -> Result<(), AllocError> {
     let start = stated.start.name.as_str();
     let place = position_phrase(alloc, module.module(), start, followed.position)?;
-    let line = match followed.difference.made {
-        Next::Ended(_) => format!(in alloc; "The thread ended at {place}.\n")?,
-        _ => format!(in alloc; "The thread stands before {place}.\n")?,
-    };
-    text.push_str(line.as_str())?;
-    Ok(())
+    match followed.difference.made {
+        Next::Ended(_) => writeln!(text, "The thread ended at {place}."),
+        _ => writeln!(text, "The thread stands before {place}."),
+    }
 }
 
 /// Adds what the memory rules say of the events, since a wrong value that was read often shows later as another step.
 fn add_judgement(
-    alloc: Global,
     text: &mut String,
     number: usize,
     judgement: &Judgement,
@@ -301,8 +291,7 @@ fn add_judgement(
         text.push_str("The memory rules permit the events as they stand in the log.\n")?;
         return Ok(());
     };
-    let line = format!(in alloc; "The memory rules are broken too, first so: {fault}.\n")?;
-    text.push_str(line.as_str())?;
+    writeln!(text, "The memory rules are broken too, first so: {fault}.")?;
     if fault.event.thread as usize == number {
         text.push_str(
             "That is a read of this thread: a wrong value that was read often shows as a difference later.\n",
@@ -313,7 +302,6 @@ fn add_judgement(
 
 /// Adds where a thread differs from its log, which goes so far by it.
 fn add_place(
-    alloc: Global,
     text: &mut String,
     stated: &ThreadLog,
     followed: &Followed,
@@ -324,9 +312,9 @@ fn add_place(
         Place::Event(event) => event < followed.events,
     };
     if is_made {
-        add_ends(alloc, text, stated, followed)
+        add_ends(text, stated, followed)
     } else {
-        add_difference(alloc, text, followed)
+        add_difference(text, followed)
     }
 }
 
@@ -358,7 +346,7 @@ fn thread_reason(
         "Thread {number} runs the exported function {name:?}, and its log isn't what the module makes of it.\n"
     )?;
     if let Some(followed) = follow(alloc, module, stated)? {
-        add_place(alloc, &mut text, stated, &followed, place)?;
+        add_place(&mut text, stated, &followed, place)?;
         add_position(alloc, &mut text, module, stated, &followed)?;
     }
     Ok(text)
@@ -388,7 +376,7 @@ pub(crate) fn replay_reason<R: AllocGlobal + Threads + Sync>(
                 return Ok(String::new(rt.alloc()));
             };
             let mut text = thread_reason(rt.alloc(), module, number, stated, place)?;
-            add_judgement(rt.alloc(), &mut text, number, &judge(rt, candidate)?)?;
+            add_judgement(&mut text, number, &judge(rt, candidate)?)?;
             Ok(text)
         }
     }

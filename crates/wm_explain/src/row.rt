@@ -1,7 +1,7 @@
 //! The table of events.
 
 use crate::phrase::{EventPhrase, WritersPhrase};
-use std::alloc::{AllocError, Global};
+use std::alloc::AllocError;
 use std::fmt;
 use wm_event::{Candidate, Event, EventId};
 
@@ -39,7 +39,6 @@ const INIT_ROW: &str = "      0  init  writes the initial memory\n";
 
 /// Adds the row of an event that is there.
 pub(crate) fn add_row(
-    alloc: Global,
     text: &mut String,
     candidate: &Candidate,
     id: EventId,
@@ -55,24 +54,18 @@ pub(crate) fn add_row(
         event,
         writers: candidate.writers(key),
     };
-    let line = format!(in alloc; "{row}\n")?;
-    text.push_str(line.as_str())?;
-    Ok(())
+    writeln!(text, "{row}")
 }
 
 /// Adds the rows of all events, in their order.
-pub(crate) fn add_rows(
-    alloc: Global,
-    text: &mut String,
-    candidate: &Candidate,
-) -> Result<(), AllocError> {
+pub(crate) fn add_rows(text: &mut String, candidate: &Candidate) -> Result<(), AllocError> {
     let order = candidate.witness().order.as_slice();
     if order.is_empty() {
         return Ok(text.push_str("  none\n")?);
     }
     text.push_str(HEAD)?;
     for key in order {
-        add_row(alloc, text, candidate, EventId::At(*key))?;
+        add_row(text, candidate, EventId::At(*key))?;
     }
     Ok(())
 }

@@ -262,14 +262,12 @@ impl fmt::Display for LinkSentence {
 }
 
 /// Adds why one event happens before another.
-fn add_chain(alloc: Global, text: &mut String, chain: &FaultChain) -> Result<(), AllocError> {
-    let head = format!(in alloc; "Why {} happens before {}:\n", chain.from, chain.to)?;
-    text.push_str(head.as_str())?;
+fn add_chain(text: &mut String, chain: &FaultChain) -> Result<(), AllocError> {
+    writeln!(text, "Why {} happens before {}:", chain.from, chain.to)?;
     let mut last = chain.from;
     for link in chain.links.as_slice() {
         let sentence = LinkSentence(last, *link);
-        let line = format!(in alloc; "  {sentence}\n")?;
-        text.push_str(line.as_str())?;
+        writeln!(text, "  {sentence}")?;
         last = EventId::At(link.event);
     }
     Ok(())
@@ -277,19 +275,18 @@ fn add_chain(alloc: Global, text: &mut String, chain: &FaultChain) -> Result<(),
 
 /// Adds the rows of the events of a fault.
 fn add_events(
-    alloc: Global,
     text: &mut String,
     candidate: &Candidate,
     fault: &RuleFault,
 ) -> Result<(), AllocError> {
     text.push_str("The events, with their places in the order:\n")?;
     text.push_str(HEAD)?;
-    add_row(alloc, text, candidate, fault.writer)?;
+    add_row(text, candidate, fault.writer)?;
     if let Some(other) = fault.other {
-        add_row(alloc, text, candidate, other)?;
+        add_row(text, candidate, other)?;
     }
     if fault.writer != EventId::At(fault.event) {
-        add_row(alloc, text, candidate, EventId::At(fault.event))?;
+        add_row(text, candidate, EventId::At(fault.event))?;
     }
     Ok(())
 }
@@ -308,9 +305,9 @@ pub(crate) fn rule_reason(
     let rule = RuleName(fault.rule);
     let sentence = RuleSentence::of(candidate, fault);
     let mut text = format!(in alloc; "{rule}\n{sentence}\n")?;
-    add_events(alloc, &mut text, candidate, fault)?;
+    add_events(&mut text, candidate, fault)?;
     for chain in fault_chains(alloc, candidate, fault)?.as_slice() {
-        add_chain(alloc, &mut text, chain)?;
+        add_chain(&mut text, chain)?;
     }
     text.push_str(
         "With another order of the events, or other writers, the same accesses may be allowed.\n",

@@ -65,7 +65,6 @@ impl fmt::Display for Attributes {
 
 /// Adds an arrow.
 fn add_arrow(
-    alloc: Global,
     text: &mut String,
     from: EventId,
     to: EventId,
@@ -74,14 +73,11 @@ fn add_arrow(
     let start = NodeName(from);
     let end = NodeName(to);
     let attributes = Attributes(kind);
-    let line = format!(in alloc; "  {start} -> {end} [{attributes}];\n")?;
-    text.push_str(line.as_str())?;
-    Ok(())
+    writeln!(text, "  {start} -> {end} [{attributes}];")
 }
 
 /// Adds an arrow of the order where it lists the second event of another arrow before the first.
 fn add_order(
-    alloc: Global,
     text: &mut String,
     candidate: &Candidate,
     from: EventId,
@@ -89,7 +85,7 @@ fn add_order(
 ) -> Result<(), AllocError> {
     match (candidate.place(from), candidate.place(to)) {
         (Some(first), Some(second)) if second < first => {
-            add_arrow(alloc, text, to, from, ArrowKind::Order)
+            add_arrow(text, to, from, ArrowKind::Order)
         }
         (_, _) => Ok(()),
     }
@@ -130,15 +126,14 @@ fn add_reads(
     let arrows = read_arrows(alloc, candidate, reader)?;
     for arrow in arrows.as_slice() {
         let kind = read_kind(candidate, arrow, reader, bytes);
-        add_arrow(alloc, text, arrow.writer, EventId::At(reader), kind)?;
-        add_order(alloc, text, candidate, arrow.writer, EventId::At(reader))?;
+        add_arrow(text, arrow.writer, EventId::At(reader), kind)?;
+        add_order(text, candidate, arrow.writer, EventId::At(reader))?;
     }
     Ok(())
 }
 
 /// Adds the arrow to an event from the one before it in its thread.
 fn add_sequenced(
-    alloc: Global,
     text: &mut String,
     candidate: &Candidate,
     event: &Event,
@@ -151,8 +146,8 @@ fn add_sequenced(
         number,
     });
     let next = EventId::At(event.key());
-    add_arrow(alloc, text, previous, next, ArrowKind::Sequenced)?;
-    add_order(alloc, text, candidate, previous, next)
+    add_arrow(text, previous, next, ArrowKind::Sequenced)?;
+    add_order(text, candidate, previous, next)
 }
 
 /// Adds the arrows to the events of a thread.
@@ -163,18 +158,18 @@ pub(crate) fn add_edges(
     thread: &ThreadLog,
 ) -> Result<(), AllocError> {
     for event in thread.events.as_slice() {
-        add_sequenced(alloc, text, candidate, event)?;
+        add_sequenced(text, candidate, event)?;
         add_reads(alloc, text, candidate, event.key())?;
     }
     Ok(())
 }
 
 /// Adds the links of a chain.
-fn add_chain(alloc: Global, text: &mut String, chain: &FaultChain) -> Result<(), AllocError> {
+fn add_chain(text: &mut String, chain: &FaultChain) -> Result<(), AllocError> {
     let mut last = chain.from;
     for link in chain.links.as_slice() {
         let next = EventId::At(link.event);
-        add_arrow(alloc, text, last, next, ArrowKind::Chain(link.kind))?;
+        add_arrow(text, last, next, ArrowKind::Chain(link.kind))?;
         last = next;
     }
     Ok(())
@@ -188,7 +183,7 @@ pub(crate) fn add_chains(
     fault: &RuleFault,
 ) -> Result<(), AllocError> {
     for chain in fault_chains(alloc, candidate, fault)?.as_slice() {
-        add_chain(alloc, text, chain)?;
+        add_chain(text, chain)?;
     }
     Ok(())
 }

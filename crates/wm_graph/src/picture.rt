@@ -8,55 +8,43 @@ use wm_check::{Breach, Verdict};
 use wm_event::{Candidate, EventId, Log};
 
 /// Adds the node of an event.
-fn add_node(alloc: Global, text: &mut String, node: &Node) -> Result<(), AllocError> {
+fn add_node(text: &mut String, node: &Node) -> Result<(), AllocError> {
     let name = NodeName(EventId::At(node.event.key()));
     let label = NodeLabel(&node.event);
-    let line = if node.is_marked {
-        format!(in alloc;
-            "    {name} [label=\"{label}\", color=\"{FAULT_COLOUR}\", fontcolor=\"{FAULT_COLOUR}\"];\n"
-        )?
+    if node.is_marked {
+        writeln!(
+            text,
+            "    {name} [label=\"{label}\", color=\"{FAULT_COLOUR}\", fontcolor=\"{FAULT_COLOUR}\"];"
+        )
     } else {
-        format!(in alloc; "    {name} [label=\"{label}\"];\n")?
-    };
-    text.push_str(line.as_str())?;
-    Ok(())
+        writeln!(text, "    {name} [label=\"{label}\"];")
+    }
 }
 
 /// Adds the column of a thread.
-fn add_column(
-    alloc: Global,
-    text: &mut String,
-    number: usize,
-    column: &Column,
-) -> Result<(), AllocError> {
-    let head = format!(in alloc;
-        "  subgraph cluster_{number} {{\n    label=\"thread {number}\";\n"
+fn add_column(text: &mut String, number: usize, column: &Column) -> Result<(), AllocError> {
+    writeln!(
+        text,
+        "  subgraph cluster_{number} {{\n    label=\"thread {number}\";"
     )?;
-    text.push_str(head.as_str())?;
     for node in column.nodes.as_slice() {
-        add_node(alloc, text, node)?;
+        add_node(text, node)?;
     }
     text.push_str("  }\n")?;
     Ok(())
 }
 
 /// Adds the node of Init, above the first event of each thread.
-fn add_init(
-    alloc: Global,
-    text: &mut String,
-    log: &Log,
-    is_marked: bool,
-) -> Result<(), AllocError> {
+fn add_init(text: &mut String, log: &Log, is_marked: bool) -> Result<(), AllocError> {
     let colour = if is_marked { FAULT_COLOUR } else { "black" };
-    let node = format!(in alloc;
-        "  init [label=\"init\", color=\"{colour}\", fontcolor=\"{colour}\"];\n"
+    writeln!(
+        text,
+        "  init [label=\"init\", color=\"{colour}\", fontcolor=\"{colour}\"];"
     )?;
-    text.push_str(node.as_str())?;
     for thread in log.threads() {
         if let Some(event) = thread.events.get(0) {
             let name = NodeName(EventId::At(event.key()));
-            let line = format!(in alloc; "  init -> {name} [style=\"invis\"];\n")?;
-            text.push_str(line.as_str())?;
+            writeln!(text, "  init -> {name} [style=\"invis\"];")?;
         }
     }
     Ok(())
@@ -77,10 +65,10 @@ pub fn draw(alloc: Global, verdict: &Verdict, candidate: &Candidate) -> Result<S
     text.push_str(
         "digraph execution {\n  node [shape=\"box\", fontname=\"monospace\"];\n  edge [fontname=\"monospace\"];\n",
     )?;
-    add_init(alloc, &mut text, log, is_marked(verdict, EventId::Init))?;
+    add_init(&mut text, log, is_marked(verdict, EventId::Init))?;
     let columns = columns(alloc, log, verdict)?;
     for (number, column) in columns.as_slice().iter().enumerate() {
-        add_column(alloc, &mut text, number, column)?;
+        add_column(&mut text, number, column)?;
     }
     for thread in log.threads() {
         add_edges(alloc, &mut text, candidate, thread)?;
