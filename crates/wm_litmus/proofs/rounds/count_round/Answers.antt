@@ -1,8 +1,7 @@
-use Rattle.std.proofs.Common.{[], ◌∷◌, ◌++◌, ◌≡◌, ◌∙◌, ap, rules, subst}
+use Rattle.std.proofs.Common.{[], ◌∷◌, ◌++◌, ◌∙◌, ap, rules, subst}
 use Rattle.std.specs.Prelude.{◌≢◌}
 use Rattle.wm_check.specs.Verdicts.{Says}
 use Rattle.wm_run.specs.declared.fault.RunFault.TheVariants.{OutOfMemory}
-use Rattle.wm_check.specs.declared.verdict.Verdict.TheVariants.{Allowed}
 use Rattle.wm_litmus.specs.Counts.{Counts}
 use Rattle.wm_litmus.specs.Lines.{verdict_status, verdict_text}
 use Rattle.wm_litmus.specs.Own.{IsMadeOf, run_text}
