@@ -55,3 +55,10 @@ chain_join graph a (k ∷ ms) m ns b h c = (h.0, chain_join graph k ms m ns b h.
 
 pub reaches_join : (graph : List (List ℕ)) (a m b : ℕ) → Reaches graph a m → Reaches graph m b → Reaches graph a b
 reaches_join graph a m b first second = (first.0 ++ m ∷ second.0, chain_join graph a first.0 m second.0 b first.1 second.1)
+
+-- what is reached is no earlier node
+pub reached_from : (graph : List (List ℕ)) (a b : ℕ) → IsOrdered graph → IsReached graph a b → a ≤ b
+reached_from graph a b ordered r = ⊎_elim
+    (λ (q : a ≡ b). omega arith)
+    (λ (c : Reaches graph a b). let l : a < b = reaches_below graph a b ordered c in omega arith)
+    r

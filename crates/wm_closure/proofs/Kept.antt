@@ -3,7 +3,7 @@ use Rattle.std.proofs.Common.{◌≡◌, ℕ, ◌+◌, ◌*◌, ◌<◌, ◌/◌
 use Rattle.std.specs.List.{AllZip, range_with_len}
 use Rattle.std.specs.Prelude.{slice_index_or}
 use Rattle.std.proofs.lemmas.List.FromFn.{get_or-range_with_len, length-range_with_len}
-use Rattle.wm_closure.specs.Graph.{IsColumn, AreColumns}
+use Rattle.wm_closure.specs.Graph.{AreArrivals, AreAllArrivals}
 
 pub AllZip-oks : {A B : Type 0} (E : Type 0) (R : A → B → Type 0) (xs : List A) (ys : List B) → AllZip (λ x (r : Result B E). IfOk r (R x)) xs (map Ok ys) → AllZip R xs ys
 AllZip-oks E R [] [] h = tt
@@ -24,13 +24,14 @@ AllZip-at R (x ∷ xs) [] i d e h l = absurd h
 AllZip-at R (x ∷ xs) (y ∷ ys) zero d e h l = h.0
 AllZip-at R (x ∷ xs) (y ∷ ys) (suc i) d e h l = AllZip-at R xs ys i d e h.1 (let m : suc i < suc (length xs) = l in omega arith)
 
-pub are_columns : (graph columns : List (List ℕ)) → AllZip (λ c column. IsColumn graph (c * 64) column) (range_with_len 0 ((length graph + 63) / 64)) columns → AreColumns graph columns
-are_columns graph columns h =
+pub are_all : (graph : List (List ℕ)) (lanes : List ℕ) (width : ℕ) (lists : List (List ℕ)) → AllZip (λ c list. AreArrivals graph lanes width (c * 64) list) (range_with_len 0 ((length graph + 63) / 64)) lists → AreAllArrivals graph lanes width lists
+are_all graph lanes width lists h =
+    let R = λ (c : ℕ) (list : List ℕ). AreArrivals graph lanes width (c * 64) list in
     let n = (length graph + 63) / 64 in
-    let long : length columns ≡ n = sym (AllZip-length (λ c column. IsColumn graph (c * 64) column) (range_with_len 0 n) columns h) ∙ length-range_with_len 0 n in (
+    let long : length lists ≡ n = sym (AllZip-length R (range_with_len 0 n) lists h) ∙ length-range_with_len 0 n in (
       omega arith,
       λ c l.
           let inside : c < n = omega arith in
-          let at : IsColumn graph (get_or (range_with_len 0 n) c 0 * 64) (slice_index_or columns c []) = AllZip-at (λ c column. IsColumn graph (c * 64) column) (range_with_len 0 n) columns c 0 [] h (let e = length-range_with_len 0 n in omega arith) in
-          subst (λ k. IsColumn graph (k * 64) (slice_index_or columns c [])) (let e = get_or-range_with_len 0 n c 0 inside in omega arith) at,
+          let at : AreArrivals graph lanes width (get_or (range_with_len 0 n) c 0 * 64) (slice_index_or lists c []) = AllZip-at R (range_with_len 0 n) lists c 0 [] h (let e = length-range_with_len 0 n in omega arith) in
+          subst (λ k. AreArrivals graph lanes width (k * 64) (slice_index_or lists c [])) (let e = get_or-range_with_len 0 n c 0 inside in omega arith) at,
     )

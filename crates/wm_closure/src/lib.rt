@@ -2,7 +2,7 @@
 #![tactic(auto)]
 
 ghost use Rattle.std.specs.Prelude.{◌≡◌, ◌<◌, ◌≤◌, ◌+◌, ◌*◌, ◌^◌, ◌↔◌, ℕ, length, vec_len, slice_index, IfOk, All, IsTrue};
-ghost use Rattle.wm_closure.specs.Graph.{HasBit, IsOrdered, IsOneSet, IsColumn, AreColumns, Reaches};
+ghost use Rattle.wm_closure.specs.Graph.{HasBit, IsOrdered, IsOneSet, IsColumn, AreAllArrivals, AreArrivals, AreLanes, Lowers, Reaches};
 
 use rayon::prelude::*;
 use std::alloc::{AllocError, Global};
@@ -51,59 +51,115 @@ fn column(alloc: Global, graph: &[List<usize>], first: usize) -> Result<List<u64
     Ok(List::from_vec(column))
 }
 
-/// All columns, worked in parallel.
-fn columns(
+/// Lowers what is known of each of 64 sources with a bit in `mask` to a node of this lane.
+fn lower(arrivals: &mut [usize], lane: usize, mask: u64, node: usize)
+    requires { lane * 64 + 64 ≤ length arrivals.old }
+    ensures size { length arrivals.new ≡ length arrivals.old }
+    ensures lowered { Lowers lane mask node 64 arrivals.old arrivals.new }
+{
+    for number in 0..64usize {
+        let place = lane * 64 + number;
+        if has_bit(mask, number) && node < arrivals[place] {
+            arrivals[place] = node;
+        }
+    }
+}
+
+/// For each lane and each of the 64 nodes from `first` on the first node of the lane that is reached from there, or is it.
+fn arrivals(
+    alloc: Global,
+    graph: &[List<usize>],
+    lanes: &[usize],
+    width: usize,
+    first: usize,
+) -> Result<List<usize>, AllocError>
+    requires ordered { IsOrdered graph.now }
+    requires inside { first ≤ length graph.now }
+    requires lanes { AreLanes graph.now lanes.now width }
+    ensures { IfOk result (λ arrivals. AreArrivals graph.now lanes.now width first arrivals) }
+{
+    let column = column(alloc, graph, first)?;
+    let size = width.checked_mul(64).ok_or(AllocError)?;
+    let mut arrivals = vec![in alloc; graph.len(); size]?;
+    let mut seen = vec![in alloc; 0u64; width]?;
+    for (number, mask) in column.as_slice().iter().enumerate() {
+        let lane = lanes[first + number];
+        if *mask != seen[lane] {
+            lower(&mut arrivals, lane, *mask, first + number);
+            seen[lane] = *mask;
+        }
+    }
+    Ok(List::from_vec(arrivals))
+}
+
+/// The arrivals of all nodes, 64 in a list, worked in parallel.
+fn all_arrivals(
     rt: &(impl Threads + Sync),
     alloc: Global,
     graph: &[List<usize>],
-) -> Result<Vec<List<u64>>, AllocError>
-    requires { IsOrdered graph.now }
-    ensures { IfOk result (λ v. AreColumns graph.now v.items) }
+    lanes: &[usize],
+    width: usize,
+) -> Result<Vec<List<usize>>, AllocError>
+    requires ordered { IsOrdered graph.now }
+    requires lanes { AreLanes graph.now lanes.now width }
+    ensures { IfOk result (λ v. AreAllArrivals graph.now lanes.now width v.items) }
 {
     (0..(graph.len() + 63) / 64)
         .into_par_iter()
         .with_min_len(1)
         .map(
-            |index: usize| -> Result<List<u64>, AllocError>
+            |index: usize| -> Result<List<usize>, AllocError>
                 requires index { index * 64 < length graph.now }
                 requires ordered { IsOrdered graph.now }
-                ensures { IfOk result (λ c. IsColumn graph.entry.now (index * 64) c) }
-            { column(alloc, graph, index * 64) },
+                requires lanes { AreLanes graph.now lanes.now width }
+                ensures { IfOk result (λ a. AreArrivals graph.entry.now lanes.entry.now width (index * 64) a) }
+            { arrivals(alloc, graph, lanes, width, index * 64) },
         )
-        .collect::<Result<Vec<List<u64>>, AllocError>>(rt, alloc)?
+        .collect::<Result<Vec<List<usize>>, AllocError>>(rt, alloc)?
 }
 
 /// What reaches what in a graph. It reads as the graph: for each node its sources.
 #[derive(Drop)]
 pub struct Closure {
     graph: Vec<List<usize>>,
-    columns: Vec<List<u64>>,
+    lanes: Vec<usize>,
+    width: usize,
+    arrivals: Vec<List<usize>>,
 }
 
 impl Model for Closure {
     ghost use Rattle.std.specs.Prelude.{List, ℕ};
-    ghost use Rattle.wm_closure.specs.Graph.{IsOrdered, AreColumns};
+    ghost use Rattle.wm_closure.specs.Graph.{AreAllArrivals, AreLanes, IsOrdered};
 
     ghost Value = { List (List ℕ) };
 
     ghost view = { λ c. c.graph.items };
 
-    ghost invariant = { λ c. IsOrdered c.graph.items × AreColumns c.graph.items c.columns.items };
+    ghost invariant = { λ c. IsOrdered c.graph.items × AreLanes c.graph.items c.lanes.items c.width × AreAllArrivals c.graph.items c.lanes.items c.width c.arrivals.items };
 }
 
 impl Closure {
-    /// The closure of a graph whose nodes stand behind their sources. A column has a bit for each of 64 nodes, and the columns
-    /// are worked in parallel. An error comes only where memory was refused.
+    /// The closure of a graph whose nodes stand behind their sources, and whose nodes each have one of `width` lanes, in which
+    /// each node reaches the later ones. A word has a bit for each of 64 sources; they go along the nodes in one pass, and the
+    /// passes are worked in parallel. An error comes only where memory was refused.
     pub fn of(
         rt: &(impl Threads + Sync),
         alloc: Global,
         graph: Vec<List<usize>>,
+        lanes: Vec<usize>,
+        width: usize,
     ) -> Result<Closure, AllocError>
-        requires { IsOrdered graph.items }
+        requires ordered { IsOrdered graph.items }
+        requires lanes { AreLanes graph.items lanes.items width }
         ensures { IfOk result (λ c. c ≡ graph.items) }
     {
-        let columns = columns(rt, alloc, graph.as_slice())?;
-        Ok(Closure { graph, columns })
+        let arrivals = all_arrivals(rt, alloc, graph.as_slice(), lanes.as_slice(), width)?;
+        Ok(Closure {
+            graph,
+            lanes,
+            width,
+            arrivals,
+        })
     }
 
     /// Whether there is a chain of edges from one node to the other; false for numbers that are no nodes.
@@ -114,8 +170,8 @@ impl Closure {
         if to >= graph.len() || from >= to {
             return false;
         }
-        let first = from / 64 * 64;
-        has_bit(self.columns[from / 64].as_slice()[to - first], from - first)
+        let lane = self.lanes[to];
+        self.arrivals[from / 64].as_slice()[lane * 64 + from % 64] <= to
     }
 }
 

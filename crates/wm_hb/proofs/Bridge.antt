@@ -15,7 +15,7 @@ use Rattle.wm_closure.specs.Graph.{HasEdge, Chain, Reaches}
 use Rattle.wm_closure.proofs.Chains.{chain_inside, reaches_join}
 use Rattle.wm_hb.specs.Steps.{IsStep, StandsAt, IsGraphOf}
 
-nowhere : EventKey
+pub nowhere : EventKey
 nowhere = record { thread = 0; number = 0 }
 
 pub step_edge : (x : LoggedRun) (p r : EventKey) → IsStep x p r → Edge (execution x) (At p) (At r)
@@ -64,7 +64,7 @@ module _ (x : LoggedRun) (graph : List (List ℕ)) (is : IsGraphOf x graph) (ord
       (inl (record { first = there_c; second = there; same_thread = refl; earlier = l }, omega arith)) in
       reaches_join graph m k.0 n first next
 
-  edge_reaches : (m n : ℕ) (a b : EventKey) → StandsAt x m a → StandsAt x n b → Edge (execution x) (At a) (At b) → Reaches graph m n
+  pub edge_reaches : (m n : ℕ) (a b : EventKey) → StandsAt x m a → StandsAt x n b → Edge (execution x) (At a) (At b) → Reaches graph m n
   edge_reaches m n a b at_a at_b e = ⊎_elim
       (λ (s : SequencedBefore (execution x) a b). thread_reaches (b.number - a.number - 1) m n b.thread a.number b.number (let l = s.earlier in omega arith)
       (subst (λ t. StandsAt x m (record { thread = t; number = a.number })) s.same_thread at_a) at_b)

@@ -1,5 +1,5 @@
 -- The events of an execution as the nodes of a graph, by their place in the order.
-use Rattle.std.specs.Prelude.{◌≡◌, ℕ, ◌+◌, ◌<◌, List, length, Some, slice_get, ◌⊎◌, ◌↔◌}
+use Rattle.std.specs.Prelude.{◌≡◌, ℕ, ◌+◌, ◌<◌, List, length, map, Some, slice_get, ◌⊎◌, ◌↔◌}
 use Rattle.wm_event.specs.declared.event.EventKey.{EventKey}
 use Rattle.wm_event.specs.Execution.{ReadsFrom}
 use Rattle.wm_event.specs.LoggedRun.{LoggedRun, execution}
@@ -24,6 +24,10 @@ AreSources x r sources = (m : ℕ) → IsAmong sources (length sources) m ↔ ((
 pub record IsGraphOf (x : LoggedRun) (graph : List (List ℕ)) : Type 0 where
   pub size : length graph ≡ length x.witness.order
   pub edges : (n : ℕ) (r : EventKey) → StandsAt x n r → AreSources x r (sources_of graph n)
+
+-- the threads of the events, by their place
+abbrev pub AreThreads : LoggedRun → List ℕ → Type 0
+AreThreads x threads = threads ≡ map (λ key. key.thread) x.witness.order
 
 abbrev pub IsNext : LoggedRun → EventKey → EventKey → Type 0
 IsNext x p r = SequencedBefore (execution x) p r × (p.number + 1 ≡ r.number)

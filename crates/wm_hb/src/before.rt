@@ -7,7 +7,7 @@ ghost use Rattle.wm_event.specs.LoggedRun.{execution};
 ghost use Rattle.wm_event.specs.Rules.{KeepsOrder};
 
 use crate::ordered::Ordered;
-use crate::steps::{graph, place_of};
+use crate::steps::{graph, place_of, threads};
 use std::alloc::{AllocError, Global};
 use std::marker::Model;
 use std::thread::Threads;
@@ -42,9 +42,10 @@ impl<'c, 'i> HappensBefore<'c, 'i> {
         ensures { IfOk result (λ h. h ≡ ordered.now) }
     {
         let candidate = ordered.candidate();
-        let _log = candidate.log();
+        let log = candidate.log();
         let steps = graph(alloc, candidate)?;
-        let closure = Closure::of(rt, alloc, steps)?;
+        let lanes = threads(alloc, candidate)?;
+        let closure = Closure::of(rt, alloc, steps, lanes, log.threads().len())?;
         Ok(HappensBefore { candidate, closure })
     }
 

@@ -1,4 +1,4 @@
 use Rattle.wm_closure.proofs.Closure.of.Goals as goal
 
-pub columns-requires-after_bounds : goal.columns-requires-after_bounds
-columns-requires-after_bounds g c κs within = rw c.as_slice.ensures.value c.requires
+pub all_arrivals-requires-clause-ordered : goal.all_arrivals-requires-clause-ordered
+all_arrivals-requires-clause-ordered g c κs within = rw c.as_slice.ensures.value c.requires.ordered

@@ -1,0 +1,9 @@
+use Rattle.std.proofs.Common.{◌≡◌, length}
+use Rattle.wm_closure.specs.Graph.{Lowers}
+use Rattle.wm_closure.proofs.lower.Given as goal
+
+abbrev pub invariant-loop-number : goal.invariant-loop-number
+invariant-loop-number l = record {
+  size : length l.arrivals ≡ length l.initial.arrivals;
+  lowered : Lowers l.lane l.mask l.node l.number l.initial.arrivals l.arrivals;
+}
