@@ -210,7 +210,7 @@ def write(name, head, items):
 
 
 write(
-    "crates/wm_decode/src/tests/modules.rt",
+    "crates/wmlab/src/tests/decoding/modules.rt",
     "//! Modules in hexadecimal digits, each behind its text, as `scripts/module_tests.py` assembles them.\n",
     [decoded(*each) for each in DECODED],
 )

@@ -25,6 +25,3 @@ mod vectors;
 pub use bounds::MAX_MODULE_BYTES;
 pub use fault::{DecodeFault, FaultKind, Feature, Limit};
 pub use module::{decode, spelled_once};
-
-#[cfg(test)]
-mod tests;

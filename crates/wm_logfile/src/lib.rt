@@ -43,6 +43,3 @@ pub use fault::DocFault;
 pub use migration::{migrate, write_and_read};
 pub use path::Path;
 pub use text::write_document;
-
-#[cfg(test)]
-mod tests;

@@ -13,6 +13,3 @@ mod valid;
 
 pub use fault::{FaultKind, Location, ValidFault};
 pub use valid::{ValidModule, validate};
-
-#[cfg(test)]
-mod tests;

@@ -1,11 +1,11 @@
 //! Modules by hand: of each rule one that breaks it, where the fault is, and valid ones, whose first bytes are read.
-use super::*;
 use std::alloc::Global;
 use std::fmt::Debug;
 use std::process::Abort;
 use std::test::Fail;
 use wm_ast::{Block, DataSegment, Exports, Func, FuncType, Instr, Limits, Memory, Module};
 use wm_list::List;
+use wm_valid::{FaultKind, Location, ValidFault, validate};
 
 mod memory;
 mod numbers;

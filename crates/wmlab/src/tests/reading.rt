@@ -1,11 +1,11 @@
 //! Documents that are read, refused with a fault and its path, written and migrated.
-use crate::{DocFault, MAX_DOCUMENT_BYTES, migrate, read_document, write_document};
 use std::alloc::{AllocError, Global};
 use std::fmt::Debug;
 use std::process::Abort;
 use std::test::Fail;
 use wm_access::{AccessWidth, MemoryOrder};
 use wm_event::{End, Event, EventId, EventKey, EventKind, Log, TrapKind, Witness};
+use wm_logfile::{DocFault, MAX_DOCUMENT_BYTES, migrate, read_document, write_document};
 
 /// Two threads that each write an address and then read the other's.
 const STORE_BUFFERING: &str =

@@ -1,4 +1,4 @@
-use super::*;
+//! Modules that are decoded, and bytes that are refused, each with its fault and offset.
 use std::alloc::{AllocError, Global};
 use std::process::Abort;
 use std::test::Fail;
@@ -6,6 +6,7 @@ use wm_ast::{
     AccessKind, Block, ConstExpr, DataSegment, Export, ExportKind, Exports, Func, FuncType, Instr,
     Limits, MemArg, Memory, Module, Storage, ValType,
 };
+use wm_decode::decode;
 use wm_list::List;
 use wm_num::Width;
 
