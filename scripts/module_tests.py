@@ -1,5 +1,5 @@
 #!/usr/bin/env python3
-"""Writes the modules of the tests of wm_decode and wmlab, modules.rt in the tests of each, from WebAssembly text.
+"""Writes the modules of the tests of wm_tests and wmlab, from WebAssembly text.
 
 wabt's wat2wasm assembles the texts, without a check, since some are not valid. A module that no text gives, as one that is
 cut or has a padded number, is another one with some bytes changed; its row says which.
@@ -210,7 +210,7 @@ def write(name, head, items):
 
 
 write(
-    "crates/wmlab/src/tests/decoding/modules.rt",
+    "crates/wm_tests/src/tests/decoding/modules.rt",
     "//! Modules in hexadecimal digits, each behind its text, as `scripts/module_tests.py` assembles them.\n",
     [decoded(*each) for each in DECODED],
 )

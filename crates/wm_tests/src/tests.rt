@@ -1,0 +1,4 @@
+//! Modules that are decoded and validated, and documents that are read and written.
+mod decoding;
+mod reading;
+mod validation;
