@@ -3,8 +3,11 @@
 
     scripts/mutate.py [WMLAB [COUNT [SEED]]]        crates/wmlab/out/wmlab, 20,000 mutations, seed 1
 
-Each run has to end with a status of at most 3 and, below 3, with one line on standard output and nothing on standard error.
-The last line is `N passed, N failed`.
+Each command is tried. Each run has to end with a status below 3, with nothing on standard error, and with the lines that its
+command has: one; or of `explain` the line of `check` and more behind it; of `graph` a picture or the line of `check`, where
+that is a refusal; of `drive` an outcome, a verdict and a document, or the line of a refusal; of `run` a table and how many
+rounds there were, or that line. What `drive` and `run` log is allowed, whatever the module. The last line is
+`N passed, N failed`.
 """
 import concurrent.futures
 import glob
@@ -49,24 +52,62 @@ def mutated(data, others, chance):
     return bytes(data)
 
 
+def is_line(text, words=b""):
+    """Whether this is one line, which begins so."""
+    return text.count(b"\n") == 1 and text.endswith(b"\n") and text.startswith(words)
+
+
+def is_answer(command, ran, checked):
+    """Whether a run of the command ended with the status and the lines that it has; `checked` is the run of `check` on the same."""
+    if not 0 <= ran.returncode < 3 or ran.stderr:
+        return False
+    first, _, behind = ran.stdout.partition(b"\n")
+    refused = is_line(ran.stdout, b"refused ")
+    if command == "explain":
+        return first + b"\n" == checked.stdout and ran.returncode == checked.returncode and behind.endswith(b"\n")
+    if command == "graph":
+        drawn = first == b"digraph execution {" and behind.endswith(b"}\n")
+        return ran.returncode == checked.returncode and (ran.stdout == checked.stdout if checked.returncode == 2 else drawn)
+    if command == "drive":
+        lines = ran.stdout.splitlines()
+        played = len(lines) == 3 and lines[0].startswith(b"outcome ") and lines[1].startswith(b"allowed threads=2 ")
+        return played and ran.returncode == 0 or refused and ran.returncode == 2
+    if command == "run":
+        return refused and ran.returncode == 2 or ran.stdout.endswith(b"\nallowed rounds=2\n") and ran.returncode == 0
+    return is_line(ran.stdout)
+
+
+COMMANDS = ["check", "check", "complete", "explain", "graph", "rules", "migrate", "drive", "run"]
+
+
+def words_of(command, module):
+    """The words of a command over the module of this name, with the document on standard input."""
+    if command == "drive":
+        return [command, module, "0*9,1*9,d0/1,d1,0*9,1*9", "a", "b"]
+    if command == "run":
+        return [command, module, "2", "a", "b"]
+    return [command, "-"] if command in ("rules", "migrate") else [command, module, "-"]
+
+
 def case(number):
     """Whether one mutation is answered as it must be, and what was given and got where it isn't."""
     chance = random.Random(SEED * 1_000_003 + number)
     module, document = chance.choice(MODULES), chance.choice(DOCUMENTS)
-    command = chance.choice(["check", "check", "rules", "migrate", "complete"])
-    over_module = command in ("check", "complete")
-    if over_module and chance.randrange(2):
+    command = chance.choice(COMMANDS)
+    if command in ("drive", "run") or command not in ("rules", "migrate") and chance.randrange(2):
         module = mutated(module, MODULES, chance)
     else:
         document = mutated(document, DOCUMENTS, chance)
     with tempfile.NamedTemporaryFile() as file:
         file.write(module)
         file.flush()
-        words = [command, file.name, "-"] if over_module else [command, "-"]
-        ran = subprocess.run([WMLAB, *words], input=document, capture_output=True, timeout=60)
-    lines = ran.stdout.count(b"\n")
-    well = 0 <= ran.returncode < 3 and lines == 1 and ran.stdout.endswith(b"\n") and not ran.stderr
-    return None if well else (number, words, module.hex(), document, ran)
+
+        def run(command):
+            return subprocess.run([WMLAB, *words_of(command, file.name)], input=document, capture_output=True, timeout=60)
+
+        ran = run(command)
+        checked = run("check") if command in ("explain", "graph") else None
+    return None if is_answer(command, ran, checked) else (number, command, module.hex(), document, ran)
 
 
 passed = failed = 0
