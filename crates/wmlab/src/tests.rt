@@ -15,6 +15,7 @@ mod other_instructions;
 mod pictures;
 mod program;
 mod recordings;
+mod refusals;
 mod rounds;
 mod runs;
 mod threads;

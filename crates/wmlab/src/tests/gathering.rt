@@ -10,7 +10,7 @@ use std::alloc::{AllocError, Global};
 use std::process::Abort;
 use std::test::Fail;
 use wm_access::{AccessWidth, MemoryOrder};
-use wm_check::read_module;
+use wm_check::{Unread, read_module};
 use wm_event::{End, Initial, Op, OpFields, OpKind, Reply, Start};
 use wm_list::{List, Text};
 use wm_recorder::{AccessFault, LockedMemory, Recorder, Shared};
@@ -80,40 +80,49 @@ fn fault(
 }
 
 /// The same over store buffering, None where there is no fault.
-fn gathered(alloc: Global, pages: usize, threads: [u32; 2]) -> Option<RunFault>
+///
+/// # Errors
+///
+/// Only where memory was refused.
+fn gathered(alloc: Global, pages: usize, threads: [u32; 2]) -> Result<Option<RunFault>, AllocError>
     requires { pages ≤ 16 }
 {
     match read_module(alloc, &STORE_BUFFERING) {
-        Ok(module) => fault(alloc, &module, pages, threads).err(),
-        Err(_) => None,
+        Ok(module) => match fault(alloc, &module, pages, threads) {
+            Err(RunFault::OutOfMemory) => Err(AllocError),
+            answer => Ok(answer.err()),
+        },
+        Err(Unread::OutOfMemory) => Err(AllocError),
+        Err(Unread::Refused(_)) => Ok(None),
     }
 }
 
+/// `bench/refusals` runs this with each allocation refused in turn.
 #[test]
 fn what_does_not_belong_together_is_not_gathered(rt: HostRuntime) -> Result<(), Fail> {
     same(
         &rt,
-        gathered(rt.alloc(), 1, [0, 0]),
+        gathered(rt.alloc(), 1, [0, 0])?,
         Some(RunFault::Ends(0)),
     );
     same(
         &rt,
-        gathered(rt.alloc(), 1, [0, 7]),
+        gathered(rt.alloc(), 1, [0, 7])?,
         Some(RunFault::Ends(1)),
     );
     same(
         &rt,
-        gathered(rt.alloc(), 2, [0, 0]),
+        gathered(rt.alloc(), 2, [0, 0])?,
         Some(RunFault::Foreign),
     );
     same(
         &rt,
-        gathered(rt.alloc(), 1, [0, 1]),
+        gathered(rt.alloc(), 1, [0, 1])?,
         Some(RunFault::Split(0)),
     );
     same(
         &rt,
-        gathered(rt.alloc(), 1, [1, 0]),
+        gathered(rt.alloc(), 1, [1, 0])?,
         Some(RunFault::Split(0)),
     );
     Ok(())

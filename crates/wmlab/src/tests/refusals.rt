@@ -1,23 +1,25 @@
-//! Records steps of two threads, and makes a step again where memory was refused for it. What it prints depends on what was
-//! recorded alone: it is the same with every allocation of a step refused, if a refused step changes nothing and the same
-//! step then succeeds.
-#![tactic(auto)]
-
+//! Steps of a recorder that are made again where memory was refused for them. `bench/refusals` runs the test with each
+//! allocation refused in turn: where that is one of a step the test has to pass, since a refused step changes nothing and
+//! the same step then succeeds; where it stands before the steps the test ends with want of memory.
 ghost use Rattle.std.specs.Prelude.{◌≡◌};
+ghost use Rattle.wm_access.specs.declared.AccessWidth.TheVariants as AccessWidth;
+ghost use Rattle.wm_access.specs.declared.MemoryOrder.TheVariants as MemoryOrder;
 
-use anyhow::Result;
-use std::alloc::Global;
+use super::fakes::same;
+use std::alloc::{AllocError, Global};
+use std::test::Fail;
 use wm_access::{AccessWidth, MemoryOrder, RmwOperator};
-use wm_event::{Event, Initial, Op, OpFields, OpKind};
+use wm_event::{Initial, Op, OpFields, OpKind};
 use wm_recorder::{AccessFault, Recorder};
 
-/// How many steps, events and writers of both threads, and places of the order there are.
-fn counts(recorder: &Recorder) -> [usize; 6] {
+/// How many steps, events and writers of both threads, places of the order, and waiting stores of thread 0 there are.
+fn counts(recorder: &Recorder) -> [usize; 7] {
     [
         recorder.history().len(),
         recorder.events(0).len(),
         recorder.events(1).len(),
         recorder.writers(0).len(),
+        recorder.writers(1).len(),
         recorder.order().len(),
         recorder.memory().pending(0),
     ]
@@ -54,6 +56,7 @@ fn drain_at(recorder: &mut Recorder, thread: u32) -> bool {
     }
 }
 
+/// A plain access of one byte.
 fn plain(kind: OpKind, address: u32) -> OpFields
     ensures { result ≡ record { kind = kind; address = address; width = AccessWidth.One; order = MemoryOrder.Unordered } }
 {
@@ -69,7 +72,8 @@ fn store(address: u32, value: u8) -> Op {
     Op::new(plain(OpKind::Write(u64::from(value)), address))
 }
 
-/// So many stores of thread 0, each in cells of its own, with drains in between, updates and reads of thread 1.
+/// 150 stores of thread 0, each at an address of its own, with an update and a load of thread 1 behind each, and two drains
+/// behind each eighth.
 fn record(recorder: &mut Recorder) -> bool {
     for number in 0..150u32 {
         let address = number * 300;
@@ -92,25 +96,34 @@ fn record(recorder: &mut Recorder) -> bool {
     true
 }
 
-/// A number that depends on the values that events read.
-fn digest(events: &[Event]) -> u64 {
+/// A number that depends on the values that a thread's events read and wrote.
+fn digest(recorder: &Recorder, thread: u32) -> u64 {
     let mut sum = 0u64;
-    for event in events {
-        sum = sum.wrapping_mul(31).wrapping_add(event.read).wrapping_add(event.written);
+    for event in recorder.events(thread) {
+        sum = sum
+            .wrapping_mul(31)
+            .wrapping_add(event.read)
+            .wrapping_add(event.written);
     }
     sum
 }
 
-fn recorder(alloc: Global) -> Result<Recorder> {
+/// A recorder of two threads over a page of zeros.
+fn two_threads(alloc: Global) -> Result<Recorder, AllocError> {
     let initial = Initial::zeros(alloc, 1);
-    Ok(Recorder::new(alloc, &initial, 2)?)
+    Recorder::new(alloc, &initial, 2)
 }
 
-fn main(rt: HostRuntime) -> Result<()> {
-    let mut recorder = recorder(rt.alloc())?;
-    let made = record(&mut recorder);
-    let [history, first, second, writers, order, pending] = counts(&recorder);
-    let (one, other) = (digest(recorder.events(0)), digest(recorder.events(1)));
-    println!(rt; "{made} {history} {first} {second} {writers} {order} {pending} {one} {other}")?;
+#[test]
+fn refused_steps_change_nothing(rt: HostRuntime) -> Result<(), Fail> {
+    let mut recorder = two_threads(rt.alloc())?;
+    same(&rt, record(&mut recorder), true);
+    same(
+        &rt,
+        counts(&recorder).as_slice(),
+        [536, 150, 300, 150, 300, 450, 64].as_slice(),
+    );
+    same(&rt, digest(&recorder, 0), 16_029_121_844_371_414_091);
+    same(&rt, digest(&recorder, 1), 268_154_834_597_599_936);
     Ok(())
 }
