@@ -2,10 +2,10 @@
 """Writes the tables that the tests of wm_num compare each operator with: `32`, `64` or `bytes` as the one word.
 
 Integer operators of WebAssembly Core 1.0, section 4.3, over Python's whole numbers, and from nothing of this repository.
-    cd crates/wm_num/src/tests
-    ../../../../scripts/operator_tables.py 32 > table_32.rt
-    ../../../../scripts/operator_tables.py 64 > table_64.rt
-    ../../../../scripts/operator_tables.py bytes > table_bytes.rt
+    cd crates/wm_tests/src/tests/integers
+    ../../../../../scripts/operator_tables.py 32 > table_32.rt
+    ../../../../../scripts/operator_tables.py 64 > table_64.rt
+    ../../../../../scripts/operator_tables.py bytes > table_bytes.rt
 and then `rt fmt` in the crate.
 """
 
@@ -102,10 +102,10 @@ def table(name, kind, rows):
 
 def main(n):
     print("//! What the operators give at %d bits, by scripts/operator_tables.py.\n" % n)
-    print("use crate::operator::BinaryOperator::{self, %s};" % ", ".join(sorted(OPS)))
-    print("use crate::operator::Comparison::{self, %s};" % ", ".join(sorted(COMPARISONS)))
-    print("use crate::operator::NumTrap::{self, DivideByZero, Overflow};")
-    print("use crate::operator::UnaryOperator::{self, Clz, Ctz, Popcnt};\n")
+    print("use wm_num::BinaryOperator::{self, %s};" % ", ".join(sorted(OPS)))
+    print("use wm_num::Comparison::{self, %s};" % ", ".join(sorted(COMPARISONS)))
+    print("use wm_num::NumTrap::{self, DivideByZero, Overflow};")
+    print("use wm_num::UnaryOperator::{self, Clz, Ctz, Popcnt};\n")
     u = "u%d" % n
     shifts = ("Shl", "ShrS", "ShrU", "Rotl", "Rotr")
     table("BINARY", "(BinaryOperator, %s, %s, Result<%s, NumTrap>)" % (u, u, u),
@@ -119,8 +119,8 @@ if __name__ == "__main__":
     if sys.argv[1] == "bytes":
         print("//! What conversions and low bytes give, by scripts/operator_tables.py.\n")
         print("use wm_access::AccessWidth::{self, Eight, Four, One, Two};\n")
-        print("use crate::operator::Width::{self, W32, W64};")
-        print("use crate::sign::Signedness::{self, Signed, Unsigned};\n")
+        print("use wm_num::Width::{self, W32, W64};")
+        print("use wm_num::Signedness::{self, Signed, Unsigned};\n")
         table("WRAP", "(u64, u64)", [(a, convert("WrapI64", a)) for a in inputs(64)])
         table("EXTEND", "(u32, u64, u64)", [(a, convert("ExtendI32S", a), convert("ExtendI32U", a)) for a in inputs(32)])
         names = {1: "One", 2: "Two", 4: "Four", 8: "Eight"}

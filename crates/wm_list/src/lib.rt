@@ -9,6 +9,3 @@ mod text;
 pub use growing::Growing;
 pub use list::List;
 pub use text::Text;
-
-#[cfg(test)]
-mod tests;

@@ -20,6 +20,3 @@ pub use dispatch::{binary, unary};
 pub use low_part::{extend_bytes, low_bytes};
 pub use operator::{BinaryOperator, Comparison, Conversion, NumTrap, UnaryOperator, Width};
 pub use sign::Signedness;
-
-#[cfg(test)]
-mod tests;

@@ -1,6 +1,6 @@
 //! Documents that are read, refused with a fault and its path, written and migrated.
+use super::same;
 use std::alloc::{AllocError, Global};
-use std::fmt::Debug;
 use std::process::Abort;
 use std::test::Fail;
 use wm_access::{AccessWidth, MemoryOrder};
@@ -13,11 +13,6 @@ const STORE_BUFFERING: &str =
 
 /// How a document ends after its threads, with an empty witness.
 const AFTER_THREADS: &str = ",[[],[]]]";
-
-/// Stops the test where the two differ. Each `assert_eq!` of a test would lengthen its proof by some seconds.
-fn same<R: Abort, T: PartialEq + Debug + Drop>(rt: &R, got: T, wanted: T) {
-    assert_eq!(rt; got, wanted);
-}
 
 fn plain(thread: u32, number: u32, kind: EventKind, address: u32, written: u64) -> Event {
     Event {

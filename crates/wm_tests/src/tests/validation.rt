@@ -1,7 +1,6 @@
 //! Modules by hand: of each rule one that breaks it, where the fault is, and valid ones, whose first bytes are read.
+use super::same;
 use std::alloc::Global;
-use std::fmt::Debug;
-use std::process::Abort;
 use std::test::Fail;
 use wm_ast::{Block, DataSegment, Exports, Func, FuncType, Instr, Limits, Memory, Module};
 use wm_list::List;
@@ -11,11 +10,6 @@ mod memory;
 mod numbers;
 mod sections;
 mod types;
-
-/// Stops the test where the two differ. Each `assert_eq!` of a test would lengthen its proof by some seconds.
-fn same<R: Abort, T: PartialEq + Debug + Drop>(rt: &R, got: T, wanted: T) {
-    assert_eq!(rt; got, wanted);
-}
 
 /// A module of one function from nothing to nothing, with one page of memory.
 fn module_of_blocks(alloc: Global, blocks: Vec<Block>) -> Result<Module, Fail> {

@@ -3,10 +3,8 @@ ghost use Rattle.std.specs.Prelude.{◌≡◌};
 ghost use Rattle.wm_event.specs.Op.{kind_finds};
 ghost use Rattle.wm_event.specs.Reply.{ReadAnswers};
 
-use super::*;
+use super::same;
 use std::alloc::Global;
-use std::fmt::Debug;
-use std::process::Abort;
 use std::test::Fail;
 use wm_access::{AccessWidth, MemoryOrder};
 use wm_ast::{
@@ -15,13 +13,9 @@ use wm_ast::{
 };
 use wm_event::{End, EventId, Op, OpFields, OpKind, Reply, TrapKind};
 use wm_list::List;
+use wm_machine::{CodePosition, Need, StartFault, Stepped, Thread, never_stuck};
 use wm_num::{BinaryOperator, Width, low_bytes};
 use wm_valid::{ValidModule, validate};
-
-/// Stops the test where the two differ. Each `assert_eq!` of a test would lengthen its proof by some seconds.
-fn same<R: Abort, T: PartialEq + Debug + Drop>(rt: &R, got: T, wanted: T) {
-    assert_eq!(rt; got, wanted);
-}
 
 /// The functions of the module below.
 fn funcs(alloc: Global) -> Result<Vec<Func>, Fail> {

@@ -1,6 +1,6 @@
 //! Each call that takes memory or hands it on, once: no clause says that a push succeeds.
-use super::*;
 use std::test::Fail;
+use wm_list::{Growing, List, Text};
 
 #[test]
 fn a_list_takes_and_gives_back_items(rt: HostRuntime) -> Result<(), Fail> {

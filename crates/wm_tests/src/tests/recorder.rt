@@ -3,14 +3,14 @@ mod locked;
 
 ghost use Rattle.std.specs.Prelude.{◌<◌, ◌^◌};
 
-use super::*;
+use super::same;
 use std::alloc::{AllocError, Global};
-use std::fmt::Debug;
 use std::process::Abort;
 use std::test::Fail;
 use wm_access::{AccessWidth, MemoryOrder};
 use wm_event::{EventId, EventKey, Initial, MAX_EVENTS, Op, OpFields, OpKind, Reply};
 use wm_memory::Item;
+use wm_recorder::{AccessFault, Parts, Recorder};
 
 fn load(address: u32) -> Op {
     Op::new(OpFields {
@@ -37,11 +37,6 @@ fn store_word(address: u32, value: u32) -> Op {
         width: AccessWidth::Four,
         order: MemoryOrder::Unordered,
     })
-}
-
-/// Stops the test where the two differ. Each `assert_eq!` of a test would lengthen its proof by some seconds.
-fn same<R: Abort, T: PartialEq + Debug + Drop>(rt: &R, got: T, wanted: T) {
-    assert_eq!(rt; got, wanted);
 }
 
 // Each call of a recorder stands in a function of its own, which hands none of its contract on: so a test is proved in

@@ -1,12 +1,13 @@
 //! A recorder under its lock, on one thread and on two.
-use super::{event_count, load, order_length, pending, same, steps, store_word, two_threads};
-use crate::{AccessFault, LockedMemory, Shared};
+use super::super::same;
+use super::{event_count, load, order_length, pending, steps, store_word, two_threads};
 use std::process::Abort;
 use std::sync::Wait;
 use std::test::Fail;
 use std::thread;
 use wm_access::{AccessWidth, MemoryOrder};
 use wm_event::{Op, OpFields, OpKind};
+use wm_recorder::{AccessFault, LockedMemory, Shared};
 
 fn load_word(address: u32) -> Op {
     Op::new(OpFields {

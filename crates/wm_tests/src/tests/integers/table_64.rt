@@ -1,11 +1,11 @@
 //! What the operators give at 64 bits, by scripts/operator_tables.py.
 
-use crate::operator::BinaryOperator::{
+use wm_num::BinaryOperator::{
     self, Add, And, DivS, DivU, Mul, Or, RemS, RemU, Rotl, Rotr, Shl, ShrS, ShrU, Sub, Xor,
 };
-use crate::operator::Comparison::{self, Eq, GeS, GeU, GtS, GtU, LeS, LeU, LtS, LtU, Ne};
-use crate::operator::NumTrap::{self, DivideByZero, Overflow};
-use crate::operator::UnaryOperator::{self, Clz, Ctz, Popcnt};
+use wm_num::Comparison::{self, Eq, GeS, GeU, GtS, GtU, LeS, LeU, LtS, LtU, Ne};
+use wm_num::NumTrap::{self, DivideByZero, Overflow};
+use wm_num::UnaryOperator::{self, Clz, Ctz, Popcnt};
 
 pub const BINARY: [(BinaryOperator, u64, u64, Result<u64, NumTrap>); 320] = [
     (Add, 0, 0, Ok(0)),

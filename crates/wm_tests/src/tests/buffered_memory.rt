@@ -1,18 +1,13 @@
 //! Rows of buffered memory, with values from outside, and each call once where it succeeds.
 ghost use Rattle.std.specs.Prelude.{◌<◌, ◌≤◌, ◌^◌};
 
-use super::*;
+use super::same;
 use std::alloc::Global;
-use std::fmt::Debug;
 use std::process::Abort;
 use std::test::Fail;
 use wm_access::{AccessWidth, MemoryOrder};
 use wm_event::{EventId, EventKey, Initial, Op, OpFields, OpKind, Reply};
-
-/// Stops the test where the two differ. Each `assert_eq!` of a test would lengthen its proof by some seconds.
-fn same<R: Abort, T: PartialEq + Debug + Drop>(rt: &R, got: T, wanted: T) {
-    assert_eq!(rt; got, wanted);
-}
+use wm_memory::{MemFault, Memory};
 
 fn load(address: u32, width: AccessWidth) -> Op {
     Op::new(OpFields {

@@ -1,8 +1,8 @@
 //! What conversions and low bytes give, by scripts/operator_tables.py.
 
-use crate::operator::Width::{self, W32, W64};
-use crate::sign::Signedness::{self, Signed, Unsigned};
 use wm_access::AccessWidth::{self, Eight, Four, One, Two};
+use wm_num::Signedness::{self, Signed, Unsigned};
+use wm_num::Width::{self, W32, W64};
 
 pub const WRAP: [(u64, u64); 12] = [
     (0, 0),

@@ -4,7 +4,7 @@ mod table_32;
 mod table_64;
 mod table_bytes;
 
-use crate::{
+use wm_num::{
     Comparison, Conversion, Width, binary, compare, convert, extend_bytes, low_bytes, unary,
 };
 
