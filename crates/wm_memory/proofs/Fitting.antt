@@ -13,7 +13,7 @@ use Rattle.wm_memory.specs.declared.cells.Cell.{Cell}
 use Rattle.wm_memory.specs.Cells.{covers, cell_written, cell_over, initial_cell}
 use Rattle.wm_memory.specs.Table.{CellTable, cell_at, HasCell, MakesRoom, PutsAll, shown}
 use Rattle.wm_memory.specs.Visibility.{Step, Made, Drained, In, pick, rest, behind, waiting, published, visible, own_write, accesses, seen, value_at, writers_at, made_after}
-use Rattle.wm_memory.specs.Memory.{State, Buffered, Fits, FitsThread, PublishesStore, DoesAtomicBy, DoesLoadBy, DoesStoreBy}
+use Rattle.wm_memory.specs.Memory.{State, Buffered, Fits, FitsThread, PublishesAt, PublishesStore, DoesAtomicBy, DoesLoadBy, DoesStoreBy}
 use Rattle.wm_memory.proofs.Lists.{in-append, rest_in, pick_in}
 use Rattle.wm_memory.proofs.Members.{own_is}
 use Rattle.wm_memory.proofs.Overwritten.{published_atomic}
@@ -100,6 +100,10 @@ fits_drained threads initial s t k b e m n f p =
           (λ v ne. (drained_other s t k v ne, refl)) u c is (t == u) refl;
       room = λ u x a i c. put_keeps e m.cells n.cells a p.cells (f.room u x a (drained_in s t k u x (t == u) refl i) c);
     }
+
+-- whatever steps a memory fitted, it fits them with the drain of what it published
+pub publishing_fits : (t k : ℕ) (m n : State) → PublishesAt t k m n → (threads : ℕ) (initial : List ℕ) (s : List Step) → Fits threads initial s m → Fits threads initial (Drained t k ∷ s) n
+publishing_fits t k m n p threads initial s f = fits_drained threads initial s t k p.0 p.1.0 m n f p.1.1
 
 pub value_at_same : (f g : ℕ → Cell) (a n : ℕ) → ((k : ℕ) → f (a + k) ≡ g (a + k)) → value_at f a n ≡ value_at g a n
 value_at_same f g a zero h = refl

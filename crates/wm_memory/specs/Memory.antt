@@ -79,6 +79,10 @@ MayLeave t k m = (b : Buffered) × (slice_get m.buffers t ≡ Some b) × (k < le
 abbrev pub Drains : ℕ → ℕ → Bool → State → State → Type 0
 Drains t k result m n = MatchBool result (MayLeave t k m × PublishesAt t k m n) ((n ≡ m) × CannotLeave t k m)
 
+-- whatever steps the memory fitted, the new one fits them with the drain behind; else nothing changed
+abbrev pub DrainFits : ℕ → ℕ → Bool → State → State → Type 0
+DrainFits t k result m n = MatchBool result ((threads : ℕ) (initial : List ℕ) (s : List Step) → Fits threads initial s m → Fits threads initial (Drained t k ∷ s) n) (n ≡ m)
+
 -- an atomic access of t: its stores go to the cells, giving mid; then it reads these, and its own write follows
 pub record DoesAtomicBy (t : ℕ) (op : Op) (b : Buffered) (mid : CellTable) (m : State) (e : Event) (ws : List EventId) (n : State) : Type 0 where
   pub was : slice_get m.buffers t ≡ Some b

@@ -3,7 +3,7 @@ ghost use Rattle.std.specs.Prelude.{◌≡◌, ◌^◌, ℕ, List, ◌+◌, ◌<
 ghost use Rattle.wm_access.specs.AccessWidth.{bytes_of};
 ghost use Rattle.wm_event.specs.Event.{reads};
 ghost use Rattle.wm_event.specs.Shape.{read_width};
-ghost use Rattle.wm_memory.specs.Memory.{Answers, Buffered, CannotLeave, DoesAtomic, DoesLoad, DoesStore, Drains, DrainsFirst, FaultIs, Fits, Fitting, HasNumber, IsPending, MayLeave, PublishesAt, Waits, plain_store};
+ghost use Rattle.wm_memory.specs.Memory.{Answers, Buffered, CannotLeave, DoesAtomic, DoesLoad, DoesStore, DrainFits, Drains, DrainsFirst, FaultIs, Fits, Fitting, HasNumber, IsPending, MayLeave, PublishesAt, Waits, plain_store};
 ghost use Rattle.wm_memory.specs.Reply.{padded, reply_of};
 ghost use Rattle.wm_memory.specs.Texts.{mem_fault_text};
 ghost use Rattle.wm_access.specs.declared.MemoryOrder.TheVariants.{SeqCst};
@@ -122,7 +122,11 @@ impl Made {
 }
 
 impl Memory {
-    /// A memory of the bytes of Init, and of so many threads, none of which made an access.
+    /// A memory of the bytes of Init, and of so many threads, at most 16, none of which made an access.
+    ///
+    /// # Errors
+    ///
+    /// Only where memory was refused.
     pub fn new(alloc: Global, initial: &Initial, threads: usize) -> Result<Self, AllocError>
         requires { threads ≤ 16 }
         ensures { IfOk result (λ memory. Fits threads initial.now [] memory) }
@@ -185,7 +189,8 @@ impl Memory {
 
     /// Publishes the oldest waiting store of a thread; false, and nothing changes, where none waits. It takes no memory.
     pub fn drain(&mut self, thread: u32) -> bool
-        ensures { Drains thread 0 result self.old self.new }
+        ensures drained { Drains thread 0 result self.old self.new }
+        ensures fits { DrainFits thread 0 result self.old self.new }
     {
         if self.pending(thread) == 0 {
             return false;
@@ -197,7 +202,8 @@ impl Memory {
     /// Publishes the waiting store of a thread that has so many older ones, where it overlaps none of these; false, and
     /// nothing changes, where there is no such store. It takes no memory.
     pub fn drain_at(&mut self, thread: u32, index: u32) -> bool
-        ensures { Drains thread index result self.old self.new }
+        ensures drained { Drains thread index result self.old self.new }
+        ensures fits { DrainFits thread index result self.old self.new }
     {
         if !self.may_leave(thread, index as usize) {
             return false;
