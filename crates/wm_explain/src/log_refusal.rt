@@ -1,6 +1,7 @@
 //! Why a document or its log is refused.
 
 use crate::document_part::{PartPhrase, count_threads};
+use crate::phrase::{Count, EventPhrase};
 use std::alloc::{AllocError, Global};
 use std::fmt;
 use wm_event::{EventKey, Log, ShapeFault, Witness};
@@ -159,7 +160,7 @@ pub(crate) struct ShapeSentence {
 fn event_phrase(alloc: Global, log: &Log, key: EventKey) -> Result<String, AllocError> {
     match log.event(key) {
         None => format!(in alloc; "no event"),
-        Some(event) => format!(in alloc; "{}", crate::phrase::EventPhrase(event)),
+        Some(event) => format!(in alloc; "{}", EventPhrase(event)),
     }
 }
 
@@ -187,10 +188,14 @@ impl fmt::Display for ShapeSentence {
                 f,
                 "A writer of {key} is neither the initial memory nor an event of the log."
             ),
-            ShapeFault::OrderNotPermutation => write!(
-                f,
-                "The order has {listed} entries for {events} events, and has to list each event exactly once."
-            ),
+            ShapeFault::OrderNotPermutation => {
+                let places = Count(listed, "place");
+                let all = Count(events, "event");
+                write!(
+                    f,
+                    "The order has {places} for {all}, and has to list each event exactly once."
+                )
+            }
             ShapeFault::RangeOutOfMemory(key) => write!(
                 f,
                 "{key} ends past the memory, which has {memory} bytes."

@@ -82,6 +82,12 @@ impl fmt::Display for DecodeSentence {
                 "An item runs past the size of its section or body, or bytes are left over there.",
             FaultKind::CountMismatch => "Two counts that have to agree don't agree.",
             FaultKind::DuplicateExport => "Two exports have one name.",
+            FaultKind::UnknownOpcode(0x05) => {
+                "An else stands outside of every if, or is the second one of its if."
+            }
+            FaultKind::UnknownOpcode(0xfe) => {
+                "No instruction has the code that stands behind the prefix fe."
+            }
             FaultKind::UnknownOpcode(opcode) => {
                 return write!(f, "No instruction has the opcode {opcode:02x}.");
             }
@@ -107,6 +113,20 @@ fn found_at(kind: FaultKind, bytes: &[u8], offset: usize) -> Option<u64> {
         FaultKind::Limit(Limit::Pages | Limit::Functions) => number_at(bytes, offset),
         FaultKind::Limit(Limit::Locals) => parameters_and_locals(bytes, offset),
         _ => None,
+    }
+}
+
+/// What stands before the bytes round an offset, with how many bytes there are.
+#[derive(Clone, Copy)]
+struct Heading(usize, usize);
+
+impl fmt::Display for Heading {
+    fn fmt<W: fmt::Write>(&self, f: &mut fmt::Formatter<W>) -> fmt::Result {
+        let Heading(offset, size) = *self;
+        if offset < size {
+            return write!(f, "The bytes there, the one at {offset} in brackets");
+        }
+        f.write_str("The last bytes")
     }
 }
 
@@ -152,8 +172,9 @@ pub(crate) fn decode_reason(
             };
             let around = BytesAround(bytes, *offset);
             let size = bytes.len();
+            let heading = Heading(*offset, size);
             format!(in alloc;
-                "The bytes are no module that is read here, from byte {offset} of {size} on. {sentence}\nThe bytes there, the one at {offset} in brackets:{around}\n"
+                "The bytes are no module that is read here, from byte {offset} of {size} on. {sentence}\n{heading}:{around}\n"
             )
         }
     }

@@ -11,7 +11,7 @@ use std::alloc::{AllocError, Global};
 use std::cmp::Ordering;
 use std::fmt;
 use std::thread::Threads;
-use wm_event::{Candidate, End, Event, EventId, Judgement, Op, OpFields, Reply, ThreadLog};
+use wm_event::{Candidate, End, Event, EventId, Judgement, Op, OpFields, Reply, Rule, ThreadLog};
 use wm_machine::{AdvanceFault, CodePosition, Need, StartFault, Thread};
 use wm_num::low_bytes;
 use wm_replay::{Place, ReplayAnswer};
@@ -292,7 +292,7 @@ fn add_judgement(
         return Ok(());
     };
     writeln!(text, "The memory rules are broken too, first so: {fault}.")?;
-    if fault.event.thread as usize == number {
+    if fault.rule == Rule::WrittenValues && fault.event.thread as usize == number {
         text.push_str(
             "That is a read of this thread: a wrong value that was read often shows as a difference later.\n",
         )?;

@@ -13,14 +13,28 @@ use wm_hb::synchronizes;
 enum ArrowKind {
     /// To the next event of the thread.
     Sequenced,
-    /// From a writer to all bytes of a read, and whether it synchronizes with the read.
-    Reads { synchronizes: bool },
-    /// From the writer of some bytes of a read.
-    ReadsBytes(ByteLabel),
+    /// From a writer to these bytes of a read, or to all of them, and whether it synchronizes with the read.
+    Reads {
+        bytes: Option<ByteLabel>,
+        synchronizes: bool,
+    },
     /// The order lists the first event before the second, and another arrow goes back.
     Order,
     /// A link of a chain that a fault stands on.
     Chain(LinkKind),
+}
+
+/// Which bytes are read from a writer, where these aren't all.
+#[derive(Clone, Copy)]
+struct ReadLabel(Option<ByteLabel>);
+
+impl fmt::Display for ReadLabel {
+    fn fmt<W: fmt::Write>(&self, f: &mut fmt::Formatter<W>) -> fmt::Result {
+        match self.0 {
+            Some(bytes) => write!(f, "{bytes}"),
+            None => f.write_str("rf"),
+        }
+    }
 }
 
 /// The attributes of an arrow.
@@ -31,20 +45,22 @@ impl fmt::Display for Attributes {
     fn fmt<W: fmt::Write>(&self, f: &mut fmt::Formatter<W>) -> fmt::Result {
         match self.0 {
             ArrowKind::Sequenced => f.write_str("label=\"sb\""),
-            ArrowKind::Reads { synchronizes: true } => {
-                f.write_str(
-                    "xlabel=\"rf, sw\", color=\"blue\", fontcolor=\"blue\", constraint=false",
+            ArrowKind::Reads {
+                bytes,
+                synchronizes,
+            } => {
+                let label = ReadLabel(bytes);
+                if synchronizes {
+                    return write!(
+                        f,
+                        "xlabel=\"{label}, sw\", color=\"blue\", fontcolor=\"blue\", constraint=false"
+                    );
+                }
+                write!(
+                    f,
+                    "xlabel=\"{label}\", color=\"darkgreen\", fontcolor=\"darkgreen\", constraint=false"
                 )
             }
-            ArrowKind::Reads {
-                synchronizes: false,
-            } => f.write_str(
-                "xlabel=\"rf\", color=\"darkgreen\", fontcolor=\"darkgreen\", constraint=false",
-            ),
-            ArrowKind::ReadsBytes(bytes) => write!(
-                f,
-                "xlabel=\"{bytes}\", color=\"darkgreen\", fontcolor=\"darkgreen\", constraint=false"
-            ),
             ArrowKind::Order => {
                 f.write_str("xlabel=\"order\", style=\"dotted\", constraint=false")
             }
@@ -106,12 +122,10 @@ fn read_kind(
     reader: EventKey,
     bytes: usize,
 ) -> ArrowKind {
-    if arrow.bytes.first == 0 && arrow.bytes.last.saturating_add(1) == bytes {
-        ArrowKind::Reads {
-            synchronizes: is_synchronized(candidate, arrow.writer, reader),
-        }
-    } else {
-        ArrowKind::ReadsBytes(arrow.bytes)
+    let reads_all = arrow.bytes.first == 0 && arrow.bytes.last.saturating_add(1) == bytes;
+    ArrowKind::Reads {
+        bytes: if reads_all { None } else { Some(arrow.bytes) },
+        synchronizes: is_synchronized(candidate, arrow.writer, reader),
     }
 }
 

@@ -320,7 +320,7 @@ Wanted is a list of "wasm-litmus-log", the version, the threads and the order.
         shows: "listed twice",
         module: &STORE_BUFFERING,
         document: r#"["wasm-litmus-log",2,[["a",[],["done",[0]],6,[["w","un",0,4,1],["r","un",4,4,0,[[],[],[],[]]]]]],[[0,0],[0,0]]]"#,
-        text: r#"The order has 2 entries for 2 events, and has to list each event exactly once.
+        text: r#"The order has 2 places for 2 events, and has to list each event exactly once.
 "#,
     },
     CheckRow {

@@ -12,7 +12,7 @@ use wm_event::{End, EventKey, ShapeFault, TrapKind};
 use wm_machine::StartFault;
 use wm_valid::FaultKind as ValidKind;
 
-const DECODE: [(FaultKind, &str); 16] = [
+const DECODE: [(FaultKind, &str); 18] = [
     (
         FaultKind::Magic,
         "A binary module begins with the bytes 00 61 73 6d.",
@@ -41,6 +41,14 @@ const DECODE: [(FaultKind, &str); 16] = [
     (
         FaultKind::CountMismatch,
         "Two counts that have to agree don't agree.",
+    ),
+    (
+        FaultKind::UnknownOpcode(5),
+        "An else stands outside of every if, or is the second one of its if.",
+    ),
+    (
+        FaultKind::UnknownOpcode(0xfe),
+        "No instruction has the code that stands behind the prefix fe.",
     ),
     (
         FaultKind::UnknownOpcode(6),
@@ -150,7 +158,7 @@ const SHAPES: [(ShapeFault, &str); 7] = [
     ),
     (
         ShapeFault::OrderNotPermutation,
-        "The order has 4 entries for 5 events, and has to list each event exactly once.",
+        "The order has 4 places for 5 events, and has to list each event exactly once.",
     ),
     (
         ShapeFault::RangeOutOfMemory(KEY),
