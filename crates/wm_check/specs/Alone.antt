@@ -8,6 +8,7 @@ use Rattle.wm_check.specs.declared.verdict.Verdict.TheVariants.{Allowed, Refused
 use Rattle.wm_event.specs.LoggedRun.{LoggedRun, execution}
 use Rattle.wm_event.specs.Rules.{IsValid}
 use Rattle.wm_event.specs.Shape.{event_count}
+use Rattle.wm_logfile.specs.Limits.{max_document_bytes}
 use Rattle.wm_logfile.specs.declared.fault.DocFault.TheVariants.{TooLarge}
 use Rattle.wm_replay.specs.Replay.{AreRuns}
 use Rattle.wm_check.specs.Run.{IsCandidateOf, IsModuleOf}
@@ -38,5 +39,5 @@ AllowedAlone =
 -- of bytes that spell a module and of a document past the limit of bytes it is that this is too large
 abbrev pub TooLargeAlone : Type 0
 TooLargeAlone =
-    (module_bytes document_bytes : List ℕ) («module» : Module) (verdict : Verdict) → IsModuleOf module_bytes «module» → 8388608 < length document_bytes
+    (module_bytes document_bytes : List ℕ) («module» : Module) (verdict : Verdict) → IsModuleOf module_bytes «module» → max_document_bytes < length document_bytes
     → Says module_bytes document_bytes verdict → verdict ≡ Refused (refusal.Document TooLarge)

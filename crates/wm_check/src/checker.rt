@@ -1,5 +1,6 @@
 //! The check of a log against a module.
 ghost use Rattle.std.specs.Prelude.{◌≡◌, ◌≤◌, IfErr, IfOk, IfSome};
+ghost use Rattle.wm_event.specs.Limits.{max_events};
 ghost use Rattle.wm_event.specs.Shape.{event_count};
 ghost use Rattle.wm_event.specs.Shape.{IsWellShaped};
 ghost use Rattle.wm_logfile.specs.DocumentBytes.{IsDocumentOf};
@@ -57,7 +58,7 @@ pub(crate) fn read_log(alloc: Global, bytes: &[u8]) -> Result<(Log, Witness), Un
 
 /// How many events the threads have.
 fn count_events(threads: &[ThreadLog]) -> usize
-    requires { event_count threads.now ≤ 16384 }
+    requires { event_count threads.now ≤ max_events }
     ensures { result ≡ event_count threads.now }
 {
     let mut events = 0usize;

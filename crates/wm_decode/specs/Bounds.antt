@@ -11,3 +11,7 @@ pub record Bounds : Type 0 where
 -- the limits of this project
 abbrev pub profile : Bounds
 profile = record { pages = 16; functions = 1000; locals = 1000; nesting = 64 }
+
+-- bytes of a module
+abbrev pub max_module_bytes : ℕ
+max_module_bytes = 1048576

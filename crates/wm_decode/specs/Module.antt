@@ -11,7 +11,7 @@ use Rattle.wm_ast.specs.declared.module.DataSegment.{DataSegment}
 use Rattle.wm_ast.specs.declared.module.Module.{Module}
 use Rattle.wm_decode.specs.declared.fault.Limit.{Limit}
 use Rattle.wm_decode.specs.declared.fault.Limit.TheVariants as limit
-use Rattle.wm_decode.specs.Bounds.{Bounds, profile}
+use Rattle.wm_decode.specs.Bounds.{Bounds, max_module_bytes, profile}
 use Rattle.wm_decode.specs.Numbers.{U32}
 use Rattle.wm_decode.specs.Vectors.{Vector, Name, Sized}
 use Rattle.wm_decode.specs.Parts.{FunctionType, SharedLimits, MemoryImport, GlobalEntry, ExportVector, FunctionVector, Segment}
@@ -143,11 +143,11 @@ spells bytes m = (room : ℕ) × SpellsModule room bytes m
 pub record SpellsWithin (bytes : List ℕ) (m : Module) : Type 0 where
   pub spelled : SpellsModule profile.nesting bytes m
   pub within : Within profile m
-  pub short : length bytes ≤ 1048576
+  pub short : length bytes ≤ max_module_bytes
 
 -- The bytes or the module they spell are past this limit.
 abbrev pub IsPast : Limit → List ℕ → Module → Type 0
-IsPast limit.ModuleBytes bytes m = 1048576 < length bytes
+IsPast limit.ModuleBytes bytes m = max_module_bytes < length bytes
 IsPast limit.Pages bytes m = (x : Memory) × (m.memory ≡ Some x) × (profile.pages < x.limits.minimum)
 IsPast limit.Functions bytes m = profile.functions < length m.funcs
 IsPast limit.Locals bytes m = LocalsWithin profile m.types m.funcs → ⊥

@@ -4,7 +4,7 @@ use Rattle.wm_ast.specs.declared.module.DataSegment.{DataSegment}
 use Rattle.wm_ast.specs.declared.module.Func.{Func}
 use Rattle.wm_ast.specs.declared.module.Module.{Module}
 use Rattle.std.specs.Option.{option_flatten}
-use Rattle.wm_decode.specs.Bounds.{Bounds, profile}
+use Rattle.wm_decode.specs.Bounds.{Bounds, max_module_bytes, profile}
 use Rattle.wm_decode.specs.declared.fault.Limit.TheVariants as limit
 use Rattle.wm_decode.specs.Stop.{Stop, bad, past}
 use Rattle.wm_decode.specs.Reading.{◌>>=◌}
@@ -81,4 +81,4 @@ module_at bounds bytes = do
 
 -- a module of no more bytes than are allowed
 unfoldable pub whole_at : List ℕ → Result Module Stop
-whole_at bytes = if nat_lt 1048576 (length bytes) then Err (past limit.ModuleBytes) else module_at profile bytes
+whole_at bytes = if nat_lt max_module_bytes (length bytes) then Err (past limit.ModuleBytes) else module_at profile bytes

@@ -1,7 +1,13 @@
 //! Events, logs with their witnesses, candidates, and what it means that a run is allowed.
 #![tactic(auto)]
 
-/// How many events a log may have: 16,384.
+/// The most threads of a log.
+pub const MAX_THREADS: usize = 16;
+
+/// The most steps of a thread.
+pub const MAX_STEPS: u32 = 1_000_000;
+
+/// The most events of a log.
 pub const MAX_EVENTS: usize = 16_384;
 
 mod atomic_writes;

@@ -10,6 +10,7 @@ use Rattle.wm_check.specs.declared.verdict.Verdict.TheVariants.{Allowed, Refused
 use Rattle.wm_check.specs.declared.verdict.Verdict.TheVariants as verdict
 use Rattle.wm_check.specs.Completed.{HasNoRun, IsCompletedTo}
 use Rattle.wm_check.specs.Verdicts.{IsAllowed, IsBrokenBy, IsRefusedFor}
+use Rattle.wm_decode.specs.Bounds.{max_module_bytes}
 use Rattle.wm_event.specs.declared.log.ThreadLog.{ThreadLog}
 use Rattle.wm_event.specs.declared.rule.Judgement.{Judgement}
 use Rattle.wm_event.specs.declared.shape_fault.ShapeFault.{ShapeFault}
@@ -18,6 +19,7 @@ use Rattle.wm_event.specs.Faults.{Judges}
 use Rattle.wm_event.specs.First.{IsFirst}
 use Rattle.wm_event.specs.LoggedRun.{LoggedRun, execution}
 use Rattle.wm_event.specs.Shape.{IsWellShaped, Misshapes, shape_rank}
+use Rattle.wm_logfile.specs.Limits.{max_document_bytes}
 use Rattle.wm_logfile.specs.declared.fault.DocFault.{DocFault}
 use Rattle.wm_logfile.specs.declared.fault.DocFault.TheVariants.{Misplaced}
 use Rattle.wm_logfile.specs.DocumentBytes.{IsDocumentOf, IsNoDocument}
@@ -105,30 +107,30 @@ given words files input = record { words = words; files = files; input = input }
 pub data IsAnswer (given : Given) (status : ℕ) (text : List ℕ) : Type 0 where
   no_command : IsNoCommand given.words → status ≡ 2 → text ≡ ended words_line_text → IsAnswer given status text
   rules_of : (document : Bor Text) (bytes : List ℕ) → IsCommand given.words (Rules document)
-      → IsDocumentRead given.files given.input 8388608 document.now bytes
+      → IsDocumentRead given.files given.input max_document_bytes document.now bytes
       → AnswersRules bytes status text → IsAnswer given status text
   check_of : (file document : Bor Text) (module_bytes bytes : List ℕ) → IsCommand given.words (Check file document)
-      → IsReadOf (given.files file.now) 1048576 module_bytes
-      → IsDocumentRead given.files given.input 8388608 document.now bytes
+      → IsReadOf (given.files file.now) max_module_bytes module_bytes
+      → IsDocumentRead given.files given.input max_document_bytes document.now bytes
       → AnswersCheck module_bytes bytes status text → IsAnswer given status text
   migrate_of : (document : Bor Text) (bytes : List ℕ) → IsCommand given.words (Migrate document)
-      → IsDocumentRead given.files given.input 8388608 document.now bytes
+      → IsDocumentRead given.files given.input max_document_bytes document.now bytes
       → AnswersMigrate bytes status text → IsAnswer given status text
   complete_of : (file document : Bor Text) (module_bytes bytes : List ℕ) → IsCommand given.words (Complete file document)
-      → IsReadOf (given.files file.now) 1048576 module_bytes
-      → IsDocumentRead given.files given.input 8388608 document.now bytes
+      → IsReadOf (given.files file.now) max_module_bytes module_bytes
+      → IsDocumentRead given.files given.input max_document_bytes document.now bytes
       → AnswersComplete module_bytes bytes status text → IsAnswer given status text
   drive_of : (file turns : Bor Text) → IsCommand given.words (Drive file turns)
       → IsScriptAnswer (given.files file.now) turns.now (drop 3 given.words) status text → IsAnswer given status text
   run_of : (file rounds : Bor Text) → IsCommand given.words (Run file rounds)
       → IsRoundsAnswer (given.files file.now) rounds.now (drop 3 given.words) status text → IsAnswer given status text
   explain_of : (file document : Bor Text) (module_bytes bytes : List ℕ) → IsCommand given.words (Explain file document)
-      → IsReadOf (given.files file.now) 1048576 module_bytes
-      → IsDocumentRead given.files given.input 8388608 document.now bytes
+      → IsReadOf (given.files file.now) max_module_bytes module_bytes
+      → IsDocumentRead given.files given.input max_document_bytes document.now bytes
       → AnswersExplain module_bytes bytes status text → IsAnswer given status text
   graph_of : (file document : Bor Text) (module_bytes bytes : List ℕ) → IsCommand given.words (Graph file document)
-      → IsReadOf (given.files file.now) 1048576 module_bytes
-      → IsDocumentRead given.files given.input 8388608 document.now bytes
+      → IsReadOf (given.files file.now) max_module_bytes module_bytes
+      → IsDocumentRead given.files given.input max_document_bytes document.now bytes
       → AnswersGraph module_bytes bytes status text → IsAnswer given status text
 
 -- the writer gains what an answer of this status prints

@@ -7,6 +7,7 @@ use Rattle.wm_check.specs.declared.verdict.Verdict.TheVariants.{Refused}
 use Rattle.wm_check.specs.Reading.{IsModuleRefusal}
 use Rattle.wm_check.specs.Run.{IsModuleOf}
 use Rattle.wm_check.specs.Verdicts.{Says}
+use Rattle.wm_decode.specs.Bounds.{max_module_bytes}
 use Rattle.wm_run.specs.declared.fault.RunFault.{RunFault}
 use Rattle.wm_run.specs.declared.fault.RunFault.TheVariants.{OutOfMemory}
 use Rattle.wm_run.specs.declared.plan.Plan.{Plan}
@@ -54,7 +55,7 @@ pub data AnswersDrive (module_bytes : List ℕ) (plan : Plan) (turns : List Turn
 -- the status and the text that answer the words of a script over the module of a file, whose bytes may be known: those of the
 -- script that a word of turns and the words of the starts spell, or a refusal of the first of them that spells nothing
 pub data IsScriptAnswer (known : Option (List ℕ)) (turns : List ℕ) (starts : List (List ℕ)) (status : ℕ) (text : List ℕ) : Type 0 where
-  played : (script : Script) (module_bytes : List ℕ) → IsScriptOf turns starts script → IsReadOf known 1048576 module_bytes
+  played : (script : Script) (module_bytes : List ℕ) → IsScriptOf turns starts script → IsReadOf known max_module_bytes module_bytes
       → AnswersDrive module_bytes script.plan script.turns status text → IsScriptAnswer known turns starts status text
   no_script : (fault : WordFault) → fault ≢ word.OutOfMemory → SpellNoScript turns starts fault
       → status ≡ 2 → text ≡ ended (word_line_text fault) → IsScriptAnswer known turns starts status text

@@ -7,6 +7,7 @@ use Rattle.wm_check.specs.declared.verdict.Verdict.{Verdict}
 use Rattle.wm_check.specs.declared.verdict.Verdict.TheVariants.{Allowed, Refused, Broken}
 use Rattle.wm_check.specs.Run.{IsModuleOf}
 use Rattle.wm_event.specs.Shape.{event_count}
+use Rattle.wm_logfile.specs.Limits.{max_document_bytes}
 use Rattle.wm_logfile.specs.declared.fault.DocFault.TheVariants.{TooLarge}
 use Rattle.wm_logfile.specs.Document.{document_2}
 use Rattle.wm_run.specs.Own.{IsOwnRun, IsWithinPlan}
@@ -26,5 +27,5 @@ pub record IsMadeOf (module_bytes : List ℕ) (run : Record) : Type 0 where
 -- the verdict on its own document: that the run is allowed, or that the text is past the limit of bytes
 abbrev pub IsOwnVerdict : Record → Verdict → Type 0
 IsOwnVerdict run (Allowed certificate) = (certificate.threads ≡ length run.log) × (certificate.events ≡ event_count run.log)
-IsOwnVerdict run (Refused reason) = (reason ≡ refusal.Document TooLarge) × (8388608 < length (run_text run))
+IsOwnVerdict run (Refused reason) = (reason ≡ refusal.Document TooLarge) × (max_document_bytes < length (run_text run))
 IsOwnVerdict run (Broken breach) = ⊥

@@ -4,6 +4,7 @@ use Rattle.serde_json.specs.Data.{Data, number, string, array, unsigned}
 use Rattle.serde_json.specs.Read.{read}
 use Rattle.serde_json.specs.View.{items_of}
 use Rattle.wm_access.specs.AccessWidth.{bytes_of}
+use Rattle.wm_event.specs.Limits.{max_steps, max_threads}
 use Rattle.wm_event.specs.declared.event.EventKind.{EventKind}
 use Rattle.wm_event.specs.declared.event.EventKind.TheVariants.{Read, Write, Update}
 use Rattle.wm_event.specs.declared.event.Event.{Event}
@@ -18,6 +19,7 @@ use Rattle.wm_event.specs.Event.{key_of}
 use Rattle.wm_event.specs.Fitting.{FitsLog}
 use Rattle.wm_event.specs.TrapText.{trap_text}
 use Rattle.wm_event.specs.Witness.{writers_in}
+use Rattle.wm_logfile.specs.Limits.{max_document_bytes}
 use Rattle.wm_logfile.specs.Words.{kind_word, order_word}
 
 -- ---- the parts of both versions
@@ -142,7 +144,7 @@ EndFits Cut = ⊤
 pub record ThreadFits (l : ThreadLog) : Type 0 where
   pub args : All (λ a. a < 2 ^ 64) l.start.args
   pub end : EndFits l.end
-  pub steps : l.steps ≤ 1000000
+  pub steps : l.steps ≤ max_steps
   pub events : All EventFits l.events
 
 pub record KeyFits (key : EventKey) : Type 0 where
@@ -156,7 +158,7 @@ WriterFits (At key) = KeyFits key
 
 -- the ranges of the numbers that a document may hold, and at most so many threads
 pub record IsWithinLimits (log : List ThreadLog) (w : Witness) : Type 0 where
-  pub threads : length log ≤ 16
+  pub threads : length log ≤ max_threads
   pub each : All ThreadFits log
   pub writers : All (All (All WriterFits)) w.writers
   pub order : All KeyFits w.order
@@ -177,8 +179,8 @@ pub record HasTooManyThreads (d : Data) : Type 0 where
   pub threads : List Data
   pub last : Data
   pub is : d ≡ list (name ∷ version ∷ list threads ∷ last ∷ [])
-  pub many : 16 < length threads
+  pub many : max_threads < length threads
 
 -- past the limit of bytes, or JSON text past the limit of threads
 abbrev pub IsTooLarge : List ℕ → Type 0
-IsTooLarge bytes = (8388608 < length bytes) ⊎ ((d : Data) × (read bytes ≡ Some d) × HasTooManyThreads d)
+IsTooLarge bytes = (max_document_bytes < length bytes) ⊎ ((d : Data) × (read bytes ≡ Some d) × HasTooManyThreads d)

@@ -7,6 +7,7 @@ use Rattle.serde_json.specs.Find.{as_number, as_str, as_u64, as_array}
 use Rattle.wm_access.specs.declared.AccessWidth.{AccessWidth}
 use Rattle.wm_access.specs.declared.AccessWidth.TheVariants.{One, Two, Four, Eight}
 use Rattle.wm_access.specs.MemoryOrder.{is_sequential}
+use Rattle.wm_event.specs.Limits.{max_steps, max_threads}
 use Rattle.wm_event.specs.declared.event.EventKind.{EventKind}
 use Rattle.wm_event.specs.declared.event.EventKind.TheVariants.{Read, Write, Update}
 use Rattle.wm_access.specs.declared.MemoryOrder.{MemoryOrder}
@@ -204,7 +205,7 @@ start_at name args = as_str name >>= λ s. items_at (λ _ d. number_at u64_max d
 -- what stands before the events, and the events
 unfoldable pub head_from : List Data → Option (ThreadHead × Data)
 head_from (name ∷ args ∷ end ∷ steps ∷ events ∷ []) =
-    start_at name args >>= λ s. end_at end >>= λ e. number_at 1000000 steps >>= λ n. Some (record { start = s; end = e; steps = n }, events)
+    start_at name args >>= λ s. end_at end >>= λ e. number_at max_steps steps >>= λ n. Some (record { start = s; end = e; steps = n }, events)
 head_from _ = None
 
 abbrev pub head_at : Data → Option (ThreadHead × Data)
@@ -253,7 +254,7 @@ witness_at d = list_at d >>= witness_from
 -- ---- the whole
 
 abbrev pub few_from : {A : Type 0} → (ℕ → Data → Option A) → List Data → Option (List A)
-few_from f ts = if nat_le (length ts) 16 then traverse f 0 ts else None
+few_from f ts = if nat_le (length ts) max_threads then traverse f 0 ts else None
 
 -- each thread, where there are not too many
 abbrev pub few_at : {A : Type 0} → (ℕ → Data → Option A) → Data → Option (List A)

@@ -5,6 +5,7 @@ use Rattle.json.specs.Json.{items, value}
 use Rattle.serde_json.specs.Data.{Data}
 use Rattle.serde_json.specs.Read.{of_json, of_items, converted, read}
 use Rattle.serde_json.specs.View.{items_of}
+use Rattle.wm_event.specs.Limits.{max_steps}
 use Rattle.wm_event.specs.declared.event.Event.{Event}
 use Rattle.wm_event.specs.declared.event.EventKind.{EventKind}
 use Rattle.wm_event.specs.declared.log.ThreadLog.{ThreadLog}
@@ -71,7 +72,7 @@ pub record TakenHead (old : List Token) (head : ThreadHead) (new : List Token) :
   pub passes : Passes 2 old (name ∷ args ∷ end ∷ steps ∷ []) new
   pub started : start_at name args ≡ Some head.start
   pub ended : end_at end ≡ Some head.end
-  pub counted : number_at 1000000 steps ≡ Some head.steps
+  pub counted : number_at max_steps steps ≡ Some head.steps
 
 -- the result of a function, where it has one
 abbrev pub result_at : Data → Option (Option ℕ)

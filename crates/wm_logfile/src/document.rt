@@ -7,6 +7,7 @@ ghost use Rattle.wm_event.specs.Log.{IsLog};
 ghost use Rattle.serde_json.specs.Data.{Data};
 ghost use Rattle.wm_logfile.specs.Document.{IsDocument, Spells, IsWithinLimits, HasTooManyThreads, IsTooLarge};
 ghost use Rattle.wm_logfile.specs.Faults.{Gives, DocGives};
+ghost use Rattle.wm_logfile.specs.Limits.{max_document_bytes};
 ghost use Rattle.wm_logfile.specs.Reading.{items_in, few_at, name_at, pair_1_at, pair_2_at, version_at, parts_from, document_at};
 
 use crate::fault::{DocFault, ReadFault};
@@ -16,10 +17,10 @@ use crate::path::Path;
 use crate::quick::{TakeFault, take_document};
 use crate::thread::{ThreadByReader, ThreadReader};
 use crate::witness::{order_keys_of, witness_of};
-use crate::{MAX_DOCUMENT_BYTES, MAX_THREADS};
+use crate::MAX_DOCUMENT_BYTES;
 use serde_json::Value;
 use std::alloc::Global;
-use wm_event::{Log, ThreadLog, Witness};
+use wm_event::{Log, MAX_THREADS, ThreadLog, Witness};
 use wm_list::List;
 
 /// How a document is written.
@@ -151,7 +152,7 @@ fn document_of(alloc: Global, value: &Value) -> Result<(Log, Witness), DocFault>
 pub fn read_document(alloc: Global, bytes: &[u8]) -> Result<(Log, Witness), DocFault>
     // What is read is spelled so, and is within the limits.
     ensures spelled { IfOk result (λ p. Spells bytes.now p.0 p.1) }
-    ensures within { IfOk result (λ p. (length bytes.now ≤ 8388608) × IsLog p.0
+    ensures within { IfOk result (λ p. (length bytes.now ≤ max_document_bytes) × IsLog p.0
         × IsWithinLimits p.0 p.1) }
 
     // Within the limits no other pair is spelled so.
@@ -160,10 +161,10 @@ pub fn read_document(alloc: Global, bytes: &[u8]) -> Result<(Log, Witness), DocF
 
     // What is spelled within the limits is refused only for want of memory.
     ensures refused { IfErr result (λ e. e ≢ DocFault.OutOfMemory
-        → length bytes.now ≤ 8388608 → (log : List ThreadLog) → (w : Witness)
+        → length bytes.now ≤ max_document_bytes → (log : List ThreadLog) → (w : Witness)
         → IsLog log → IsWithinLimits log w → ¬ Spells bytes.now log w) }
     ensures too_large { IfErr result (λ e. e ≡ DocFault.TooLarge → IsTooLarge bytes.now) }
-    ensures large { IfErr result (λ e. 8388608 < length bytes.now → e ≡ DocFault.TooLarge) }
+    ensures large { IfErr result (λ e. max_document_bytes < length bytes.now → e ≡ DocFault.TooLarge) }
     ensures placed { IfErr result (λ e. e ≢ DocFault.Misplaced) }
 {
     if bytes.len() > MAX_DOCUMENT_BYTES {

@@ -28,7 +28,7 @@ pub enum DocFault {
     BadVersion,
     /// The number at this path is out of its range, or has a sign, a fraction or an exponent.
     NumberRange(Path),
-    /// There are more than [`crate::MAX_DOCUMENT_BYTES`] bytes or more than [`crate::MAX_THREADS`] threads.
+    /// There are more than [`crate::MAX_DOCUMENT_BYTES`] bytes or more than [`wm_event::MAX_THREADS`] threads.
     TooLarge,
     /// Memory was refused.
     OutOfMemory,

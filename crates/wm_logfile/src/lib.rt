@@ -17,14 +17,8 @@
 //! write.
 #![tactic(auto)]
 
-/// How many bytes a document may have.
+/// The most bytes of a document.
 pub const MAX_DOCUMENT_BYTES: usize = 8_388_608;
-
-/// How many threads a document may have.
-pub const MAX_THREADS: usize = 16;
-
-/// How many steps a thread of a document may have made.
-pub const MAX_STEPS: u32 = 1_000_000;
 
 mod document;
 mod event;

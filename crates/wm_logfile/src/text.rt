@@ -9,6 +9,7 @@ ghost use Rattle.wm_event.specs.Fitting.{FitsLog};
 ghost use Rattle.wm_event.specs.Witness.{writers_in};
 ghost use Rattle.wm_logfile.specs.Document.{by_cells, count, document_2, end, event_by, event_key, key_cells, list, thread_by, values, writer, IsWithinLimits};
 ghost use Rattle.wm_logfile.specs.DocumentBytes.{IsDocumentOf};
+ghost use Rattle.wm_logfile.specs.Limits.{max_document_bytes};
 ghost use Rattle.wm_logfile.specs.Tokens.{Adds, cells_tokens, tokens_of};
 ghost use Rattle.wm_logfile.specs.Words.{kind_word, order_word};
 
@@ -254,7 +255,7 @@ pub fn write_document(alloc: Global, log: &Log, witness: &Witness) -> Result<Str
     ensures text { IfOk result (λ s. string_bytes s ≡ compact_text (document_2 log.now witness.now)) }
 
     // Within the limits it is read again as the same pair.
-    ensures again { IfOk result (λ s. length (string_bytes s) ≤ 8388608
+    ensures again { IfOk result (λ s. length (string_bytes s) ≤ max_document_bytes
         → IsWithinLimits log.now witness.now → IsDocumentOf (string_bytes s) log.now witness.now) }
 {
     let mut out = Writer::new(Vec::new(alloc));

@@ -5,7 +5,6 @@ ghost use Rattle.serde_json.specs.View.{view};
 ghost use Rattle.wm_logfile.specs.Faults.{Gives};
 ghost use Rattle.wm_logfile.specs.Reading.{trap_at, result_from, end_from, end_at, start_at, head_from, head_at, with_events, thread_at, thread_by_at, limited_thread_at, limited_thread_by_at};
 
-use crate::MAX_STEPS;
 use crate::event::{EventByReader, EventReader};
 use crate::fault::ReadFault;
 use crate::fields::{list_of, number_of};
@@ -13,7 +12,7 @@ use crate::items::{ItemReader, NumberReader, items_of, unzipped};
 use crate::path::Path;
 use serde_json::Value;
 use std::alloc::Global;
-use wm_event::{End, Event, EventId, Start, ThreadLog, TrapKind};
+use wm_event::{End, Event, EventId, MAX_STEPS, Start, ThreadLog, TrapKind};
 use wm_list::{List, Text};
 
 /// A name.

@@ -1,6 +1,7 @@
 -- Legal histories.
 use Rattle.std.specs.Prelude.{ℕ, ◌+◌, ◌<◌, ◌≤◌, List, [], ◌∷◌, length}
 use Rattle.wm_access.specs.AccessWidth.{bytes_of}
+use Rattle.wm_event.specs.Limits.{max_events}
 use Rattle.wm_event.specs.Op.{IsOp}
 use Rattle.wm_memory.specs.declared.item.Item.{Item}
 use Rattle.wm_memory.specs.declared.item.Item.TheVariants.{Access, Drain, DrainAt}
@@ -14,7 +15,7 @@ MayFollow threads size s (DrainAt t k) = (t < threads) × (k < length (waiting s
 
 pub record IsWithin (s : List Step) : Type 0 where
   pub pending : (t : ℕ) → length (waiting s t) ≤ 64
-  pub few : length (events s) ≤ 16384
+  pub few : length (events s) ≤ max_events
 
 -- a history, the newest item first, of these threads over this Init
 abbrev pub IsLegal : ℕ → List ℕ → List Item → Type 0

@@ -1,6 +1,7 @@
 -- Logs with the steps and the ends of their runs.
 use Rattle.std.specs.Prelude.{◌≡◌, ℕ, ◌<◌, ◌≤◌, List, length, Some, slice_get}
 use Rattle.wm_ast.specs.declared.module.Module.{Module}
+use Rattle.wm_event.specs.Limits.{max_steps}
 use Rattle.wm_event.specs.declared.log.End.{End}
 use Rattle.wm_event.specs.declared.log.ThreadLog.{ThreadLog}
 use Rattle.wm_replay.specs.declared.answer.ReplayAnswer.{ReplayAnswer}
@@ -23,8 +24,8 @@ pub record IsLongestRun (m : Module) (k : ℕ) (t completed : ThreadLog) : Type 
   pub start : completed.start ≡ t.start
   pub events : completed.events ≡ t.events
   pub is_run : IsRun m k completed
-  pub within : completed.steps ≤ 1000000
-  pub longest : (n : ℕ) → completed.steps < n → n ≤ 1000000 → ¬ MakesEvents m k t n
+  pub within : completed.steps ≤ max_steps
+  pub longest : (n : ℕ) → completed.steps < n → n ≤ max_steps → ¬ MakesEvents m k t n
 
 -- each thread of the log is completed
 pub record IsCompletion (m : Module) (log completed : List ThreadLog) : Type 0 where
@@ -36,9 +37,9 @@ pub record IsCompletion (m : Module) (log completed : List ThreadLog) : Type 0 w
 pub record IsFirstWithoutRun (m : Module) (log : List ThreadLog) (k : ℕ) (answer : ReplayAnswer) : Type 0 where
   pub thread : ThreadLog
   pub is_thread : slice_get log k ≡ Some thread
-  pub others : (i : ℕ) (t : ThreadLog) → i < k → slice_get log i ≡ Some t → (n : ℕ) × (n ≤ 1000000) × MakesEvents m i t n
-  pub none : (n : ℕ) → n ≤ 1000000 → ¬ MakesEvents m k thread n
-  pub other : IsOther m k (ending thread 1000000 thread.end) answer
+  pub others : (i : ℕ) (t : ThreadLog) → i < k → slice_get log i ≡ Some t → (n : ℕ) × (n ≤ max_steps) × MakesEvents m i t n
+  pub none : (n : ℕ) → n ≤ max_steps → ¬ MakesEvents m k thread n
+  pub other : IsOther m k (ending thread max_steps thread.end) answer
 
 abbrev pub IsWithoutRun : Module → List ThreadLog → ReplayAnswer → Type 0
 IsWithoutRun m log Same = ⊥

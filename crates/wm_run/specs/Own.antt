@@ -1,6 +1,7 @@
 -- A log of the module's own threads over this memory, whichever way they took turns.
 use Rattle.std.specs.Prelude.{◌≡◌, ℕ, ◌<◌, ◌≤◌, List, length, All, Some, slice_get}
 use Rattle.wm_ast.specs.declared.module.Module.{Module}
+use Rattle.wm_event.specs.Limits.{max_steps, max_threads}
 use Rattle.wm_event.specs.declared.log.ThreadLog.{ThreadLog}
 use Rattle.wm_event.specs.LoggedRun.{execution}
 use Rattle.wm_event.specs.Rules.{IsValid}
@@ -26,8 +27,8 @@ pub record IsOwnRun (m : Module) (run : Record) : Type 0 where
 
 -- at most so many threads and steps as a document has, and results of 64 bits
 pub record IsWithinPlan (run : Record) : Type 0 where
-  pub threads : length run.log ≤ 16
-  pub steps : (t : ℕ) (thread : ThreadLog) → slice_get run.log t ≡ Some thread → thread.steps ≤ 1000000
+  pub threads : length run.log ≤ max_threads
+  pub steps : (t : ℕ) (thread : ThreadLog) → slice_get run.log t ≡ Some thread → thread.steps ≤ max_steps
   pub ends : (t : ℕ) (thread : ThreadLog) → slice_get run.log t ≡ Some thread → EndFits thread.end
 
 -- over the initial memory it is a well-shaped candidate whose threads are their runs, and a valid execution

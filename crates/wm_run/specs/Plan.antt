@@ -1,5 +1,7 @@
 -- What a plan keeps with the turns of its script, and what is wrong with one that doesn't.
 use Rattle.std.specs.Prelude.{◌≡◌, ℕ, ◌<◌, ◌≤◌, List, length, Some, slice_get}
+use Rattle.wm_event.specs.Limits.{max_steps, max_threads}
+use Rattle.wm_run.specs.Limits.{max_turns}
 use Rattle.wm_run.specs.declared.fault.PlanFault.{PlanFault}
 use Rattle.wm_run.specs.declared.fault.PlanFault.TheVariants as fault
 use Rattle.wm_run.specs.declared.plan.Plan.{Plan}
@@ -15,7 +17,7 @@ thread_of (DrainAt t k) = t
 -- it starts 1 to 16 threads
 pub record HasThreads (plan : Plan) : Type 0 where
   pub some : 0 < length plan.starts
-  pub few : length plan.starts ≤ 16
+  pub few : length plan.starts ≤ max_threads
 
 -- each turn is that of one of so many threads
 abbrev pub AreTurnsOf : ℕ → List Turn → Type 0
@@ -30,13 +32,13 @@ pub record IsLeastAbsent (threads : ℕ) (turns : List Turn) (t : ℕ) : Type 0 
 -- a plan that can be followed through these turns
 pub record IsPlan (plan : Plan) (turns : List Turn) : Type 0 where
   pub threads : HasThreads plan
-  pub steps : plan.steps ≤ 1000000
-  pub few : length turns ≤ 1000000
+  pub steps : plan.steps ≤ max_steps
+  pub few : length turns ≤ max_turns
   pub there : AreTurnsOf (length plan.starts) turns
 
 -- the first thing that is wrong with a plan and its turns
 abbrev pub IsPlanFault : Plan → List Turn → PlanFault → Type 0
 IsPlanFault plan turns fault.Threads = HasThreads plan → ⊥
-IsPlanFault plan turns fault.Steps = HasThreads plan × (1000000 < plan.steps)
-IsPlanFault plan turns fault.Turns = HasThreads plan × (plan.steps ≤ 1000000) × (1000000 < length turns)
-IsPlanFault plan turns (fault.Turn t) = HasThreads plan × (plan.steps ≤ 1000000) × (length turns ≤ 1000000) × IsLeastAbsent (length plan.starts) turns t
+IsPlanFault plan turns fault.Steps = HasThreads plan × (max_steps < plan.steps)
+IsPlanFault plan turns fault.Turns = HasThreads plan × (plan.steps ≤ max_steps) × (max_turns < length turns)
+IsPlanFault plan turns (fault.Turn t) = HasThreads plan × (plan.steps ≤ max_steps) × (length turns ≤ max_turns) × IsLeastAbsent (length plan.starts) turns t

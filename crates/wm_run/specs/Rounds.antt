@@ -1,9 +1,11 @@
 -- What a round gives, and why it isn't made.
 use Rattle.std.specs.Prelude.{◌≡◌, ℕ, ◌<◌, ◌≤◌, ◌⊎◌, List, Bool, true, false, Result, Some, length, map, slice_get, slice_index_or, ⊤}
 use Rattle.wm_ast.specs.declared.module.Module.{Module}
+use Rattle.wm_event.specs.Limits.{max_events, max_steps}
 use Rattle.wm_event.specs.declared.log.End.TheVariants.{Cut}
 use Rattle.wm_event.specs.declared.log.Start.{Start}
 use Rattle.wm_event.specs.declared.log.ThreadLog.{ThreadLog}
+use Rattle.wm_run.specs.Limits.{max_turns}
 use Rattle.wm_valid.specs.Valid.{IsInit}
 use Rattle.wm_run.specs.declared.ended.ThreadEnd.{ThreadEnd}
 use Rattle.wm_run.specs.declared.fault.PlanFault.{PlanFault}
@@ -33,19 +35,19 @@ AreEndsOf is_open m starts steps ends =
 -- a plan that a round can follow
 pub record IsRoundPlan (plan : Plan) : Type 0 where
   pub threads : HasThreads plan
-  pub steps : plan.steps ≤ 1000000
-  pub drains : plan.drains ≤ 1000000
+  pub steps : plan.steps ≤ max_steps
+  pub drains : plan.drains ≤ max_turns
 
 -- the first thing that is wrong with another
 abbrev pub IsRoundPlanFault : Plan → PlanFault → Type 0
 IsRoundPlanFault plan fault.Threads = HasThreads plan → ⊥
-IsRoundPlanFault plan fault.Steps = HasThreads plan × (1000000 < plan.steps)
-IsRoundPlanFault plan fault.Turns = HasThreads plan × (plan.steps ≤ 1000000) × (1000000 < plan.drains)
+IsRoundPlanFault plan fault.Steps = HasThreads plan × (max_steps < plan.steps)
+IsRoundPlanFault plan fault.Turns = HasThreads plan × (plan.steps ≤ max_steps) × (max_turns < plan.drains)
 IsRoundPlanFault plan (fault.Turn t) = ⊥
 
 -- the thread stands before an access, and the gate isn't open or the log is full
 abbrev pub IsHeld : Bool → Module → Record → ℕ → ThreadLog → Type 0
-IsHeld is_open m run t thread = (stands_before_access m t thread ≡ true) × ((is_open ≡ false) ⊎ (16384 ≤ length run.witness.order))
+IsHeld is_open m run t thread = (stands_before_access m t thread ≡ true) × ((is_open ≡ false) ⊎ (max_events ≤ length run.witness.order))
 
 -- the log of a round: it has the plan's starts, each thread is its run of at most so many steps, log and witness are what one
 -- legal history over the initial memory records, and they are allowed; a thread that is cut before its last step is held

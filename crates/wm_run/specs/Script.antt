@@ -1,6 +1,7 @@
 -- What the turns of a script do, one after the other.
 use Rattle.std.specs.Prelude.{◌≡◌, ℕ, suc, ◌<◌, ◌≤◌, List, [], ◌∷◌, ◌++◌, length, reverse, slice_get, slice_set, Option, Some, None}
 use Rattle.wm_ast.specs.declared.module.Module.{Module}
+use Rattle.wm_event.specs.Limits.{max_events}
 use Rattle.wm_event.specs.declared.log.End.{End}
 use Rattle.wm_event.specs.declared.op.OpFields.{OpFields}
 use Rattle.wm_machine.specs.Term.{Config, Over, Went}
@@ -38,7 +39,7 @@ done g history = steps g.initial (reverse history)
 pub data Rests (g : Setting) (history : List Item) (thread : ThreadState) : Type 0 where
   ended : (end : End) → thread.config ≡ Over end → Rests g history thread
   spent : g.limit ≤ thread.made → Rests g history thread
-  full : (op : OpFields) → ((read : ℕ) → access_of (step g.program read thread.config) ≡ Some op) → 16384 ≤ length (events (done g history))
+  full : (op : OpFields) → ((read : ℕ) → access_of (step g.program read thread.config) ≡ Some op) → max_events ≤ length (events (done g history))
       → Rests g history thread
 
 -- the value that an access of thread t reads, after the drain that a full buffer forces
@@ -49,7 +50,7 @@ value_read g history t op = (made_after g.initial (ready (done g history) t op) 
 pub data StepsTo (g : Setting) (history : List Item) (t : ℕ) (thread : ThreadState) : ThreadState → List Item → Type 0 where
   local : {next : Config} → thread.made < g.limit → step g.program 0 thread.config ≡ Went None next
       → StepsTo g history t thread (record { config = next; made = suc thread.made }) []
-  access : {op : OpFields} {next : Config} → thread.made < g.limit → length (events (done g history)) < 16384
+  access : {op : OpFields} {next : Config} → thread.made < g.limit → length (events (done g history)) < max_events
       → ((read : ℕ) → access_of (step g.program read thread.config) ≡ Some op) → step g.program (value_read g history t op) thread.config ≡ Went (Some op) next
       → StepsTo g history t thread (record { config = next; made = suc thread.made }) (access_items (drains_first (done g history) t op) t op)
 

@@ -4,6 +4,7 @@ ghost use Rattle.serde_json.specs.Written.{compact_text};
 ghost use Rattle.wm_event.specs.Fitting.{FitsLog};
 ghost use Rattle.wm_logfile.specs.Document.{IsWithinLimits, document_2};
 ghost use Rattle.wm_logfile.specs.DocumentBytes.{IsDocumentOf};
+ghost use Rattle.wm_logfile.specs.Limits.{max_document_bytes};
 
 use std::alloc::{AllocError, Global};
 use std::marker::Model;
@@ -63,7 +64,7 @@ pub fn write_run(alloc: Global, run: &Run) -> Result<String, AllocError>
     ensures text { IfOk result (λ s. string_bytes s ≡ compact_text (document_2 run.now.log run.now.witness)) }
 
     // Within the limits it is read as the same pair.
-    ensures again { IfOk result (λ s. length (string_bytes s) ≤ 8388608
+    ensures again { IfOk result (λ s. length (string_bytes s) ≤ max_document_bytes
         → IsWithinLimits run.now.log run.now.witness → IsDocumentOf (string_bytes s) run.now.log run.now.witness) }
 {
     write_document(alloc, run.log(), run.witness())

@@ -1,5 +1,6 @@
 //! The worker of one thread.
 ghost use Rattle.std.specs.Prelude.{◌≡◌, ◌+◌, ◌<◌, ◌≤◌, ◌^◌, ◌||◌, ℕ, Ok, None, true, length, IfOk, IfSome};
+ghost use Rattle.wm_event.specs.Limits.{max_steps};
 ghost use Rattle.wm_logfile.specs.Document.{EndFits};
 ghost use Rattle.wm_machine.specs.Run.{end_of as config_end};
 ghost use Rattle.wm_machine.specs.State.{config_of, need_of};
@@ -129,7 +130,7 @@ pub fn work<S: Shared, G: Gate>(
     shared: &S,
     gate: &G,
 ) -> Result<ThreadEnd, RunFault>
-    requires { steps ≤ 1000000 }
+    requires { steps ≤ max_steps }
     ensures { IsWorkOf (G.is_open gate.now) «module».now thread start.now steps result }
 {
     let own = copy_start(alloc, start)?;

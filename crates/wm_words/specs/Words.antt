@@ -1,6 +1,7 @@
 -- What words spell as a script or as rounds, and which of them spells nothing.
 use Rattle.std.specs.Prelude.{◌≡◌, ℕ, suc, List, Option, Some, None, IsSome, ⊤}
 use Rattle.std.specs.Option.{option_map}
+use Rattle.wm_event.specs.Limits.{max_steps}
 use Rattle.wm_run.specs.declared.plan.Plan.{Plan}
 use Rattle.wm_words.specs.declared.fault.WordFault.{WordFault}
 use Rattle.wm_words.specs.declared.fault.WordFault.TheVariants as fault
@@ -21,7 +22,7 @@ rounds_of word = not_zero (number_below 10001 word)
 -- a plan for the threads that these words start, of 1,000,000 steps each, with so many drains
 pub record IsPlanOf (starts : List (List ℕ)) (drains : ℕ) (plan : Plan) : Type 0 where
   pub starts_are : starts_of starts ≡ Some plan.starts
-  pub steps_are : plan.steps ≡ 1000000
+  pub steps_are : plan.steps ≡ max_steps
   pub drains_are : plan.drains ≡ drains
 
 -- the script that a word of turns and the words of the starts spell

@@ -10,10 +10,9 @@ use crate::quick::{
     ItemTaker, NumberTaker, TakeFault, close_list, open_list, take_list, take_number, take_text,
 };
 use crate::thread::ThreadHead;
-use crate::{MAX_STEPS, MAX_THREADS};
 use json::Reader;
 use std::alloc::Global;
-use wm_event::{End, EventId, Start, ThreadLog, TrapKind};
+use wm_event::{End, EventId, MAX_STEPS, MAX_THREADS, Start, ThreadLog, TrapKind};
 use wm_list::{List, Text};
 
 /// Takes a name.
