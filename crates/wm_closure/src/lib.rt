@@ -1,7 +1,7 @@
 //! What reaches what in a graph whose nodes stand in order, 64 sources in one scan.
 #![tactic(auto)]
 
-ghost use Rattle.std.specs.Prelude.{◌≡◌, ◌<◌, ◌≤◌, ◌+◌, ◌*◌, ◌^◌, ◌↔◌, ℕ, length, vec_len, slice_index, IfOk, All, IsTrue};
+ghost use Rattle.std.specs.Prelude.{◌≡◌, ◌<◌, ◌≤◌, ◌+◌, ◌*◌, ◌↔◌, ℕ, length, IfOk, All, IsTrue};
 ghost use Rattle.wm_closure.specs.Graph.{HasBit, IsOrdered, IsOneSet, IsColumn, AreAllArrivals, AreArrivals, AreLanes, Lowers, Reaches};
 
 use rayon::prelude::*;
@@ -129,13 +129,13 @@ pub struct Closure {
 
 impl Model for Closure {
     ghost use Rattle.std.specs.Prelude.{List, ℕ};
-    ghost use Rattle.wm_closure.specs.Graph.{AreAllArrivals, AreLanes, IsOrdered};
+    ghost use Rattle.wm_closure.specs.Graph.{IsClosureOf};
 
     ghost Value = { List (List ℕ) };
 
     ghost view = { λ c. c.graph.items };
 
-    ghost invariant = { λ c. IsOrdered c.graph.items × AreLanes c.graph.items c.lanes.items c.width × AreAllArrivals c.graph.items c.lanes.items c.width c.arrivals.items };
+    ghost invariant = { λ c. IsClosureOf c.graph.items c.lanes.items c.width c.arrivals.items };
 }
 
 impl Closure {

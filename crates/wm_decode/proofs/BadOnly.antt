@@ -4,7 +4,7 @@ use Rattle.std.specs.Str.{is_utf8}
 use Rattle.wm_decode.specs.declared.fault.ItemFault.{ItemFault}
 use Rattle.wm_decode.specs.declared.fault.ItemFault.TheVariants.{OutOfMemory, WithLeft}
 use Rattle.wm_decode.specs.Stop.{Stop, bad}
-use Rattle.wm_decode.specs.Answers.{Fails, IsNoLimit, stop_of}
+use Rattle.wm_decode.specs.Implements.{Fails, IsNoLimit, stop_of}
 use Rattle.wm_decode.specs.Reading.{◌>>=◌, unsigned_at}
 use Rattle.wm_decode.specs.ReadingVectors.{u32_at, byte_vector_at, name_at}
 

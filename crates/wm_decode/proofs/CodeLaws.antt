@@ -23,26 +23,26 @@ use Rattle.wm_decode.proofs.NumberLaws.{unsigned_takes, unsigned_again}
 use Rattle.wm_decode.proofs.Lawful.{Lawful, sized_lawful}
 use Rattle.wm_decode.proofs.BodyAgain.{ends, spelled_again, closed_again}
 use Rattle.wm_decode.proofs.BodyTakes.{closed_takes}
-use Rattle.wm_decode.proofs.Turns.{instrs_take_in}
+use Rattle.wm_decode.proofs.Fuel.{instrs_take_in}
 use Rattle.wm_decode.proofs.TypeLaws.{value_takes, value_again}
 
 locals_length : (n : ℕ) (ty : ValType) → length (locals_of n ty) ≡ n
 locals_length zero ty = refl
 locals_length (suc n) ty = ap suc (locals_length n ty)
 
-record EntryTook (room : ℕ) (bytes : List ℕ) (n : ℕ) (ty : ValType) (rest : List ℕ) : Type 0 where
+record EntryTook (depth_left : ℕ) (bytes : List ℕ) (n : ℕ) (ty : ValType) (rest : List ℕ) : Type 0 where
   text : List ℕ
   parts : bytes ≡ text ++ value_type ty ∷ rest
   counted : U32 text n
-  small : n ≤ room
+  small : n ≤ depth_left
 
-entry_takes : (room : ℕ) (bytes : List ℕ) (n : ℕ) (ty : ValType) (rest : List ℕ) → IsBytes bytes → local_entry_at room bytes ≡ Ok ((n, ty), rest) → EntryTook room bytes n ty rest
+entry_takes : (depth_left : ℕ) (bytes : List ℕ) (n : ℕ) (ty : ValType) (rest : List ℕ) → IsBytes bytes → local_entry_at depth_left bytes ≡ Ok ((n, ty), rest) → EntryTook depth_left bytes n ty rest
 unfolding local_entry_at
-entry_takes room bytes n ty rest fits e =
+entry_takes depth_left bytes n ty rest fits e =
     let last = λ (n : ℕ) (ty : ValType × List ℕ). let p : ℕ × ValType = (n, ty.0) in answered p ty.1 in
-    let a = bound (u32_at bytes) (λ count. cond (ltb room count.0) (Err (past limit.Locals)) (value_type_at count.1 >>= last count.0)) ((n, ty), rest) e in
+    let a = bound (u32_at bytes) (λ count. cond (ltb depth_left count.0) (Err (past limit.Locals)) (value_type_at count.1 >>= last count.0)) ((n, ty), rest) e in
     let t = unsigned_takes (2 ^ 32 - 1) bytes a.0.0 a.0.1 fits a.1 in
-    let w = within (past limit.Locals) (ltb room a.0.0) (value_type_at a.0.1 >>= last a.0.0) ((n, ty), rest) a.2 in
+    let w = within (past limit.Locals) (ltb depth_left a.0.0) (value_type_at a.0.1 >>= last a.0.0) ((n, ty), rest) a.2 in
     let b = bound (value_type_at a.0.1) (last a.0.0) ((n, ty), rest) w.1 in
     let is = pair_is {A = ℕ × ValType} ((a.0.0, b.0.0), b.0.1) ((n, ty), rest) b.2 in
     let n-is : a.0.0 ≡ n = ap (λ (p : ℕ × ValType). p.0) is.0 in
@@ -52,12 +52,12 @@ entry_takes room bytes n ty rest fits e =
       text = t.0;
       parts = t.1 ∙ ap (λ (l : List ℕ). t.0 ++ l) (v ∙ ap (λ (y : ValType). value_type y ∷ b.0.1) ty-is ∙ ap (λ (l : List ℕ). value_type ty ∷ l) is.1);
       counted = subst (λ (k : ℕ). U32 t.0 k) n-is t.2;
-      small = subst (λ (k : ℕ). k ≤ room) n-is (ltb-false room a.0.0 w.0);
+      small = subst (λ (k : ℕ). k ≤ depth_left) n-is (ltb-false depth_left a.0.0 w.0);
     }
 
-entry_again : (room : ℕ) (text : List ℕ) (n : ℕ) (ty : ValType) (rest : List ℕ) → U32 text n → n ≤ room → local_entry_at room (text ++ value_type ty ∷ rest) ≡ Ok ((n, ty), rest)
+entry_again : (depth_left : ℕ) (text : List ℕ) (n : ℕ) (ty : ValType) (rest : List ℕ) → U32 text n → n ≤ depth_left → local_entry_at depth_left (text ++ value_type ty ∷ rest) ≡ Ok ((n, ty), rest)
 unfolding local_entry_at
-entry_again room text n ty rest d small = rw (unsigned_again d (value_type ty ∷ rest), le-ltb room n small, value_again ty rest) refl
+entry_again depth_left text n ty rest d small = rw (unsigned_again d (value_type ty ∷ rest), le-ltb depth_left n small, value_again ty rest) refl
 
 record LocalsTook (most n : ℕ) (earlier : List ValType) (bytes : List ℕ) (all : List ValType) (rest : List ℕ) : Type 0 where
   tys : List ValType
@@ -102,27 +102,27 @@ locals_again (locals {count = t} {text = text} {entries = k} {n = n} {tys = tys}
     let next = locals_again more most (earlier ++ locals_of n ty) rest (omega arith) in
     rw (append_assoc, entry_again (most - length earlier) t n ty (text ++ rest) d small, next) (ap (λ (l : List ValType). answered l rest) (append_assoc earlier (locals_of n ty) tys))
 
-record BlocksTook (room : ℕ) (bytes : List ℕ) (blocks : List (List Instr)) (rest : List ℕ) : Type 0 where
+record BlocksTook (depth_left : ℕ) (bytes : List ℕ) (blocks : List (List Instr)) (rest : List ℕ) : Type 0 where
   text : List ℕ
   body : List Instr
   nested : List (List Instr)
   parts : bytes ≡ text ++ 0x0B ∷ rest
-  spelled : Spells room 1 text body nested
+  spelled : Spells depth_left 1 text body nested
   blocks_are : blocks ≡ body ∷ nested
 
-blocks_take : (room : ℕ) (bytes : List ℕ) (blocks : List (List Instr)) (rest : List ℕ) → IsBytes bytes → blocks_at room bytes ≡ Ok (blocks, rest) → BlocksTook room bytes blocks rest
+blocks_take : (depth_left : ℕ) (bytes : List ℕ) (blocks : List (List Instr)) (rest : List ℕ) → IsBytes bytes → blocks_at depth_left bytes ≡ Ok (blocks, rest) → BlocksTook depth_left bytes blocks rest
 unfolding blocks_at
-blocks_take room bytes blocks rest fits e =
-    let a = bound (closed_with instrs_in room 1 bytes) (λ b. answered {X = List (List Instr)} (b.instrs ∷ b.nested) b.rest) (blocks, rest) e in
-    let c = closed_takes instrs_in room 1 bytes a.0 a.1 in
+blocks_take depth_left bytes blocks rest fits e =
+    let a = bound (closed_with instrs_in depth_left 1 bytes) (λ b. answered {X = List (List Instr)} (b.instrs ∷ b.nested) b.rest) (blocks, rest) e in
+    let c = closed_takes instrs_in depth_left 1 bytes a.0 a.1 in
     let is = pair_is {A = List (List Instr)} (a.0.instrs ∷ a.0.nested, a.0.rest) (blocks, rest) a.2 in
-    let t = instrs_take_in room 1 bytes a.0 fits c.0 in
+    let t = instrs_take_in depth_left 1 bytes a.0 fits c.0 in
     record { text = t.text; body = a.0.instrs; nested = a.0.nested; parts = t.parts ∙ ap (λ (k : ℕ). t.text ++ k ∷ a.0.rest) c.1 ∙ ap (λ (l : List ℕ). t.text ++ 0x0B ∷ l) is.1; spelled = t.spelled; blocks_are = sym is.0 }
 
-blocks_again : (room : ℕ) (text : List ℕ) (body : List Instr) (nested : List (List Instr)) (rest : List ℕ) → Spells room 1 text body nested → blocks_at room (text ++ 0x0B ∷ rest) ≡ Ok (body ∷ nested, rest)
+blocks_again : (depth_left : ℕ) (text : List ℕ) (body : List Instr) (nested : List (List Instr)) (rest : List ℕ) → Spells depth_left 1 text body nested → blocks_at depth_left (text ++ 0x0B ∷ rest) ≡ Ok (body ∷ nested, rest)
 unfolding blocks_at
-blocks_again room text body nested rest d =
-    rw (closed_again instrs_in room 1 (text ++ 0x0B ∷ rest) body nested rest (spelled_again d 0x0B ends rest (length (text ++ 0x0B ∷ rest)) (omega arith))) refl
+blocks_again depth_left text body nested rest d =
+    rw (closed_again instrs_in depth_left 1 (text ++ 0x0B ∷ rest) body nested rest (spelled_again d 0x0B ends rest (length (text ++ 0x0B ∷ rest)) (omega arith))) refl
 
 module _ (bounds : Bounds) where
   -- a function with at most most locals

@@ -4,7 +4,7 @@ use Rattle.std.proofs.lemmas.Bool.{ne_eqb}
 use Rattle.wm_decode.specs.declared.fault.ItemFault.{ItemFault}
 use Rattle.wm_decode.specs.declared.fault.ItemFault.TheVariants.{OutOfMemory, WithLeft}
 use Rattle.wm_decode.specs.Stop.{Stop, bad}
-use Rattle.wm_decode.specs.Answers.{Fails, stop_of}
+use Rattle.wm_decode.specs.Implements.{Fails, stop_of}
 use Rattle.wm_decode.specs.Numbers.{IsBytes}
 use Rattle.wm_decode.specs.Reading.{◌>>=◌}
 use Rattle.wm_decode.specs.ReadingVectors.{byte_vector_at, sized_at}

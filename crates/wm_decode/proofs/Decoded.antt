@@ -9,7 +9,7 @@ use Rattle.wm_decode.specs.declared.fault.DecodeFault.TheVariants.{At, OutOfMemo
 use Rattle.wm_decode.specs.Bounds.{profile}
 use Rattle.wm_decode.specs.Stop.{past}
 use Rattle.wm_decode.specs.Numbers.{IsBytes}
-use Rattle.wm_decode.specs.Answers.{Decodes, IsUnlessMemory}
+use Rattle.wm_decode.specs.Implements.{Decodes, IsUnlessMemory}
 use Rattle.wm_decode.specs.Module.{SpellsWithin}
 use Rattle.wm_decode.specs.ReadingModule.{module_at, whole_at}
 use Rattle.wm_decode.proofs.Steps.{within, ok_is}

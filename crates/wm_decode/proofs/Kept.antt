@@ -85,56 +85,56 @@ module _ (w : Limit) where
 
   -- blocks of which more or fewer may stand in one another
   abbrev Reads : Reader → Reader → Type 0
-  Reads read wide = (room room2 : ℕ) → Agree limit.Nesting room room2 → (at : ℕ) (bytes : List ℕ) → Kept (read room at bytes) (wide room2 at bytes)
+  Reads read wide = (depth_left room2 : ℕ) → Agree limit.Nesting depth_left room2 → (at : ℕ) (bytes : List ℕ) → Kept (read depth_left at bytes) (wide room2 at bytes)
 
   less : (v : Limit) (b c n : ℕ) → Agree v b c → Agree v (b - n) (c - n)
   less v b c n agree = agree_map (λ k. k - n) v b c agree
 
-  opened_kept : (room room2 : ℕ) → Agree limit.Nesting room room2 → (bytes : List ℕ) → Kept (opened_at room bytes) (opened_at room2 bytes)
+  opened_kept : (depth_left room2 : ℕ) → Agree limit.Nesting depth_left room2 → (bytes : List ℕ) → Kept (opened_at depth_left bytes) (opened_at room2 bytes)
   unfolding opened_at
-  opened_kept room room2 agree bytes = limited limit.Nesting (eqb room 0) (eqb room2 0) (agree_map (λ k. eqb k 0) limit.Nesting room room2 agree) (same (block_type_at bytes))
+  opened_kept depth_left room2 agree bytes = limited limit.Nesting (eqb depth_left 0) (eqb room2 0) (agree_map (λ k. eqb k 0) limit.Nesting depth_left room2 agree) (same (block_type_at bytes))
 
   module _ {read wide : Reader} (h : Reads read wide) where
     closed_kept : Reads (closed_with read) (closed_with wide)
     unfolding closed_with
-    closed_kept room room2 agree at bytes = lead _ _ _ (h room room2 agree at bytes)
+    closed_kept depth_left room2 agree at bytes = lead _ _ _ (h depth_left room2 agree at bytes)
 
-    framed_kept : (room room2 : ℕ) → Agree limit.Nesting room room2 → (at : ℕ) (make : Option ValType → ℕ → Instr) (bytes : List ℕ) → Kept (framed_with read room at make bytes) (framed_with wide room2 at make bytes)
+    framed_kept : (depth_left room2 : ℕ) → Agree limit.Nesting depth_left room2 → (at : ℕ) (make : Option ValType → ℕ → Instr) (bytes : List ℕ) → Kept (framed_with read depth_left at make bytes) (framed_with wide room2 at make bytes)
     unfolding framed_with
-    framed_kept room room2 agree at make bytes = bind _ _ _ _ (opened_kept room room2 agree bytes) (λ ty. lead _ _ _ (closed_kept (room - 1) (room2 - 1) (less limit.Nesting room room2 1 agree) (at + 1) ty.1))
+    framed_kept depth_left room2 agree at make bytes = bind _ _ _ _ (opened_kept depth_left room2 agree bytes) (λ ty. lead _ _ _ (closed_kept (depth_left - 1) (room2 - 1) (less limit.Nesting depth_left room2 1 agree) (at + 1) ty.1))
 
-    if_kept : (room room2 : ℕ) → Agree limit.Nesting room room2 → (at : ℕ) (bytes : List ℕ) → Kept (if_with read room at bytes) (if_with wide room2 at bytes)
+    if_kept : (depth_left room2 : ℕ) → Agree limit.Nesting depth_left room2 → (at : ℕ) (bytes : List ℕ) → Kept (if_with read depth_left at bytes) (if_with wide room2 at bytes)
     unfolding if_with
-    if_kept room room2 agree at bytes =
-        let fewer = less limit.Nesting room room2 1 agree in
-        bind _ _ _ _ (opened_kept room room2 agree bytes) (λ ty.
-        bind _ _ _ _ (h (room - 1) (room2 - 1) fewer (at + 1) ty.1) (λ one.
-        test (eqb one.closer 0x0B) (same _) (lead _ _ _ (closed_kept (room - 1) (room2 - 1) fewer (at + 1 + length one.nested + 1) one.rest))))
+    if_kept depth_left room2 agree at bytes =
+        let fewer = less limit.Nesting depth_left room2 1 agree in
+        bind _ _ _ _ (opened_kept depth_left room2 agree bytes) (λ ty.
+        bind _ _ _ _ (h (depth_left - 1) (room2 - 1) fewer (at + 1) ty.1) (λ one.
+        test (eqb one.closer 0x0B) (same _) (lead _ _ _ (closed_kept (depth_left - 1) (room2 - 1) fewer (at + 1 + length one.nested + 1) one.rest))))
 
-    instr_kept : (room room2 : ℕ) → Agree limit.Nesting room room2 → (at op : ℕ) (bytes : List ℕ) → Kept (instr_with read room at op bytes) (instr_with wide room2 at op bytes)
+    instr_kept : (depth_left room2 : ℕ) → Agree limit.Nesting depth_left room2 → (at op : ℕ) (bytes : List ℕ) → Kept (instr_with read depth_left at op bytes) (instr_with wide room2 at op bytes)
     unfolding instr_with
-    instr_kept room room2 agree at op bytes =
-        test (eqb op 0x02) (framed_kept room room2 agree at instr.Block bytes) (
-        test (eqb op 0x03) (framed_kept room room2 agree at instr.Loop bytes) (
-        test (eqb op 0x04) (if_kept room room2 agree at bytes) (same _)))
+    instr_kept depth_left room2 agree at op bytes =
+        test (eqb op 0x02) (framed_kept depth_left room2 agree at instr.Block bytes) (
+        test (eqb op 0x03) (framed_kept depth_left room2 agree at instr.Loop bytes) (
+        test (eqb op 0x04) (if_kept depth_left room2 agree at bytes) (same _)))
 
   instrs_kept : (fuel : ℕ) → Reads (instrs_at fuel) (instrs_at fuel)
   unfolding instrs_at
-  instrs_kept zero room room2 agree at bytes = same (Err bad)
-  instrs_kept (suc fuel) room room2 agree at [] = same (Err bad)
-  instrs_kept (suc fuel) room room2 agree at (op ∷ bytes) =
+  instrs_kept zero depth_left room2 agree at bytes = same (Err bad)
+  instrs_kept (suc fuel) depth_left room2 agree at [] = same (Err bad)
+  instrs_kept (suc fuel) depth_left room2 agree at (op ∷ bytes) =
       test (eqb op 0x0B) (same _) (
       test (eqb op 0x05) (same _) (
-      bind _ _ _ _ (instr_kept (instrs_kept fuel) room room2 agree at op bytes) (λ one.
-      lead _ _ _ (instrs_kept fuel room room2 agree (at + length one.nested) one.rest))))
+      bind _ _ _ _ (instr_kept (instrs_kept fuel) depth_left room2 agree at op bytes) (λ one.
+      lead _ _ _ (instrs_kept fuel depth_left room2 agree (at + length one.nested) one.rest))))
 
-  blocks_kept : (room room2 : ℕ) → Agree limit.Nesting room room2 → (bytes : List ℕ) → Kept (blocks_at room bytes) (blocks_at room2 bytes)
+  blocks_kept : (depth_left room2 : ℕ) → Agree limit.Nesting depth_left room2 → (bytes : List ℕ) → Kept (blocks_at depth_left bytes) (blocks_at room2 bytes)
   unfolding blocks_at
-  blocks_kept room room2 agree bytes = lead _ _ _ (closed_kept {read = instrs_in} {wide = instrs_in} (λ k k2 same at rest. instrs_kept (length rest) k k2 same at rest) room room2 agree 1 bytes)
+  blocks_kept depth_left room2 agree bytes = lead _ _ _ (closed_kept {read = instrs_in} {wide = instrs_in} (λ k k2 same at rest. instrs_kept (length rest) k k2 same at rest) depth_left room2 agree 1 bytes)
 
-  entry_kept : (room room2 : ℕ) → Agree limit.Locals room room2 → (bytes : List ℕ) → Kept (local_entry_at room bytes) (local_entry_at room2 bytes)
+  entry_kept : (depth_left room2 : ℕ) → Agree limit.Locals depth_left room2 → (bytes : List ℕ) → Kept (local_entry_at depth_left bytes) (local_entry_at room2 bytes)
   unfolding local_entry_at
-  entry_kept room room2 agree bytes = next _ _ _ (λ count. limited limit.Locals (ltb room count.0) (ltb room2 count.0) (agree_map (λ k. ltb k count.0) limit.Locals room room2 agree) (same _))
+  entry_kept depth_left room2 agree bytes = next _ _ _ (λ count. limited limit.Locals (ltb depth_left count.0) (ltb room2 count.0) (agree_map (λ k. ltb k count.0) limit.Locals depth_left room2 agree) (same _))
 
   locals_kept : (most most2 : ℕ) → Agree limit.Locals most most2 → (bytes : List ℕ) → Kept (locals_at most bytes) (locals_at most2 bytes)
   unfolding locals_at

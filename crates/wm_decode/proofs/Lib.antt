@@ -6,7 +6,7 @@ pub mod Names
 pub mod Lawful
 pub mod BodyAgain
 pub mod BodyTakes
-pub mod Turns
+pub mod Fuel
 pub mod SoFar
 pub mod Placed
 pub mod MoreLoop

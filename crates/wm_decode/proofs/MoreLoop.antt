@@ -8,7 +8,7 @@ use Rattle.wm_decode.specs.declared.fault.ItemFault.{ItemFault}
 use Rattle.wm_decode.specs.declared.fault.ItemFault.TheVariants.{OutOfMemory, WithLeft}
 use Rattle.wm_decode.specs.Bounds.{Bounds}
 use Rattle.wm_decode.specs.Stop.{Stop}
-use Rattle.wm_decode.specs.Answers.{Fails, stop_of}
+use Rattle.wm_decode.specs.Implements.{Fails, stop_of}
 use Rattle.wm_decode.specs.Reading.{◌>>=◌}
 use Rattle.wm_decode.specs.Parts.{locals_of}
 use Rattle.wm_decode.specs.ReadingVectors.{more_at, sized_at}

@@ -13,17 +13,17 @@ use Rattle.wm_decode.proofs.Steps.{ok_is}
 use Rattle.wm_decode.proofs.SectionLaws.{section_map}
 use Rattle.wm_decode.proofs.Spelled.{module_again}
 
--- more room
-more_room : {room next : ℕ} {text : List ℕ} {is : List Instr} {bs : List (List Instr)} → Spells room next text is bs → (k : ℕ) → room ≤ k → Spells k next text is bs
+-- a greater depth
+more_room : {depth_left next : ℕ} {text : List ℕ} {is : List Instr} {bs : List (List Instr)} → Spells depth_left next text is bs → (k : ℕ) → depth_left ≤ k → Spells k next text is bs
 more_room none k le = none
 more_room (plain p d) k le = plain p (more_room d k le)
-more_room (block {room = room} h d e) k le = block (omega arith) (more_room d (k - 1) (omega arith)) (more_room e k le)
-more_room (loop {room = room} h d e) k le = loop (omega arith) (more_room d (k - 1) (omega arith)) (more_room e k le)
-more_room (if_then {room = room} h d e) k le = if_then (omega arith) (more_room d (k - 1) (omega arith)) (more_room e k le)
-more_room (if_else {room = room} h d g e) k le = if_else (omega arith) (more_room d (k - 1) (omega arith)) (more_room g (k - 1) (omega arith)) (more_room e k le)
+more_room (block {depth_left = depth_left} h d e) k le = block (omega arith) (more_room d (k - 1) (omega arith)) (more_room e k le)
+more_room (loop {depth_left = depth_left} h d e) k le = loop (omega arith) (more_room d (k - 1) (omega arith)) (more_room e k le)
+more_room (if_then {depth_left = depth_left} h d e) k le = if_then (omega arith) (more_room d (k - 1) (omega arith)) (more_room e k le)
+more_room (if_else {depth_left = depth_left} h d g e) k le = if_else (omega arith) (more_room d (k - 1) (omega arith)) (more_room g (k - 1) (omega arith)) (more_room e k le)
 
-body_room : (room k index : ℕ) (text : List ℕ) (f : Func) → room ≤ k → FunctionBody room index text f → FunctionBody k index text f
-body_room room k index text f le b = record {
+body_room : (depth_left k index : ℕ) (text : List ℕ) (f : Func) → depth_left ≤ k → FunctionBody depth_left index text f → FunctionBody k index text f
+body_room depth_left k index text f le b = record {
   entries = b.entries;
   first = b.first;
   second = b.second;
@@ -38,13 +38,13 @@ body_room room k index text f le b = record {
   typed = b.typed;
 }
 
-functions_room : {room : ℕ} {indices text : List ℕ} {fs : List Func} (k : ℕ) → room ≤ k → Functions room indices text fs → Functions k indices text fs
+functions_room : {depth_left : ℕ} {indices text : List ℕ} {fs : List Func} (k : ℕ) → depth_left ≤ k → Functions depth_left indices text fs → Functions k indices text fs
 functions_room k le no_function = no_function
-functions_room {room = room} k le (function {index = index} {f = f} s more) =
-    function (record { size = s.size; content = s.content; parts = s.parts; counted = s.counted; spelled = body_room room k index s.content f le s.spelled }) (functions_room k le more)
+functions_room {depth_left = depth_left} k le (function {index = index} {f = f} s more) =
+    function (record { size = s.size; content = s.content; parts = s.parts; counted = s.counted; spelled = body_room depth_left k index s.content f le s.spelled }) (functions_room k le more)
 
-module_room : (room k : ℕ) (text : List ℕ) (m : Module) → room ≤ k → SpellsModule room text m → SpellsModule k text m
-module_room room k text m le s = record {
+module_room : (depth_left k : ℕ) (text : List ℕ) (m : Module) → depth_left ≤ k → SpellsModule depth_left text m → SpellsModule k text m
+module_room depth_left k text m le s = record {
   custom_text = s.custom_text;
   type_text = s.type_text;
   import_text = s.import_text;
@@ -107,37 +107,37 @@ locals_kept bounds types [] le = tt
 locals_kept bounds types (f ∷ fs) le = (omega arith, locals_kept bounds types fs (omega arith))
 
 enough : ℕ → Module → Module → Bounds
-enough room m n = record {
+enough depth_left m n = record {
   pages = pages_in m.memory + pages_in n.memory;
   functions = length m.funcs + length n.funcs;
   locals = locals_in m.types m.funcs + locals_in n.types n.funcs;
-  nesting = room;
+  nesting = depth_left;
 }
 
-first_kept : (room : ℕ) (m n : Module) → Within (enough room m n) m
+first_kept : (depth_left : ℕ) (m n : Module) → Within (enough depth_left m n) m
 unfolding enough
-first_kept room m n = record {
+first_kept depth_left m n = record {
   pages = pages_kept m.memory (pages_in m.memory + pages_in n.memory) (omega arith);
   functions = omega arith;
-  locals = locals_kept (enough room m n) m.types m.funcs (omega arith);
+  locals = locals_kept (enough depth_left m n) m.types m.funcs (omega arith);
 }
 
-second_kept : (room : ℕ) (m n : Module) → Within (enough room m n) n
+second_kept : (depth_left : ℕ) (m n : Module) → Within (enough depth_left m n) n
 unfolding enough
-second_kept room m n = record {
+second_kept depth_left m n = record {
   pages = pages_kept n.memory (pages_in m.memory + pages_in n.memory) (omega arith);
   functions = omega arith;
-  locals = locals_kept (enough room m n) n.types n.funcs (omega arith);
+  locals = locals_kept (enough depth_left m n) n.types n.funcs (omega arith);
 }
 
-nesting_is : (room : ℕ) (m n : Module) → (enough room m n).nesting ≡ room
+nesting_is : (depth_left : ℕ) (m n : Module) → (enough depth_left m n).nesting ≡ depth_left
 unfolding enough
-nesting_is room m n = refl
+nesting_is depth_left m n = refl
 
 pub one_module : (bytes : List ℕ) (m n : Module) → spells bytes m → spells bytes n → m ≡ n
 one_module bytes m n s t =
-    let room = s.0 + t.0 in
-    let is = sym (nesting_is room m n) in
-    let one = subst (λ (k : ℕ). SpellsModule k bytes m) is (module_room s.0 room bytes m (omega arith) s.1) in
-    let two = subst (λ (k : ℕ). SpellsModule k bytes n) is (module_room t.0 room bytes n (omega arith) t.1) in
-    ok_is m n (sym (module_again (enough room m n) bytes m one (first_kept room m n)) ∙ module_again (enough room m n) bytes n two (second_kept room m n))
+    let depth_left = s.0 + t.0 in
+    let is = sym (nesting_is depth_left m n) in
+    let one = subst (λ (k : ℕ). SpellsModule k bytes m) is (module_room s.0 depth_left bytes m (omega arith) s.1) in
+    let two = subst (λ (k : ℕ). SpellsModule k bytes n) is (module_room t.0 depth_left bytes n (omega arith) t.1) in
+    ok_is m n (sym (module_again (enough depth_left m n) bytes m one (first_kept depth_left m n)) ∙ module_again (enough depth_left m n) bytes n two (second_kept depth_left m n))

@@ -8,7 +8,7 @@ use Rattle.wm_decode.specs.declared.fault.Limit.{Limit}
 use Rattle.wm_decode.specs.declared.fault.Limit.TheVariants as limit
 use Rattle.wm_decode.specs.Bounds.{Bounds, profile}
 use Rattle.wm_decode.specs.Stop.{Stop, past}
-use Rattle.wm_decode.specs.Answers.{Decodes, RefusedBy}
+use Rattle.wm_decode.specs.Implements.{Decodes, RefusedBy}
 use Rattle.wm_decode.specs.Module.{SpellsModule, Within, IsPast, spells}
 use Rattle.wm_decode.specs.ReadingModule.{module_at, whole_at}
 use Rattle.wm_decode.proofs.Steps.{chosen}

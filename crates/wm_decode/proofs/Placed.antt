@@ -8,33 +8,33 @@ use Rattle.wm_ast.specs.declared.instr.Instr.{Instr}
 use Rattle.wm_ast.specs.declared.types.ValType.{ValType}
 use Rattle.wm_decode.specs.declared.fault.ItemFault.{ItemFault}
 use Rattle.wm_decode.specs.declared.fault.ItemFault.TheVariants.{OutOfMemory, WithLeft}
-use Rattle.wm_decode.specs.Answers.{Fails, stop_of}
+use Rattle.wm_decode.specs.Implements.{Fails, stop_of}
 use Rattle.wm_decode.specs.ReadingInstructions.{Body, instrs_in, closed_in, opened_at, if_with}
 
-pub record Placed (room : ℕ) (old new : List (List Instr)) (bytes : List ℕ) (body : List Instr) (number closer : ℕ) (rest : List ℕ) : Type 0 where
+pub record Placed (depth_left : ℕ) (old new : List (List Instr)) (bytes : List ℕ) (body : List Instr) (number closer : ℕ) (rest : List ℕ) : Type 0 where
   pub b : Body
   pub put : set new number body ≡ old ++ b.instrs ∷ b.nested
-  pub read : instrs_in room (length old + 1) bytes ≡ Ok b
+  pub read : instrs_in depth_left (length old + 1) bytes ≡ Ok b
   pub closer_is : b.closer ≡ closer
   pub rest_is : b.rest ≡ rest
 
-pub placed : (room : ℕ) (old mid new : List (List Instr)) (bytes : List ℕ) (kept body : List Instr) (nested : List (List Instr)) (number closer : ℕ) (rest : List ℕ) → number ≡ length old → mid ≡ old ++ kept ∷ [] → new ≡ mid ++ nested
-    → instrs_in room (length mid) bytes ≡ Ok (record { instrs = body; nested = nested; closer = closer; rest = rest }) → Placed room old new bytes body number closer rest
-placed room old mid new bytes kept body nested number closer rest n-is mid-is new-is read = record {
+pub placed : (depth_left : ℕ) (old mid new : List (List Instr)) (bytes : List ℕ) (kept body : List Instr) (nested : List (List Instr)) (number closer : ℕ) (rest : List ℕ) → number ≡ length old → mid ≡ old ++ kept ∷ [] → new ≡ mid ++ nested
+    → instrs_in depth_left (length mid) bytes ≡ Ok (record { instrs = body; nested = nested; closer = closer; rest = rest }) → Placed depth_left old new bytes body number closer rest
+placed depth_left old mid new bytes kept body nested number closer rest n-is mid-is new-is read = record {
   b = record { instrs = body; nested = nested; closer = closer; rest = rest };
   put = rw (new-is, mid-is, n-is, append_assoc) (set-append_seam old kept nested body);
-  read = let k : length mid ≡ length old + 1 = omega (arith, ap length mid-is, length-append old (kept ∷ [])) in ap (λ (n : ℕ). instrs_in room n bytes) (sym k) ∙ read;
+  read = let k : length mid ≡ length old + 1 = omega (arith, ap length mid-is, length-append old (kept ∷ [])) in ap (λ (n : ℕ). instrs_in depth_left n bytes) (sym k) ∙ read;
   closer_is = refl;
   rest_is = refl;
 }
 
 -- an else part that could not be read
-pub else_fails : (e : ItemFault) (room : ℕ) (old new : List (List Instr)) (bytes mid rest : List ℕ) (ty : Option ValType) (b : Body) (closer : ℕ) → opened_at room bytes ≡ Ok (ty, mid) → new ≡ old ++ b.instrs ∷ b.nested
-    → instrs_in (room - 1) (length old + 1) mid ≡ Ok b → b.closer ≡ closer → b.rest ≡ rest → (closer ≡ 0x0B → ⊥) → Fails e (closed_in (room - 1) (length new + 1) rest) → Fails e (if_with instrs_in room (length old) bytes)
+pub else_fails : (e : ItemFault) (depth_left : ℕ) (old new : List (List Instr)) (bytes mid rest : List ℕ) (ty : Option ValType) (b : Body) (closer : ℕ) → opened_at depth_left bytes ≡ Ok (ty, mid) → new ≡ old ++ b.instrs ∷ b.nested
+    → instrs_in (depth_left - 1) (length old + 1) mid ≡ Ok b → b.closer ≡ closer → b.rest ≡ rest → (closer ≡ 0x0B → ⊥) → Fails e (closed_in (depth_left - 1) (length new + 1) rest) → Fails e (if_with instrs_in depth_left (length old) bytes)
 unfolding if_with
-else_fails OutOfMemory room old new bytes mid rest ty b closer opened new-is read closer-is rest-is other h = tt
-else_fails (WithLeft kind left) room old new bytes mid rest ty b closer opened new-is read closer-is rest-is other h =
+else_fails OutOfMemory depth_left old new bytes mid rest ty b closer opened new-is read closer-is rest-is other h = tt
+else_fails (WithLeft kind left) depth_left old new bytes mid rest ty b closer opened new-is read closer-is rest-is other h =
     let len : length new + 1 ≡ length old + 1 + length b.nested + 1 = omega (arith, ap length new-is, length-append old (b.instrs ∷ b.nested)) in
-    let h2 : closed_in (room - 1) (length old + 1 + length b.nested + 1) b.rest ≡ Err (stop_of kind) =
-    ap (λ (n : ℕ). closed_in (room - 1) n b.rest) (sym len) ∙ ap (closed_in (room - 1) (length new + 1)) rest-is ∙ h in
+    let h2 : closed_in (depth_left - 1) (length old + 1 + length b.nested + 1) b.rest ≡ Err (stop_of kind) =
+    ap (λ (n : ℕ). closed_in (depth_left - 1) n b.rest) (sym len) ∙ ap (closed_in (depth_left - 1) (length new + 1)) rest-is ∙ h in
     rw (opened, read, ne_eqb b.closer 0x0B (λ k. other (sym closer-is ∙ k)), h2) refl

@@ -4,7 +4,7 @@ use Rattle.std.proofs.lemmas.List.{append-nil}
 use Rattle.wm_decode.specs.declared.fault.ItemFault.{ItemFault}
 use Rattle.wm_decode.specs.declared.fault.ItemFault.TheVariants.{OutOfMemory, WithLeft}
 use Rattle.wm_decode.specs.Stop.{Stop}
-use Rattle.wm_decode.specs.Answers.{Fails, stop_of}
+use Rattle.wm_decode.specs.Implements.{Fails, stop_of}
 use Rattle.wm_decode.specs.Reading.{◌>>=◌}
 use Rattle.wm_decode.specs.ReadingVectors.{items_at}
 

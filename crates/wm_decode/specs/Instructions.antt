@@ -39,40 +39,40 @@ abbrev pub access_instr : AccessKind → ℕ → ℕ → Instr
 access_instr kind alignment offset = instr.Access kind (record { alignment = alignment; offset = offset })
 
 -- The bytes behind an opcode spell the rest of the instruction.
-pub data Operands : Opcode → List ℕ → Instr → Type 0 where
-  alone : {i : Instr} → Operands (opcode.Alone i) [] i
-  indexed : {kind : Indexed} {text : List ℕ} {n : ℕ} → U32 text n → Operands (opcode.Indexed kind) text (indexed_instr kind n)
-  br_table : {first second : List ℕ} {labels : List ℕ} {other : ℕ} → Vector U32 first labels → U32 second other → Operands opcode.BrTable (first ++ second) (instr.BrTable labels other)
+pub data Immediates : Opcode → List ℕ → Instr → Type 0 where
+  alone : {i : Instr} → Immediates (opcode.NoImmediates i) [] i
+  indexed : {kind : Indexed} {text : List ℕ} {n : ℕ} → U32 text n → Immediates (opcode.Indexed kind) text (indexed_instr kind n)
+  br_table : {first second : List ℕ} {labels : List ℕ} {other : ℕ} → Vector U32 first labels → U32 second other → Immediates opcode.BrTable (first ++ second) (instr.BrTable labels other)
   access : {kind : AccessKind} {first second : List ℕ} {alignment offset : ℕ} →
-      U32 first alignment → U32 second offset → Operands (opcode.Access kind) (first ++ second) (access_instr kind alignment offset)
-  memory_size : Operands opcode.MemorySize (0x00 ∷ []) instr.MemorySize
-  i32_const : {text : List ℕ} {n : ℕ} → Signed (2 ^ 32 - 1) text n → Operands opcode.I32Const text (instr.I32Const n)
-  i64_const : {text : List ℕ} {n : ℕ} → Signed (2 ^ 64 - 1) text n → Operands opcode.I64Const text (instr.I64Const n)
+      U32 first alignment → U32 second offset → Immediates (opcode.Access kind) (first ++ second) (access_instr kind alignment offset)
+  memory_size : Immediates opcode.MemorySize (0x00 ∷ []) instr.MemorySize
+  i32_const : {text : List ℕ} {n : ℕ} → Signed (2 ^ 32 - 1) text n → Immediates opcode.I32Const text (instr.I32Const n)
+  i64_const : {text : List ℕ} {n : ℕ} → Signed (2 ^ 64 - 1) text n → Immediates opcode.I64Const text (instr.I64Const n)
   atomic : {kind : AccessKind} {code : ℕ} {text first second : List ℕ} {alignment offset : ℕ} →
       U32 text code → atomic_at code ≡ Some kind → U32 first alignment → U32 second offset →
-      Operands opcode.Atomic (text ++ (first ++ second)) (access_instr kind alignment offset)
+      Immediates opcode.Atomic (text ++ (first ++ second)) (access_instr kind alignment offset)
 
 -- The bytes spell an instruction that has no block of its own.
 pub data Plain : List ℕ → Instr → Type 0 where
-  plain_instr : {code : ℕ} {op : Opcode} {text : List ℕ} {i : Instr} → opcode_at code ≡ Some op → Operands op text i → Plain (code ∷ text) i
+  plain_instr : {code : ℕ} {op : Opcode} {text : List ℕ} {i : Instr} → opcode_at code ≡ Some op → Immediates op text i → Plain (code ∷ text) i
 
--- `Spells room next text instrs nested`: the bytes spell the instructions, and nested are the blocks that begin among them, in the order
--- in which they begin; the first of these has the number next, and each other the number after the last. At most room of them stand in one another.
+-- `Spells depth_left next text instrs nested`: the bytes spell the instructions, and nested are the blocks that begin among them, in the order
+-- in which they begin; the first of these has the number next, and each other the number after the last. They nest at most depth_left deep.
 -- An `if` has two blocks. An absent else part is an empty one.
 pub data Spells : ℕ → ℕ → List ℕ → List Instr → List (List Instr) → Type 0 where
-  none : {room next : ℕ} → Spells room next [] [] []
-  plain : {room next : ℕ} {text rest : List ℕ} {i : Instr} {is : List Instr} {bs : List (List Instr)} →
-      Plain text i → Spells room next rest is bs → Spells room next (text ++ rest) (i ∷ is) bs
-  block : {room next : ℕ} {ty : Option ValType} {inner rest : List ℕ} {body is : List Instr} {bs cs : List (List Instr)} →
-      0 < room → Spells (room - 1) (next + 1) inner body bs → Spells room (next + 1 + length bs) rest is cs →
-      Spells room next (0x02 ∷ block_type ty ∷ inner ++ 0x0B ∷ rest) (instr.Block ty next ∷ is) (body ∷ bs ++ cs)
-  loop : {room next : ℕ} {ty : Option ValType} {inner rest : List ℕ} {body is : List Instr} {bs cs : List (List Instr)} →
-      0 < room → Spells (room - 1) (next + 1) inner body bs → Spells room (next + 1 + length bs) rest is cs →
-      Spells room next (0x03 ∷ block_type ty ∷ inner ++ 0x0B ∷ rest) (instr.Loop ty next ∷ is) (body ∷ bs ++ cs)
-  if_then : {room next : ℕ} {ty : Option ValType} {inner rest : List ℕ} {yes is : List Instr} {bs cs : List (List Instr)} →
-      0 < room → Spells (room - 1) (next + 1) inner yes bs → Spells room (next + 1 + length bs + 1) rest is cs →
-      Spells room next (0x04 ∷ block_type ty ∷ inner ++ 0x0B ∷ rest) (instr.If ty next (next + 1 + length bs) Absent ∷ is) (yes ∷ bs ++ [] ∷ cs)
-  if_else : {room next : ℕ} {ty : Option ValType} {first second rest : List ℕ} {yes no is : List Instr} {bs cs ds : List (List Instr)} →
-      0 < room → Spells (room - 1) (next + 1) first yes bs → Spells (room - 1) (next + 1 + length bs + 1) second no cs →
-      Spells room (next + 1 + length bs + 1 + length cs) rest is ds →
-      Spells room next (0x04 ∷ block_type ty ∷ first ++ 0x05 ∷ second ++ 0x0B ∷ rest) (instr.If ty next (next + 1 + length bs) Present ∷ is) (yes ∷ bs ++ no ∷ cs ++ ds)
+  none : {depth_left next : ℕ} → Spells depth_left next [] [] []
+  plain : {depth_left next : ℕ} {text rest : List ℕ} {i : Instr} {is : List Instr} {bs : List (List Instr)} →
+      Plain text i → Spells depth_left next rest is bs → Spells depth_left next (text ++ rest) (i ∷ is) bs
+  block : {depth_left next : ℕ} {ty : Option ValType} {inner rest : List ℕ} {body is : List Instr} {bs cs : List (List Instr)} →
+      0 < depth_left → Spells (depth_left - 1) (next + 1) inner body bs → Spells depth_left (next + 1 + length bs) rest is cs →
+      Spells depth_left next (0x02 ∷ block_type ty ∷ inner ++ 0x0B ∷ rest) (instr.Block ty next ∷ is) (body ∷ bs ++ cs)
+  loop : {depth_left next : ℕ} {ty : Option ValType} {inner rest : List ℕ} {body is : List Instr} {bs cs : List (List Instr)} →
+      0 < depth_left → Spells (depth_left - 1) (next + 1) inner body bs → Spells depth_left (next + 1 + length bs) rest is cs →
+      Spells depth_left next (0x03 ∷ block_type ty ∷ inner ++ 0x0B ∷ rest) (instr.Loop ty next ∷ is) (body ∷ bs ++ cs)
+  if_then : {depth_left next : ℕ} {ty : Option ValType} {inner rest : List ℕ} {yes is : List Instr} {bs cs : List (List Instr)} →
+      0 < depth_left → Spells (depth_left - 1) (next + 1) inner yes bs → Spells depth_left (next + 1 + length bs + 1) rest is cs →
+      Spells depth_left next (0x04 ∷ block_type ty ∷ inner ++ 0x0B ∷ rest) (instr.If ty next (next + 1 + length bs) Absent ∷ is) (yes ∷ bs ++ [] ∷ cs)
+  if_else : {depth_left next : ℕ} {ty : Option ValType} {first second rest : List ℕ} {yes no is : List Instr} {bs cs ds : List (List Instr)} →
+      0 < depth_left → Spells (depth_left - 1) (next + 1) first yes bs → Spells (depth_left - 1) (next + 1 + length bs + 1) second no cs →
+      Spells depth_left (next + 1 + length bs + 1 + length cs) rest is ds →
+      Spells depth_left next (0x04 ∷ block_type ty ∷ first ++ 0x05 ∷ second ++ 0x0B ∷ rest) (instr.If ty next (next + 1 + length bs) Present ∷ is) (yes ∷ bs ++ no ∷ cs ++ ds)

@@ -1,13 +1,13 @@
 pub mod Numbers
 pub mod Stop
 pub mod Reading
-pub mod Answers
+pub mod Implements
 pub mod Opcodes
 pub mod Vectors
 pub mod ReadingVectors
 pub mod Instructions
 pub mod ReadingInstructions
-pub mod InstructionAnswers
+pub mod InstructionsRead
 pub mod Bounds
 pub mod Parts
 pub mod ReadingParts

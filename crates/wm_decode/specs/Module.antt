@@ -84,8 +84,8 @@ abbrev pub LocalsWithin : Bounds → List FuncType → List Func → Type 0
 LocalsWithin bounds types [] = Unit {0}
 LocalsWithin bounds types (f ∷ fs) = (params_of types f.type_index + length f.locals ≤ bounds.locals) × LocalsWithin bounds types fs
 
--- The bytes spell a module: the header, custom sections, and at most one section of each kind, in this order. At most room of the blocks of a function stand in one another.
-pub record SpellsModule (room : ℕ) (text : List ℕ) (m : Module) : Type 0 where
+-- The bytes spell a module: the header, custom sections, and at most one section of each kind, in this order. The blocks of a function nest at most depth_left deep.
+pub record SpellsModule (depth_left : ℕ) (text : List ℕ) (m : Module) : Type 0 where
   pub custom_text : List ℕ
   pub type_text : List ℕ
   pub import_text : List ℕ
@@ -120,7 +120,7 @@ pub record SpellsModule (room : ℕ) (text : List ℕ) (m : Module) : Type 0 whe
   pub export_section : Section ExportVector 7 export_text exports
   pub element_section : Section NoItems 9 element_text elements
   pub count_section : Section U32 12 count_text count
-  pub code_section : Section (FunctionVector room (items_of indices)) 10 code_text funcs
+  pub code_section : Section (FunctionVector depth_left (items_of indices)) 10 code_text funcs
   pub data_section : Section (Vector Segment) 11 data_text segments
   -- there is at most one memory
   pub one_memory : is_some (option_flatten imported) ≡ true → option_flatten defined ≡ None
@@ -137,7 +137,7 @@ pub record Within (bounds : Bounds) (m : Module) : Type 0 where
 
 -- The bytes spell the module.
 abbrev pub spells : List ℕ → Module → Type 0
-spells bytes m = (room : ℕ) × SpellsModule room bytes m
+spells bytes m = (depth_left : ℕ) × SpellsModule depth_left bytes m
 
 -- The bytes spell the module, and both are within the limits of this project.
 pub record SpellsWithin (bytes : List ℕ) (m : Module) : Type 0 where

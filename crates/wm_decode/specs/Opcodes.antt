@@ -16,7 +16,7 @@ use Rattle.wm_ast.specs.declared.access.AccessKind.TheVariants.{Read, ReadSigned
 use Rattle.wm_ast.specs.declared.instr.Instr.TheVariants as instr
 use Rattle.wm_decode.specs.declared.opcode.Indexed.TheVariants.{Br, BrIf, Call, LocalGet, LocalSet, LocalTee, GlobalGet, GlobalSet}
 use Rattle.wm_decode.specs.declared.opcode.Opcode.{Opcode}
-use Rattle.wm_decode.specs.declared.opcode.Opcode.TheVariants.{Alone, Indexed, BrTable, Access, MemorySize, I32Const, I64Const, Atomic}
+use Rattle.wm_decode.specs.declared.opcode.Opcode.TheVariants.{NoImmediates, Indexed, BrTable, Access, MemorySize, I32Const, I64Const, Atomic}
 
 -- the first entry of this code
 abbrev pub lookup : {X : Type 0} → ℕ → List (ℕ × X) → Option X
@@ -30,9 +30,9 @@ from code (x ∷ xs) = (code, x) ∷ from (suc code) xs
 
 abbrev pub control_opcodes : List (ℕ × Opcode)
 control_opcodes =
-    (0x00, Alone instr.Unreachable) ∷ (0x01, Alone instr.Nop) ∷
-    (0x0C, Indexed Br) ∷ (0x0D, Indexed BrIf) ∷ (0x0E, BrTable) ∷ (0x0F, Alone instr.Return) ∷ (0x10, Indexed Call) ∷
-    (0x1A, Alone instr.Drop) ∷ (0x1B, Alone instr.Select) ∷
+    (0x00, NoImmediates instr.Unreachable) ∷ (0x01, NoImmediates instr.Nop) ∷
+    (0x0C, Indexed Br) ∷ (0x0D, Indexed BrIf) ∷ (0x0E, BrTable) ∷ (0x0F, NoImmediates instr.Return) ∷ (0x10, Indexed Call) ∷
+    (0x1A, NoImmediates instr.Drop) ∷ (0x1B, NoImmediates instr.Select) ∷
     (0x20, Indexed LocalGet) ∷ (0x21, Indexed LocalSet) ∷ (0x22, Indexed LocalTee) ∷ (0x23, Indexed GlobalGet) ∷ (0x24, Indexed GlobalSet) ∷ []
 
 abbrev pub memory_opcodes : List (ℕ × Opcode)
@@ -47,12 +47,12 @@ memory_opcodes =
 
 abbrev pub comparisons : Width → List Opcode
 comparisons w =
-    Alone (instr.Eqz w) ∷ map (λ op. Alone (instr.Compare op w)) (compare.Eq ∷ compare.Ne ∷ compare.LtS ∷ compare.LtU ∷ compare.GtS ∷ compare.GtU ∷ compare.LeS ∷ compare.LeU ∷ compare.GeS ∷ compare.GeU ∷ [])
+    NoImmediates (instr.Eqz w) ∷ map (λ op. NoImmediates (instr.Compare op w)) (compare.Eq ∷ compare.Ne ∷ compare.LtS ∷ compare.LtU ∷ compare.GtS ∷ compare.GtU ∷ compare.LeS ∷ compare.LeU ∷ compare.GeS ∷ compare.GeU ∷ [])
 
 abbrev pub arithmetic : Width → List Opcode
 arithmetic w =
-    map (λ op. Alone (instr.Unary op w)) (Clz ∷ Ctz ∷ Popcnt ∷ [])
-    ++ map (λ op. Alone (instr.Binary op w)) (binary.Add ∷ binary.Sub ∷ binary.Mul ∷ binary.DivS ∷ binary.DivU ∷ binary.RemS ∷ binary.RemU ∷ binary.And ∷ binary.Or ∷ binary.Xor ∷ binary.Shl ∷ binary.ShrS ∷ binary.ShrU ∷ binary.Rotl ∷ binary.Rotr ∷ [])
+    map (λ op. NoImmediates (instr.Unary op w)) (Clz ∷ Ctz ∷ Popcnt ∷ [])
+    ++ map (λ op. NoImmediates (instr.Binary op w)) (binary.Add ∷ binary.Sub ∷ binary.Mul ∷ binary.DivS ∷ binary.DivU ∷ binary.RemS ∷ binary.RemU ∷ binary.And ∷ binary.Or ∷ binary.Xor ∷ binary.Shl ∷ binary.ShrS ∷ binary.ShrU ∷ binary.Rotl ∷ binary.Rotr ∷ [])
 
 abbrev pub comparison_opcodes : List (ℕ × Opcode)
 comparison_opcodes = from 0x45 (comparisons W32) ++ from 0x50 (comparisons W64)
@@ -66,7 +66,7 @@ arithmetic_64_opcodes = from 0x79 (arithmetic W64)
 abbrev pub other_opcodes : List (ℕ × Opcode)
 other_opcodes =
     (0x41, I32Const) ∷ (0x42, I64Const) ∷
-    (0xA7, Alone (instr.Convert WrapI64)) ∷ (0xAC, Alone (instr.Convert ExtendI32S)) ∷ (0xAD, Alone (instr.Convert ExtendI32U)) ∷ (0xFE, Atomic) ∷ []
+    (0xA7, NoImmediates (instr.Convert WrapI64)) ∷ (0xAC, NoImmediates (instr.Convert ExtendI32S)) ∷ (0xAD, NoImmediates (instr.Convert ExtendI32U)) ∷ (0xFE, Atomic) ∷ []
 
 -- the meaning of a byte as an opcode that begins no block
 unfoldable pub opcode_at : ℕ → Option Opcode
@@ -79,7 +79,7 @@ opcode_at code =
     if nat_lt code 0x8B then lookup code arithmetic_64_opcodes else
     lookup code other_opcodes)))))
 
--- the operands in the order of the codes
+-- the immediates in the order of the codes
 abbrev pub storages : List Storage
 storages = storage.I32 ∷ storage.I64 ∷ storage.I32As8 ∷ storage.I32As16 ∷ storage.I64As8 ∷ storage.I64As16 ∷ storage.I64As32 ∷ []
 

@@ -108,8 +108,8 @@ pub data Locals : List ℕ → ℕ → List ValType → Type 0 where
   locals : {count text : List ℕ} {entries n : ℕ} {tys : List ValType} → (ty : ValType) →
       U32 count n → Locals text entries tys → Locals (count ++ value_type ty ∷ text) (suc entries) (locals_of n ty ++ tys)
 
--- The bytes spell a function of the type of this index: its locals, its instructions, and an end. At most room of its blocks stand in one another.
-pub record FunctionBody (room index : ℕ) (text : List ℕ) (f : Func) : Type 0 where
+-- The bytes spell a function of the type of this index: its locals, its instructions, and an end. Its blocks nest at most depth_left deep.
+pub record FunctionBody (depth_left index : ℕ) (text : List ℕ) (f : Func) : Type 0 where
   pub entries : ℕ
   pub first : List ℕ
   pub second : List ℕ
@@ -119,23 +119,23 @@ pub record FunctionBody (room index : ℕ) (text : List ℕ) (f : Func) : Type 0
   pub parts : text ≡ first ++ (second ++ (third ++ 0x0B ∷ []))
   pub counted : U32 first entries
   pub declared : Locals second entries f.locals
-  pub spelled : Spells room 1 third body nested
+  pub spelled : Spells depth_left 1 third body nested
   pub blocks : f.blocks ≡ body ∷ nested
   pub typed : f.type_index ≡ index
 
 -- The bytes spell functions of the types of these indices, each with its size.
-pub data Functions (room : ℕ) : List ℕ → List ℕ → List Func → Type 0 where
-  no_function : Functions room [] [] []
+pub data Functions (depth_left : ℕ) : List ℕ → List ℕ → List Func → Type 0 where
+  no_function : Functions depth_left [] [] []
   function : {index : ℕ} {indices text rest : List ℕ} {f : Func} {fs : List Func} →
-      Sized (FunctionBody room index) text f → Functions room indices rest fs → Functions room (index ∷ indices) (text ++ rest) (f ∷ fs)
+      Sized (FunctionBody depth_left index) text f → Functions depth_left indices rest fs → Functions depth_left (index ∷ indices) (text ++ rest) (f ∷ fs)
 
 -- The bytes spell a vector of functions of the types of these indices.
-pub record FunctionVector (room : ℕ) (indices : List ℕ) (text : List ℕ) (fs : List Func) : Type 0 where
+pub record FunctionVector (depth_left : ℕ) (indices : List ℕ) (text : List ℕ) (fs : List Func) : Type 0 where
   pub count : List ℕ
   pub items : List ℕ
   pub parts : text ≡ count ++ items
   pub counted : U32 count (length fs)
-  pub each : Functions room indices items fs
+  pub each : Functions depth_left indices items fs
 
 -- The bytes spell a data segment: where it begins, and its bytes.
 pub record Segment (text : List ℕ) (d : DataSegment) : Type 0 where

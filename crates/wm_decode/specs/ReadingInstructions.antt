@@ -43,19 +43,19 @@ zero_at [] = Err bad
 zero_at (b ∷ bytes) = if b == 0x00 then Ok (instr.MemorySize, bytes) else Err bad
 
 -- the rest of an instruction, behind its opcode
-unfoldable pub operands_at : Opcode → List ℕ → InstrAt
-operands_at (opcode.Alone i) bytes = Ok (i, bytes)
-operands_at (opcode.Indexed kind) bytes = u32_at bytes >>= λ n. Ok (indexed_instr kind n.0, n.1)
-operands_at opcode.BrTable bytes = vector_at u32_at bytes >>= λ labels. u32_at labels.1 >>= λ other. Ok (instr.BrTable labels.0 other.0, other.1)
-operands_at (opcode.Access kind) bytes = access_at kind bytes
-operands_at opcode.MemorySize bytes = zero_at bytes
-operands_at opcode.I32Const bytes = signed_at (2 ^ 32 - 1) bytes >>= λ n. Ok (instr.I32Const n.0, n.1)
-operands_at opcode.I64Const bytes = signed_at (2 ^ 64 - 1) bytes >>= λ n. Ok (instr.I64Const n.0, n.1)
-operands_at opcode.Atomic bytes = u32_at bytes >>= λ code. access_of (atomic_at code.0) code.1
+unfoldable pub immediates_at : Opcode → List ℕ → InstrAt
+immediates_at (opcode.NoImmediates i) bytes = Ok (i, bytes)
+immediates_at (opcode.Indexed kind) bytes = u32_at bytes >>= λ n. Ok (indexed_instr kind n.0, n.1)
+immediates_at opcode.BrTable bytes = vector_at u32_at bytes >>= λ labels. u32_at labels.1 >>= λ other. Ok (instr.BrTable labels.0 other.0, other.1)
+immediates_at (opcode.Access kind) bytes = access_at kind bytes
+immediates_at opcode.MemorySize bytes = zero_at bytes
+immediates_at opcode.I32Const bytes = signed_at (2 ^ 32 - 1) bytes >>= λ n. Ok (instr.I32Const n.0, n.1)
+immediates_at opcode.I64Const bytes = signed_at (2 ^ 64 - 1) bytes >>= λ n. Ok (instr.I64Const n.0, n.1)
+immediates_at opcode.Atomic bytes = u32_at bytes >>= λ code. access_of (atomic_at code.0) code.1
 
 abbrev pub operands_of : Option Opcode → List ℕ → InstrAt
 operands_of None bytes = Err bad
-operands_of (Some op) bytes = operands_at op bytes
+operands_of (Some op) bytes = immediates_at op bytes
 
 -- an instruction with no block of its own, behind its first byte
 unfoldable pub plain_at : ℕ → List ℕ → InstrAt
@@ -79,19 +79,19 @@ Reader = ℕ → ℕ → List ℕ → Result Body Stop
 
 -- the instructions of a block that only an end closes
 unfoldable pub closed_with : Reader → Reader
-closed_with read room next bytes = do
-  body ← read room next bytes
+closed_with read depth_left next bytes = do
+  body ← read depth_left next bytes
   if body.closer == 0x0B then Ok body else Err bad
 
--- the type of a block, for which there is room
+-- the type of a block that may still nest
 unfoldable pub opened_at : ℕ → List ℕ → Result (Option ValType × List ℕ) Stop
-opened_at room bytes = if room == 0 then Err (past limit.Nesting) else block_type_at bytes
+opened_at depth_left bytes = if depth_left == 0 then Err (past limit.Nesting) else block_type_at bytes
 
 -- a block or a loop behind its opcode, whose instructions are read by read
 unfoldable pub framed_with : Reader → ℕ → ℕ → (Option ValType → ℕ → Instr) → List ℕ → Result One Stop
-framed_with read room next make bytes = do
-  ty ← opened_at room bytes
-  body ← closed_with read (room - 1) (next + 1) ty.1
+framed_with read depth_left next make bytes = do
+  ty ← opened_at depth_left bytes
+  body ← closed_with read (depth_left - 1) (next + 1) ty.1
   Ok (record { instr = make ty.0 next; nested = body.instrs ∷ body.nested; rest = body.rest })
 
 abbrev pub then_one : Option ValType → ℕ → Body → One
@@ -102,42 +102,42 @@ else_one ty next one two = record { instr = instr.If ty next (next + 1 + length 
 
 -- an `if` behind its opcode
 unfoldable pub if_with : Reader → ℕ → ℕ → List ℕ → Result One Stop
-if_with read room next bytes = do
-  ty ← opened_at room bytes
-  one ← read (room - 1) (next + 1) ty.1
+if_with read depth_left next bytes = do
+  ty ← opened_at depth_left bytes
+  one ← read (depth_left - 1) (next + 1) ty.1
   if one.closer == 0x0B then Ok (then_one ty.0 next one) else do
-    two ← closed_with read (room - 1) (next + 1 + length one.nested + 1) one.rest
+    two ← closed_with read (depth_left - 1) (next + 1 + length one.nested + 1) one.rest
     Ok (else_one ty.0 next one two)
 
 unfoldable pub instr_with : Reader → ℕ → ℕ → ℕ → List ℕ → Result One Stop
-instr_with read room next op bytes =
-    if op == 0x02 then framed_with read room next instr.Block bytes else (
-    if op == 0x03 then framed_with read room next instr.Loop bytes else (
-    if op == 0x04 then if_with read room next bytes else
+instr_with read depth_left next op bytes =
+    if op == 0x02 then framed_with read depth_left next instr.Block bytes else (
+    if op == 0x03 then framed_with read depth_left next instr.Loop bytes else (
+    if op == 0x04 then if_with read depth_left next bytes else
     (plain_at op bytes >>= λ x. Ok (record { instr = x.0; nested = []; rest = x.1 }))))
 
 unfoldable pub instrs_at : ℕ → Reader
-instrs_at zero room next bytes = Err bad
-instrs_at (suc fuel) room next [] = Err bad
-instrs_at (suc fuel) room next (op ∷ bytes) =
+instrs_at zero depth_left next bytes = Err bad
+instrs_at (suc fuel) depth_left next [] = Err bad
+instrs_at (suc fuel) depth_left next (op ∷ bytes) =
     if op == 0x0B then Ok (record { instrs = []; nested = []; closer = op; rest = bytes }) else (
     if op == 0x05 then Ok (record { instrs = []; nested = []; closer = op; rest = bytes }) else (
-    instr_with (instrs_at fuel) room next op bytes >>= λ one.
-    instrs_at fuel room (next + length one.nested) one.rest >>= λ more.
+    instr_with (instrs_at fuel) depth_left next op bytes >>= λ one.
+    instrs_at fuel depth_left (next + length one.nested) one.rest >>= λ more.
     Ok (record { instrs = one.instr ∷ more.instrs; nested = one.nested ++ more.nested; closer = more.closer; rest = more.rest })))
 
 -- there are as many turns as there are bytes
 abbrev pub instrs_in : Reader
-instrs_in room next bytes = instrs_at (length bytes) room next bytes
+instrs_in depth_left next bytes = instrs_at (length bytes) depth_left next bytes
 
 abbrev pub instr_in : ℕ → ℕ → ℕ → List ℕ → Result One Stop
-instr_in room next op bytes = instr_with instrs_in room next op bytes
+instr_in depth_left next op bytes = instr_with instrs_in depth_left next op bytes
 
 abbrev pub closed_in : Reader
-closed_in room next bytes = closed_with instrs_in room next bytes
+closed_in depth_left next bytes = closed_with instrs_in depth_left next bytes
 
 -- the blocks of a function, the body first, and the bytes after its end
 unfoldable pub blocks_at : ℕ → List ℕ → Result (List (List Instr) × List ℕ) Stop
-blocks_at room bytes = do
-  b ← closed_in room 1 bytes
+blocks_at depth_left bytes = do
+  b ← closed_in depth_left 1 bytes
   Ok (b.instrs ∷ b.nested, b.rest)

@@ -123,11 +123,11 @@ exports_at bytes = do
   count ← u32_at bytes
   more_at export_step count.0 [] count.1
 
--- an entry of at most room locals
+-- an entry of at most locals_left locals
 unfoldable pub local_entry_at : ℕ → List ℕ → Read (ℕ × ValType)
-local_entry_at room bytes = do
+local_entry_at locals_left bytes = do
   count ← u32_at bytes
-  if nat_lt room count.0 then Err (past Locals) else (value_type_at count.1 >>= λ ty. Ok ((count.0, ty.0), ty.1))
+  if nat_lt locals_left count.0 then Err (past Locals) else (value_type_at count.1 >>= λ ty. Ok ((count.0, ty.0), ty.1))
 
 abbrev pub local_step : ℕ → List ValType → List ℕ → Read (List ValType)
 local_step most earlier bytes = local_entry_at (most - length earlier) bytes >>= λ e. Ok (earlier ++ locals_of e.0.0 e.0.1, e.1)

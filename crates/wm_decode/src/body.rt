@@ -1,10 +1,10 @@
 //! Instructions and their blocks (Core 1.0, section 5.4; threads proposal, "Atomic Memory Instructions").
 ghost use Rattle.std.specs.Prelude.{◌≡◌, ◌+◌, ◌<◌, length, OnOk};
 ghost use Rattle.wm_decode.specs.Stop.{bad};
-ghost use Rattle.wm_decode.specs.Answers.{Answers, stop_of};
+ghost use Rattle.wm_decode.specs.Implements.{Implements, stop_of};
 ghost use Rattle.wm_decode.specs.Instructions.{indexed_instr};
-ghost use Rattle.wm_decode.specs.ReadingInstructions.{block_type_at, opened_at, access_at, access_of, operands_at, plain_at, instrs_in, instr_in, closed_in, blocks_at};
-ghost use Rattle.wm_decode.specs.InstructionAnswers.{InstrsRead, BlockRead, ClosedRead, InstrRead};
+ghost use Rattle.wm_decode.specs.ReadingInstructions.{block_type_at, opened_at, access_at, access_of, immediates_at, plain_at, instrs_in, instr_in, closed_in, blocks_at};
+ghost use Rattle.wm_decode.specs.InstructionsRead.{InstrsRead, BlockRead, ClosedRead, InstrRead};
 
 use crate::fault::{FaultKind, Feature, ItemFault, Limit};
 use crate::number::{signed_32, signed_64, unsigned_32};
@@ -37,7 +37,7 @@ fn block_type_fault(byte: u8) -> FaultKind
 /// Reads the type of a block (Core 1.0, section 5.4.1).
 #[tactic(auto, unfolding(crate::specs::ReadingInstructions::block_type_at))]
 fn block_type(bytes: &[u8]) -> Result<(BlockType, &[u8]), ItemFault>
-    ensures { Answers (λ x. (x.0, x.1.now)) result (block_type_at bytes.now) }
+    ensures { Implements (λ x. (x.0, x.1.now)) result (block_type_at bytes.now) }
 {
     match bytes {
         [] => Err(ItemFault::WithLeft(FaultKind::Truncated, 0)),
@@ -69,7 +69,7 @@ impl Indexed {
 /// Reads what stands behind an access (Core 1.0, section 5.4.4).
 #[tactic(auto, unfolding(crate::specs::ReadingInstructions::access_at))]
 fn access(kind: AccessKind, bytes: &[u8]) -> Result<(Instr, &[u8]), ItemFault>
-    ensures { Answers (λ x. (x.0, x.1.now)) result (access_at kind bytes.now) }
+    ensures { Implements (λ x. (x.0, x.1.now)) result (access_at kind bytes.now) }
 {
     let (alignment, rest) = unsigned_32(bytes)?;
     let (offset, rest) = unsigned_32(rest)?;
@@ -90,9 +90,9 @@ fn atomic_fault(code: u32) -> FaultKind
 }
 
 /// Reads the rest of an atomic access, behind its prefix, at which its code is faulted.
-#[tactic(auto, unfolding(crate::specs::ReadingInstructions::operands_at))]
+#[tactic(auto, unfolding(crate::specs::ReadingInstructions::immediates_at))]
 fn atomic(bytes: &[u8]) -> Result<(Instr, &[u8]), ItemFault>
-    ensures { Answers (λ x. (x.0, x.1.now)) result (operands_at Opcode.Atomic bytes.now) }
+    ensures { Implements (λ x. (x.0, x.1.now)) result (immediates_at Opcode.Atomic bytes.now) }
 {
     let prefix = bytes.len().saturating_add(1);
     let (code, rest) = match unsigned_32(bytes) {
@@ -106,12 +106,12 @@ fn atomic(bytes: &[u8]) -> Result<(Instr, &[u8]), ItemFault>
 }
 
 /// Reads the rest of an instruction that has no block of its own.
-#[tactic(auto, unfolding(crate::specs::ReadingInstructions::operands_at))]
-fn operands(alloc: Global, opcode: Opcode, bytes: &[u8]) -> Result<(Instr, &[u8]), ItemFault>
-    ensures { Answers (λ x. (x.0, x.1.now)) result (operands_at opcode bytes.now) }
+#[tactic(auto, unfolding(crate::specs::ReadingInstructions::immediates_at))]
+fn immediates(alloc: Global, opcode: Opcode, bytes: &[u8]) -> Result<(Instr, &[u8]), ItemFault>
+    ensures { Implements (λ x. (x.0, x.1.now)) result (immediates_at opcode bytes.now) }
 {
     match opcode {
-        Opcode::Alone(instr) => Ok((instr, bytes)),
+        Opcode::NoImmediates(instr) => Ok((instr, bytes)),
         Opcode::Indexed(kind) => {
             let (index, rest) = unsigned_32(bytes)?;
             Ok((kind.instr(index), rest))
@@ -161,10 +161,10 @@ fn opcode_fault(code: u8) -> FaultKind
 /// Reads an instruction that has no block of its own, behind its first byte, at which it is faulted.
 #[tactic(auto, unfolding(crate::specs::ReadingInstructions::plain_at))]
 fn plain(alloc: Global, code: u8, bytes: &[u8]) -> Result<(Instr, &[u8]), ItemFault>
-    ensures { Answers (λ x. (x.0, x.1.now)) result (plain_at code bytes.now) }
+    ensures { Implements (λ x. (x.0, x.1.now)) result (plain_at code bytes.now) }
 {
     match opcode_of(code) {
-        Some(opcode) => operands(alloc, opcode, bytes),
+        Some(opcode) => immediates(alloc, opcode, bytes),
         None => Err(ItemFault::WithLeft(opcode_fault(code), bytes.len().saturating_add(1))),
     }
 }
@@ -173,11 +173,11 @@ fn plain(alloc: Global, code: u8, bytes: &[u8]) -> Result<(Instr, &[u8]), ItemFa
 #[cycle(body)]
 fn instrs<'a>(
     alloc: Global,
-    room: u32,
+    depth_left: u32,
     blocks: &mut Blocks,
     bytes: &'a [u8],
 ) -> Result<(Block, u8, &'a [u8]), ItemFault>
-    ensures { InstrsRead blocks.old.items blocks.new.items (λ x. (x.0, x.1, x.2.now)) result (instrs_in room (length blocks.old.items) bytes.now) }
+    ensures { InstrsRead blocks.old.items blocks.new.items (λ x. (x.0, x.1, x.2.now)) result (instrs_in depth_left (length blocks.old.items) bytes.now) }
 {
     let mut found = List::new(alloc);
     let mut rest = bytes;
@@ -186,7 +186,7 @@ fn instrs<'a>(
         if op == END || op == ELSE {
             return Ok((found, op, after));
         }
-        let (one, after) = instr(alloc, room, blocks, op, after)?;
+        let (one, after) = instr(alloc, depth_left, blocks, op, after)?;
         found.push(one)?;
         rest = after;
     }
@@ -197,15 +197,15 @@ fn instrs<'a>(
 #[cycle(body)]
 fn nested<'a>(
     alloc: Global,
-    room: u32,
+    depth_left: u32,
     blocks: &mut Blocks,
     bytes: &'a [u8],
 ) -> Result<(usize, u8, &'a [u8]), ItemFault>
-    ensures { BlockRead blocks.old.items blocks.new.items (λ x. (x.0, x.1, x.2.now)) result (instrs_in room (length blocks.old.items + 1) bytes.now) }
+    ensures { BlockRead blocks.old.items blocks.new.items (λ x. (x.0, x.1, x.2.now)) result (instrs_in depth_left (length blocks.old.items + 1) bytes.now) }
 {
     let number = blocks.len();
     blocks.push(List::new(alloc))?;
-    let (body, closer, rest) = instrs(alloc, room, blocks, bytes)?;
+    let (body, closer, rest) = instrs(alloc, depth_left, blocks, bytes)?;
     blocks[number] = body;
     Ok((number, closer, rest))
 }
@@ -215,13 +215,13 @@ fn nested<'a>(
 #[tactic(auto, unfolding(crate::specs::ReadingInstructions::closed_with))]
 fn closed<'a>(
     alloc: Global,
-    room: u32,
+    depth_left: u32,
     blocks: &mut Blocks,
     bytes: &'a [u8],
 ) -> Result<(usize, &'a [u8]), ItemFault>
-    ensures { ClosedRead blocks.old.items blocks.new.items (λ x. (x.0, x.1.now)) result (closed_in room (length blocks.old.items + 1) bytes.now) }
+    ensures { ClosedRead blocks.old.items blocks.new.items (λ x. (x.0, x.1.now)) result (closed_in depth_left (length blocks.old.items + 1) bytes.now) }
 {
-    let (number, closer, rest) = nested(alloc, room, blocks, bytes)?;
+    let (number, closer, rest) = nested(alloc, depth_left, blocks, bytes)?;
     if closer == END {
         return Ok((number, rest));
     }
@@ -231,13 +231,13 @@ fn closed<'a>(
     ))
 }
 
-/// Reads the type of a block, behind the opcode, at which it is faulted where there is no room for the block.
+/// Reads the type of a block after its opcode; the opcode is faulted if the block would nest too deep.
 #[tactic(auto, unfolding(crate::specs::ReadingInstructions::opened_at))]
-fn opening(room: u32, bytes: &[u8]) -> Result<(BlockType, &[u8]), ItemFault>
-    ensures read { Answers (λ x. (x.0, x.1.now)) result (opened_at room bytes.now) }
-    ensures has_room { OnOk result (0 < room) }
+fn block_header(depth_left: u32, bytes: &[u8]) -> Result<(BlockType, &[u8]), ItemFault>
+    ensures read { Implements (λ x. (x.0, x.1.now)) result (opened_at depth_left bytes.now) }
+    ensures has_room { OnOk result (0 < depth_left) }
 {
-    if room == 0 {
+    if depth_left == 0 {
         return Err(ItemFault::WithLeft(
             FaultKind::Limit(Limit::Nesting),
             bytes.len().saturating_add(1),
@@ -251,27 +251,27 @@ fn opening(room: u32, bytes: &[u8]) -> Result<(BlockType, &[u8]), ItemFault>
 #[tactic(auto, unfolding(crate::specs::ReadingInstructions::instr_with, crate::specs::ReadingInstructions::framed_with, crate::specs::ReadingInstructions::if_with))]
 fn instr<'a>(
     alloc: Global,
-    room: u32,
+    depth_left: u32,
     blocks: &mut Blocks,
     op: u8,
     bytes: &'a [u8],
 ) -> Result<(Instr, &'a [u8]), ItemFault>
-    ensures { InstrRead blocks.old.items blocks.new.items (λ x. (x.0, x.1.now)) result (instr_in room (length blocks.old.items) op bytes.now) }
+    ensures { InstrRead blocks.old.items blocks.new.items (λ x. (x.0, x.1.now)) result (instr_in depth_left (length blocks.old.items) op bytes.now) }
 {
     match op {
         0x02 => {
-            let (ty, rest) = opening(room, bytes)?;
-            let (number, rest) = closed(alloc, room - 1, blocks, rest)?;
+            let (ty, rest) = block_header(depth_left, bytes)?;
+            let (number, rest) = closed(alloc, depth_left - 1, blocks, rest)?;
             Ok((Instr::Block(ty, number), rest))
         }
         0x03 => {
-            let (ty, rest) = opening(room, bytes)?;
-            let (number, rest) = closed(alloc, room - 1, blocks, rest)?;
+            let (ty, rest) = block_header(depth_left, bytes)?;
+            let (number, rest) = closed(alloc, depth_left - 1, blocks, rest)?;
             Ok((Instr::Loop(ty, number), rest))
         }
         0x04 => {
-            let (ty, rest) = opening(room, bytes)?;
-            let (first, closer, rest) = nested(alloc, room - 1, blocks, rest)?;
+            let (ty, rest) = block_header(depth_left, bytes)?;
+            let (first, closer, rest) = nested(alloc, depth_left - 1, blocks, rest)?;
             if closer == END {
                 let second = blocks.len();
                 blocks.push(List::new(alloc))?;
@@ -283,7 +283,7 @@ fn instr<'a>(
                 };
                 return Ok((instr, rest));
             }
-            let (second, rest) = closed(alloc, room - 1, blocks, rest)?;
+            let (second, rest) = closed(alloc, depth_left - 1, blocks, rest)?;
             let instr = Instr::If {
                 result: ty,
                 then_block: first,
@@ -297,16 +297,16 @@ fn instr<'a>(
 }
 
 /// Reads the instructions of a function and the `end` behind them: its blocks, the body first,
-/// of which at most `room` stand in one another.
+/// nested at most `depth_left` deep.
 #[tactic(auto, unfolding(crate::specs::ReadingInstructions::blocks_at))]
 pub(crate) fn blocks(
     alloc: Global,
-    room: u32,
+    depth_left: u32,
     bytes: &[u8],
 ) -> Result<(List<Block>, &[u8]), ItemFault>
-    ensures { Answers (λ x. (x.0, x.1.now)) result (blocks_at room bytes.now) }
+    ensures { Implements (λ x. (x.0, x.1.now)) result (blocks_at depth_left bytes.now) }
 {
     let mut blocks = Vec::new(alloc);
-    let (_, rest) = closed(alloc, room, &mut blocks, bytes)?;
+    let (_, rest) = closed(alloc, depth_left, &mut blocks, bytes)?;
     Ok((List::from_vec(blocks), rest))
 }

@@ -1,7 +1,7 @@
 //! Functions (Core 1.0, section 5.5.13).
 ghost use Rattle.std.specs.Prelude.{◌≡◌, ◌++◌, [], OnOk};
 ghost use Rattle.wm_decode.specs.Bounds.{profile};
-ghost use Rattle.wm_decode.specs.Answers.{Answers};
+ghost use Rattle.wm_decode.specs.Implements.{Implements};
 ghost use Rattle.wm_decode.specs.Parts.{locals_of};
 ghost use Rattle.wm_decode.specs.Module.{params_of};
 ghost use Rattle.wm_decode.specs.ReadingVectors.{byte_vector_at, sized_at, more_at};
@@ -27,13 +27,13 @@ fn add_locals(found: &mut List<ValType>, count: u32, ty: ValType) -> Result<(), 
     Ok(())
 }
 
-/// Reads an entry of at most `room` locals.
+/// Reads an entry of at most `locals_left` locals.
 #[tactic(auto, unfolding(crate::specs::ReadingParts::local_entry_at))]
-fn local_entry(alloc: Global, room: usize, bytes: &[u8]) -> Result<(u32, ValType, &[u8]), ItemFault>
-    ensures { Answers (λ x. ((x.0, x.1), x.2.now)) result (local_entry_at room bytes.now) }
+fn local_entry(alloc: Global, locals_left: usize, bytes: &[u8]) -> Result<(u32, ValType, &[u8]), ItemFault>
+    ensures { Implements (λ x. ((x.0, x.1), x.2.now)) result (local_entry_at locals_left bytes.now) }
 {
     let (count, rest) = unsigned_32(bytes)?;
-    if room < count as usize {
+    if locals_left < count as usize {
         return Err(ItemFault::WithLeft(FaultKind::Limit(Limit::Locals), bytes.len()));
     }
     let (ty, rest) = ValType::read(alloc, rest)?;
@@ -47,7 +47,7 @@ fn more_locals(
     entries: u32,
     bytes: &[u8],
 ) -> Result<(List<ValType>, &[u8]), ItemFault>
-    ensures { Answers (λ x. (x.0, x.1.now)) result (more_at (local_step most) entries [] bytes.now) }
+    ensures { Implements (λ x. (x.0, x.1.now)) result (more_at (local_step most) entries [] bytes.now) }
 {
     let mut found = List::new(alloc);
     let mut rest = bytes;
@@ -67,7 +67,7 @@ fn function(
     type_index: u32,
     bytes: &[u8],
 ) -> Result<(Func, &[u8]), ItemFault>
-    ensures { Answers (λ x. (x.0, x.1.now)) result (function_at profile most type_index bytes.now) }
+    ensures { Implements (λ x. (x.0, x.1.now)) result (function_at profile most type_index bytes.now) }
 {
     let (entries, rest) = unsigned_32(bytes)?;
     let (locals, rest) = more_locals(alloc, most, entries, rest)?;
@@ -93,7 +93,7 @@ fn parameters(types: &[FuncType], type_index: u32) -> usize
 /// Splits off as many bytes as are said before them, all of which stand in the section.
 #[tactic(auto, unfolding(crate::specs::ReadingVectors::byte_vector_at))]
 fn own_bytes(bytes: &[u8]) -> Result<(&[u8], &[u8]), ItemFault>
-    ensures { Answers (λ x. (x.0.now, x.1.now)) result (byte_vector_at bytes.now) }
+    ensures { Implements (λ x. (x.0.now, x.1.now)) result (byte_vector_at bytes.now) }
 {
     let (size, rest) = unsigned_32(bytes)?;
     let size = size as usize;
@@ -111,7 +111,7 @@ fn sized_function<'a>(
     type_index: u32,
     bytes: &'a [u8],
 ) -> Result<(Func, &'a [u8]), ItemFault>
-    ensures { Answers (λ x. (x.0, x.1.now)) result (sized_at (body_at profile types.now type_index) bytes.now) }
+    ensures { Implements (λ x. (x.0, x.1.now)) result (sized_at (body_at profile types.now type_index) bytes.now) }
 {
     let (inner, after) = own_bytes(bytes)?;
     let parameters = parameters(types, type_index);
@@ -138,7 +138,7 @@ fn functions<'a>(
     indices: &[u32],
     bytes: &'a [u8],
 ) -> Result<(List<Func>, &'a [u8]), ItemFault>
-    ensures { Answers (λ x. (x.0, x.1.now)) result (more_functions_at profile types.now indices.now [] bytes.now) }
+    ensures { Implements (λ x. (x.0, x.1.now)) result (more_functions_at profile types.now indices.now [] bytes.now) }
 {
     let mut found = List::new(alloc);
     let mut rest = bytes;

@@ -1,7 +1,7 @@
 //! The section of exports (Core 1.0, section 5.5.10).
 ghost use Rattle.std.specs.Prelude.{◌≡◌, [], None, IfOk};
 ghost use Rattle.wm_ast.specs.Exports.{export_at};
-ghost use Rattle.wm_decode.specs.Answers.{Answers};
+ghost use Rattle.wm_decode.specs.Implements.{Implements};
 ghost use Rattle.wm_decode.specs.ReadingVectors.{more_at};
 ghost use Rattle.wm_decode.specs.ReadingParts.{export_kind_at, export_entry_at, exports_at, export_step};
 
@@ -15,7 +15,7 @@ use wm_ast::{Export, ExportKind, Exports};
 /// Reads what an export names.
 #[tactic(auto, unfolding(crate::specs::ReadingParts::export_kind_at))]
 fn export_kind(bytes: &[u8]) -> Result<(ExportKind, &[u8]), ItemFault>
-    ensures { Answers (λ x. (x.0, x.1.now)) result (export_kind_at bytes.now) }
+    ensures { Implements (λ x. (x.0, x.1.now)) result (export_kind_at bytes.now) }
 {
     match bytes {
         [] => Err(ItemFault::WithLeft(FaultKind::Truncated, 0)),
@@ -33,7 +33,7 @@ fn export_entry<'a>(
     earlier: &Exports,
     bytes: &'a [u8],
 ) -> Result<(&'a str, Export, &'a [u8]), ItemFault>
-    ensures read { Answers (λ x. ((x.0.now, x.1), x.2.now)) result (export_entry_at earlier.now bytes.now) }
+    ensures read { Implements (λ x. ((x.0.now, x.1), x.2.now)) result (export_entry_at earlier.now bytes.now) }
     ensures is_new { IfOk result (λ x. export_at x.0.now earlier.now ≡ None) }
 {
     let (name, rest) = name(bytes)?;
@@ -63,7 +63,7 @@ impl Content for ExportNames {
 
 /// Reads so many exports.
 fn more_exports(alloc: Global, count: u32, bytes: &[u8]) -> Result<(Exports, &[u8]), ItemFault>
-    ensures { Answers (λ x. (x.0, x.1.now)) result (more_at export_step count [] bytes.now) }
+    ensures { Implements (λ x. (x.0, x.1.now)) result (more_at export_step count [] bytes.now) }
 {
     let mut found = Exports::new(alloc);
     let mut rest = bytes;

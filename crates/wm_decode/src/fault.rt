@@ -111,7 +111,7 @@ impl<T: Drop> From<AllocFailed<T>> for ItemFault {
 }
 
 impl ItemFault {
-    ghost use Rattle.wm_decode.specs.Answers.{SameStop, SameFault};
+    ghost use Rattle.wm_decode.specs.Implements.{SameStop, SameFault};
 
     /// The fault at a byte from which `left` bytes are left.
     pub(crate) fn at(self, left: usize) -> ItemFault

@@ -1,5 +1,5 @@
 //! The section of globals (Core 1.0, section 5.5.9).
-ghost use Rattle.wm_decode.specs.Answers.{Answers};
+ghost use Rattle.wm_decode.specs.Implements.{Implements};
 ghost use Rattle.wm_decode.specs.ReadingVectors.{vector_at};
 ghost use Rattle.wm_decode.specs.ReadingParts.{mutability_at, global_at};
 
@@ -14,7 +14,7 @@ use wm_list::List;
 /// Reads whether a global may be set.
 #[tactic(auto, unfolding(crate::specs::ReadingParts::mutability_at))]
 fn mutability(bytes: &[u8]) -> Result<(Mutability, &[u8]), ItemFault>
-    ensures { Answers (λ x. (x.0, x.1.now)) result (mutability_at bytes.now) }
+    ensures { Implements (λ x. (x.0, x.1.now)) result (mutability_at bytes.now) }
 {
     match bytes {
         [] => Err(ItemFault::WithLeft(FaultKind::Truncated, 0)),

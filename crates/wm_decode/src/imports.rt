@@ -2,7 +2,7 @@
 ghost use Rattle.std.specs.Prelude.{◌≡◌};
 ghost use Rattle.wm_decode.specs.Stop.{bad};
 ghost use Rattle.wm_decode.specs.Bounds.{profile};
-ghost use Rattle.wm_decode.specs.Answers.{Answers, IsNoLimit, stop_of};
+ghost use Rattle.wm_decode.specs.Implements.{Implements, IsNoLimit, stop_of};
 ghost use Rattle.wm_decode.specs.ReadingParts.{import_at, imports_at};
 
 use crate::fault::{FaultKind, Feature, ItemFault};
@@ -26,7 +26,7 @@ fn import_kind_fault(byte: u8) -> FaultKind
 /// Reads an import, which is a memory.
 #[tactic(auto, unfolding(crate::specs::ReadingParts::import_at))]
 fn import(alloc: Global, bytes: &[u8]) -> Result<(Memory, &[u8]), ItemFault>
-    ensures { Answers (λ x. (x.0, x.1.now)) result (import_at profile bytes.now) }
+    ensures { Implements (λ x. (x.0, x.1.now)) result (import_at profile bytes.now) }
 {
     let (module, rest) = owned_name(alloc, bytes)?;
     let (name, rest) = owned_name(alloc, rest)?;

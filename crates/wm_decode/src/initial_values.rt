@@ -1,5 +1,5 @@
 //! Initial values of globals and offsets of data segments (Core 1.0, section 3.3.7).
-ghost use Rattle.wm_decode.specs.Answers.{Answers};
+ghost use Rattle.wm_decode.specs.Implements.{Implements};
 ghost use Rattle.wm_decode.specs.ReadingParts.{initial_at, byte_at};
 
 use crate::fault::{FaultKind, Feature, ItemFault};
@@ -8,7 +8,7 @@ use wm_ast::ConstExpr;
 
 /// Reads the `end` of an initial value.
 fn initial_end(bytes: &[u8]) -> Result<&[u8], ItemFault>
-    ensures { Answers (λ x. x.now) result (byte_at 0x0B bytes.now) }
+    ensures { Implements (λ x. x.now) result (byte_at 0x0B bytes.now) }
 {
     match bytes {
         [] => Err(ItemFault::WithLeft(FaultKind::Truncated, 0)),
@@ -23,7 +23,7 @@ fn initial_end(bytes: &[u8]) -> Result<&[u8], ItemFault>
 /// Reads an initial value: one constant.
 #[tactic(auto, unfolding(crate::specs::ReadingParts::initial_at))]
 pub(crate) fn initial(bytes: &[u8]) -> Result<(ConstExpr, &[u8]), ItemFault>
-    ensures { Answers (λ x. (x.0, x.1.now)) result (initial_at bytes.now) }
+    ensures { Implements (λ x. (x.0, x.1.now)) result (initial_at bytes.now) }
 {
     match bytes {
         [] => Err(ItemFault::WithLeft(FaultKind::Truncated, 0)),

@@ -4,7 +4,7 @@ ghost use Rattle.wm_ast.specs.declared.module.Module.{Module};
 ghost use Rattle.wm_decode.specs.declared.fault.Limit.{Limit};
 ghost use Rattle.wm_decode.specs.Stop.{bad};
 ghost use Rattle.wm_decode.specs.Bounds.{profile};
-ghost use Rattle.wm_decode.specs.Answers.{Answers, Decodes, IsUnlessMemory, RefusedBy, stop_of, IsBad};
+ghost use Rattle.wm_decode.specs.Implements.{Implements, Decodes, IsUnlessMemory, RefusedBy, stop_of, IsBad};
 ghost use Rattle.wm_decode.specs.Module.{items_of, memory_of, SpellsWithin, IsPast, spells};
 ghost use Rattle.wm_decode.specs.ReadingModule.{agreed_module, header_at, front_at, declared_at, module_at, whole_at};
 
@@ -47,7 +47,7 @@ fn header_fault(bytes: &[u8]) -> ItemFault
 /// Reads the header.
 #[tactic(auto, unfolding(crate::specs::ReadingModule::header_at))]
 fn header(bytes: &[u8]) -> Result<&[u8], ItemFault>
-    ensures { Answers (λ x. x.now) result (header_at bytes.now) }
+    ensures { Implements (λ x. x.now) result (header_at bytes.now) }
 {
     match bytes {
         [0x00, 0x61, 0x73, 0x6D, 0x01, 0x00, 0x00, 0x00, rest @ ..] => Ok(rest),
@@ -112,7 +112,7 @@ struct Declared {
 /// Reads the sections of types, imports and functions.
 #[tactic(auto, unfolding(crate::specs::ReadingModule::front_at))]
 fn read_front(alloc: Global, bytes: &[u8]) -> Result<(Front, &[u8]), ItemFault>
-    ensures { Answers (λ x. (x.0, x.1.now)) result (front_at profile bytes.now) }
+    ensures { Implements (λ x. (x.0, x.1.now)) result (front_at profile bytes.now) }
 {
     let rest = header(bytes)?;
     let rest = customs(alloc, rest)?;
@@ -130,7 +130,7 @@ fn read_front(alloc: Global, bytes: &[u8]) -> Result<(Front, &[u8]), ItemFault>
 /// Reads the sections up to that of elements.
 #[tactic(auto, unfolding(crate::specs::ReadingModule::declared_at))]
 fn read_declared(alloc: Global, bytes: &[u8]) -> Result<(Declared, &[u8]), ItemFault>
-    ensures { Answers (λ x. (x.0, x.1.now)) result (declared_at profile bytes.now) }
+    ensures { Implements (λ x. (x.0, x.1.now)) result (declared_at profile bytes.now) }
 {
     let (front, rest) = read_front(alloc, bytes)?;
     let memories = Memories {
@@ -177,7 +177,7 @@ fn agreed_module(
     segments: Option<List<DataSegment>>,
     rest: &[u8],
 ) -> Result<Module, ItemFault>
-    ensures { Answers (λ x. x) result (agreed_module declared count funcs segments rest.now) }
+    ensures { Implements (λ x. x) result (agreed_module declared count funcs segments rest.now) }
 {
     if let [id, ..] = rest {
         return Err(ItemFault::WithLeft(section_fault(*id), rest.len()));
@@ -207,7 +207,7 @@ fn agreed_module(
 /// Reads a module.
 #[tactic(auto, unfolding(crate::specs::ReadingModule::module_at))]
 pub(crate) fn read_module(alloc: Global, bytes: &[u8]) -> Result<Module, ItemFault>
-    ensures { Answers (λ x. x) result (module_at profile bytes.now) }
+    ensures { Implements (λ x. x) result (module_at profile bytes.now) }
 {
     let (declared, rest) = read_declared(alloc, bytes)?;
     let (count, rest) = section(alloc, SectionId::DataCount, &DataCount, rest)?;

@@ -1,7 +1,7 @@
 //! Numbers (Core 1.0, section 5.2.2).
 ghost use Rattle.std.specs.Prelude.{◌≡◌, ◌≢◌, ◌≤◌, ◌-◌, ◌^◌, IfOk};
 ghost use Rattle.wm_decode.specs.Numbers.{IsMost};
-ghost use Rattle.wm_decode.specs.Answers.{Answers, stop_of};
+ghost use Rattle.wm_decode.specs.Implements.{Implements, stop_of};
 ghost use Rattle.wm_decode.specs.Stop.{bad};
 ghost use Rattle.wm_decode.specs.Reading.{Gives, unsigned_at, signed_at};
 
@@ -75,7 +75,7 @@ fn signed(most: u64, bytes: &[u8]) -> Result<(u64, &[u8]), NumberFault>
 }
 
 impl NumberFault {
-    ghost use Rattle.wm_decode.specs.Answers.{IsBad};
+    ghost use Rattle.wm_decode.specs.Implements.{IsBad};
 
     // The fault at the number's first byte, from which `left` bytes are left.
     fn at(self, left: usize) -> ItemFault
@@ -90,7 +90,7 @@ impl NumberFault {
 
 /// Reads a number of 32 binary digits.
 pub(crate) fn unsigned_32(bytes: &[u8]) -> Result<(u32, &[u8]), ItemFault>
-    ensures { Answers (λ x. (x.0, x.1.now)) result (unsigned_at (2 ^ 32 - 1) bytes.now) }
+    ensures { Implements (λ x. (x.0, x.1.now)) result (unsigned_at (2 ^ 32 - 1) bytes.now) }
 {
     match unsigned(u32::MAX as u64, bytes) {
         Ok((number, rest)) => Ok((number as u32, rest)),
@@ -100,7 +100,7 @@ pub(crate) fn unsigned_32(bytes: &[u8]) -> Result<(u32, &[u8]), ItemFault>
 
 /// Reads a number of 32 binary digits with a sign, as its two's complement.
 pub(crate) fn signed_32(bytes: &[u8]) -> Result<(u32, &[u8]), ItemFault>
-    ensures { Answers (λ x. (x.0, x.1.now)) result (signed_at (2 ^ 32 - 1) bytes.now) }
+    ensures { Implements (λ x. (x.0, x.1.now)) result (signed_at (2 ^ 32 - 1) bytes.now) }
 {
     match signed(u32::MAX as u64, bytes) {
         Ok((number, rest)) => Ok((number as u32, rest)),
@@ -110,7 +110,7 @@ pub(crate) fn signed_32(bytes: &[u8]) -> Result<(u32, &[u8]), ItemFault>
 
 /// Reads a number of 64 binary digits with a sign, as its two's complement.
 pub(crate) fn signed_64(bytes: &[u8]) -> Result<(u64, &[u8]), ItemFault>
-    ensures { Answers (λ x. (x.0, x.1.now)) result (signed_at (2 ^ 64 - 1) bytes.now) }
+    ensures { Implements (λ x. (x.0, x.1.now)) result (signed_at (2 ^ 64 - 1) bytes.now) }
 {
     match signed(u64::MAX, bytes) {
         Ok(found) => Ok(found),

@@ -1,6 +1,6 @@
 //! Sections (Core 1.0, sections 5.5.2 and 5.5.3).
 ghost use Rattle.std.specs.Prelude.{◌≡◌, [], Option};
-ghost use Rattle.wm_decode.specs.Answers.{Answers};
+ghost use Rattle.wm_decode.specs.Implements.{Implements};
 ghost use Rattle.wm_decode.specs.ReadingVectors.{sized_at};
 ghost use Rattle.wm_decode.specs.ReadingModule.{custom_at, customs_in, section_at};
 ghost use Rattle.wm_decode.specs.SectionIds.{id_byte};
@@ -64,7 +64,7 @@ pub(crate) trait Content {
 
     /// Reads the value at the front.
     fn read<'a>(&self, alloc: Global, bytes: &'a [u8]) -> Result<(Self::Value, &'a [u8]), ItemFault>
-        ensures { Answers (λ x. (x.0, x.1.now)) result (content_at self.now bytes.now) };
+        ensures { Implements (λ x. (x.0, x.1.now)) result (content_at self.now bytes.now) };
 }
 
 /// Reads a size, and a value that takes so many bytes.
@@ -74,7 +74,7 @@ fn sized<'a, C: Content>(
     content: &C,
     bytes: &'a [u8],
 ) -> Result<(C::Value, &'a [u8]), ItemFault>
-    ensures { Answers (λ x. (x.0, x.1.now)) result (sized_at (C.content_at content.now) bytes.now) }
+    ensures { Implements (λ x. (x.0, x.1.now)) result (sized_at (C.content_at content.now) bytes.now) }
 {
     let (inner, after) = byte_vector(bytes)?;
     let (value, left) = match content.read(alloc, inner) {
@@ -107,7 +107,7 @@ impl Content for Custom {
 
 /// Skips custom sections.
 pub(crate) fn customs(alloc: Global, bytes: &[u8]) -> Result<&[u8], ItemFault>
-    ensures { Answers (λ x. x.now) result (customs_in bytes.now) }
+    ensures { Implements (λ x. x.now) result (customs_in bytes.now) }
 {
     let mut rest = bytes;
     while let [id, after @ ..] = rest {
@@ -128,7 +128,7 @@ pub(crate) fn section<'a, C: Content>(
     content: &C,
     bytes: &'a [u8],
 ) -> Result<(Option<C::Value>, &'a [u8]), ItemFault>
-    ensures { Answers (λ x. (x.0, x.1.now)) result (section_at (C.content_at content.now) (id_byte id) bytes.now) }
+    ensures { Implements (λ x. (x.0, x.1.now)) result (section_at (C.content_at content.now) (id_byte id) bytes.now) }
 {
     match bytes {
         [] => Ok((None, bytes)),

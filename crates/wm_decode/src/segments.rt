@@ -1,7 +1,7 @@
 //! The section of data segments (Core 1.0, section 5.5.14).
 ghost use Rattle.std.specs.Prelude.{◌≡◌};
 ghost use Rattle.wm_decode.specs.Stop.{bad};
-ghost use Rattle.wm_decode.specs.Answers.{stop_of};
+ghost use Rattle.wm_decode.specs.Implements.{stop_of};
 ghost use Rattle.wm_decode.specs.ReadingParts.{segment_at, segments_at};
 
 use crate::data_count::is_agreed;

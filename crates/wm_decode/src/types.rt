@@ -2,7 +2,7 @@
 ghost use Rattle.std.specs.Prelude.{◌≡◌};
 ghost use Rattle.wm_decode.specs.Stop.{bad};
 ghost use Rattle.wm_decode.specs.Bounds.{profile};
-ghost use Rattle.wm_decode.specs.Answers.{Answers, stop_of};
+ghost use Rattle.wm_decode.specs.Implements.{Implements, stop_of};
 ghost use Rattle.wm_decode.specs.ReadingInstructions.{value_type_at};
 ghost use Rattle.wm_decode.specs.ReadingParts.{func_type_at, result_at, limits_at};
 
@@ -42,7 +42,7 @@ impl Item for ValType {
 /// Reads at most one result.
 #[tactic(auto, unfolding(crate::specs::ReadingParts::result_at))]
 fn result_type(alloc: Global, bytes: &[u8]) -> Result<(Option<ValType>, &[u8]), ItemFault>
-    ensures { Answers (λ x. (x.0, x.1.now)) result (result_at bytes.now) }
+    ensures { Implements (λ x. (x.0, x.1.now)) result (result_at bytes.now) }
 {
     let (count, rest) = unsigned_32(bytes)?;
     match count {
@@ -75,7 +75,7 @@ impl Item for FuncType {
 /// Reads the limits of a shared memory.
 #[tactic(auto, unfolding(crate::specs::ReadingParts::limits_at))]
 pub(crate) fn limits(bytes: &[u8]) -> Result<(Limits, &[u8]), ItemFault>
-    ensures { Answers (λ x. (x.0, x.1.now)) result (limits_at profile bytes.now) }
+    ensures { Implements (λ x. (x.0, x.1.now)) result (limits_at profile bytes.now) }
 {
     let rest = match bytes {
         [] => return Err(ItemFault::WithLeft(FaultKind::Truncated, 0)),

@@ -1,6 +1,6 @@
 //! Vectors and names (Core 1.0, sections 5.1.3 and 5.2.4).
 ghost use Rattle.std.specs.Prelude.{◌≡◌};
-ghost use Rattle.wm_decode.specs.Answers.{Answers};
+ghost use Rattle.wm_decode.specs.Implements.{Implements};
 ghost use Rattle.wm_decode.specs.ReadingVectors.{vector_at, items_at, byte_vector_at, name_at};
 
 use crate::fault::{FaultKind, ItemFault};
@@ -19,7 +19,7 @@ pub(crate) trait Item: Drop {
 
     /// Reads the item at the front.
     fn read(alloc: Global, bytes: &[u8]) -> Result<(Self, &[u8]), ItemFault>
-        ensures { Answers (λ x. (x.0, x.1.now)) result (item_at bytes.now) };
+        ensures { Implements (λ x. (x.0, x.1.now)) result (item_at bytes.now) };
 }
 
 impl Item for u32 {
@@ -38,7 +38,7 @@ pub(crate) fn items<T: Item>(
     count: u32,
     bytes: &[u8],
 ) -> Result<(List<T>, &[u8]), ItemFault>
-    ensures { Answers (λ x. (x.0, x.1.now)) result (items_at T.item_at count bytes.now) }
+    ensures { Implements (λ x. (x.0, x.1.now)) result (items_at T.item_at count bytes.now) }
 {
     let mut found = List::new(alloc);
     let mut rest = bytes;
@@ -53,7 +53,7 @@ pub(crate) fn items<T: Item>(
 /// Reads a vector.
 #[tactic(auto, unfolding(crate::specs::ReadingVectors::vector_at))]
 pub(crate) fn vector<T: Item>(alloc: Global, bytes: &[u8]) -> Result<(List<T>, &[u8]), ItemFault>
-    ensures { Answers (λ x. (x.0, x.1.now)) result (vector_at T.item_at bytes.now) }
+    ensures { Implements (λ x. (x.0, x.1.now)) result (vector_at T.item_at bytes.now) }
 {
     let (count, rest) = unsigned_32(bytes)?;
     items(alloc, count, rest)
@@ -62,7 +62,7 @@ pub(crate) fn vector<T: Item>(alloc: Global, bytes: &[u8]) -> Result<(List<T>, &
 /// Reads a vector of bytes. Missing ones are faulted where the first of them would stand.
 #[tactic(auto, unfolding(crate::specs::ReadingVectors::byte_vector_at))]
 pub(crate) fn byte_vector(bytes: &[u8]) -> Result<(&[u8], &[u8]), ItemFault>
-    ensures { Answers (λ x. (x.0.now, x.1.now)) result (byte_vector_at bytes.now) }
+    ensures { Implements (λ x. (x.0.now, x.1.now)) result (byte_vector_at bytes.now) }
 {
     let (count, rest) = unsigned_32(bytes)?;
     let count = count as usize;
@@ -75,7 +75,7 @@ pub(crate) fn byte_vector(bytes: &[u8]) -> Result<(&[u8], &[u8]), ItemFault>
 /// Reads a name. It is faulted at its length.
 #[tactic(auto, unfolding(crate::specs::ReadingVectors::name_at))]
 pub(crate) fn name(bytes: &[u8]) -> Result<(&str, &[u8]), ItemFault>
-    ensures { Answers (λ x. (x.0.now, x.1.now)) result (name_at bytes.now) }
+    ensures { Implements (λ x. (x.0.now, x.1.now)) result (name_at bytes.now) }
 {
     let (text, rest) = match byte_vector(bytes) {
         Ok(found) => found,
@@ -89,7 +89,7 @@ pub(crate) fn name(bytes: &[u8]) -> Result<(&str, &[u8]), ItemFault>
 
 /// Reads a name and copies it.
 pub(crate) fn owned_name(alloc: Global, bytes: &[u8]) -> Result<(Text, &[u8]), ItemFault>
-    ensures { Answers (λ x. (x.0, x.1.now)) result (name_at bytes.now) }
+    ensures { Implements (λ x. (x.0, x.1.now)) result (name_at bytes.now) }
 {
     let (name, rest) = name(bytes)?;
     Ok((Text::from_string(String::from_str(alloc, name)?), rest))

@@ -9,30 +9,30 @@ use Rattle.wm_access.specs.declared.AccessWidth.TheVariants.{One, Two, Four, Eig
 use Rattle.wm_event.specs.declared.event.EventKey.{EventKey}
 use Rattle.wm_event.specs.declared.log.ThreadLog.{ThreadLog}
 use Rattle.wm_event.specs.declared.writes.ByteWrite.{ByteWrite}
-use Rattle.wm_event.specs.declared.atomic_writes.Starts.{Starts}
+use Rattle.wm_event.specs.declared.atomic_writes.WidthIndex.{WidthIndex}
 use Rattle.wm_event.specs.declared.atomic_writes.AtomicWrites.{AtomicWrites}
 use Rattle.wm_event.specs.Event.{is_atomic, writes}
 use Rattle.wm_event.specs.Log.{event_in}
 use Rattle.wm_event.specs.Writes.{is_at, listed_from}
 
 -- whether an event of a log is an atomic write of that width that begins at a
-abbrev pub starts_atomic : List ThreadLog → AccessWidth → ℕ → EventKey → Bool
-starts_atomic log width a key = option_map_or (λ e. (is_atomic e && (writes e && (bytes_of e.width == bytes_of width))) && (e.address == a)) (event_in log key) false
+abbrev pub begins_atomic : List ThreadLog → AccessWidth → ℕ → EventKey → Bool
+begins_atomic log width a key = option_map_or (λ e. (is_atomic e && (writes e && (bytes_of e.width == bytes_of width))) && (e.address == a)) (event_in log key) false
 
 -- the atomic writes of one width in the order, by the address where they begin
-pub record AreStarts (log : List ThreadLog) (width : AccessWidth) (order : List EventKey) (s : Starts) : Type 0 where
+pub record IsWidthIndex (log : List ThreadLog) (width : AccessWidth) (order : List EventKey) (s : WidthIndex) : Type 0 where
   pub rises : IsNonDecreasingBy (λ (b : ByteWrite). b.address) s.entries.items
-  pub each : (a : ℕ) → filter (is_at a) s.entries.items ≡ listed_from (starts_atomic log width a) a 0 order
+  pub each : (a : ℕ) → filter (is_at a) s.entries.items ≡ listed_from (begins_atomic log width a) a 0 order
 
 -- those of each width
 pub record AreAtomicWrites (log : List ThreadLog) (order : List EventKey) (w : AtomicWrites) : Type 0 where
-  pub one : AreStarts log One order w.one
-  pub two : AreStarts log Two order w.two
-  pub four : AreStarts log Four order w.four
-  pub eight : AreStarts log Eight order w.eight
+  pub one : IsWidthIndex log One order w.one
+  pub two : IsWidthIndex log Two order w.two
+  pub four : IsWidthIndex log Four order w.four
+  pub eight : IsWidthIndex log Eight order w.eight
 
-abbrev pub starts_in : AtomicWrites → AccessWidth → Starts
-starts_in w One = w.one
-starts_in w Two = w.two
-starts_in w Four = w.four
-starts_in w Eight = w.eight
+abbrev pub begin_in : AtomicWrites → AccessWidth → WidthIndex
+begin_in w One = w.one
+begin_in w Two = w.two
+begin_in w Four = w.four
+begin_in w Eight = w.eight

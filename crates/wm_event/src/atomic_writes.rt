@@ -1,9 +1,9 @@
 //! The atomic writes of each range, in an order.
-ghost use Rattle.std.specs.Prelude.{◌≡◌, ℕ, ◌++◌, ◌∷◌, [], IfOk, OnOk, if◌then◌else◌};
+ghost use Rattle.std.specs.Prelude.{◌≡◌, ℕ, IfOk, OnOk};
 ghost use Rattle.std.specs.List.{filter};
 ghost use Rattle.std.specs.List.Sorted.{IsNonDecreasingBy};
-ghost use Rattle.wm_event.specs.AtomicWrites.{AreAtomicWrites, AreStarts, starts_atomic, starts_in};
-ghost use Rattle.wm_event.specs.Writes.{is_at, listed_from};
+ghost use Rattle.wm_event.specs.AtomicWrites.{AreAtomicWrites, IsWidthIndex, begins_atomic, begin_in};
+ghost use Rattle.wm_event.specs.Writes.{AddsWrite, is_at, listed_from};
 ghost use Rattle.wm_event.specs.declared.writes.ByteWrite.{ByteWrite};
 
 use crate::event::{EventKey, Range};
@@ -14,29 +14,28 @@ use wm_access::AccessWidth;
 
 /// The atomic writes of one width in an order, by the address where they begin.
 #[derive(Drop)]
-pub struct Starts {
+pub struct WidthIndex {
     entries: Vec<ByteWrite>,
 }
 
 /// The atomic writes of each range in an order.
 #[derive(Drop)]
 pub struct AtomicWrites {
-    one: Starts,
-    two: Starts,
-    four: Starts,
-    eight: Starts,
+    one: WidthIndex,
+    two: WidthIndex,
+    four: WidthIndex,
+    eight: WidthIndex,
 }
 
 /// Adds an event of a log, if it is an atomic write of that width.
-fn add_start(
+fn add_write(
     entries: &mut Vec<ByteWrite>,
     log: &Log,
     width: AccessWidth,
     key: EventKey,
     place: usize,
 ) -> Result<(), AllocError>
-    ensures { OnOk result ((a : ℕ) → filter (is_at a) entries.new.items
-        ≡ filter (is_at a) entries.old.items ++ (if starts_atomic log.now width a key then record { address = a; place = place } ∷ [] else [])) }
+    ensures { OnOk result ((a : ℕ) → AddsWrite (begins_atomic log.now width a key) a place entries.old.items entries.new.items) }
 {
     let Some(event) = log.event(key) else {
         return Ok(());
@@ -49,22 +48,22 @@ fn add_start(
 }
 
 /// The atomic writes of one width, in the order.
-fn starts_of(
+fn writes_of_width(
     alloc: Global,
     log: &Log,
     width: AccessWidth,
     order: &[EventKey],
 ) -> Result<Vec<ByteWrite>, AllocError>
-    ensures { IfOk result (λ v. (a : ℕ) → filter (is_at a) v.items ≡ listed_from (starts_atomic log.now width a) a 0 order.now) }
+    ensures { IfOk result (λ v. (a : ℕ) → filter (is_at a) v.items ≡ listed_from (begins_atomic log.now width a) a 0 order.now) }
 {
     let mut entries = Vec::new(alloc);
     for (place, key) in order.iter().enumerate() {
-        add_start(&mut entries, log, width, *key, place)?;
+        add_write(&mut entries, log, width, *key, place)?;
     }
     Ok(entries)
 }
 
-impl Starts {
+impl WidthIndex {
     /// The atomic writes of one width in an order.
     fn of_order(
         alloc: Global,
@@ -72,15 +71,15 @@ impl Starts {
         width: AccessWidth,
         order: &[EventKey],
     ) -> Result<Self, AllocError>
-        ensures { IfOk result (λ s. AreStarts log.now width order.now s) }
+        ensures { IfOk result (λ s. IsWidthIndex log.now width order.now s) }
     {
-        let mut entries = starts_of(alloc, log, width, order)?;
+        let mut entries = writes_of_width(alloc, log, width, order)?;
         entries.sort_by_key(
             |write: &ByteWrite| -> u64
                 ensures { result ≡ write.now.address }
             { write.address },
         )?;
-        Ok(Starts { entries })
+        Ok(WidthIndex { entries })
     }
 
     /// Those that begin at an address, in the order.
@@ -98,10 +97,10 @@ impl AtomicWrites {
         ensures { IfOk result (λ w. AreAtomicWrites log.now order.now w) }
     {
         Ok(AtomicWrites {
-            one: Starts::of_order(alloc, log, AccessWidth::One, order)?,
-            two: Starts::of_order(alloc, log, AccessWidth::Two, order)?,
-            four: Starts::of_order(alloc, log, AccessWidth::Four, order)?,
-            eight: Starts::of_order(alloc, log, AccessWidth::Eight, order)?,
+            one: WidthIndex::of_order(alloc, log, AccessWidth::One, order)?,
+            two: WidthIndex::of_order(alloc, log, AccessWidth::Two, order)?,
+            four: WidthIndex::of_order(alloc, log, AccessWidth::Four, order)?,
+            eight: WidthIndex::of_order(alloc, log, AccessWidth::Eight, order)?,
         })
     }
 
@@ -111,7 +110,7 @@ impl AtomicWrites {
         requires two { IsNonDecreasingBy (λ (b : ByteWrite). b.address) self.now.two.entries.items }
         requires four { IsNonDecreasingBy (λ (b : ByteWrite). b.address) self.now.four.entries.items }
         requires eight { IsNonDecreasingBy (λ (b : ByteWrite). b.address) self.now.eight.entries.items }
-        ensures { result.now ≡ filter (is_at range.address) (starts_in self.now range.width).entries.items }
+        ensures { result.now ≡ filter (is_at range.address) (begin_in self.now range.width).entries.items }
     {
         let address = u64::from(range.address);
         match range.width {

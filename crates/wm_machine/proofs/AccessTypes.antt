@@ -19,7 +19,7 @@ use Rattle.wm_valid.specs.Typing.{Makes}
 use Rattle.wm_machine.specs.declared.value.TypedValue.{TypedValue}
 use Rattle.wm_machine.specs.Values.{number_at}
 use Rattle.wm_machine.specs.Accesses.{Asked, asked_at, asked_with, on_address, on_value, on_expected, asked, extended, loaded}
-use Rattle.wm_machine.specs.Step.{put_on}
+use Rattle.wm_machine.specs.Step.{push_optional}
 use Rattle.wm_machine.specs.Fits.{val_type, types_of}
 use Rattle.wm_machine.proofs.TypeLists.{number_there, number_as, dropped, over, typed_as}
 
@@ -52,7 +52,7 @@ expected_there t vs ts e =
 extended_as : (sign : Signedness) (s : Storage) (read : ℕ) → val_type (extended sign s read) ≡ storage_operand s
 extended_as sign s read = typed_as (storage_operand s) (extension_meaning sign (storage_width s) (width_of (storage_operand s)) read)
 
-pub asked_there : (kind : AccessKind) (vs : List TypedValue) (us : List ValType) (read : ℕ) → Makes (access_type kind) (types_of vs) us → (a : Asked) × (asked kind vs ≡ Some a) × (us ≡ types_of (put_on (loaded kind read) a.below))
+pub asked_there : (kind : AccessKind) (vs : List TypedValue) (us : List ValType) (read : ℕ) → Makes (access_type kind) (types_of vs) us → (a : Asked) × (asked kind vs ≡ Some a) × (us ≡ types_of (push_optional (loaded kind read) a.below))
 asked_there (Read s) vs us read h =
     let a = address_there op.Read vs h.0 h.1 in
     (a.0, a.1, over us h.0 (storage_operand s) (extended Unsigned s read) a.0.below h.2 (extended_as Unsigned s read) a.2)

@@ -9,27 +9,27 @@ use Rattle.wm_event.specs.declared.op.OpFields.{OpFields}
 use Rattle.wm_event.specs.declared.log.TrapKind.{TrapKind}
 use Rattle.wm_machine.specs.declared.value.TypedValue.{TypedValue}
 use Rattle.wm_machine.specs.declared.action.Action.{Action}
-use Rattle.wm_machine.specs.declared.activation.Activation.{Activation}
-use Rattle.wm_machine.specs.declared.activation.Reached.{Reached}
-use Rattle.wm_machine.specs.declared.activation.Reached.TheVariants.{Within, Trapped, Left, Calling, Asking}
+use Rattle.wm_machine.specs.declared.call_frame.CallFrame.{CallFrame}
+use Rattle.wm_machine.specs.declared.call_frame.Flow.{Flow}
+use Rattle.wm_machine.specs.declared.call_frame.Flow.TheVariants.{Within, Trapped, Left, Calling, Asking}
 use Rattle.wm_machine.specs.declared.fault.StepFault.{StepFault}
 use Rattle.wm_machine.specs.declared.fault.StepFault.TheVariants.{Stuck as StuckFault, OutOfMemory}
-use Rattle.wm_machine.specs.Functions.{todo, from_place}
+use Rattle.wm_machine.specs.Functions.{continuation, from_place}
 use Rattle.wm_machine.specs.Term.{Vars, Term, Here, Label, Reduced, Next, Leaves, Returns, Traps, Stuck}
 use Rattle.wm_machine.specs.Step.{reduce, land, stays, act, after, enter, returned}
 use Rattle.wm_machine.specs.Nest.{Nest, Position, landed, carried_top, joined}
 use Rattle.wm_machine.specs.Action.{does}
 use Rattle.wm_machine.specs.Configuration.{around, left_of}
-use Rattle.wm_machine.specs.Inside.{out_of_labels, seen, back, Goes, GivesBack}
+use Rattle.wm_machine.specs.Inside.{out_of_labels, seen, back, StepsTo, GivesBack}
 
 module _ (m : Module) (read : ℕ) where
   pub labels_lift : (depth func : ℕ) (vars : Vars) (ps : List Position) (t : Term) → reduce m read depth func vars (around m func ps t) ≡ out_of_labels m func vars ps (reduce m read depth func vars t)
   labels_lift depth func vars [] t = refl
-  labels_lift depth func vars (p ∷ ps) t = labels_lift depth func vars ps (Label p.operands (todo m func p.block p.at) t)
+  labels_lift depth func vars (p ∷ ps) t = labels_lift depth func vars ps (Label p.operands (continuation m func p.block p.at) t)
 
   pub labels_next : (func : ℕ) (vars vars' : Vars) (made : Option OpFields) (ps : List Position) (t : Term) → out_of_labels m func vars ps (Next made vars' t) ≡ Next made vars' (around m func ps t)
   labels_next func vars vars' made [] t = refl
-  labels_next func vars vars' made (p ∷ ps) t = labels_next func vars vars' made ps (Label p.operands (todo m func p.block p.at) t)
+  labels_next func vars vars' made (p ∷ ps) t = labels_next func vars vars' made ps (Label p.operands (continuation m func p.block p.at) t)
 
   pub labels_traps : (func : ℕ) (vars : Vars) (kind : TrapKind) (ps : List Position) → out_of_labels m func vars ps (Traps kind) ≡ Traps kind
   labels_traps func vars kind [] = refl
@@ -44,13 +44,13 @@ module _ (m : Module) (read : ℕ) where
   labels_stuck func vars (p ∷ ps) = labels_stuck func vars ps
 
 -- an instruction that stays in its place
-pub stays_within : (m : Module) (func block at : ℕ) (vars vars' : Vars) (operands : List TypedValue) (outer : List Position) (made : Option OpFields) (i : Instr) → todo m func block at ≡ i ∷ todo m func block (at + 1) → seen m func (out_of_labels m func vars outer (Next made vars' (Here operands (after (todo m func block at))))) ≡ Next None vars' (around m func outer (Here operands (todo m func block (at + 1))))
+pub stays_within : (m : Module) (func block at : ℕ) (vars vars' : Vars) (operands : List TypedValue) (outer : List Position) (made : Option OpFields) (i : Instr) → continuation m func block at ≡ i ∷ continuation m func block (at + 1) → seen m func (out_of_labels m func vars outer (Next made vars' (Here operands (after (continuation m func block at))))) ≡ Next None vars' (around m func outer (Here operands (continuation m func block (at + 1))))
 stays_within m func block at vars vars' operands outer made i h =
-    let e = labels_next m 0 func vars vars' made outer (Here operands (todo m func block (at + 1))) in
+    let e = labels_next m 0 func vars vars' made outer (Here operands (continuation m func block (at + 1))) in
     rw h (ap (seen m func) e)
 
 -- an instruction that enters a block
-pub enters_within : (m : Module) (func block : ℕ) (vars : Vars) (operands : List TypedValue) (outer : List Position) (instrs instrs' : List Instr) → block_in m.funcs func block ≡ Some instrs' → seen m func (out_of_labels m func vars outer (enter (block_in m.funcs func block) vars operands instrs)) ≡ Next None vars (around m func outer (Label operands instrs (Here [] (todo m func block 0))))
+pub enters_within : (m : Module) (func block : ℕ) (vars : Vars) (operands : List TypedValue) (outer : List Position) (instrs instrs' : List Instr) → block_in m.funcs func block ≡ Some instrs' → seen m func (out_of_labels m func vars outer (enter (block_in m.funcs func block) vars operands instrs)) ≡ Next None vars (around m func outer (Label operands instrs (Here [] (continuation m func block 0))))
 enters_within m func block vars operands outer instrs instrs' h =
     let e = labels_next m 0 func vars vars None outer (Label operands instrs (Here [] instrs')) in
     rw h (ap (seen m func) e)
@@ -75,12 +75,12 @@ leaves_func m func vars values (p ∷ ps) zero h = absurd (omega arith)
 leaves_func m func vars values (p ∷ ps) (suc l) h = leaves_func m func vars values ps l (omega arith) ∙ ap (λ k. Leaves k values) (omega arith)
 
 -- a branch to a block round it
-pub leaves_at : (m : Module) (func : ℕ) (vars : Vars) (values : List TypedValue) (outer : List Position) (label : ℕ) (p : Position) → slice_get outer label ≡ Some p → out_of_labels m func vars outer (Leaves label values) ≡ out_of_labels m func vars (drop (label + 1) outer) (land vars p.operands (todo m func p.block p.at) values)
+pub leaves_at : (m : Module) (func : ℕ) (vars : Vars) (values : List TypedValue) (outer : List Position) (label : ℕ) (p : Position) → slice_get outer label ≡ Some p → out_of_labels m func vars outer (Leaves label values) ≡ out_of_labels m func vars (drop (label + 1) outer) (land vars p.operands (continuation m func p.block p.at) values)
 leaves_at m func vars values [] label p h = cc
-leaves_at m func vars values (q ∷ ps) zero p h = let e : q ≡ p = cc in ap (λ (r : Position). out_of_labels m func vars ps (land vars r.operands (todo m func r.block r.at) values)) e
+leaves_at m func vars values (q ∷ ps) zero p h = let e : q ≡ p = cc in ap (λ (r : Position). out_of_labels m func vars ps (land vars r.operands (continuation m func r.block r.at) values)) e
 leaves_at m func vars values (q ∷ ps) (suc l) p h =
     let e : suc (l + 1) ≡ suc l + 1 = omega arith in
-    leaves_at m func vars values ps l p h ∙ ap (λ (k : ℕ). out_of_labels m func vars (drop k (q ∷ ps)) (land vars p.operands (todo m func p.block p.at) values)) e
+    leaves_at m func vars values ps l p h ∙ ap (λ (k : ℕ). out_of_labels m func vars (drop k (q ∷ ps)) (land vars p.operands (continuation m func p.block p.at) values)) e
 
 -- where unwinding leads
 pub landed_at : (label : ℕ) (values : List TypedValue) (outer : List Position) (p : Position) → slice_get outer label ≡ Some p → landed label values outer ≡ Some record { operands = values ++ p.operands; block = p.block; at = p.at; outer = drop (label + 1) outer }
@@ -107,29 +107,29 @@ find outer label block at within is =
     record { place = get_or outer label d; found = e; block_is = h.0; at_is = h.1 }
 
 -- the branch and the unwinding agree
-pub branches_to : (m : Module) (func : ℕ) (vars : Vars) (values : List TypedValue) (outer : List Position) (label block at next : ℕ) (carry : Bool) (n : Nest) → label < length outer → At outer label block at → landed label (carried_top carry values) outer ≡ Some n → ((operands : List TypedValue) → land vars operands (todo m func block at) values ≡ stays vars (carried_top carry values ++ operands) (todo m func block next)) → seen m func (out_of_labels m func vars outer (Leaves label values)) ≡ Next None vars (around m func n.outer (Here n.operands (todo m func n.block next)))
+pub branches_to : (m : Module) (func : ℕ) (vars : Vars) (values : List TypedValue) (outer : List Position) (label block at next : ℕ) (carry : Bool) (n : Nest) → label < length outer → At outer label block at → landed label (carried_top carry values) outer ≡ Some n → ((operands : List TypedValue) → land vars operands (continuation m func block at) values ≡ stays vars (carried_top carry values ++ operands) (continuation m func block next)) → seen m func (out_of_labels m func vars outer (Leaves label values)) ≡ Next None vars (around m func n.outer (Here n.operands (continuation m func n.block next)))
 branches_to m func vars values outer label block at next carry n within is h lands =
     let f = find outer label block at within is in
     let p = f.place in
     let cs = carried_top carry values in
-    let t1 : todo m func p.block p.at ≡ todo m func block at = ap (λ (b : ℕ). todo m func b p.at) (sym f.block_is) ∙ ap (λ (a : ℕ). todo m func block a) (sym f.at_is) in
+    let t1 : continuation m func p.block p.at ≡ continuation m func block at = ap (λ (b : ℕ). continuation m func b p.at) (sym f.block_is) ∙ ap (λ (a : ℕ). continuation m func block a) (sym f.at_is) in
     let e1 = leaves_at m func vars values outer label p f.found in
-    let e2 : land vars p.operands (todo m func p.block p.at) values ≡ stays vars (cs ++ p.operands) (todo m func block next) = ap (λ (i : List Instr). land vars p.operands i values) t1 ∙ lands p.operands in
-    let e3 = labels_next m 0 func vars vars None (drop (label + 1) outer) (Here (cs ++ p.operands) (todo m func block next)) in
+    let e2 : land vars p.operands (continuation m func p.block p.at) values ≡ stays vars (cs ++ p.operands) (continuation m func block next) = ap (λ (i : List Instr). land vars p.operands i values) t1 ∙ lands p.operands in
+    let e3 = labels_next m 0 func vars vars None (drop (label + 1) outer) (Here (cs ++ p.operands) (continuation m func block next)) in
     let e4 = sym (landed_at label cs outer p f.found) ∙ h in
     let r : Nest = record { operands = cs ++ p.operands; block = p.block; at = p.at; outer = drop (label + 1) outer } in
     let inj : r ≡ n = cc in
-    let e5 = ap (λ (b : ℕ). Next None vars (around m func (drop (label + 1) outer) (Here (cs ++ p.operands) (todo m func b next)))) f.block_is in
+    let e5 = ap (λ (b : ℕ). Next None vars (around m func (drop (label + 1) outer) (Here (cs ++ p.operands) (continuation m func b next)))) f.block_is in
     ap (seen m func) (e1 ∙ ap (out_of_labels m func vars (drop (label + 1) outer)) e2 ∙ e3)
-    ∙ e5 ∙ ap (λ (k : Nest). Next None vars (around m func k.outer (Here k.operands (todo m func k.block next)))) inj
+    ∙ e5 ∙ ap (λ (k : Nest). Next None vars (around m func k.outer (Here k.operands (continuation m func k.block next)))) inj
 
-pub branches_stuck : (m : Module) (func : ℕ) (vars : Vars) (values : List TypedValue) (outer : List Position) (label block at : ℕ) → label < length outer → At outer label block at → ((operands : List TypedValue) → land vars operands (todo m func block at) values ≡ Stuck) → seen m func (out_of_labels m func vars outer (Leaves label values)) ≡ Stuck
+pub branches_stuck : (m : Module) (func : ℕ) (vars : Vars) (values : List TypedValue) (outer : List Position) (label block at : ℕ) → label < length outer → At outer label block at → ((operands : List TypedValue) → land vars operands (continuation m func block at) values ≡ Stuck) → seen m func (out_of_labels m func vars outer (Leaves label values)) ≡ Stuck
 branches_stuck m func vars values outer label block at within is lands =
     let f = find outer label block at within is in
     let p = f.place in
-    let t1 : todo m func p.block p.at ≡ todo m func block at = ap (λ (b : ℕ). todo m func b p.at) (sym f.block_is) ∙ ap (λ (a : ℕ). todo m func block a) (sym f.at_is) in
+    let t1 : continuation m func p.block p.at ≡ continuation m func block at = ap (λ (b : ℕ). continuation m func b p.at) (sym f.block_is) ∙ ap (λ (a : ℕ). continuation m func block a) (sym f.at_is) in
     let e1 = leaves_at m func vars values outer label p f.found in
-    let e2 : land vars p.operands (todo m func p.block p.at) values ≡ Stuck = ap (λ (i : List Instr). land vars p.operands i values) t1 ∙ lands p.operands in
+    let e2 : land vars p.operands (continuation m func p.block p.at) values ≡ Stuck = ap (λ (i : List Instr). land vars p.operands i values) t1 ∙ lands p.operands in
     ap (seen m func) (e1 ∙ ap (out_of_labels m func vars (drop (label + 1) outer)) e2 ∙ labels_stuck m 0 func vars (drop (label + 1) outer))
 
 -- a branch past the function
@@ -148,7 +148,7 @@ branches_out m func vars values outer label h =
     ap (seen m func) (leaves_func m func vars values outer label le ∙ ap (λ (j : ℕ). Leaves j values) e)
 
 -- what a function gives back
-pub gives_back_goes : (m : Module) (depth : ℕ) (r : Reduced) (old : Activation) (globals : List TypedValue) (values : Option (List TypedValue)) (result : Result Reached StepFault) → seen m old.func r ≡ back values → GivesBack values result → Goes m depth r old globals old globals result
+pub gives_back_goes : (m : Module) (depth : ℕ) (r : Reduced) (old : CallFrame) (globals : List TypedValue) (values : Option (List TypedValue)) (result : Result Flow StepFault) → seen m old.func r ≡ back values → GivesBack values result → StepsTo m depth r old globals old globals result
 gives_back_goes m depth r old globals values (Ok (Left v)) e g = (e ∙ ap back g, (refl, refl))
 gives_back_goes m depth r old globals values (Ok Within) e g = absurd g
 gives_back_goes m depth r old globals values (Ok (Trapped kind)) e g = absurd g
@@ -168,31 +168,31 @@ after_from (Some b) at = after_drop b at
     after_drop (x ∷ xs) (suc k) = let e : suc (k + 1) ≡ suc k + 1 = omega arith in after_drop xs k ∙ ap (λ (j : ℕ). drop j (x ∷ xs)) e
 
 -- the end of a block that is in another
-pub closes_within : (m : Module) (read depth func : ℕ) (vars : Vars) (operands : List TypedValue) (block at : ℕ) (outer : List Position) (n : Nest) → todo m func block at ≡ [] → joined operands outer ≡ Some n → seen m func (reduce m read depth func vars (around m func outer (Here operands (todo m func block at)))) ≡ Next None vars (around m func n.outer (Here n.operands (todo m func n.block (n.at + 1))))
+pub closes_within : (m : Module) (read depth func : ℕ) (vars : Vars) (operands : List TypedValue) (block at : ℕ) (outer : List Position) (n : Nest) → continuation m func block at ≡ [] → joined operands outer ≡ Some n → seen m func (reduce m read depth func vars (around m func outer (Here operands (continuation m func block at)))) ≡ Next None vars (around m func n.outer (Here n.operands (continuation m func n.block (n.at + 1))))
 closes_within m read depth func vars operands block at [] n h e = cc
 closes_within m read depth func vars operands block at (p ∷ ps) n h e =
     let r : Nest = record { operands = operands ++ p.operands; block = p.block; at = p.at; outer = ps } in
     let inj : r ≡ n = cc in
-    let e1 = labels_lift m read depth func vars (p ∷ ps) (Here operands (todo m func block at)) in
+    let e1 = labels_lift m read depth func vars (p ∷ ps) (Here operands (continuation m func block at)) in
     let e2 = ap (λ (i : List Instr). out_of_labels m func vars (p ∷ ps) (reduce m read depth func vars (Here operands i))) h in
     let e3 = ap (λ (i : List Instr). out_of_labels m func vars ps (stays vars (operands ++ p.operands) i)) (after_from (block_in m.funcs func p.block) p.at) in
-    let e4 = labels_next m 0 func vars vars None ps (Here (operands ++ p.operands) (todo m func p.block (p.at + 1))) in
-    ap (seen m func) (e1 ∙ e2 ∙ e3 ∙ e4) ∙ ap (λ (k : Nest). Next None vars (around m func k.outer (Here k.operands (todo m func k.block (k.at + 1))))) inj
+    let e4 = labels_next m 0 func vars vars None ps (Here (operands ++ p.operands) (continuation m func p.block (p.at + 1))) in
+    ap (seen m func) (e1 ∙ e2 ∙ e3 ∙ e4) ∙ ap (λ (k : Nest). Next None vars (around m func k.outer (Here k.operands (continuation m func k.block (k.at + 1))))) inj
 
 pub not_false : (b : Bool) → (b ≡ false → ⊥) → b ≡ true
 not_false true h = refl
 not_false false h = absurd (h refl)
 
 -- the end of a body
-pub ends_out : (m : Module) (read depth func : ℕ) (vars : Vars) (operands : List TypedValue) (block at : ℕ) (outer : List Position) → todo m func block at ≡ [] → length outer ≡ 0 → seen m func (reduce m read depth func vars (around m func outer (Here operands (todo m func block at)))) ≡ back (returned m func operands)
+pub ends_out : (m : Module) (read depth func : ℕ) (vars : Vars) (operands : List TypedValue) (block at : ℕ) (outer : List Position) → continuation m func block at ≡ [] → length outer ≡ 0 → seen m func (reduce m read depth func vars (around m func outer (Here operands (continuation m func block at)))) ≡ back (returned m func operands)
 ends_out m read depth func vars operands block at [] h q = ap (λ (i : List Instr). seen m func (reduce m read depth func vars (Here operands i))) h
 ends_out m read depth func vars operands block at (p ∷ ps) h q = absurd (omega arith)
 
 -- an instruction
-pub acts : (m : Module) (read depth func : ℕ) (vars : Vars) (nest : Nest) (i : Instr) (action : Action) → todo m func nest.block nest.at ≡ i ∷ todo m func nest.block (nest.at + 1) → ((d r f : ℕ) (rest : List Instr) → act m d r f vars nest.operands i rest ≡ does m d r f vars nest.operands (i ∷ rest) action) → reduce m read depth func vars (left_of m func nest) ≡ out_of_labels m func vars nest.outer (does m depth read func vars nest.operands (todo m func nest.block nest.at) action)
+pub acts : (m : Module) (read depth func : ℕ) (vars : Vars) (nest : Nest) (i : Instr) (action : Action) → continuation m func nest.block nest.at ≡ i ∷ continuation m func nest.block (nest.at + 1) → ((d r f : ℕ) (rest : List Instr) → act m d r f vars nest.operands i rest ≡ does m d r f vars nest.operands (i ∷ rest) action) → reduce m read depth func vars (left_of m func nest) ≡ out_of_labels m func vars nest.outer (does m depth read func vars nest.operands (continuation m func nest.block nest.at) action)
 acts m read depth func vars nest i action h f =
-    labels_lift m read depth func vars nest.outer (Here nest.operands (todo m func nest.block nest.at))
-    ∙ ap (out_of_labels m func vars nest.outer) (rw h (f depth read func (todo m func nest.block (nest.at + 1))))
+    labels_lift m read depth func vars nest.outer (Here nest.operands (continuation m func nest.block nest.at))
+    ∙ ap (out_of_labels m func vars nest.outer) (rw h (f depth read func (continuation m func nest.block (nest.at + 1))))
 
 pub closed_at : (operands : List TypedValue) (outer : List Position) (n : Nest) (block at : ℕ) → joined operands outer ≡ Some n → At outer 0 block at → at ≡ n.at
 closed_at operands [] n block at e h = cc

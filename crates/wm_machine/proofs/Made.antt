@@ -7,10 +7,10 @@ use Rattle.wm_ast.specs.declared.instr.Instr.TheVariants.{Block, Loop, If}
 use Rattle.wm_ast.specs.Module.{block_in}
 use Rattle.wm_event.specs.declared.op.OpFields.{OpFields as Op}
 use Rattle.wm_machine.specs.declared.value.TypedValue.{TypedValue}
-use Rattle.wm_machine.specs.declared.activation.Activation.{Activation}
+use Rattle.wm_machine.specs.declared.call_frame.CallFrame.{CallFrame}
 use Rattle.wm_machine.specs.declared.action.Action.{Action}
 use Rattle.wm_machine.specs.declared.action.Action.TheVariants as action
-use Rattle.wm_machine.specs.Functions.{Callable, callable, todo}
+use Rattle.wm_machine.specs.Functions.{Callable, callable, continuation}
 use Rattle.wm_machine.specs.Term.{Vars, Here, Reduced, Next, Ends, Leaves, Returns, Traps, Stuck}
 use Rattle.wm_machine.specs.Step.{reduce, act, step, access_of, out_of_label, out_of_call, out_of_thread, land, gives, carried, returned, ended, enter, begin, invoke}
 use Rattle.wm_machine.specs.Nest.{Position}
@@ -41,7 +41,7 @@ made_label vars operands instrs Stuck = refl
 
 pub made_labels : (m : Module) (func : ℕ) (vars : Vars) (ps : List Position) (r : Reduced) → made_of (out_of_labels m func vars ps r) ≡ made_of r
 made_labels m func vars [] r = refl
-made_labels m func vars (p ∷ ps) r = made_labels m func vars ps (out_of_label vars p.operands (todo m func p.block p.at) r) ∙ made_label vars p.operands (todo m func p.block p.at) r
+made_labels m func vars (p ∷ ps) r = made_labels m func vars ps (out_of_label vars p.operands (continuation m func p.block p.at) r) ∙ made_label vars p.operands (continuation m func p.block p.at) r
 
 made_call : (m : Module) (callee : ℕ) (vars : Vars) (operands : List TypedValue) (rest : List Instr) (r : Reduced) → made_of (out_of_call m callee vars operands rest r) ≡ made_of r
 made_call m callee vars operands rest (Next made l t) = refl
@@ -65,14 +65,14 @@ made_thread m func (Returns v) = made_ended (returned m func v)
 made_thread m func (Traps k) = refl
 made_thread m func Stuck = refl
 
-made_calls : (m : Module) (globals : List TypedValue) (cs : List Activation) (func : ℕ) (r : Reduced) → access_of (out_of_calls m globals cs func r) ≡ made_of r
+made_calls : (m : Module) (globals : List TypedValue) (cs : List CallFrame) (func : ℕ) (r : Reduced) → access_of (out_of_calls m globals cs func r) ≡ made_of r
 made_calls m globals [] func r = made_thread m func r
 made_calls m globals (c ∷ cs) func r =
     let vars = vars_of c globals in
-    let x = out_of_call m func vars c.levels.operands (todo m c.func c.levels.block c.levels.at) r in
-    made_calls m globals cs c.func (out_of_labels m c.func vars c.levels.outer x)
-    ∙ made_labels m c.func vars c.levels.outer x
-    ∙ made_call m func vars c.levels.operands (todo m c.func c.levels.block c.levels.at) r
+    let x = out_of_call m func vars c.control_stack.operands (continuation m c.func c.control_stack.block c.control_stack.at) r in
+    made_calls m globals cs c.func (out_of_labels m c.func vars c.control_stack.outer x)
+    ∙ made_labels m c.func vars c.control_stack.outer x
+    ∙ made_call m func vars c.control_stack.operands (continuation m c.func c.control_stack.block c.control_stack.at) r
 
 made_if : (b : Bool) (x y : Reduced) → made_of x ≡ None → made_of y ≡ None → made_of (if b then x else y) ≡ None
 made_if true x y p q = p
@@ -104,25 +104,25 @@ unanswered_none None = refl
 unanswered_none (Some value) = refl
 
 -- a thread's step makes the access of its innermost call
-pub made_step : (m : Module) (read : ℕ) (globals : List TypedValue) (cs : List Activation) (a : Activation) → access_of (step m read (running_in m globals cs a)) ≡ made_of (call_step m read (suc (length cs)) a globals)
-made_step m read globals cs a = ap access_of (calls_lift m read cs a.func (vars_of a globals) (left_of m a.func a.levels)) ∙ made_calls m globals cs a.func (call_step m read (suc (length cs)) a globals)
+pub made_step : (m : Module) (read : ℕ) (globals : List TypedValue) (cs : List CallFrame) (a : CallFrame) → access_of (step m read (running_in m globals cs a)) ≡ made_of (call_step m read (suc (length cs)) a globals)
+made_step m read globals cs a = ap access_of (calls_lift m read cs a.func (vars_of a globals) (left_of m a.func a.control_stack)) ∙ made_calls m globals cs a.func (call_step m read (suc (length cs)) a globals)
 
 -- what a thread's step waits for is what its innermost call waits for
-pub waits_as : (m : Module) (read : ℕ) (globals : List TypedValue) (cs : List Activation) (a : Activation) (given : Option ℕ) (asked : Option Op) → asked ≡ unanswered given (made_of (call_step m read (suc (length cs)) a globals)) → asked ≡ unanswered given (access_of (step m read (running_in m globals cs a)))
+pub waits_as : (m : Module) (read : ℕ) (globals : List TypedValue) (cs : List CallFrame) (a : CallFrame) (given : Option ℕ) (asked : Option Op) → asked ≡ unanswered given (made_of (call_step m read (suc (length cs)) a globals)) → asked ≡ unanswered given (access_of (step m read (running_in m globals cs a)))
 waits_as m read globals cs a given asked h = h ∙ ap (unanswered given) (sym (made_step m read globals cs a))
 
-pub made_at_end : (m : Module) (read depth : ℕ) (a : Activation) (globals : List TypedValue) → todo m a.func a.levels.block a.levels.at ≡ [] → made_of (call_step m read depth a globals) ≡ None
+pub made_at_end : (m : Module) (read depth : ℕ) (a : CallFrame) (globals : List TypedValue) → continuation m a.func a.control_stack.block a.control_stack.at ≡ [] → made_of (call_step m read depth a globals) ≡ None
 made_at_end m read depth a globals h =
     let vars = vars_of a globals in
-    let here = Here a.levels.operands (todo m a.func a.levels.block a.levels.at) in
-    ap made_of (labels_lift m read depth a.func vars a.levels.outer here)
-    ∙ made_labels m a.func vars a.levels.outer (reduce m read depth a.func vars here)
-    ∙ ap (λ (i : List Instr). made_of (reduce m read depth a.func vars (Here a.levels.operands i))) h
+    let here = Here a.control_stack.operands (continuation m a.func a.control_stack.block a.control_stack.at) in
+    ap made_of (labels_lift m read depth a.func vars a.control_stack.outer here)
+    ∙ made_labels m a.func vars a.control_stack.outer (reduce m read depth a.func vars here)
+    ∙ ap (λ (i : List Instr). made_of (reduce m read depth a.func vars (Here a.control_stack.operands i))) h
 
-pub made_first : (m : Module) (read depth : ℕ) (a : Activation) (globals : List TypedValue) (i : Instr) (rest : List Instr) → todo m a.func a.levels.block a.levels.at ≡ i ∷ rest → made_of (call_step m read depth a globals) ≡ made_of (act m depth read a.func (vars_of a globals) a.levels.operands i rest)
+pub made_first : (m : Module) (read depth : ℕ) (a : CallFrame) (globals : List TypedValue) (i : Instr) (rest : List Instr) → continuation m a.func a.control_stack.block a.control_stack.at ≡ i ∷ rest → made_of (call_step m read depth a globals) ≡ made_of (act m depth read a.func (vars_of a globals) a.control_stack.operands i rest)
 made_first m read depth a globals i rest h =
     let vars = vars_of a globals in
-    let here = Here a.levels.operands (todo m a.func a.levels.block a.levels.at) in
-    ap made_of (labels_lift m read depth a.func vars a.levels.outer here)
-    ∙ made_labels m a.func vars a.levels.outer (reduce m read depth a.func vars here)
-    ∙ ap (λ (is : List Instr). made_of (reduce m read depth a.func vars (Here a.levels.operands is))) h
+    let here = Here a.control_stack.operands (continuation m a.func a.control_stack.block a.control_stack.at) in
+    ap made_of (labels_lift m read depth a.func vars a.control_stack.outer here)
+    ∙ made_labels m a.func vars a.control_stack.outer (reduce m read depth a.func vars here)
+    ∙ ap (λ (is : List Instr). made_of (reduce m read depth a.func vars (Here a.control_stack.operands is))) h

@@ -1,7 +1,8 @@
 -- What a step does, once its operands were looked at.
-use Rattle.std.specs.Prelude.{ℕ, ◌<◌, List, ◌∷◌, ◌≡◌, Option, Some, None, slice_set, drop, length, ⊤}
+use Rattle.std.specs.Prelude.{ℕ, ◌<◌, List, ◌∷◌, ◌≡◌, Option, Some, None, slice_get, slice_set, drop, length, ⊤}
 use Rattle.wm_ast.specs.declared.module.Module.{Module}
 use Rattle.wm_ast.specs.declared.instr.Instr.{Instr}
+use Rattle.wm_ast.specs.declared.instr.Instr.TheVariants as instr
 use Rattle.wm_ast.specs.Module.{block_in}
 use Rattle.wm_event.specs.declared.op.OpFields.{OpFields as Op}
 use Rattle.wm_machine.specs.declared.value.TypedValue.{TypedValue}
@@ -10,20 +11,20 @@ use Rattle.wm_machine.specs.declared.action.Action.TheVariants as action
 use Rattle.wm_machine.specs.Functions.{callable}
 use Rattle.wm_machine.specs.Accesses.{loaded}
 use Rattle.wm_machine.specs.Term.{Vars, Here, Reduced, Next, Leaves, Returns, Traps, Stuck}
-use Rattle.wm_machine.specs.Step.{stays, after, enter, invoke, put_on, act}
+use Rattle.wm_machine.specs.Step.{stays, after, enter, invoke, push_optional, act}
 
 -- what the action makes of the innermost place
 abbrev pub does : Module → ℕ → ℕ → ℕ → Vars → List TypedValue → List Instr → Action → Reduced
 does m depth read func vars operands instrs action.Stuck = Stuck
 does m depth read func vars operands instrs (action.Trap kind) = Traps kind
 does m depth read func vars operands instrs (action.Replace popped pushed) =
-    stays vars (put_on pushed (drop popped operands)) (after instrs)
+    stays vars (push_optional pushed (drop popped operands)) (after instrs)
 does m depth read func vars operands instrs (action.SetLocal x v popped) =
     stays (record vars { locals = slice_set vars.locals x v }) (drop popped operands) (after instrs)
 does m depth read func vars operands instrs (action.SetGlobal x v) =
     stays (record vars { globals = slice_set vars.globals x v }) (drop 1 operands) (after instrs)
 does m depth read func vars operands instrs (action.Access op kind popped) =
-    Next (Some op) vars (Here (put_on (loaded kind read) (drop popped operands)) (after instrs))
+    Next (Some op) vars (Here (push_optional (loaded kind read) (drop popped operands)) (after instrs))
 does m depth read func vars operands instrs (action.Enter block popped) =
     enter (block_in m.funcs func block) vars (drop popped operands) instrs
 does m depth read func vars operands instrs (action.Branch label popped) = Leaves label (drop popped operands)
@@ -87,3 +88,26 @@ op_of (action.Call callee) = None
 abbrev pub Acts : Module → Instr → Vars → List TypedValue → Action → Type 0
 Acts m i vars operands a = (depth : ℕ) (read : ℕ) (func : ℕ) (rest : List Instr) →
     act m depth read func vars operands i rest ≡ does m depth read func vars operands (i ∷ rest) a
+
+-- it puts this value on the operands, if it is that of the local or of the global, and there is one
+abbrev pub GetsLocal : Option TypedValue → Action → Type 0
+GetsLocal value a = (m : Module) (index : ℕ) (locals globals operands : List TypedValue)
+    → value ≡ slice_get locals index → Acts m (instr.LocalGet index) (record { locals = locals; globals = globals }) operands a
+
+abbrev pub GetsGlobal : Option TypedValue → Action → Type 0
+GetsGlobal value a = (m : Module) (index : ℕ) (locals globals operands : List TypedValue)
+    → value ≡ slice_get globals index → Acts m (instr.GlobalGet index) (record { locals = locals; globals = globals }) operands a
+
+-- it sets a local of these
+abbrev pub SetsLocal : ℕ → List TypedValue → List TypedValue → Action → Type 0
+SetsLocal index locals operands a = (m : Module) (globals : List TypedValue)
+    → Acts m (instr.LocalSet index) (record { locals = locals; globals = globals }) operands a
+
+abbrev pub TeesLocal : ℕ → List TypedValue → List TypedValue → Action → Type 0
+TeesLocal index locals operands a = (m : Module) (globals : List TypedValue)
+    → Acts m (instr.LocalTee index) (record { locals = locals; globals = globals }) operands a
+
+-- it sets a global of these
+abbrev pub SetsGlobal : ℕ → List TypedValue → List TypedValue → Action → Type 0
+SetsGlobal index globals operands a = (m : Module) (locals : List TypedValue)
+    → Acts m (instr.GlobalSet index) (record { locals = locals; globals = globals }) operands a

@@ -28,5 +28,5 @@ abbrev pub from_place : Option (List Instr) → ℕ → List Instr
 from_place None at = []
 from_place (Some block) at = drop at block
 
-abbrev pub todo : Module → ℕ → ℕ → ℕ → List Instr
-todo m func block at = from_place (block_in m.funcs func block) at
+abbrev pub continuation : Module → ℕ → ℕ → ℕ → List Instr
+continuation m func block at = from_place (block_in m.funcs func block) at

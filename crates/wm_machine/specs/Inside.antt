@@ -1,26 +1,28 @@
 -- A step inside one call, whatever the calls round it are.
-use Rattle.std.specs.Prelude.{ℕ, zero, suc, ◌+◌, ◌<◌, ◌^◌, ◌≡◌, List, [], ◌∷◌, ◌++◌, Option, Some, None, Result, Ok, Err, length, drop}
+use Rattle.std.specs.Prelude.{ℕ, zero, suc, ◌+◌, ◌<◌, ◌^◌, ◌≡◌, List, [], ◌∷◌, ◌++◌, Option, Some, None, Result, Ok, Err, length, drop, take, reverse, map}
 use Rattle.wm_ast.specs.declared.module.Module.{Module}
+use Rattle.wm_ast.specs.declared.types.ValType.{ValType}
 use Rattle.wm_event.specs.declared.op.OpFields.{OpFields}
 use Rattle.wm_event.specs.declared.log.TrapKind.TheVariants.{Exhausted}
 use Rattle.wm_machine.specs.declared.value.TypedValue.{TypedValue}
-use Rattle.wm_machine.specs.declared.activation.Activation.{Activation}
-use Rattle.wm_machine.specs.declared.activation.Invocation.{Invocation}
-use Rattle.wm_machine.specs.declared.activation.Invocation.TheVariants.{Entered, TooDeep}
-use Rattle.wm_machine.specs.declared.activation.Gone.{Gone}
-use Rattle.wm_machine.specs.declared.activation.Gone.TheVariants.{Made, Asks}
-use Rattle.wm_machine.specs.declared.activation.Reached.{Reached}
-use Rattle.wm_machine.specs.declared.activation.Reached.TheVariants.{Within, Trapped, Left, Calling, Asking}
+use Rattle.wm_machine.specs.declared.call_frame.CallFrame.{CallFrame}
+use Rattle.wm_machine.specs.declared.call_frame.Invocation.{Invocation}
+use Rattle.wm_machine.specs.declared.call_frame.Invocation.TheVariants.{Entered, TooDeep}
+use Rattle.wm_machine.specs.declared.call_frame.StepOutcome.{StepOutcome}
+use Rattle.wm_machine.specs.declared.call_frame.StepOutcome.TheVariants.{Made, NeedsReply}
+use Rattle.wm_machine.specs.declared.call_frame.Flow.{Flow}
+use Rattle.wm_machine.specs.declared.call_frame.Flow.TheVariants.{Within, Trapped, Left, Calling, Asking}
 use Rattle.wm_machine.specs.declared.fault.StepFault.{StepFault}
 use Rattle.wm_machine.specs.declared.fault.StepFault.TheVariants.{Stuck as StuckFault, OutOfMemory}
-use Rattle.wm_machine.specs.Functions.{Callable, callable, todo}
+use Rattle.wm_machine.specs.Functions.{Callable, callable, continuation}
 use Rattle.wm_machine.specs.Term.{Vars, Frame, Reduced, Next, Ends, Leaves, Returns, Traps, Stuck}
 use Rattle.wm_machine.specs.Step.{reduce, returned, invoke, out_of_label}
-use Rattle.wm_machine.specs.Nest.{Position}
+use Rattle.wm_machine.specs.Nest.{Position, at_begin}
+use Rattle.wm_machine.specs.Values.{zero_of}
 use Rattle.wm_machine.specs.Configuration.{left_of}
 
 -- the variables that a call sees
-abbrev pub vars_of : Activation → List TypedValue → Vars
+abbrev pub vars_of : CallFrame → List TypedValue → Vars
 vars_of a globals = record { locals = a.locals; globals = globals }
 
 -- what a function gives back, or no step
@@ -47,7 +49,7 @@ as_list (Some v) = v ∷ []
 abbrev pub out_of_labels : Module → ℕ → Vars → List Position → Reduced → Reduced
 out_of_labels m func vars [] r = r
 out_of_labels m func vars (p ∷ ps) r =
-    out_of_labels m func vars ps (out_of_label vars p.operands (todo m func p.block p.at) r)
+    out_of_labels m func vars ps (out_of_label vars p.operands (continuation m func p.block p.at) r)
 
 -- the access of a step within a call
 abbrev pub made_of : Reduced → Option OpFields
@@ -59,32 +61,32 @@ made_of (Traps kind) = None
 made_of Stuck = None
 
 -- a call and the globals are what they were
-abbrev pub Same : Activation → List TypedValue → Activation → List TypedValue → Type 0
+abbrev pub Same : CallFrame → List TypedValue → CallFrame → List TypedValue → Type 0
 Same old globals new globals' = (new ≡ old) × (globals' ≡ globals)
 
 -- how far a step inside a call has come, where r is what it makes of that call's term
-abbrev pub Reaches : Module → ℕ → Reduced → Activation → List TypedValue → Activation → List TypedValue → Reached → Type 0
+abbrev pub Reaches : Module → ℕ → Reduced → CallFrame → List TypedValue → CallFrame → List TypedValue → Flow → Type 0
 Reaches m depth r old globals new globals' Within =
-    (seen m old.func r ≡ Next None (vars_of new globals') (left_of m new.func new.levels)) × (new.func ≡ old.func)
+    (seen m old.func r ≡ Next None (vars_of new globals') (left_of m new.func new.control_stack)) × (new.func ≡ old.func)
 Reaches m depth r old globals new globals' (Trapped kind) = seen m old.func r ≡ Traps kind
 Reaches m depth r old globals new globals' (Left value) =
     (seen m old.func r ≡ Returns (as_list value)) × Same old globals new globals'
 Reaches m depth r old globals new globals' (Calling callee) =
-    (r ≡ out_of_labels m old.func (vars_of old globals) old.levels.outer
-    (invoke (callable m callee) depth callee (vars_of old globals) old.levels.operands (todo m old.func old.levels.block (old.levels.at + 1))))
-    × Same old globals new globals' × (old.levels.at + 1 < 2 ^ 64)
+    (r ≡ out_of_labels m old.func (vars_of old globals) old.control_stack.outer
+    (invoke (callable m callee) depth callee (vars_of old globals) old.control_stack.operands (continuation m old.func old.control_stack.block (old.control_stack.at + 1))))
+    × Same old globals new globals' × (old.control_stack.at + 1 < 2 ^ 64)
 Reaches m depth r old globals new globals' (Asking op) = (made_of r ≡ Some op) × Same old globals new globals'
 
-abbrev pub Refuses : Module → Reduced → Activation → List TypedValue → Activation → List TypedValue → StepFault → Type 0
+abbrev pub Refuses : Module → Reduced → CallFrame → List TypedValue → CallFrame → List TypedValue → StepFault → Type 0
 Refuses m r old globals new globals' StuckFault = (seen m old.func r ≡ Stuck) × Same old globals new globals'
 Refuses m r old globals new globals' OutOfMemory = Same old globals new globals'
 
-abbrev pub Goes : Module → ℕ → Reduced → Activation → List TypedValue → Activation → List TypedValue → Result Reached StepFault → Type 0
-Goes m depth r old globals new globals' (Ok reached) = Reaches m depth r old globals new globals' reached
-Goes m depth r old globals new globals' (Err fault) = Refuses m r old globals new globals' fault
+abbrev pub StepsTo : Module → ℕ → Reduced → CallFrame → List TypedValue → CallFrame → List TypedValue → Result Flow StepFault → Type 0
+StepsTo m depth r old globals new globals' (Ok reached) = Reaches m depth r old globals new globals' reached
+StepsTo m depth r old globals new globals' (Err fault) = Refuses m r old globals new globals' fault
 
 -- the access that a step waits for
-abbrev pub asking : Result Reached StepFault → Option OpFields
+abbrev pub asking : Result Flow StepFault → Option OpFields
 asking (Ok (Asking op)) = Some op
 asking (Ok Within) = None
 asking (Ok (Trapped kind)) = None
@@ -92,9 +94,9 @@ asking (Ok (Left value)) = None
 asking (Ok (Calling callee)) = None
 asking (Err fault) = None
 
-abbrev pub asked_for : Gone → Option OpFields
+abbrev pub asked_for : StepOutcome → Option OpFields
 asked_for Made = None
-asked_for (Asks op) = Some op
+asked_for (NeedsReply op) = Some op
 
 -- an access waits where the value that it reads isn't given
 abbrev pub unanswered : Option ℕ → Option OpFields → Option OpFields
@@ -102,10 +104,10 @@ unanswered None op = op
 unanswered (Some value) op = None
 
 -- one step of a call's term
-abbrev pub call_step : Module → ℕ → ℕ → Activation → List TypedValue → Reduced
-call_step m read depth a globals = reduce m read depth a.func (vars_of a globals) (left_of m a.func a.levels)
+abbrev pub call_step : Module → ℕ → ℕ → CallFrame → List TypedValue → Reduced
+call_step m read depth a globals = reduce m read depth a.func (vars_of a globals) (left_of m a.func a.control_stack)
 
-abbrev pub GivesBack : Option (List TypedValue) → Result Reached StepFault → Type 0
+abbrev pub GivesBack : Option (List TypedValue) → Result Flow StepFault → Type 0
 GivesBack values (Ok (Left value)) = values ≡ Some (as_list value)
 GivesBack values (Ok Within) = ⊥
 GivesBack values (Ok (Trapped kind)) = ⊥
@@ -115,24 +117,32 @@ GivesBack values (Err StuckFault) = values ≡ None
 GivesBack values (Err OutOfMemory) = ⊥
 
 -- back to the first of the callers, with a value on its operands
-abbrev pub GoesBack : Option TypedValue → List Activation → Activation → List Activation → Type 0
-GoesBack value [] new rest = ⊥
-GoesBack value (a ∷ callers) new rest =
-    (new ≡ record a { levels = record a.levels { operands = as_list value ++ a.levels.operands } }) × (rest ≡ callers)
+abbrev pub ReturnsTo : Option TypedValue → List CallFrame → CallFrame → List CallFrame → Type 0
+ReturnsTo value [] new rest = ⊥
+ReturnsTo value (a ∷ call_stack) new rest =
+    (new ≡ record a { control_stack = record a.control_stack { operands = as_list value ++ a.control_stack.operands } }) × (rest ≡ call_stack)
 
 abbrev pub param_count : Option Callable → ℕ
 param_count None = 0
 param_count (Some f) = length f.params
 
 -- the caller once it has given its arguments away
-abbrev pub without_arguments : ℕ → Activation → Activation
-without_arguments count a = record a { levels = record a.levels { operands = drop count a.levels.operands; at = a.levels.at + 1 } }
+abbrev pub without_arguments : ℕ → CallFrame → CallFrame
+without_arguments count a = record a { control_stack = record a.control_stack { operands = drop count a.control_stack.operands; at = a.control_stack.at + 1 } }
+
+-- a call of a function with the topmost operands of its caller as arguments, and zeros of these types as its other locals
+abbrev pub called_frame : ℕ → ℕ → CallFrame → List ValType → CallFrame
+called_frame func count caller others = record {
+  func = func;
+  locals = reverse (take count caller.control_stack.operands) ++ map zero_of others;
+  control_stack = at_begin 0;
+}
 
 -- from r, what a call makes of the caller's place, to the calls after it
-abbrev pub Called : Module → ℕ → Reduced → Activation → List TypedValue → List Activation → Activation → List Activation → Result Invocation StepFault → Type 0
-Called m callee r old globals callers new callers' (Ok Entered) =
-    (callers' ≡ without_arguments (param_count (callable m callee)) old ∷ callers)
-    × (r ≡ Next None (vars_of old globals) (Frame (drop (param_count (callable m callee)) old.levels.operands) (todo m old.func old.levels.block (old.levels.at + 1)) new.func new.locals (left_of m new.func new.levels)))
-Called m callee r old globals callers new callers' (Ok TooDeep) = (r ≡ Traps Exhausted) × (new ≡ old) × (callers' ≡ callers)
-Called m callee r old globals callers new callers' (Err StuckFault) = (r ≡ Stuck) × (new ≡ old) × (callers' ≡ callers)
-Called m callee r old globals callers new callers' (Err OutOfMemory) = (new ≡ old) × (callers' ≡ callers)
+abbrev pub Called : Module → ℕ → Reduced → CallFrame → List TypedValue → List CallFrame → CallFrame → List CallFrame → Result Invocation StepFault → Type 0
+Called m callee r old globals call_stack new callers' (Ok Entered) =
+    (callers' ≡ without_arguments (param_count (callable m callee)) old ∷ call_stack)
+    × (r ≡ Next None (vars_of old globals) (Frame (drop (param_count (callable m callee)) old.control_stack.operands) (continuation m old.func old.control_stack.block (old.control_stack.at + 1)) new.func new.locals (left_of m new.func new.control_stack)))
+Called m callee r old globals call_stack new callers' (Ok TooDeep) = (r ≡ Traps Exhausted) × (new ≡ old) × (callers' ≡ call_stack)
+Called m callee r old globals call_stack new callers' (Err StuckFault) = (r ≡ Stuck) × (new ≡ old) × (callers' ≡ call_stack)
+Called m callee r old globals call_stack new callers' (Err OutOfMemory) = (new ≡ old) × (callers' ≡ call_stack)

@@ -1,5 +1,5 @@
 -- The blocks that a call is in, the innermost first. Operands are listed from the top.
-use Rattle.std.specs.Prelude.{ℕ, zero, suc, List, [], ◌∷◌, ◌++◌, take, Bool, true, false, Option, Some, None}
+use Rattle.std.specs.Prelude.{ℕ, zero, suc, List, [], ◌∷◌, ◌++◌, take, drop, Bool, true, false, Option, Some, None}
 use Rattle.wm_machine.specs.declared.value.TypedValue.{TypedValue}
 
 pub record Position : Type 0 where
@@ -12,6 +12,15 @@ pub record Nest : Type 0 where
   pub block : ℕ
   pub at : ℕ
   pub outer : List Position
+
+-- at the begin of a block, in no other
+abbrev pub at_begin : ℕ → Nest
+at_begin block = record { operands = []; block = block; at = 0; outer = [] }
+
+-- at the begin of a block within the innermost one, which has given its topmost operands away
+abbrev pub entered : ℕ → ℕ → Nest → Nest
+entered popped block n =
+    record { operands = []; block = block; at = 0; outer = record { operands = drop popped n.operands; block = n.block; at = n.at } ∷ n.outer }
 
 -- the block round, once operands of the inner one have joined its own
 abbrev pub joined : List TypedValue → List Position → Option Nest

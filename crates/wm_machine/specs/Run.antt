@@ -8,7 +8,7 @@ use Rattle.wm_event.specs.declared.log.End.TheVariants.{Cut}
 use Rattle.wm_event.specs.declared.op.OpFields.{OpFields}
 use Rattle.wm_event.specs.Op.{kind_finds, event_made}
 use Rattle.wm_machine.specs.declared.fault.StartFault.{StartFault}
-use Rattle.wm_machine.specs.Term.{Config, Going, Over, Step, Went, NoStep}
+use Rattle.wm_machine.specs.Term.{Config, Running, Over, Step, Went, NoStep}
 use Rattle.wm_machine.specs.Step.{step, access_of}
 use Rattle.wm_machine.specs.Start.{started}
 
@@ -67,7 +67,7 @@ steps m thread config reads (suc n) = and_run_on m thread (steps m thread config
 -- how a configuration ends a run: cut where it hasn't ended
 abbrev pub end_of : Config → End
 end_of (Over end) = end
-end_of (Going func vars body) = Cut
+end_of (Running func vars body) = Cut
 
 -- what a run says
 pub record Outcome : Type 0 where

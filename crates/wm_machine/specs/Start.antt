@@ -13,7 +13,7 @@ use Rattle.wm_machine.specs.declared.fault.StartFault.TheVariants.{NoExport, Not
 use Rattle.wm_machine.specs.declared.value.TypedValue.{TypedValue}
 use Rattle.wm_machine.specs.Values.{typed, zero_of, initial_of}
 use Rattle.wm_machine.specs.Functions.{Callable, callable}
-use Rattle.wm_machine.specs.Term.{Here, Config, Going}
+use Rattle.wm_machine.specs.Term.{Here, Config, Running}
 
 -- the function that an export names
 abbrev pub func_at : ExportKind → ℕ → Option ℕ
@@ -38,7 +38,7 @@ arguments (t ∷ params) (a ∷ args) = typed (width_of t) a ∷ arguments param
 
 abbrev pub started_with : Module → ℕ → Callable → List ℕ → Config
 started_with m func f args =
-    Going func record { locals = arguments f.params args ++ map zero_of f.locals; globals = map initial_of m.globals } (Here [] f.body)
+    Running func record { locals = arguments f.params args ++ map zero_of f.locals; globals = map initial_of m.globals } (Here [] f.body)
 
 abbrev pub started_in : Module → ℕ → Option Callable → List ℕ → Result Config StartFault
 started_in m func None args = Err NotFunction

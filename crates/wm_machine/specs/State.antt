@@ -7,7 +7,7 @@ use Rattle.wm_event.specs.declared.op.Reply.{Reply}
 use Rattle.wm_event.specs.Op.{kind_finds}
 use Rattle.wm_event.specs.Reply.{ReadAnswers}
 use Rattle.wm_machine.specs.declared.value.TypedValue.{TypedValue}
-use Rattle.wm_machine.specs.declared.activation.Activation.{Activation}
+use Rattle.wm_machine.specs.declared.call_frame.CallFrame.{CallFrame}
 use Rattle.wm_machine.specs.declared.thread.Need.{Need}
 use Rattle.wm_machine.specs.declared.thread.Need.TheVariants as need
 use Rattle.wm_machine.specs.declared.thread.CodePosition.{CodePosition}
@@ -18,18 +18,23 @@ use Rattle.wm_machine.specs.Inside.{vars_of}
 use Rattle.wm_machine.specs.Fits.{FitsConfig}
 use Rattle.wm_valid.specs.Valid.{Valid}
 
--- the calls of a thread, the innermost apart and its callers after it
+-- the calls of a thread, the innermost apart and the call stack after it
 pub record State : Type 0 where
   pub «module» : Module
   pub ended : Option End
-  pub running : Activation
-  pub callers : List Activation
+  pub running : CallFrame
+  pub call_stack : List CallFrame
   pub globals : List TypedValue
+
+-- a thread of these parts
+abbrev pub state_of : Module → Option End → CallFrame → List CallFrame → List TypedValue → State
+state_of m ended running call_stack globals =
+    record { «module» = m; ended = ended; running = running; call_stack = call_stack; globals = globals }
 
 abbrev pub config_from : Option End → State → Config
 config_from (Some end) s = Over end
 config_from None s =
-    under s.module s.callers s.running.func (vars_of s.running s.globals) (left_of s.module s.running.func s.running.levels)
+    under s.module s.call_stack s.running.func (vars_of s.running s.globals) (left_of s.module s.running.func s.running.control_stack)
 
 -- the configuration of a thread
 abbrev pub config_of : State → Config
@@ -40,9 +45,9 @@ pub record Sound (s : State) : Type 0 where
   pub valid : Valid s.module
   pub fits : FitsConfig s.module (config_of s)
 
--- where the innermost call stands: the code that it has still to run there is `todo` of these
+-- where the innermost call stands: the code that it has still to run there is `continuation` of these
 abbrev pub position_of : State → CodePosition
-position_of s = record { func = s.running.func; block = s.running.levels.block; at = s.running.levels.at }
+position_of s = record { func = s.running.func; block = s.running.control_stack.block; at = s.running.control_stack.at }
 
 -- what a thread needs for its next step
 abbrev pub as_need : Option OpFields → Need
@@ -71,9 +76,9 @@ given_by None = None
 given_by (Some reply) = Some (value_or_zero reply.read)
 
 -- a reply exactly where the next step is an access, with a read exactly where that reads
-abbrev pub Answers : Need → Option Reply → Type 0
-Answers need.Local None = ⊤
-Answers need.Local (Some reply) = ⊥
-Answers (need.Access op) None = ⊥
-Answers (need.Access op) (Some reply) = ReadAnswers (kind_finds op.kind) op.width reply.read
-Answers (need.Ended end) reply = ⊥
+abbrev pub RepliesTo : Need → Option Reply → Type 0
+RepliesTo need.Local None = ⊤
+RepliesTo need.Local (Some reply) = ⊥
+RepliesTo (need.Access op) None = ⊥
+RepliesTo (need.Access op) (Some reply) = ReadAnswers (kind_finds op.kind) op.width reply.read
+RepliesTo (need.Ended end) reply = ⊥

@@ -24,7 +24,7 @@ use Rattle.wm_machine.specs.declared.value.TypedValue.{TypedValue}
 use Rattle.wm_machine.specs.declared.value.TypedValue.TheVariants.{I32, I64}
 use Rattle.wm_machine.specs.Values.{typed, number_at, bits_of, zero_of}
 use Rattle.wm_machine.specs.Functions.{Callable, callable}
-use Rattle.wm_machine.specs.Term.{Vars, Term, Here, Label, Frame, Config, Going, Over, Reduced, Next, Ends, Leaves, Returns, Traps, Stuck, Step, Went, NoStep}
+use Rattle.wm_machine.specs.Term.{Vars, Term, Here, Label, Frame, Config, Running, Over, Reduced, Next, Ends, Leaves, Returns, Traps, Stuck, Step, Went, NoStep}
 use Rattle.wm_machine.specs.Accesses.{Asked, asked, loaded, access_trap, op_at}
 
 -- what a branch carries: a result's value, if there is one to be
@@ -47,9 +47,9 @@ abbrev pub stays : Vars → List TypedValue → List Instr → Reduced
 stays vars operands rest = Next None vars (Here operands rest)
 
 -- a value on the operands, if there is one
-abbrev pub put_on : Option TypedValue → List TypedValue → List TypedValue
-put_on None operands = operands
-put_on (Some v) operands = v ∷ operands
+abbrev pub push_optional : Option TypedValue → List TypedValue → List TypedValue
+push_optional None operands = operands
+push_optional (Some v) operands = v ∷ operands
 
 -- goes on with a value or a number, if there is one
 abbrev pub with_value : Option TypedValue → (TypedValue → Reduced) → Reduced
@@ -105,7 +105,7 @@ invoke (Some f) depth callee vars operands rest =
 abbrev pub make : Option TrapKind → AccessKind → ℕ → ℕ → Asked → Vars → List Instr → Reduced
 make (Some trap) kind address read a vars rest = Traps trap
 make None kind address read a vars rest =
-    Next (Some (op_at kind a.kind address)) vars (Here (put_on (loaded kind read) a.below) rest)
+    Next (Some (op_at kind a.kind address)) vars (Here (push_optional (loaded kind read) a.below) rest)
 
 -- the effective address is the operand plus the offset, not wrapped
 abbrev pub access : Module → AccessKind → ℕ → ℕ → Option Asked → Vars → List Instr → Reduced
@@ -227,7 +227,7 @@ ended None = NoStep
 ended (Some values) = Went None (Over (Done (result_of values)))
 
 abbrev pub out_of_thread : Module → ℕ → Reduced → Step
-out_of_thread m func (Next made vars body) = Went made (Going func vars body)
+out_of_thread m func (Next made vars body) = Went made (Running func vars body)
 out_of_thread m func (Ends values) = ended (returned m func values)
 out_of_thread m func (Leaves zero values) = ended (returned m func values)
 out_of_thread m func (Leaves (suc l) values) = NoStep
@@ -238,12 +238,12 @@ out_of_thread m func Stuck = NoStep
 -- one step of a thread, where read is the value read if it is an access that reads
 abbrev pub step : Module → ℕ → Config → Step
 step m read (Over end) = NoStep
-step m read (Going func vars body) = out_of_thread m func (reduce m read 1 func vars body)
+step m read (Running func vars body) = out_of_thread m func (reduce m read 1 func vars body)
 
 -- the configuration after a step
-abbrev pub went : Step → Option Config
-went (Went made c) = Some c
-went NoStep = None
+abbrev pub next_config : Step → Option Config
+next_config (Went made c) = Some c
+next_config NoStep = None
 
 -- the access of a step
 abbrev pub access_of : Step → Option OpFields

@@ -22,7 +22,7 @@ pub data Term : Type 0 where
 
 -- A thread: the function that was started with its variables and what is left of it, or an end.
 pub data Config : Type 0 where
-  Going : (func : ℕ) (vars : Vars) (body : Term) → Config
+  Running : (func : ℕ) (vars : Vars) (body : Term) → Config
   Over : End → Config
 
 -- What becomes of a term by one step of its innermost place.

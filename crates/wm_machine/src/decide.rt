@@ -1,14 +1,14 @@
 //! What an instruction does, decided from its operands before anything changes (Core 1.0, section 4.4).
-ghost use Rattle.std.specs.Prelude.{◌≡◌, ◌≤◌, ℕ, List, length, slice_get};
+ghost use Rattle.std.specs.Prelude.{◌≡◌, ◌≤◌, List, length};
 ghost use Rattle.wm_ast.specs.declared.module.Module.{Module};
 ghost use Rattle.wm_ast.specs.declared.instr.Instr.{Instr};
 ghost use Rattle.wm_ast.specs.Module.{pages_of};
 ghost use Rattle.wm_machine.specs.declared.value.TypedValue.{TypedValue};
 ghost use Rattle.wm_machine.specs.Term.{Vars};
-ghost use Rattle.wm_machine.specs.Action.{Acts, popped_by, SetsWithin, SetsNothing};
+ghost use Rattle.wm_machine.specs.Action.{Acts, GetsGlobal, GetsLocal, SetsGlobal, SetsLocal, SetsNothing, SetsWithin, TeesLocal, popped_by};
 
 use crate::action::Action;
-use crate::levels::Levels;
+use crate::control_stack::ControlStack;
 use crate::locals::Locals;
 use crate::memory::access;
 use crate::numeric::{calculated, comparison, converted, counted, eqz, number};
@@ -19,12 +19,12 @@ use wm_list::List;
 use wm_num::Width;
 
 /// `if`: enters its second block where the topmost operand is 0, else the first.
-fn entered(levels: &Levels, ty: BlockType, first: usize, second: usize, other: Else) -> Action
-    ensures means { (m : Module) (vars : Vars) → Acts m (Instr.If ty first second other) vars levels.now.operands result }
-    ensures room { popped_by result ≤ length levels.now.operands }
+fn entered(control_stack: &ControlStack, ty: BlockType, first: usize, second: usize, other: Else) -> Action
+    ensures means { (m : Module) (vars : Vars) → Acts m (Instr.If ty first second other) vars control_stack.now.operands result }
+    ensures room { popped_by result ≤ length control_stack.now.operands }
     ensures sets { SetsNothing result }
 {
-    match number(levels, 0, Width::W32) {
+    match number(control_stack, 0, Width::W32) {
         Some(0) => Action::Enter {
             block: second,
             popped: 1,
@@ -39,12 +39,12 @@ fn entered(levels: &Levels, ty: BlockType, first: usize, second: usize, other: E
 
 /// `br_if`: branches where the topmost operand isn't 0.
 #[inline(always)]
-fn branch_if(levels: &Levels, label: u32) -> Action
-    ensures means { (m : Module) (vars : Vars) → Acts m (Instr.BrIf label) vars levels.now.operands result }
-    ensures room { popped_by result ≤ length levels.now.operands }
+fn branch_if(control_stack: &ControlStack, label: u32) -> Action
+    ensures means { (m : Module) (vars : Vars) → Acts m (Instr.BrIf label) vars control_stack.now.operands result }
+    ensures room { popped_by result ≤ length control_stack.now.operands }
     ensures sets { SetsNothing result }
 {
-    match number(levels, 0, Width::W32) {
+    match number(control_stack, 0, Width::W32) {
         Some(0) => Action::Replace(1, None),
         Some(_) => Action::Branch { label, popped: 1 },
         None => Action::Stuck,
@@ -52,12 +52,12 @@ fn branch_if(levels: &Levels, label: u32) -> Action
 }
 
 /// `br_table`: branches to the label that the topmost operand is the index of, past the list to the default.
-fn branch_by_table(levels: &Levels, labels: &List<u32>, default: u32) -> Action
-    ensures means { (m : Module) (vars : Vars) → Acts m (Instr.BrTable labels.now default) vars levels.now.operands result }
-    ensures room { popped_by result ≤ length levels.now.operands }
+fn branch_by_table(control_stack: &ControlStack, labels: &List<u32>, default: u32) -> Action
+    ensures means { (m : Module) (vars : Vars) → Acts m (Instr.BrTable labels.now default) vars control_stack.now.operands result }
+    ensures room { popped_by result ≤ length control_stack.now.operands }
     ensures sets { SetsNothing result }
 {
-    match number(levels, 0, Width::W32) {
+    match number(control_stack, 0, Width::W32) {
         Some(index) => match labels.get(index as usize) {
             Some(label) => Action::Branch {
                 label: *label,
@@ -73,27 +73,27 @@ fn branch_by_table(levels: &Levels, labels: &List<u32>, default: u32) -> Action
 }
 
 /// `drop`.
-fn dropped(levels: &Levels) -> Action
-    ensures means { (m : Module) (vars : Vars) → Acts m Instr.Drop vars levels.now.operands result }
-    ensures room { popped_by result ≤ length levels.now.operands }
+fn dropped(control_stack: &ControlStack) -> Action
+    ensures means { (m : Module) (vars : Vars) → Acts m Instr.Drop vars control_stack.now.operands result }
+    ensures room { popped_by result ≤ length control_stack.now.operands }
     ensures sets { SetsNothing result }
 {
-    match levels.operand(0) {
+    match control_stack.operand(0) {
         Some(_) => Action::Replace(1, None),
         None => Action::Stuck,
     }
 }
 
 /// `select`: keeps the first of two operands where the i32 above them isn't 0, else the second.
-fn selected(levels: &Levels) -> Action
-    ensures means { (m : Module) (vars : Vars) → Acts m Instr.Select vars levels.now.operands result }
-    ensures room { popped_by result ≤ length levels.now.operands }
+fn selected(control_stack: &ControlStack) -> Action
+    ensures means { (m : Module) (vars : Vars) → Acts m Instr.Select vars control_stack.now.operands result }
+    ensures room { popped_by result ≤ length control_stack.now.operands }
     ensures sets { SetsNothing result }
 {
-    let (Some(first), Some(second)) = (levels.operand(2), levels.operand(1)) else {
+    let (Some(first), Some(second)) = (control_stack.operand(2), control_stack.operand(1)) else {
         return Action::Stuck;
     };
-    match number(levels, 0, Width::W32) {
+    match number(control_stack, 0, Width::W32) {
         Some(0) => Action::Replace(3, Some(second)),
         Some(_) => Action::Replace(3, Some(first)),
         None => Action::Stuck,
@@ -103,8 +103,8 @@ fn selected(levels: &Levels) -> Action
 /// `local.get` and `global.get` of this variable, where it is there.
 #[inline(always)]
 fn got(variable: Option<TypedValue>) -> Action
-    ensures local { (m : Module) (index : ℕ) (locals globals operands : List TypedValue) → variable ≡ slice_get locals index → Acts m (Instr.LocalGet index) record { locals = locals; globals = globals } operands result }
-    ensures global { (m : Module) (index : ℕ) (locals globals operands : List TypedValue) → variable ≡ slice_get globals index → Acts m (Instr.GlobalGet index) record { locals = locals; globals = globals } operands result }
+    ensures local { GetsLocal variable result }
+    ensures global { GetsGlobal variable result }
     ensures room { popped_by result ≡ 0 }
     ensures sets { SetsNothing result }
 {
@@ -116,26 +116,26 @@ fn got(variable: Option<TypedValue>) -> Action
 
 /// `local.set` and `local.tee`, which takes no operand.
 #[inline(always)]
-fn set_local(levels: &Levels, locals: &Locals, index: u32, popped: usize) -> Action
+fn set_local(control_stack: &ControlStack, locals: &Locals, index: u32, popped: usize) -> Action
     requires { popped ≤ 1 }
-    ensures set { popped ≡ 1 → (m : Module) (globals : List TypedValue) → Acts m (Instr.LocalSet index) record { locals = locals.now; globals = globals } levels.now.operands result }
-    ensures tee { popped ≡ 0 → (m : Module) (globals : List TypedValue) → Acts m (Instr.LocalTee index) record { locals = locals.now; globals = globals } levels.now.operands result }
-    ensures room { popped_by result ≤ length levels.now.operands }
+    ensures set { popped ≡ 1 → SetsLocal index locals.now control_stack.now.operands result }
+    ensures tee { popped ≡ 0 → TeesLocal index locals.now control_stack.now.operands result }
+    ensures room { popped_by result ≤ length control_stack.now.operands }
     ensures sets { (globals : List TypedValue) → SetsWithin result locals.now globals }
 {
-    match levels.operand(0) {
+    match control_stack.operand(0) {
         Some(value) if locals.has(index as usize) => Action::SetLocal(index, value, popped),
         _ => Action::Stuck,
     }
 }
 
 /// `global.set`.
-fn set_global(levels: &Levels, globals: &[TypedValue], index: u32) -> Action
-    ensures means { (m : Module) (locals : List TypedValue) → Acts m (Instr.GlobalSet index) record { locals = locals; globals = globals.now } levels.now.operands result }
-    ensures room { popped_by result ≤ length levels.now.operands }
+fn set_global(control_stack: &ControlStack, globals: &[TypedValue], index: u32) -> Action
+    ensures means { SetsGlobal index globals.now control_stack.now.operands result }
+    ensures room { popped_by result ≤ length control_stack.now.operands }
     ensures sets { (locals : List TypedValue) → SetsWithin result locals globals.now }
 {
-    match levels.operand(0) {
+    match control_stack.operand(0) {
         Some(value) if (index as usize) < globals.len() => Action::SetGlobal(index, value),
         _ => Action::Stuck,
     }
@@ -146,13 +146,13 @@ fn set_global(levels: &Levels, globals: &[TypedValue], index: u32) -> Action
 pub fn decide(
     module: &Module,
     instr: &Instr,
-    levels: &Levels,
+    control_stack: &ControlStack,
     locals: &Locals,
     globals: &[TypedValue],
 ) -> Action
     requires { pages_of «module».now.memory ≤ 65536 }
-    ensures means { Acts «module».now instr.now record { locals = locals.now; globals = globals.now } levels.now.operands result }
-    ensures room { popped_by result ≤ length levels.now.operands }
+    ensures means { Acts «module».now instr.now record { locals = locals.now; globals = globals.now } control_stack.now.operands result }
+    ensures room { popped_by result ≤ length control_stack.now.operands }
     ensures sets { SetsWithin result locals.now globals.now }
 {
     match instr {
@@ -167,30 +167,30 @@ pub fn decide(
             then_block,
             else_block,
             else_part,
-        } => entered(levels, *result, *then_block, *else_block, *else_part),
+        } => entered(control_stack, *result, *then_block, *else_block, *else_part),
         Instr::Br(label) => Action::Branch {
             label: *label,
             popped: 0,
         },
-        Instr::BrIf(label) => branch_if(levels, *label),
-        Instr::BrTable(labels, default) => branch_by_table(levels, labels, *default),
+        Instr::BrIf(label) => branch_if(control_stack, *label),
+        Instr::BrTable(labels, default) => branch_by_table(control_stack, labels, *default),
         Instr::Return => Action::Return,
         Instr::Call(func) => Action::Call(*func),
-        Instr::Drop => dropped(levels),
-        Instr::Select => selected(levels),
+        Instr::Drop => dropped(control_stack),
+        Instr::Select => selected(control_stack),
         Instr::LocalGet(index) => got(locals.get(*index as usize)),
-        Instr::LocalSet(index) => set_local(levels, locals, *index, 1),
-        Instr::LocalTee(index) => set_local(levels, locals, *index, 0),
+        Instr::LocalSet(index) => set_local(control_stack, locals, *index, 1),
+        Instr::LocalTee(index) => set_local(control_stack, locals, *index, 0),
         Instr::GlobalGet(index) => got(globals.get(*index as usize).copied()),
-        Instr::GlobalSet(index) => set_global(levels, globals, *index),
-        Instr::Access(kind, operands) => access(module, levels, *kind, *operands),
+        Instr::GlobalSet(index) => set_global(control_stack, globals, *index),
+        Instr::Access(kind, operands) => access(module, control_stack, *kind, *operands),
         Instr::MemorySize => Action::Replace(0, Some(TypedValue::I32(module.pages()))),
         Instr::I32Const(number) => Action::Replace(0, Some(TypedValue::I32(*number))),
         Instr::I64Const(number) => Action::Replace(0, Some(TypedValue::I64(*number))),
-        Instr::Eqz(width) => eqz(levels, *width),
-        Instr::Compare(op, width) => comparison(levels, *op, *width),
-        Instr::Unary(op, width) => counted(levels, *op, *width),
-        Instr::Binary(op, width) => calculated(levels, *op, *width),
-        Instr::Convert(op) => converted(levels, *op),
+        Instr::Eqz(width) => eqz(control_stack, *width),
+        Instr::Compare(op, width) => comparison(control_stack, *op, *width),
+        Instr::Unary(op, width) => counted(control_stack, *op, *width),
+        Instr::Binary(op, width) => calculated(control_stack, *op, *width),
+        Instr::Convert(op) => converted(control_stack, *op),
     }
 }

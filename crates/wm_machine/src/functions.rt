@@ -1,6 +1,6 @@
 //! What a call needs of its function.
 ghost use Rattle.std.specs.Prelude.{◌≡◌, IfSome, Some, None};
-ghost use Rattle.wm_machine.specs.Functions.{callable, todo};
+ghost use Rattle.wm_machine.specs.Functions.{callable, continuation};
 
 use wm_ast::{Module, ValType};
 
@@ -15,7 +15,7 @@ pub struct LocalTypes<'m> {
 pub fn callable(module: &Module, func: usize) -> Option<LocalTypes<'_>>
     ensures none { result ≡ None → callable «module».now func ≡ None }
     ensures some { IfSome result (λ f. callable «module».now func
-        ≡ Some record { params = f.params.now; locals = f.locals.now; body = todo «module».now func 0 0 }) }
+        ≡ Some record { params = f.params.now; locals = f.locals.now; body = continuation «module».now func 0 0 }) }
 {
     let code = module.funcs.get(func)?;
     let ty = module.func_type(func)?;

@@ -2,17 +2,17 @@
 ghost use Rattle.std.specs.Prelude.{◌≡◌, ◌<◌, ◌+◌, ◌++◌, length, map, slice_get, slice_set, nat_lt, [], OnOk, OnErr, IfOk};
 ghost use Rattle.wm_machine.specs.Values.{zero_of};
 
-use crate::late::Late;
+use crate::sparse_locals::SparseLocals;
 use crate::value::TypedValue;
 use std::alloc::{AllocError, Global};
 use std::marker::Model;
 use wm_ast::ValType;
 
 /// How many locals are held in their order, besides the arguments: most functions have no more.
-const NEAR: usize = 16;
+const DENSE_LOCALS: usize = 16;
 
 /// The locals of a call: the arguments and the first of the others, of which the zeros behind the last one that was set aren't
-/// held, and the late ones, of which only those that were set are held. So a call costs no more than its arguments and what
+/// held, and the later ones, of which only those that were set are held. So a call costs no more than its arguments and what
 /// it sets.
 #[derive(Drop)]
 pub struct Locals<'m> {
@@ -20,7 +20,7 @@ pub struct Locals<'m> {
     /// The types of the first ones that aren't held.
     unset: &'m [ValType],
     /// The others. They stand in a box so that a call is small: it is moved where a function is entered or left.
-    late: Box<Late<'m>>,
+    sparse_locals: Box<SparseLocals<'m>>,
 }
 
 impl<'m> Model for Locals<'m> {
@@ -30,7 +30,7 @@ impl<'m> Model for Locals<'m> {
 
     ghost Value = { List TypedValue };
 
-    ghost view = { λ l. (l.held.items ++ map zero_of l.unset.now) ++ box_value l.late };
+    ghost view = { λ l. (l.held.items ++ map zero_of l.unset.now) ++ box_value l.sparse_locals };
 }
 
 impl<'m> Locals<'m> {
@@ -41,7 +41,7 @@ impl<'m> Locals<'m> {
         Ok(Locals {
             held: Vec::new(alloc),
             unset: &[],
-            late: Box::new(alloc, Late::new(alloc))?,
+            sparse_locals: Box::new(alloc, SparseLocals::new(alloc))?,
         })
     }
 
@@ -50,13 +50,13 @@ impl<'m> Locals<'m> {
     pub fn restart(&mut self, values: &[TypedValue], unset: &'m [ValType]) -> Result<(), AllocError>
         ensures { OnOk result (self.new ≡ values.now ++ map zero_of unset.now) }
     {
-        let (near, late) = split(unset);
+        let (near, sparse_locals) = split(unset);
         self.held.clear();
         if !values.is_empty() {
             self.held.extend_from_slice(values)?;
         }
         self.unset = near;
-        self.late.restart(late);
+        self.sparse_locals.restart(sparse_locals);
         Ok(())
     }
 
@@ -66,7 +66,7 @@ impl<'m> Locals<'m> {
     pub fn has(&self, index: usize) -> bool
         ensures { result ≡ nat_lt index (length self.now) }
     {
-        index < self.held.len() || has_unheld(self.unset, &self.late, index - self.held.len())
+        index < self.held.len() || has_unheld(self.unset, &self.sparse_locals, index - self.held.len())
     }
 
     /// The local of this index.
@@ -78,7 +78,7 @@ impl<'m> Locals<'m> {
         if index < self.held.len() {
             Some(self.held[index])
         } else {
-            get_unheld(self.unset, &self.late, index - self.held.len())
+            get_unheld(self.unset, &self.sparse_locals, index - self.held.len())
         }
     }
 
@@ -100,32 +100,32 @@ impl<'m> Locals<'m> {
             self.held[index] = value;
             return Ok(());
         }
-        self.late.set(beyond - self.unset.len(), value)
+        self.sparse_locals.set(beyond - self.unset.len(), value)
     }
 }
 
-/// The types of the first locals, and of the late ones.
+/// The types of the first locals, and of the later ones.
 fn split(types: &[ValType]) -> (&[ValType], &[ValType])
     ensures { result.0.now ++ result.1.now ≡ types.now }
 {
-    types.split_at(types.len().min(NEAR))
+    types.split_at(types.len().min(DENSE_LOCALS))
 }
 
 /// Whether there is a local of this index behind those that are held.
-fn has_unheld(unset: &[ValType], late: &Late, index: usize) -> bool
-    ensures { result ≡ nat_lt index (length unset.now + length late.now) }
+fn has_unheld(unset: &[ValType], sparse_locals: &SparseLocals, index: usize) -> bool
+    ensures { result ≡ nat_lt index (length unset.now + length sparse_locals.now) }
 {
-    index < unset.len() || late.has(index - unset.len())
+    index < unset.len() || sparse_locals.has(index - unset.len())
 }
 
 /// The local of this index behind those that are held.
 #[tactic(auto, using(crate::proofs::Held::get_near, crate::proofs::Held::get_late))]
-fn get_unheld(unset: &[ValType], late: &Late, index: usize) -> Option<TypedValue>
-    ensures { result ≡ slice_get (map zero_of unset.now ++ late.now) index }
+fn get_unheld(unset: &[ValType], sparse_locals: &SparseLocals, index: usize) -> Option<TypedValue>
+    ensures { result ≡ slice_get (map zero_of unset.now ++ sparse_locals.now) index }
 {
     match unset.get(index) {
         Some(ty) => Some(TypedValue::zero(*ty)),
-        None => late.get(index - unset.len()),
+        None => sparse_locals.get(index - unset.len()),
     }
 }
 

@@ -2,19 +2,18 @@
 ghost use Rattle.std.specs.Prelude.{◌≡◌, ◌≤◌, ◌<◌, ◌+◌, ◌^◌, IfSome, None, length, option_map};
 ghost use Rattle.wm_access.specs.AccessWidth.{bytes_of, Fits};
 ghost use Rattle.wm_num.specs.declared.operator.Width.TheVariants.{W32};
-ghost use Rattle.wm_num.specs.Conversion.{low_part};
-ghost use Rattle.wm_ast.specs.Access.{access_order, access_width, storage_width, storage_operand, whole};
-ghost use Rattle.wm_ast.specs.Types.{width_of};
+ghost use Rattle.wm_ast.specs.Access.{access_order, access_width, storage_width, whole};
 ghost use Rattle.wm_event.specs.Op.{KindFits};
 ghost use Rattle.wm_ast.specs.Module.{memory_size, pages_of};
 ghost use Rattle.wm_machine.specs.Values.{number_at};
-ghost use Rattle.wm_machine.specs.Accesses.{asked, on_address, on_value, loaded, extended, access_trap, is_unaligned};
+ghost use Rattle.wm_machine.specs.Accesses.{asked, loaded, extended, access_trap};
 ghost use Rattle.wm_machine.specs.Request.{asked_by};
 ghost use Rattle.wm_machine.specs.Term.{Vars};
 ghost use Rattle.wm_machine.specs.Action.{Acts, popped_by, SetsNothing};
+ghost use Rattle.wm_machine.specs.Stepping.{low_operand_of};
 
 use crate::action::Action;
-use crate::levels::Levels;
+use crate::control_stack::ControlStack;
 use crate::numeric::number;
 use crate::value::TypedValue;
 use wm_access::PAGE_BYTES;
@@ -31,15 +30,15 @@ struct Request {
 }
 
 /// A request whose address is the operand at `depth`, under the others.
-fn at_address(levels: &Levels, kind: OpKind, depth: usize) -> Option<Request>
+fn at_address(control_stack: &ControlStack, kind: OpKind, depth: usize) -> Option<Request>
     requires { depth ≤ 2 }
     ensures kind { IfSome result (λ r. r.kind ≡ kind) }
     ensures popped { IfSome result (λ r. r.popped ≡ depth + 1) }
-    ensures base { option_map (λ r. r.base) result ≡ number_at W32 levels.now.operands depth }
+    ensures base { option_map (λ r. r.base) result ≡ number_at W32 control_stack.now.operands depth }
     ensures bound { IfSome result (λ r. r.base < 2 ^ 32) }
-    ensures room { IfSome result (λ r. r.popped ≤ length levels.now.operands) }
+    ensures room { IfSome result (λ r. r.popped ≤ length control_stack.now.operands) }
 {
-    let base = number(levels, depth, Width::W32)?;
+    let base = number(control_stack, depth, Width::W32)?;
     Some(Request {
         kind,
         base,
@@ -48,37 +47,37 @@ fn at_address(levels: &Levels, kind: OpKind, depth: usize) -> Option<Request>
 }
 
 /// The low bytes of the topmost operand.
-fn low_operand(levels: &Levels, storage: Storage) -> Option<u64>
-    ensures value { result ≡ option_map (low_part (storage_width storage)) (number_at (width_of (storage_operand storage)) levels.now.operands 0) }
+fn low_operand(control_stack: &ControlStack, storage: Storage) -> Option<u64>
+    ensures value { result ≡ low_operand_of storage control_stack.now.operands }
     ensures bound { IfSome result (Fits (storage_width storage)) }
 {
-    let operand = number(levels, 0, storage.operand().width())?;
+    let operand = number(control_stack, 0, storage.operand().width())?;
     Some(low_bytes(operand, storage.width()))
 }
 
 /// The request of a memory instruction, None where its operands aren't there.
-fn requested(levels: &Levels, kind: AccessKind) -> Option<Request>
-    ensures asked { option_map (asked_by levels.now.operands) result ≡ asked kind levels.now.operands }
+fn requested(control_stack: &ControlStack, kind: AccessKind) -> Option<Request>
+    ensures asked { option_map (asked_by control_stack.now.operands) result ≡ asked kind control_stack.now.operands }
     ensures fits { IfSome result (λ r. KindFits r.kind (access_order kind) (access_width kind)) }
     ensures bound { IfSome result (λ r. r.base < 2 ^ 32) }
-    ensures room { IfSome result (λ r. r.popped ≤ length levels.now.operands) }
+    ensures room { IfSome result (λ r. r.popped ≤ length control_stack.now.operands) }
 {
     match kind {
         AccessKind::Read(_) | AccessKind::ReadSigned(_) | AccessKind::AtomicRead(_) => {
-            at_address(levels, OpKind::Read, 0)
+            at_address(control_stack, OpKind::Read, 0)
         }
         AccessKind::Write(storage) | AccessKind::AtomicWrite(storage) => {
-            let value = low_operand(levels, storage)?;
-            at_address(levels, OpKind::Write(value), 1)
+            let value = low_operand(control_stack, storage)?;
+            at_address(control_stack, OpKind::Write(value), 1)
         }
         AccessKind::Rmw(operator, storage) => {
-            let value = low_operand(levels, storage)?;
-            at_address(levels, OpKind::Rmw(operator, value), 1)
+            let value = low_operand(control_stack, storage)?;
+            at_address(control_stack, OpKind::Rmw(operator, value), 1)
         }
         AccessKind::CmpXchg(ty) => {
-            let new = number(levels, 0, ty.width())?;
-            let expected = number(levels, 1, ty.width())?;
-            at_address(levels, OpKind::CmpXchg(expected, new), 2)
+            let new = number(control_stack, 0, ty.width())?;
+            let expected = number(control_stack, 1, ty.width())?;
+            at_address(control_stack, OpKind::CmpXchg(expected, new), 2)
         }
     }
 }
@@ -139,13 +138,13 @@ fn whole(ty: ValType) -> Storage
 }
 
 /// A memory instruction. Its effective address is its operand plus the offset, not wrapped.
-pub fn access(module: &Module, levels: &Levels, kind: AccessKind, operands: MemArg) -> Action
+pub fn access(module: &Module, control_stack: &ControlStack, kind: AccessKind, operands: MemArg) -> Action
     requires { pages_of «module».now.memory ≤ 65536 }
-    ensures means { (vars : Vars) → Acts «module».now (Instr.Access kind operands) vars levels.now.operands result }
-    ensures room { popped_by result ≤ length levels.now.operands }
+    ensures means { (vars : Vars) → Acts «module».now (Instr.Access kind operands) vars control_stack.now.operands result }
+    ensures room { popped_by result ≤ length control_stack.now.operands }
     ensures sets { SetsNothing result }
 {
-    let Some(request) = requested(levels, kind) else {
+    let Some(request) = requested(control_stack, kind) else {
         return Action::Stuck;
     };
     let address = request.base + u64::from(operands.offset);

@@ -10,7 +10,7 @@ ghost use Rattle.wm_machine.specs.Term.{Vars};
 ghost use Rattle.wm_machine.specs.Action.{Acts, popped_by, SetsNothing};
 
 use crate::action::Action;
-use crate::levels::Levels;
+use crate::control_stack::ControlStack;
 use crate::value::TypedValue;
 use wm_ast::Instr;
 use wm_event::TrapKind;
@@ -21,12 +21,12 @@ use wm_num::{
 
 /// The operand at `depth`, counted from the top, where it is a number of so many bits.
 #[inline(always)]
-pub fn number(levels: &Levels, depth: usize, width: Width) -> Option<u64>
-    ensures value { result ≡ number_at width levels.now.operands depth }
+pub fn number(control_stack: &ControlStack, depth: usize, width: Width) -> Option<u64>
+    ensures value { result ≡ number_at width control_stack.now.operands depth }
     ensures operand { IfSome result (IsOperand width) }
-    ensures room { IfSome result (λ _. depth + 1 ≤ length levels.now.operands) }
+    ensures room { IfSome result (λ _. depth + 1 ≤ length control_stack.now.operands) }
 {
-    match levels.operand(depth) {
+    match control_stack.operand(depth) {
         Some(value) => value.number(width),
         None => None,
     }
@@ -52,12 +52,12 @@ fn truth(holds: bool) -> TypedValue
 
 /// `eqz`: whether the operand is 0.
 #[inline(always)]
-pub fn eqz(levels: &Levels, width: Width) -> Action
-    ensures means { (m : Module) (vars : Vars) → Acts m (Instr.Eqz width) vars levels.now.operands result }
-    ensures room { popped_by result ≤ length levels.now.operands }
+pub fn eqz(control_stack: &ControlStack, width: Width) -> Action
+    ensures means { (m : Module) (vars : Vars) → Acts m (Instr.Eqz width) vars control_stack.now.operands result }
+    ensures room { popped_by result ≤ length control_stack.now.operands }
     ensures sets { SetsNothing result }
 {
-    match number(levels, 0, width) {
+    match number(control_stack, 0, width) {
         Some(operand) => Action::Replace(
             1,
             Some(truth(compare(Comparison::Eq, width, operand, 0))),
@@ -68,12 +68,12 @@ pub fn eqz(levels: &Levels, width: Width) -> Action
 
 /// A comparison of the two topmost operands, of which the right one is on top.
 #[inline(always)]
-pub fn comparison(levels: &Levels, op: Comparison, width: Width) -> Action
-    ensures means { (m : Module) (vars : Vars) → Acts m (Instr.Compare op width) vars levels.now.operands result }
-    ensures room { popped_by result ≤ length levels.now.operands }
+pub fn comparison(control_stack: &ControlStack, op: Comparison, width: Width) -> Action
+    ensures means { (m : Module) (vars : Vars) → Acts m (Instr.Compare op width) vars control_stack.now.operands result }
+    ensures room { popped_by result ≤ length control_stack.now.operands }
     ensures sets { SetsNothing result }
 {
-    match (number(levels, 1, width), number(levels, 0, width)) {
+    match (number(control_stack, 1, width), number(control_stack, 0, width)) {
         (Some(left), Some(right)) => Action::Replace(
             2,
             Some(truth(compare(op, width, left, right))),
@@ -83,12 +83,12 @@ pub fn comparison(levels: &Levels, op: Comparison, width: Width) -> Action
 }
 
 /// An operator on the topmost operand.
-pub fn counted(levels: &Levels, op: UnaryOperator, width: Width) -> Action
-    ensures means { (m : Module) (vars : Vars) → Acts m (Instr.Unary op width) vars levels.now.operands result }
-    ensures room { popped_by result ≤ length levels.now.operands }
+pub fn counted(control_stack: &ControlStack, op: UnaryOperator, width: Width) -> Action
+    ensures means { (m : Module) (vars : Vars) → Acts m (Instr.Unary op width) vars control_stack.now.operands result }
+    ensures room { popped_by result ≤ length control_stack.now.operands }
     ensures sets { SetsNothing result }
 {
-    match number(levels, 0, width) {
+    match number(control_stack, 0, width) {
         Some(operand) => Action::Replace(1, Some(TypedValue::of(width, unary(op, width, operand)))),
         None => Action::Stuck,
     }
@@ -96,12 +96,12 @@ pub fn counted(levels: &Levels, op: UnaryOperator, width: Width) -> Action
 
 /// An operator on the two topmost operands, of which the right one is on top.
 #[inline(always)]
-pub fn calculated(levels: &Levels, op: BinaryOperator, width: Width) -> Action
-    ensures means { (m : Module) (vars : Vars) → Acts m (Instr.Binary op width) vars levels.now.operands result }
-    ensures room { popped_by result ≤ length levels.now.operands }
+pub fn calculated(control_stack: &ControlStack, op: BinaryOperator, width: Width) -> Action
+    ensures means { (m : Module) (vars : Vars) → Acts m (Instr.Binary op width) vars control_stack.now.operands result }
+    ensures room { popped_by result ≤ length control_stack.now.operands }
     ensures sets { SetsNothing result }
 {
-    match (number(levels, 1, width), number(levels, 0, width)) {
+    match (number(control_stack, 1, width), number(control_stack, 0, width)) {
         (Some(left), Some(right)) => match binary(op, width, left, right) {
             Ok(value) => Action::Replace(2, Some(TypedValue::of(width, value))),
             Err(trap) => Action::Trap(trap_of(trap)),
@@ -111,13 +111,13 @@ pub fn calculated(levels: &Levels, op: BinaryOperator, width: Width) -> Action
 }
 
 /// A conversion of the topmost operand.
-pub fn converted(levels: &Levels, op: Conversion) -> Action
-    ensures means { (m : Module) (vars : Vars) → Acts m (Instr.Convert op) vars levels.now.operands result }
-    ensures room { popped_by result ≤ length levels.now.operands }
+pub fn converted(control_stack: &ControlStack, op: Conversion) -> Action
+    ensures means { (m : Module) (vars : Vars) → Acts m (Instr.Convert op) vars control_stack.now.operands result }
+    ensures room { popped_by result ≤ length control_stack.now.operands }
     ensures sets { SetsNothing result }
 {
     let (source, target) = widths(op);
-    match number(levels, 0, source) {
+    match number(control_stack, 0, source) {
         Some(operand) => Action::Replace(1, Some(TypedValue::of(target, convert(op, operand)))),
         None => Action::Stuck,
     }

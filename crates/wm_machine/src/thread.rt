@@ -1,22 +1,21 @@
 //! A thread, step by step.
-ghost use Rattle.std.specs.Prelude.{◌≡◌, ◌⊎◌, ℕ, Some, Ok, None, Err, OnOk, OnErr, IfErr, IfOk};
+ghost use Rattle.std.specs.Prelude.{◌≡◌, ℕ, Some, Ok, None, Err, OnOk, OnErr, IfErr, IfOk};
 ghost use Rattle.wm_valid.specs.Valid.{Valid};
-ghost use Rattle.wm_machine.specs.Term.{Config};
-ghost use Rattle.wm_machine.specs.State.{config_of, need_of, position_of, read_in, given_by, value_or_zero, Answers};
-ghost use Rattle.wm_machine.specs.Step.{step, went, access_of, result_of};
+ghost use Rattle.wm_machine.specs.State.{config_of, need_of, position_of, read_in, given_by, RepliesTo};
+ghost use Rattle.wm_machine.specs.Step.{next_config, result_of, step};
 ghost use Rattle.wm_machine.specs.Start.{started, started_in};
 ghost use Rattle.wm_machine.specs.Functions.{callable as callable_in};
-ghost use Rattle.wm_machine.specs.Inside.{as_list, asked_for, unanswered};
+ghost use Rattle.wm_machine.specs.Inside.{as_list};
+ghost use Rattle.wm_machine.specs.Stepping.{HasEnded, HasStep, IsIn, IsStartFault, KeepsThread, MakesStep, NamesNextAccess, NeedsAccess};
 ghost use Rattle.wm_event.specs.declared.op.OpFields.{OpFields};
-ghost use Rattle.wm_event.specs.declared.log.End.{End as EndOf};
 
-use crate::activation::{Activation, Gone, Invocation, Reached, ReturnTo};
+use crate::call_frame::{CallFrame, StepOutcome, Invocation, Flow, ReturnTo};
 use crate::call::call;
-use crate::callers::Callers;
+use crate::call_stack::CallStack;
 use crate::fault::{AdvanceFault, StartFault, StepFault};
 use crate::functions::callable;
-use crate::levels::Levels;
-use crate::perform::{go_on, next_op};
+use crate::control_stack::ControlStack;
+use crate::perform::{step_in_frame, next_op};
 use crate::start::{any_past, first_globals, first_locals, func_of};
 use crate::value::TypedValue;
 use std::alloc::Global;
@@ -48,15 +47,15 @@ pub enum Stepped {
     Ended(End),
 }
 
-impl Gone {
+impl StepOutcome {
     /// What a step without a value did of a thread that hadn't ended.
     fn stepped(self) -> Stepped
-        ensures made { self ≡ Gone.Made → result ≡ Stepped.Local }
-        ensures asks { (op : OpFields) → self ≡ Gone.Asks op → result ≡ Stepped.Access op }
+        ensures made { self ≡ StepOutcome.Made → result ≡ Stepped.Local }
+        ensures asks { (op : OpFields) → self ≡ StepOutcome.NeedsReply op → result ≡ Stepped.Access op }
     {
         match self {
-            Gone::Made => Stepped::Local,
-            Gone::Asks(op) => Stepped::Access(op),
+            StepOutcome::Made => Stepped::Local,
+            StepOutcome::NeedsReply(op) => Stepped::Access(op),
         }
     }
 }
@@ -78,20 +77,20 @@ pub struct CodePosition {
 pub struct Thread<'m> {
     module: &'m Module,
     end: Option<End>,
-    running: Activation<'m>,
-    callers: Callers<'m>,
+    running: CallFrame<'m>,
+    call_stack: CallStack<'m>,
     globals: List<TypedValue>,
     alloc: Global,
 }
 
 impl<'m> Model for Thread<'m> {
-    ghost use Rattle.wm_machine.specs.State.{State, Sound};
+    ghost use Rattle.wm_machine.specs.State.{State, Sound, state_of};
 
     ghost Value = { State };
 
-    ghost view = { λ t. record { «module» = t.module.now; ended = t.end; running = t.running; callers = t.callers; globals = t.globals } };
+    ghost view = { λ t. state_of t.module.now t.end t.running t.call_stack t.globals };
 
-    ghost invariant = { λ t. Sound record { «module» = t.module.now; ended = t.end; running = t.running; callers = t.callers; globals = t.globals } };
+    ghost invariant = { λ t. Sound (state_of t.module.now t.end t.running t.call_stack t.globals) };
 }
 
 impl<'m> Thread<'m> {
@@ -103,8 +102,8 @@ impl<'m> Thread<'m> {
         args: &[u64],
     ) -> Result<Thread<'m>, StartFault>
         requires { Valid «module».now }
-        ensures ok { IfOk result (λ t. (started_in «module».now func (callable_in «module».now func) args.now ≡ Ok (config_of t)) × (t.module ≡ «module».now)) }
-        ensures fault { IfErr result (λ f. (f ≡ StartFault.OutOfMemory) ⊎ (started_in «module».now func (callable_in «module».now func) args.now ≡ Err f)) }
+        ensures ok { IfOk result (IsIn «module».now (started_in «module».now func (callable_in «module».now func) args.now)) }
+        ensures fault { IfErr result (IsStartFault (started_in «module».now func (callable_in «module».now func) args.now)) }
     {
         let Some(types) = callable(module, func) else {
             return Err(StartFault::NotFunction);
@@ -120,12 +119,12 @@ impl<'m> Thread<'m> {
         Ok(Thread {
             module,
             end: None,
-            running: Activation {
+            running: CallFrame {
                 func,
                 locals,
-                levels: Levels::new(alloc, 0),
+                control_stack: ControlStack::new(alloc, 0),
             },
-            callers: Callers::new(alloc),
+            call_stack: CallStack::new(alloc),
             globals,
             alloc,
         })
@@ -145,8 +144,8 @@ impl<'m> Thread<'m> {
         name: &str,
         args: &[u64],
     ) -> Result<Thread<'m>, StartFault>
-        ensures ok { IfOk result (λ t. (started «module».now name.now args.now ≡ Ok (config_of t)) × (t.module ≡ «module».now)) }
-        ensures fault { IfErr result (λ f. (f ≡ StartFault.OutOfMemory) ⊎ (started «module».now name.now args.now ≡ Err f)) }
+        ensures ok { IfOk result (IsIn «module».now (started «module».now name.now args.now)) }
+        ensures fault { IfErr result (IsStartFault (started «module».now name.now args.now)) }
     {
         let module = module.module();
         match module.export(name) {
@@ -178,55 +177,55 @@ impl<'m> Thread<'m> {
     {
         CodePosition {
             func: self.running.func,
-            block: self.running.levels.block(),
-            at: self.running.levels.at(),
+            block: self.running.control_stack.block(),
+            at: self.running.control_stack.at(),
         }
     }
 
     /// Makes a step of a thread that hasn't ended, with the value that its access reads. Where none is given, an access isn't
     /// made, but named.
-    fn go(&mut self, given: Option<u64>) -> Result<Gone, AdvanceFault>
+    fn step_with(&mut self, given: Option<u64>) -> Result<StepOutcome, AdvanceFault>
         requires { self.old.ended ≡ None }
-        ensures asks { IfOk result (λ gone. (read : ℕ) → asked_for gone ≡ unanswered given (access_of (step self.old.module read (config_of self.old)))) }
-        ensures made { IfOk result (λ gone. gone ≡ Gone.Made → went (step self.old.module (value_or_zero given) (config_of self.old)) ≡ Some (config_of self.new)) }
-        ensures stays { IfOk result (λ gone. (op : OpFields) → gone ≡ Gone.Asks op → self.new ≡ self.old) }
+        ensures asks { IfOk result (NamesNextAccess given self.old) }
+        ensures made { IfOk result (MakesStep given self.old self.new) }
+        ensures stays { IfOk result (KeepsThread self.old self.new) }
         ensures err { OnErr result (self.new ≡ self.old) }
         ensures same { self.new.module ≡ self.old.module }
     {
-        let reached = match go_on(self.module, &mut self.running, &mut self.globals, given) {
+        let reached = match step_in_frame(self.module, &mut self.running, &mut self.globals, given) {
             Err(StepFault::Stuck) => unreachable!(),
             Err(StepFault::OutOfMemory) => return Err(AdvanceFault::OutOfMemory),
             Ok(reached) => reached,
         };
         match reached {
-            Reached::Within => Ok(Gone::Made),
-            Reached::Asking(op) => Ok(Gone::Asks(op)),
-            Reached::Trapped(kind) => {
+            Flow::Within => Ok(StepOutcome::Made),
+            Flow::Asking(op) => Ok(StepOutcome::NeedsReply(op)),
+            Flow::Trapped(kind) => {
                 self.end = Some(End::Trap(kind));
-                Ok(Gone::Made)
+                Ok(StepOutcome::Made)
             }
-            Reached::Left(value) => match self.callers.leave(&mut self.running, value) {
+            Flow::Left(value) => match self.call_stack.leave(&mut self.running, value) {
                 Err(_) => Err(AdvanceFault::OutOfMemory),
-                Ok(ReturnTo::Caller) => Ok(Gone::Made),
+                Ok(ReturnTo::Caller) => Ok(StepOutcome::Made),
                 Ok(ReturnTo::Outside) => {
                     self.end = Some(End::Done(bits(value)));
-                    Ok(Gone::Made)
+                    Ok(StepOutcome::Made)
                 }
             },
-            Reached::Calling(callee) => {
+            Flow::Calling(callee) => {
                 match call(
                     self.module,
                     self.alloc,
                     &mut self.running,
-                    &mut self.callers,
+                    &mut self.call_stack,
                     callee as usize,
                 ) {
                     Err(StepFault::Stuck) => unreachable!(),
                     Err(StepFault::OutOfMemory) => Err(AdvanceFault::OutOfMemory),
-                    Ok(Invocation::Entered) => Ok(Gone::Made),
+                    Ok(Invocation::Entered) => Ok(StepOutcome::Made),
                     Ok(Invocation::TooDeep) => {
                         self.end = Some(End::Trap(TrapKind::Exhausted));
-                        Ok(Gone::Made)
+                        Ok(StepOutcome::Made)
                     }
                 }
             }
@@ -240,20 +239,20 @@ impl<'m> Thread<'m> {
     ///
     /// `OutOfMemory` where memory was refused. For a thread that needs nothing there is a step: it is of a valid module.
     pub fn step(&mut self) -> Result<Stepped, AdvanceFault>
-        ensures local { result ≡ Ok Stepped.Local → went (step self.old.module 0 (config_of self.old)) ≡ Some (config_of self.new) }
+        ensures local { result ≡ Ok Stepped.Local → next_config (step self.old.module 0 (config_of self.old)) ≡ Some (config_of self.new) }
         ensures needs_nothing { result ≡ Ok Stepped.Local → (read : ℕ) → need_of read self.old ≡ Need.Local }
-        ensures access { IfOk result (λ stepped. (op : OpFields) → stepped ≡ Stepped.Access op → ((read : ℕ) → need_of read self.old ≡ Need.Access op) × (self.new ≡ self.old)) }
-        ensures ended { IfOk result (λ stepped. (end : EndOf) → stepped ≡ Stepped.Ended end → ((read : ℕ) → need_of read self.old ≡ Need.Ended end) × (self.new ≡ self.old)) }
-        ensures never_stuck { (read : ℕ) → need_of read self.old ≡ Need.Local → (c : Config) × (went (step self.old.module read (config_of self.old)) ≡ Some c) }
+        ensures access { IfOk result (NeedsAccess self.old self.new) }
+        ensures ended { IfOk result (HasEnded self.old self.new) }
+        ensures never_stuck { (read : ℕ) → need_of read self.old ≡ Need.Local → HasStep self.old read }
         ensures err { OnErr result (self.new ≡ self.old) }
         ensures same { self.new.module ≡ self.old.module }
     {
         if let Some(end) = self.end {
             return Ok(Stepped::Ended(end));
         }
-        match self.go(None) {
+        match self.step_with(None) {
             Err(fault) => Err(fault),
-            Ok(gone) => Ok(gone.stepped()),
+            Ok(outcome) => Ok(outcome.stepped()),
         }
     }
 
@@ -264,14 +263,14 @@ impl<'m> Thread<'m> {
     ///
     /// `OutOfMemory` where memory was refused. There is a step whatever the access reads: the thread is of a valid module.
     pub fn advance(&mut self, reply: Option<Reply>) -> Result<(), AdvanceFault>
-        requires { Answers (need_of 0 self.old) reply }
-        ensures ok { OnOk result (went (step self.old.module (read_in reply) (config_of self.old)) ≡ Some (config_of self.new)) }
-        ensures never_stuck { (read : ℕ) → (c : Config) × (went (step self.old.module read (config_of self.old)) ≡ Some c) }
+        requires { RepliesTo (need_of 0 self.old) reply }
+        ensures ok { OnOk result (next_config (step self.old.module (read_in reply) (config_of self.old)) ≡ Some (config_of self.new)) }
+        ensures never_stuck { (read : ℕ) → HasStep self.old read }
         ensures err { OnErr result (self.new ≡ self.old) }
         ensures same { self.new.module ≡ self.old.module }
     {
         let _ = &self.module;
-        match self.go(given_by(reply)) {
+        match self.step_with(given_by(reply)) {
             Ok(_) => Ok(()),
             Err(fault) => Err(fault),
         }

@@ -5,8 +5,8 @@ use Rattle.wm_access.specs.declared.MemoryOrder.TheVariants.{Unordered, SeqCst}
 use Rattle.wm_access.specs.declared.AccessWidth.TheVariants.{Four}
 use Rattle.wm_event.specs.declared.op.OpFields.{OpFields as Op}
 use Rattle.wm_event.specs.declared.op.OpKind.TheVariants.{Read, Write, CmpXchg}
-use Rattle.wm_memory.specs.declared.item.Item.{Item}
-use Rattle.wm_memory.specs.declared.item.Item.TheVariants.{Access, Drain, DrainAt}
+use Rattle.wm_memory.specs.declared.history_step.HistoryStep.{HistoryStep}
+use Rattle.wm_memory.specs.declared.history_step.HistoryStep.TheVariants.{Access, Drain, DrainAt}
 use Rattle.wm_memory.specs.Visibility.{events, steps}
 
 load : ℕ → Op
@@ -21,7 +21,7 @@ cas a x y = record { kind = CmpXchg x y; order = SeqCst; address = a; width = Fo
 zeros : List ℕ
 zeros = 0 ∷ 0 ∷ 0 ∷ 0 ∷ 0 ∷ 0 ∷ 0 ∷ 0 ∷ []
 
-reads_of : List Item → List ℕ
+reads_of : List HistoryStep → List ℕ
 reads_of h = map (λ (e : Event). e.read) (reverse (events (steps zeros (reverse h))))
 
 -- store buffering: both threads read 0; then the store is drained; a thread sees its own store

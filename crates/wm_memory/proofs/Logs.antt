@@ -13,8 +13,8 @@ use Rattle.wm_event.specs.declared.op.OpKind.{OpKind}
 use Rattle.wm_event.specs.declared.op.OpKind.TheVariants.{Read, Write, Rmw, CmpXchg}
 use Rattle.wm_event.specs.Log.{UsesFields, IsEvent, AreEvents, AreThreads}
 use Rattle.wm_event.specs.Op.{KindFits, made_kind, made_read, made_written}
-use Rattle.wm_memory.specs.declared.item.Item.{Item}
-use Rattle.wm_memory.specs.declared.item.Item.TheVariants.{Access, Drain, DrainAt}
+use Rattle.wm_memory.specs.declared.history_step.HistoryStep.{HistoryStep}
+use Rattle.wm_memory.specs.declared.history_step.HistoryStep.TheVariants.{Access, Drain, DrainAt}
 use Rattle.wm_memory.specs.Visibility.{Step, Made, accesses, seen, visible, value_at, made_after, writers_after, steps}
 use Rattle.wm_access.specs.AccessWidth.{bytes_of}
 use Rattle.wm_memory.specs.Legal.{IsLegal}
@@ -45,7 +45,7 @@ made_events s e ws t true eq old new =
     rw eq (one_more t 0 (events_of s t) e old (subst (λ (k : ℕ). IsEvent t k e) (sym (length-events_of s t) ∙ omega arith) at))
 made_events s e ws t false eq old new = rw eq old
 
-are_events : (threads : ℕ) (initial : List ℕ) (history : List Item) (t : ℕ) → IsLegal threads initial history → AreEvents t 0 (events_of (steps initial history) t)
+are_events : (threads : ℕ) (initial : List ℕ) (history : List HistoryStep) (t : ℕ) → IsLegal threads initial history → AreEvents t 0 (events_of (steps initial history) t)
 are_events threads initial [] t h = tt
 are_events threads initial (Drain u ∷ older) t h = are_events threads initial older t h.0
 are_events threads initial (DrainAt u k ∷ older) t h = are_events threads initial older t h.0

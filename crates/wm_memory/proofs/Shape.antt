@@ -17,7 +17,7 @@ use Rattle.wm_event.specs.Event.{reads}
 use Rattle.wm_event.specs.LoggedRun.{LoggedRun}
 use Rattle.wm_event.specs.Shape.{IsWellShaped, IsGoodEvent, IsThere, read_width, event_count, event_counts}
 use Rattle.wm_event.specs.Witness.{writers_in as witness_writers}
-use Rattle.wm_memory.specs.declared.item.Item.{Item}
+use Rattle.wm_memory.specs.declared.history_step.HistoryStep.{HistoryStep}
 use Rattle.wm_memory.specs.Visibility.{Step, Made, Drained, accesses, events, steps, seen, visible, writers_after}
 use Rattle.wm_memory.specs.Legal.{IsLegal}
 use Rattle.wm_memory.specs.Recorded.{events_of, writers_of, by_thread, Records}
@@ -82,7 +82,7 @@ counts_same s (suc n) =
     ∙ (ap (λ (m : ℕ). map (λ (es : List Event). length es) (by_thread (events_of s) n) ++ m ∷ []) same
     ∙ sym (map-append (λ (es : List Event). length es) (by_thread (events_of s) n) (events_of s n ∷ []))))
 
-within : (threads : ℕ) (initial : List ℕ) (history : List Item) → IsLegal threads initial history → length (events (steps initial history)) ≤ 16384
+within : (threads : ℕ) (initial : List ℕ) (history : List HistoryStep) → IsLegal threads initial history → length (events (steps initial history)) ≤ 16384
 within threads initial [] h = omega arith
 within threads initial (item ∷ rest) h = h.2.few
 
@@ -137,6 +137,6 @@ shape_steps threads initial s run bytes few g i r =
       };
     }
 
-pub well_shaped : (threads : ℕ) (initial : List ℕ) (history : List Item) (run : LoggedRun) → All (λ b. b < 256) initial → IsLegal threads initial history → Records threads initial (steps initial history) run → IsWellShaped run
+pub well_shaped : (threads : ℕ) (initial : List ℕ) (history : List HistoryStep) (run : LoggedRun) → All (λ b. b < 256) initial → IsLegal threads initial history → Records threads initial (steps initial history) run → IsWellShaped run
 well_shaped threads initial history run bytes legal r =
     shape_steps threads initial (steps initial history) run bytes (within threads initial history legal) (sound_steps threads initial history legal) (in_threads threads initial history legal) r

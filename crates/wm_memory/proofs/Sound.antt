@@ -6,8 +6,8 @@ use Rattle.wm_event.specs.declared.event.EventId.{EventId}
 use Rattle.wm_event.specs.declared.event.EventKind.TheVariants as kind
 use Rattle.wm_event.specs.declared.op.OpKind.{OpKind}
 use Rattle.wm_event.specs.declared.op.OpKind.TheVariants.{Read, Write, Rmw, CmpXchg}
-use Rattle.wm_memory.specs.declared.item.Item.{Item}
-use Rattle.wm_memory.specs.declared.item.Item.TheVariants.{Access, Drain, DrainAt}
+use Rattle.wm_memory.specs.declared.history_step.HistoryStep.{HistoryStep}
+use Rattle.wm_memory.specs.declared.history_step.HistoryStep.TheVariants.{Access, Drain, DrainAt}
 use Rattle.wm_event.specs.Event.{reads, kind_reads}
 use Rattle.wm_access.specs.AccessWidth.{bytes_of, Fits}
 use Rattle.wm_access.specs.declared.AccessWidth.{AccessWidth}
@@ -61,7 +61,7 @@ written_fits width (Write v) order r h = h
 written_fits width (Rmw op v) order r h = mod-lt _ (pow_pos (8 * bytes_of width))
 written_fits width (CmpXchg x y) order r h = new_fits width y (r == x) h.1
 
-pub sound_steps : (threads : ℕ) (initial : List ℕ) (history : List Item) → IsLegal threads initial history → Sound initial (steps initial history)
+pub sound_steps : (threads : ℕ) (initial : List ℕ) (history : List HistoryStep) → IsLegal threads initial history → Sound initial (steps initial history)
 sound_steps threads initial [] h = tt
 sound_steps threads initial (Drain t ∷ older) h = (passes_first (waiting (steps initial older) t), sound_steps threads initial older h.0)
 sound_steps threads initial (DrainAt t k ∷ older) h = (h.1.2, sound_steps threads initial older h.0)

@@ -1,11 +1,12 @@
 -- What a memory shows, and when it fits the steps made so far.
-use Rattle.std.specs.Prelude.{◌≡◌, ℕ, ◌+◌, ◌^◌, ◌<◌, ◌≤◌, Bool, true, false, List, [], ◌∷◌, ◌++◌, length, reverse, take, drop, slice_get, slice_set, Some, MatchBool, ◌&&◌, ◌==◌, if◌then◌else◌, Result, Ok, Err}
+use Rattle.std.specs.Prelude.{◌≡◌, ℕ, ◌+◌, ◌^◌, ◌<◌, ◌≤◌, Bool, true, false, List, [], ◌∷◌, ◌++◌, length, reverse, take, drop, slice_get, slice_set, Some, MatchBool, MatchResult, ◌&&◌, ◌==◌, if◌then◌else◌, Result, Ok, Err}
 use Rattle.wm_access.specs.declared.MemoryOrder.{MemoryOrder}
 use Rattle.wm_access.specs.declared.MemoryOrder.TheVariants.{Unordered, SeqCst}
 use Rattle.wm_event.specs.declared.op.OpKind.{OpKind}
 use Rattle.wm_event.specs.declared.op.OpKind.TheVariants.{Read, Write, Rmw, CmpXchg}
 use Rattle.wm_event.specs.declared.op.Reply.{Reply}
 use Rattle.wm_event.specs.Event.{reads}
+use Rattle.wm_memory.specs.declared.memory.Made.{Made as MadeAccess}
 use Rattle.wm_memory.specs.declared.memory.MemFault.{MemFault}
 use Rattle.wm_memory.specs.declared.memory.MemFault.TheVariants.{NoThread, OutOfBounds, OutOfMemory}
 use Rattle.wm_access.specs.AccessWidth.{bytes_of}
@@ -16,7 +17,7 @@ use Rattle.wm_event.specs.Op.{event_made}
 use Rattle.wm_memory.specs.Cells.{covers}
 use Rattle.wm_memory.specs.Table.{CellTable, cell_at, HasCell, Puts, PutsAll, shown}
 use Rattle.wm_memory.specs.Visibility.{Step, Made, Drained, Passes, In, published, waiting, accesses, seen, value_at, writers_at, made_after, writers_after, step_of}
-use Rattle.wm_memory.specs.declared.item.Item.TheVariants.{Access}
+use Rattle.wm_memory.specs.declared.history_step.HistoryStep.TheVariants.{Access}
 use Rattle.wm_memory.specs.Reply.{padded, reply_after}
 
 -- both write some byte
@@ -31,6 +32,10 @@ MayPass k stores = (k < length stores) × Passes k (reverse stores)
 pub record Buffered : Type 0 where
   pub stores : List Event
   pub accesses : ℕ
+
+-- the buffer without the store that has so many older ones
+abbrev pub without_store : ℕ → Buffered → Buffered
+without_store index b = record b { stores = take index b.stores ++ drop (index + 1) b.stores }
 
 -- published bytes with their writers, and the buffer of each thread
 pub record State : Type 0 where
@@ -159,6 +164,10 @@ HasNumber t m = (b : Buffered) → slice_get m.buffers t ≡ Some b → b.access
 -- whatever steps the memory fitted
 abbrev pub Fitting : ℕ → Op → State → Event → List EventId → State → Type 0
 Fitting t op m e ws n = (threads : ℕ) (initial : List ℕ) (s : List Step) → Fits threads initial s m → AccessFits threads initial (ready s t op) t op e ws n
+
+-- the access was made, with this event and these writers, or nothing has changed
+abbrev pub MakesAccess : {E : Type 0} → ℕ → Op → State → State → Result MadeAccess E → Type 0
+MakesAccess t op old new result = MatchResult result (λ made. Fitting t op old made.event made.writers new) (λ fault. new ≡ old)
 
 -- NoThread exactly where there is no such thread, then OutOfBounds exactly where there is no such range
 abbrev pub FaultIs : {D : Type 0} → Result D MemFault → Type 0 → Type 0 → Type 0

@@ -4,8 +4,8 @@ use Rattle.wm_event.specs.declared.event.Event.{Event}
 use Rattle.wm_event.specs.declared.event.EventId.{EventId}
 use Rattle.wm_memory.specs.declared.cells.Cell.{Cell}
 use Rattle.wm_event.specs.declared.op.OpFields.{OpFields as Op}
-use Rattle.wm_memory.specs.declared.item.Item.{Item}
-use Rattle.wm_memory.specs.declared.item.Item.TheVariants.{Access, Drain, DrainAt}
+use Rattle.wm_memory.specs.declared.history_step.HistoryStep.{HistoryStep}
+use Rattle.wm_memory.specs.declared.history_step.HistoryStep.TheVariants.{Access, Drain, DrainAt}
 use Rattle.std.specs.Prelude.{◌≡◌, ◌⊎◌}
 use Rattle.wm_memory.specs.Cells.{covers, cell_over, initial_cell}
 use Rattle.wm_event.specs.Event.{reads, writes, is_atomic}
@@ -91,12 +91,12 @@ made_after initial s t op = event_made (record { thread = t; number = accesses s
 abbrev pub writers_after : List ℕ → List Step → Event → List EventId
 writers_after initial s e = if reads e then writers_at (seen initial (visible s e.thread)) e.address (bytes_of e.width) else []
 
-abbrev pub step_of : List ℕ → List Step → Item → Step
+abbrev pub step_of : List ℕ → List Step → HistoryStep → Step
 step_of initial s (Access t op) = let e = made_after initial s t op in Made e (writers_after initial s e)
 step_of initial s (Drain t) = Drained t 0
 step_of initial s (DrainAt t k) = Drained t k
 
 -- what the items of a history did, the newest first
-abbrev pub steps : List ℕ → List Item → List Step
+abbrev pub steps : List ℕ → List HistoryStep → List Step
 steps initial [] = []
 steps initial (item ∷ older) = let s = steps initial older in step_of initial s item ∷ s

@@ -1,6 +1,6 @@
 //! The store buffer of a thread.
 ghost use Rattle.std.specs.Prelude.{◌≡◌, ◌^◌, ◌∷◌, ◌++◌, [], ◌+◌, ◌<◌, ◌≤◌, length, take, drop, IfOk, MatchBool};
-ghost use Rattle.wm_memory.specs.Memory.{MayPass, Overlaps};
+ghost use Rattle.wm_memory.specs.Memory.{MayPass, Overlaps, without_store};
 
 use crate::MAX_PENDING;
 use std::alloc::{AllocError, Global};
@@ -80,7 +80,7 @@ impl Buffer {
     pub fn take_at(&mut self, index: usize) -> Event
         requires { index < length self.old.stores }
         ensures taken { self.old.stores ≡ take index self.old.stores ++ result ∷ drop (index + 1) self.old.stores }
-        ensures rest { self.new ≡ record { stores = take index self.old.stores ++ drop (index + 1) self.old.stores; accesses = self.old.accesses } }
+        ensures rest { self.new ≡ without_store index self.old }
     {
         self.stores.remove(index)
     }

@@ -1,9 +1,9 @@
 //! Memory with a store buffer for each thread.
-ghost use Rattle.std.specs.Prelude.{◌≡◌, ◌^◌, ℕ, List, ◌+◌, ◌<◌, ◌≤◌, length, slice_get, take, Some, None, MatchBool, MatchResult, IfOk, [], if◌then◌else◌};
+ghost use Rattle.std.specs.Prelude.{◌≡◌, ◌+◌, ◌<◌, ◌≤◌, length, slice_get, take, Some, None, MatchBool, MatchResult, IfOk, [], if◌then◌else◌};
 ghost use Rattle.wm_access.specs.AccessWidth.{bytes_of};
 ghost use Rattle.wm_event.specs.Event.{reads};
 ghost use Rattle.wm_event.specs.Shape.{read_width};
-ghost use Rattle.wm_memory.specs.Memory.{Answers, Buffered, CannotLeave, DoesAtomic, DoesLoad, DoesStore, DrainFits, Drains, DrainsFirst, FaultIs, Fits, Fitting, HasNumber, IsPending, MayLeave, PublishesAt, Waits, plain_store};
+ghost use Rattle.wm_memory.specs.Memory.{Answers, Buffered, CannotLeave, DoesAtomic, DoesLoad, DoesStore, DrainFits, Drains, DrainsFirst, FaultIs, Fits, Fitting, HasNumber, MakesAccess, IsPending, MayLeave, PublishesAt, Waits, plain_store};
 ghost use Rattle.wm_memory.specs.Reply.{padded, reply_of};
 ghost use Rattle.wm_memory.specs.Texts.{mem_fault_text};
 ghost use Rattle.wm_access.specs.declared.MemoryOrder.TheVariants.{SeqCst};
@@ -11,7 +11,7 @@ ghost use Rattle.std.specs.Prelude.{true};
 
 use crate::MAX_PENDING;
 use crate::buffer::Buffer;
-use crate::cells::{Cells, Reading};
+use crate::cells::{Cells, ReadResult};
 use std::alloc::{AllocError, Global};
 use std::fmt;
 use std::marker::Model;
@@ -66,7 +66,7 @@ pub struct Made {
 
 impl Made {
     /// The event with the writers of its range, where it reads that.
-    fn of(event: Event, reading: Reading) -> Self
+    fn of(event: Event, reading: ReadResult) -> Self
         ensures event { result.event ≡ event }
         ensures writers { result.writers ≡ (if reads event then reading.writers else padded []) }
     {
@@ -337,7 +337,7 @@ impl Memory {
     /// As for [`Memory::access`].
     pub fn make(&mut self, thread: u32, op: Op) -> Result<Made, MemFault>
         requires few { HasNumber thread self.old }
-        ensures ok { MatchResult result (λ made. Fitting thread op self.old made.event made.writers self.new) (λ fault. self.new ≡ self.old) }
+        ensures ok { MakesAccess thread op self.old self.new result }
         ensures fault { FaultIs result (length self.old.buffers ≤ thread) (length self.old.cells.initial < op.address + bytes_of op.width) }
     {
         if thread as usize >= self.buffers.len() {

@@ -2,8 +2,8 @@
 use Rattle.std.specs.Prelude.{◌≡◌, ℕ, Bool, [], ◌∷◌, MatchBool, MatchResult, Result}
 use Rattle.wm_event.specs.declared.op.OpFields.{OpFields as Op}
 use Rattle.wm_event.specs.declared.op.Reply.{Reply}
-use Rattle.wm_memory.specs.declared.item.Item.{Item}
-use Rattle.wm_memory.specs.declared.item.Item.TheVariants.{Drain, DrainAt}
+use Rattle.wm_memory.specs.declared.history_step.HistoryStep.{HistoryStep}
+use Rattle.wm_memory.specs.declared.history_step.HistoryStep.TheVariants.{Drain, DrainAt}
 use Rattle.wm_memory.specs.Memory.{CannotLeave}
 use Rattle.wm_recorder.specs.declared.access_fault.AccessFault.{AccessFault}
 use Rattle.wm_recorder.specs.Recorder.{Recording, IsRecording, Adds, IsFull, NoRangeOf, NoThreadOf, RefusedBy, StepsAccess}
@@ -16,7 +16,7 @@ MadeOnce t op answer =
     × RefusedBy answer (NoThreadOf old t) (NoRangeOf old op) (IsFull old)
 
 -- some recorder made this one drain, or had no store that may leave there
-abbrev pub StoreLeft : ℕ → ℕ → Item → Bool → Type 0
+abbrev pub StoreLeft : ℕ → ℕ → HistoryStep → Bool → Type 0
 StoreLeft t k item drained =
     (old new : Recording) × IsRecording old × MatchBool drained (Adds (item ∷ []) old new) ((new ≡ old) × CannotLeave t k old.memory)
 

@@ -4,8 +4,8 @@ use Rattle.wm_event.specs.declared.event.Event.{Event}
 use Rattle.wm_event.specs.declared.event.EventId.{EventId}
 use Rattle.wm_event.specs.declared.op.OpFields.{OpFields as Op}
 use Rattle.wm_event.specs.Event.{key_of}
-use Rattle.wm_memory.specs.declared.item.Item.{Item}
-use Rattle.wm_memory.specs.declared.item.Item.TheVariants.{Access, Drain}
+use Rattle.wm_memory.specs.declared.history_step.HistoryStep.{HistoryStep}
+use Rattle.wm_memory.specs.declared.history_step.HistoryStep.TheVariants.{Access, Drain}
 use Rattle.wm_recorder.specs.declared.transcript.Parts.{Parts}
 use Rattle.wm_recorder.specs.declared.transcript.ThreadRecord.{ThreadRecord}
 use Rattle.wm_recorder.specs.declared.transcript.Transcript.{Transcript}
@@ -56,7 +56,7 @@ pub record HasRoom (t : ℕ) (x : Transcript) : Type 0 where
   pub thread : (r : ThreadRecord) → slice_get x.threads.items t ≡ Some r → HasThreadRoom r
 
 -- the steps that an access of t makes, with a drain before it where one came first
-abbrev pub access_items : Bool → ℕ → Op → List Item
+abbrev pub access_items : Bool → ℕ → Op → List HistoryStep
 access_items drained t op = if drained then Drain t ∷ Access t op ∷ [] else Access t op ∷ []
 
 -- the event e of an access of t was recorded, with the writers of the bytes that it read

@@ -1,11 +1,11 @@
 //! What a history records, in lists whose room is taken before a step is made.
-ghost use Rattle.std.specs.Prelude.{◌≡◌, ◌+◌, ◌<◌, ◌≤◌, ◌++◌, ◌∷◌, [], length, slice_get, slice_set, IfOk, OnOk};
+ghost use Rattle.std.specs.Prelude.{◌≡◌, ◌+◌, ◌<◌, ◌≤◌, ◌++◌, ◌∷◌, [], length, IfOk, OnOk};
 ghost use Rattle.wm_recorder.specs.Transcript.{AddsAccess, HasRoom, HasThreadRoom, IsBlank, IsPartsOf, SameItems, SameThread, access_items};
 
 use std::alloc::{AllocError, Global};
 use wm_event::{Event, EventId, EventKey, Op};
 use wm_list::{Growing, List};
-use wm_memory::Item;
+use wm_memory::HistoryStep;
 
 /// The events of a thread, and for each the writers of the bytes that it read.
 #[derive(Drop)]
@@ -39,7 +39,7 @@ impl ThreadRecord {
 #[derive(Drop)]
 pub struct Parts {
     /// The steps, the oldest first.
-    pub history: List<Item>,
+    pub history: List<HistoryStep>,
     /// The events of each thread.
     pub events: List<List<Event>>,
     /// For each thread and each of its events the writers of the bytes that it read, the lowest first.
@@ -51,7 +51,7 @@ pub struct Parts {
 /// The steps so far, the oldest first, what each thread recorded, and the order of the accesses.
 #[derive(Drop)]
 pub struct Transcript {
-    pub history: Growing<Item>,
+    pub history: Growing<HistoryStep>,
     pub threads: Vec<ThreadRecord>,
     pub order: Growing<EventKey>,
 }
@@ -135,12 +135,12 @@ impl Transcript {
 }
 
 /// Adds an access to the steps, behind a drain where one came first.
-fn add_steps(history: &mut Growing<Item>, drained: bool, thread: u32, op: Op)
+fn add_steps(history: &mut Growing<HistoryStep>, drained: bool, thread: u32, op: Op)
     requires { length history.old.items + 2 ≤ history.old.capacity }
     ensures { history.new.items ≡ history.old.items ++ access_items drained thread op }
 {
     if drained {
-        history.push_within(Item::Drain(thread));
+        history.push_within(HistoryStep::Drain(thread));
     }
-    history.push_within(Item::Access(thread, op));
+    history.push_within(HistoryStep::Access(thread, op));
 }

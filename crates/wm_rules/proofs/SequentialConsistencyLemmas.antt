@@ -7,7 +7,7 @@ use Rattle.std.proofs.lemmas.Bool.Decides.{nat_tests}
 use Rattle.wm_access.specs.AccessWidth.{bytes_of}
 use Rattle.wm_event.specs.declared.event.Range.{Range}
 use Rattle.wm_event.specs.declared.writes.ByteWrite.{ByteWrite}
-use Rattle.wm_event.specs.AtomicWrites.{starts_atomic}
+use Rattle.wm_event.specs.AtomicWrites.{begins_atomic}
 use Rattle.wm_event.specs.Writes.{listed_from}
 use Rattle.wm_event.proofs.Scan.{NoneBelow, none_below-more}
 use Rattle.wm_rules.specs.Between.{IsPlaceOf, stands_between}
@@ -100,7 +100,7 @@ out_of_order_finds run e k w c once there reads =
     (λ v. refl)
 
 -- an atomic write is one of its range
-range_listed : (run : LoggedRun) (v : EventKey) (e : Event) → IsAtomicWrite (execution run) (At v) → HasRange (execution run) (At v) e → starts_atomic run.log e.width e.address v ≡ true
+range_listed : (run : LoggedRun) (v : EventKey) (e : Event) → IsAtomicWrite (execution run) (At v) → HasRange (execution run) (At v) e → begins_atomic run.log e.width e.address v ≡ true
 range_listed run v e write range =
     let same : write.0 ≡ range.0 = same_Some write.0 range.0 (sym write.1 ∙ range.1) in
     let ranges : range_of write.0 ≡ range_of e = ap range_of same ∙ range.2 in
@@ -115,23 +115,23 @@ range_listed run v e write range =
 
 -- the write of a fault of V5 is an atomic write of the range of its case
 overtaken_listed : (run : LoggedRun) (w : EventId) (v r : EventKey) (e : Event) (c : ℕ) (range : Range) → (c ≡ 2 → (f : Event) → event_at (execution run) w ≡ Some f → range ≡ range_of f) → (c ≢ 2 → range ≡ range_of e)
-    → IsAtomicWrite (execution run) (At v) → Overtakes (execution run) w (At v) r e c → starts_atomic run.log range.width range.address v ≡ true
+    → IsAtomicWrite (execution run) (At v) → Overtakes (execution run) w (At v) r e c → begins_atomic run.log range.width range.address v ≡ true
 overtaken_listed run w v r e c range second others write (synchronized one t at s has) =
-    ap (λ (q : Range). starts_atomic run.log q.width q.address v) (others (λ t. absurd (omega arith))) ∙ range_listed run v e write has
+    ap (λ (q : Range). begins_atomic run.log q.width q.address v) (others (λ t. absurd (omega arith))) ∙ range_listed run v e write has
 overtaken_listed run w v r e c range second others write (written_over two f at atomic wr vr has) =
-    ap (λ (q : Range). starts_atomic run.log q.width q.address v) (second two f at) ∙ range_listed run v f write has
+    ap (λ (q : Range). begins_atomic run.log q.width q.address v) (second two f at) ∙ range_listed run v f write has
 overtaken_listed run w v r e c range second others write (read_past three atomic wr wv has) =
-    ap (λ (q : Range). starts_atomic run.log q.width q.address v) (others (λ t. absurd (omega arith))) ∙ range_listed run v e write has
+    ap (λ (q : Range). begins_atomic run.log q.width q.address v) (others (λ t. absurd (omega arith))) ∙ range_listed run v e write has
 
 -- the atomic writes of that range between a writer and the read have each write of such a fault
 pub covers_overtaking : (run : LoggedRun) → ListsEachOnce run.log run.witness.order → (e : Event) (w : EventId) (c : ℕ) (range : Range) (start : Option ℕ) (end : ℕ) (part : List ByteWrite)
     → (c ≡ 2 → (f : Event) → event_at (execution run) w ≡ Some f → range ≡ range_of f) → (c ≢ 2 → range ≡ range_of e)
     → IsPlaceOf run.witness.order start w → slice_get run.witness.order end ≡ Some (key_of e)
-    → part ≡ filter (stands_between (unwrap_or start 0) end) (listed_from (starts_atomic run.log range.width range.address) range.address 0 run.witness.order)
+    → part ≡ filter (stands_between (unwrap_or start 0) end) (listed_from (begins_atomic run.log range.width range.address) range.address 0 run.witness.order)
     → Covers run.witness.order part (λ key. BreaksSequentialConsistency (execution run) (key_of e) e w (At key) c)
 covers_overtaking run once e w c range start end part second others is at same =
     subst (λ (xs : List ByteWrite). Covers run.witness.order xs (λ key. BreaksSequentialConsistency (execution run) (key_of e) e w (At key) c)) (sym same)
-    (covers_between run once w start (unwrap_or start 0) end (key_of e) is refl at (starts_atomic run.log range.width range.address) range.address (λ key. BreaksSequentialConsistency (execution run) (key_of e) e w (At key) c)
+    (covers_between run once w start (unwrap_or start 0) end (key_of e) is refl at (begins_atomic run.log range.width range.address) range.address (λ key. BreaksSequentialConsistency (execution run) (key_of e) e w (At key) c)
     (λ v p. (overtaken_listed run w v (key_of e) e c range second others p.write p.overtakes, p.between.0, p.between.1)))
 
 -- a fault of V5 is at one of the bytes that have a writer

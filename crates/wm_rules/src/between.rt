@@ -1,14 +1,13 @@
 //! The writes of a byte between two places of the order.
-ghost use Rattle.std.specs.Prelude.{◌≡◌, ◌≤◌, ◌↔◌, length, ltb, true, false, IsTrue, MatchOption, None, Some, slice_get};
+ghost use Rattle.std.specs.Prelude.{◌≡◌, ◌≤◌, ◌↔◌, length, ltb, IsTrue};
 ghost use Rattle.wm_event.specs.Shape.{ListsEachOnce};
 ghost use Rattle.std.specs.List.{filter};
-ghost use Rattle.std.specs.List.Sorted.{IsNonDecreasingBy, IsPartitionPoint};
+ghost use Rattle.std.specs.List.Sorted.{IsNonDecreasingBy};
 ghost use Rattle.wm_event.specs.declared.writes.ByteWrite.{ByteWrite};
-ghost use Rattle.wm_event.specs.declared.event.EventKey.{EventKey};
 ghost use Rattle.wm_event.specs.declared.event.EventId.TheVariants.{At};
 ghost use Rattle.wm_event.specs.HappensBefore.{HappensBefore as IsBefore};
 ghost use Rattle.wm_event.specs.LoggedRun.{execution};
-ghost use Rattle.wm_rules.specs.Between.{IsPlaceOf, Rises, stands_between};
+ghost use Rattle.wm_rules.specs.Between.{IfListedAt, IsCountBefore, IsListed, IsPlaceOf, Rises, stands_between};
 
 use wm_event::{ByteWrite, EventId, EventKey};
 use wm_hb::HappensBefore;
@@ -17,7 +16,7 @@ use wm_hb::HappensBefore;
 fn count_before(writes: &[ByteWrite], place: usize) -> usize
     requires { IsNonDecreasingBy (λ (b : ByteWrite). b.place) writes.now }
     ensures bound { result ≤ length writes.now }
-    ensures parted { IsPartitionPoint (λ (b : ByteWrite). ltb b.place place ≡ true) (λ (b : ByteWrite). ltb b.place place ≡ false) writes.now result }
+    ensures parted { IsCountBefore place writes.now result }
 {
     writes.partition_point(
         |write: &ByteWrite| -> bool
@@ -45,7 +44,7 @@ pub fn is_after(
     place: usize,
 ) -> bool
     requires { IsPlaceOf relation.now.witness.order start writer }
-    ensures { (v : EventKey) → slice_get relation.now.witness.order place ≡ Some v → (IsTrue result ↔ IsBefore (execution relation.now) writer (At v)) }
+    ensures { IfListedAt relation.now.witness.order place (λ v. IsTrue result ↔ IsBefore (execution relation.now) writer (At v)) }
 {
     let _order = relation.candidate().witness();
     match start {
@@ -56,7 +55,7 @@ pub fn is_after(
 
 /// The event at a place of the order.
 pub fn key_at(relation: &HappensBefore, place: usize) -> Option<EventKey>
-    ensures value { MatchOption result (slice_get relation.now.witness.order place ≡ None) (λ v. slice_get relation.now.witness.order place ≡ Some v) }
+    ensures value { IsListed relation.now.witness.order place result }
     ensures order { ListsEachOnce relation.now.log relation.now.witness.order }
 {
     let order = relation.candidate().witness().order.as_slice();

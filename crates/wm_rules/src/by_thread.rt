@@ -2,11 +2,10 @@
 ghost use Rattle.std.specs.Prelude.{◌≡◌, ◌<◌, ◌≤◌, ℕ, IfSome, Some, length, slice_get};
 ghost use Rattle.wm_event.specs.declared.event.EventId.{EventId};
 ghost use Rattle.wm_event.specs.declared.event.EventId.TheVariants.{At};
-ghost use Rattle.wm_event.specs.Event.{key_of};
 ghost use Rattle.wm_event.specs.HappensBefore.{HappensBefore as IsBefore};
 ghost use Rattle.wm_event.specs.LoggedRun.{execution};
 ghost use Rattle.wm_event.specs.Shape.{IsThere};
-ghost use Rattle.wm_rules.specs.Earliest.{AreInSequence, FindsEarliest, IsWrittenBelow, IsWrittenInThread, earlier_of};
+ghost use Rattle.wm_rules.specs.Earliest.{AreInSequence, FindsBelow, FindsInThread, IsCountNotAfter, earlier_of};
 
 use crate::coherence::is_written_between;
 use wm_event::{Candidate, Event, EventId, EventKey};
@@ -16,7 +15,7 @@ use wm_hb::{HappensBefore, stands_before};
 fn count_not_after(relation: &HappensBefore, writer: EventId, writes: &[EventId]) -> usize
     requires { AreInSequence (execution relation.now) writes.now }
     ensures bound { result ≤ length writes.now }
-    ensures not_after { (i : ℕ) (v : EventId) → i < result → slice_get writes.now i ≡ Some v → IsBefore (execution relation.now) writer v → ⊥ }
+    ensures not_after { IsCountNotAfter (execution relation.now) writer writes.now result }
     ensures after { (i : ℕ) (v : EventId) → result ≤ i → slice_get writes.now i ≡ Some v → IsBefore (execution relation.now) writer v }
 {
     let mut low = 0usize;
@@ -41,7 +40,7 @@ fn first_in_thread(
     thread: usize,
 ) -> Option<EventKey>
     requires { thread < length relation.now.log }
-    ensures { FindsEarliest (execution relation.now) (IsWrittenInThread (execution relation.now) event.now (key_of event.now) byte writer thread) result }
+    ensures { FindsInThread (execution relation.now) event.now byte writer thread result }
 {
     let candidate = relation.candidate();
     let _log = candidate.log();
@@ -90,7 +89,7 @@ pub fn earliest_between(
     byte: u8,
     writer: EventId,
 ) -> Option<EventKey>
-    ensures { FindsEarliest (execution relation.now) (IsWrittenBelow (execution relation.now) event.now (key_of event.now) byte writer (length relation.now.log)) result }
+    ensures { FindsBelow (execution relation.now) event.now byte writer (length relation.now.log) result }
 {
     let candidate = relation.candidate();
     let mut earliest = None;

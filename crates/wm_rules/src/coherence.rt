@@ -1,13 +1,12 @@
 //! V3: a read doesn't happen before its writer, and no write of the byte happens between the two.
-ghost use Rattle.std.specs.Prelude.{◌≡◌, ◌+◌, ◌<◌, ◌↔◌, [], ◌∷◌, IsTrue, MatchOption, Some, slice_get};
+ghost use Rattle.std.specs.Prelude.{◌≡◌, ◌+◌, ◌<◌, ◌↔◌, [], ◌∷◌, IsTrue, Some, slice_get};
 ghost use Rattle.wm_event.specs.declared.event.EventId.TheVariants.{At};
 ghost use Rattle.wm_event.specs.Event.{key_of};
 ghost use Rattle.wm_event.specs.Execution.{ReadsFrom};
 ghost use Rattle.wm_event.specs.LoggedRun.{execution};
 ghost use Rattle.wm_event.specs.Shape.{IsThere, ListsEachOnce};
 ghost use Rattle.wm_event.specs.declared.event.EventKey.{EventKey};
-ghost use Rattle.wm_event.specs.HappensBefore.{HappensBefore as IsBefore};
-ghost use Rattle.wm_rules.specs.Between.{IsPlaceOf};
+ghost use Rattle.wm_rules.specs.Between.{FindsAt, IsPlaceOf};
 ghost use Rattle.wm_rules.specs.Others.{FindsListed, IsWrittenBetween};
 ghost use Rattle.wm_hb.specs.Scan.{Finds, IsEventOf};
 
@@ -47,9 +46,8 @@ fn written_between_at(
 ) -> Option<EventKey>
     requires start { IsPlaceOf relation.now.witness.order start writer }
     requires end { slice_get relation.now.witness.order end ≡ Some (key_of event.now) }
-    ensures { MatchOption result
-        ((v : EventKey) → slice_get relation.now.witness.order place ≡ Some v → IsWrittenBetween (execution relation.now) (key_of event.now) event.now byte writer (At v) → ⊥)
-        (λ v. (slice_get relation.now.witness.order place ≡ Some v) × IsWrittenBetween (execution relation.now) (key_of event.now) event.now byte writer (At v)) }
+    ensures { FindsAt relation.now.witness.order place
+        (λ v. IsWrittenBetween (execution relation.now) (key_of event.now) event.now byte writer (At v)) result }
 {
     if !is_after(relation, writer, start, place) {
         return None;

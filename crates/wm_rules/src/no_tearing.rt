@@ -1,5 +1,5 @@
 //! V4: among the writers of a tear-free read at most one event is tear-free with its range.
-ghost use Rattle.std.specs.Prelude.{◌≡◌, ℕ, ◌<◌, ◌↔◌, [], ◌∷◌, IsTrue};
+ghost use Rattle.std.specs.Prelude.{ℕ, ◌<◌, ◌↔◌, [], ◌∷◌, IsTrue};
 ghost use Rattle.wm_event.specs.declared.event.EventId.{EventId};
 ghost use Rattle.wm_event.specs.declared.event.EventId.TheVariants.{At};
 ghost use Rattle.wm_event.specs.Event.{key_of};

@@ -1,10 +1,10 @@
 //! V5: no atomic write stands in the order between an atomic read and its writer.
-ghost use Rattle.std.specs.Prelude.{◌≡◌, ◌≢◌, ◌<◌, ◌↔◌, [], ◌∷◌, IsTrue, MatchOption, Some, slice_get};
+ghost use Rattle.std.specs.Prelude.{◌≡◌, ◌≢◌, ◌<◌, ◌↔◌, [], ◌∷◌, IsTrue, Some, slice_get};
 ghost use Rattle.wm_event.specs.declared.event.Event.{Event};
 ghost use Rattle.wm_event.specs.declared.event.EventKey.{EventKey};
 ghost use Rattle.wm_event.specs.declared.event.EventId.{EventId};
 ghost use Rattle.wm_event.specs.Execution.{event_at};
-ghost use Rattle.wm_rules.specs.Between.{IsPlaceOf};
+ghost use Rattle.wm_rules.specs.Between.{FindsAt, IfListedAt, IsPlaceOf};
 ghost use Rattle.wm_event.specs.declared.event.EventId.TheVariants.{At};
 ghost use Rattle.wm_event.specs.Event.{key_of, range_of};
 ghost use Rattle.wm_event.specs.Execution.{ReadsFrom};
@@ -147,8 +147,8 @@ fn may_overtake(
     case: u8,
 ) -> bool
     requires { IsPlaceOf relation.now.witness.order start writer }
-    ensures { (v r : EventKey) (e : Event) → slice_get relation.now.witness.order place ≡ Some v → slice_get relation.now.witness.order end ≡ Some r
-        → Overtakes (execution relation.now) writer (At v) r e case → IsTrue result }
+    ensures { IfListedAt relation.now.witness.order place (λ v. IfListedAt relation.now.witness.order end (λ r.
+        (e : Event) → Overtakes (execution relation.now) writer (At v) r e case → IsTrue result)) }
 {
     match case {
         2 => relation.before_at(place, end),
@@ -185,9 +185,8 @@ fn out_of_order_at(
     requires writer { IsThere relation.now.log writer }
     requires start { IsPlaceOf relation.now.witness.order start writer }
     requires end { slice_get relation.now.witness.order end ≡ Some (key_of event.now) }
-    ensures { MatchOption result
-        ((v : EventKey) → slice_get relation.now.witness.order place ≡ Some v → BreaksSequentialConsistency (execution relation.now) (key_of event.now) event.now writer (At v) case → ⊥)
-        (λ v. (slice_get relation.now.witness.order place ≡ Some v) × BreaksSequentialConsistency (execution relation.now) (key_of event.now) event.now writer (At v) case) }
+    ensures { FindsAt relation.now.witness.order place
+        (λ v. BreaksSequentialConsistency (execution relation.now) (key_of event.now) event.now writer (At v) case) result }
 {
     if !may_overtake(relation, writer, start, end, place, case) {
         return None;

@@ -1,5 +1,5 @@
 //! V1: each byte read is one that its writer wrote.
-ghost use Rattle.std.specs.Prelude.{◌≡◌, ◌<◌, [], ◌∷◌, Some};
+ghost use Rattle.std.specs.Prelude.{◌<◌, [], ◌∷◌, Some};
 ghost use Rattle.wm_event.specs.First.{FindsFirst};
 ghost use Rattle.wm_event.specs.Event.{key_of};
 ghost use Rattle.wm_event.specs.Execution.{ReadsFrom};

@@ -13,8 +13,8 @@ use Rattle.wm_event.specs.declared.op.OpKind.TheVariants.{Read, Write, Rmw, CmpX
 use Rattle.wm_event.specs.Event.{kind_reads}
 use Rattle.wm_event.specs.Op.{event_made, kind_finds, made_kind, made_read}
 use Rattle.wm_machine.specs.State.{value_or_zero}
-use Rattle.wm_memory.specs.declared.item.Item.{Item}
-use Rattle.wm_memory.specs.declared.item.Item.TheVariants.{Access, Drain}
+use Rattle.wm_memory.specs.declared.history_step.HistoryStep.{HistoryStep}
+use Rattle.wm_memory.specs.declared.history_step.HistoryStep.TheVariants.{Access, Drain}
 use Rattle.wm_memory.specs.Memory.{drains_first, ready}
 use Rattle.wm_memory.specs.Recorded.{events_of}
 use Rattle.wm_memory.specs.Reply.{reply_after}
@@ -82,19 +82,19 @@ reply_value initial s t op =
 pub no_read : (initial : List ℕ) (s : List Step) (t : ℕ) (op : OpFields) → kind_finds op.kind ≡ false → (made_after initial s t op).read ≡ 0
 no_read initial s t op e = no_value op.kind _ e
 
-added_by : (initial : List ℕ) (h : List Item) (t : ℕ) (op : OpFields) (b : Bool)
+added_by : (initial : List ℕ) (h : List HistoryStep) (t : ℕ) (op : OpFields) (b : Bool)
     → let s = if b then Drained t 0 ∷ steps initial (reverse h) else steps initial (reverse h) in
     steps initial (reverse (h ++ access_items b t op)) ≡ step_of initial s (Access t op) ∷ s
 added_by initial h t op true = ap (steps initial) (reverse-append h (Drain t ∷ Access t op ∷ []))
 added_by initial h t op false = ap (steps initial) (reverse-append h (Access t op ∷ []))
 
 -- what an access adds to the steps, behind the drain that a full buffer forces
-pub added : (initial : List ℕ) (h : List Item) (t : ℕ) (op : OpFields)
+pub added : (initial : List ℕ) (h : List HistoryStep) (t : ℕ) (op : OpFields)
     → let s = steps initial (reverse h) in
     steps initial (reverse (h ++ access_items (drains_first s t op) t op)) ≡ step_of initial (ready s t op) (Access t op) ∷ ready s t op
 added initial h t op = added_by initial h t op (drains_first (steps initial (reverse h)) t op)
 
-pub one_added : (initial : List ℕ) (h : List Item) (item : Item) → steps initial (reverse (h ++ item ∷ [])) ≡ step_of initial (steps initial (reverse h)) item ∷ steps initial (reverse h)
+pub one_added : (initial : List ℕ) (h : List HistoryStep) (item : HistoryStep) → steps initial (reverse (h ++ item ∷ [])) ≡ step_of initial (steps initial (reverse h)) item ∷ steps initial (reverse h)
 one_added initial h item = ap (steps initial) (reverse-append h (item ∷ []))
 
 ready_by : (s : List Step) (t u : ℕ) (b : Bool) → events_of (if b then Drained t 0 ∷ s else s) u ≡ events_of s u

@@ -28,7 +28,7 @@ use Rattle.wm_machine.specs.Functions.{Callable, callable}
 use Rattle.wm_machine.specs.Inside.{made_of}
 use Rattle.wm_machine.specs.Step.{access, access_of, act, begin, carried, chosen, computed, ended, enter, gives, invoke, label_of_index, land, make, out_of_call, out_of_label, out_of_thread, reduce, returned, stays, step, truth, with_number, with_value}
 use Rattle.wm_machine.specs.Values.{number_at, typed}
-use Rattle.wm_machine.specs.Term.{Config, Ends, Frame, Going, Here, Label, Leaves, Next, Over, Reduced, Returns, Stuck, Term, Traps, Vars}
+use Rattle.wm_machine.specs.Term.{Config, Ends, Frame, Running, Here, Label, Leaves, Next, Over, Reduced, Returns, Stuck, Term, Traps, Vars}
 
 -- the access, if there is one, ends within the memory
 abbrev Within : Module → Option OpFields → Type 0
@@ -182,7 +182,7 @@ thread_within m func Stuck h = tt
 
 step_within : (m : Module) (read : ℕ) (c : Config) → Within m (access_of (step m read c))
 step_within m read (Over end) = tt
-step_within m read (Going func vars body) = thread_within m func (reduce m read 1 func vars body) (reduce_within m read 1 func vars body)
+step_within m read (Running func vars body) = thread_within m func (reduce m read 1 func vars body) (reduce_within m read 1 func vars body)
 
 -- the access of a step lies within the memory
 pub in_bounds : (m : Module) (read : ℕ) (c : Config) (op : OpFields) → access_of (step m read c) ≡ Some op → op.address + bytes_of op.width ≤ memory_size m

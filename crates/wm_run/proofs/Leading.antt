@@ -22,7 +22,7 @@ use Rattle.wm_machine.specs.declared.fault.StartFault.{StartFault}
 use Rattle.wm_machine.specs.Run.{Ran, and_run_on, end_of, outcome_of, run_from, steps}
 use Rattle.wm_machine.specs.Start.{started}
 use Rattle.wm_machine.specs.State.{State, config_of, need_of, read_in, value_or_zero}
-use Rattle.wm_machine.specs.Step.{access_of, step, went}
+use Rattle.wm_machine.specs.Step.{access_of, step, next_config}
 use Rattle.wm_machine.specs.Term.{Config, Went}
 use Rattle.wm_replay.specs.Replay.{IsRun, reads_of}
 use Rattle.wm_replay.proofs.Following.{access_step, local_step}
@@ -53,7 +53,7 @@ pub leads_at_once : (m : Module) (k : ℕ) (first : Config) → LeadsTo m k firs
 leads_at_once m k first behind = refl
 
 pub leads_by_local : (s : State) (k : ℕ) (first new : Config) (es : List Event) (n : ℕ) → LeadsTo s.module k first es n (config_of s) → need_of 0 s ≡ need.Local
-    → went (step s.module 0 (config_of s)) ≡ Some new → LeadsTo s.module k first es (n + 1) new
+    → next_config (step s.module 0 (config_of s)) ≡ Some new → LeadsTo s.module k first es (n + 1) new
 leads_by_local s k first new es n so is goes behind =
     let m = s.module in
     let made : step m 0 (config_of s) ≡ Went None new = made_local (step m 0 (config_of s)) new (local_of_need s 0 is) goes in
@@ -100,7 +100,7 @@ or_zero (Some r) = refl
 -- an access with its reply and its event
 pub leads_by_reply : (s : State) (k : ℕ) (first new : Config) (es fs : List Event) (n : ℕ) (a : OpFields) (reply : Reply) (e : Event) (read : ℕ) → LeadsTo s.module k first es n (config_of s)
     → ((r : ℕ) → need_of r s ≡ need.Access a) → ReadAnswers (kind_finds a.kind) a.width reply.read → read ≡ value_or_zero reply.read
-    → e ≡ event_made (record { thread = k; number = length es }) a read → fs ≡ es ++ e ∷ [] → went (step s.module (read_in (Some reply)) (config_of s)) ≡ Some new
+    → e ≡ event_made (record { thread = k; number = length es }) a read → fs ≡ es ++ e ∷ [] → next_config (step s.module (read_in (Some reply)) (config_of s)) ≡ Some new
     → LeadsTo s.module k first fs (n + 1) new
 leads_by_reply s k first new es fs n a reply e read so asks answers is made more goes =
     let m = s.module in

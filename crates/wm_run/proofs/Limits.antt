@@ -2,7 +2,7 @@
 use Rattle.std.proofs.Common.{◌≡◌, ℕ, suc, ◌<◌, ◌≤◌, List, [], ◌∷◌, length, Some, slice_get, inl, inr, arith, subst}
 use Rattle.std.proofs.lemmas.Option.{slice_get_within}
 use Rattle.wm_event.specs.declared.log.Start.{Start}
-use Rattle.wm_memory.specs.declared.item.Item.{Item}
+use Rattle.wm_memory.specs.declared.history_step.HistoryStep.{HistoryStep}
 use Rattle.wm_run.specs.declared.turn.Turn.{Turn}
 use Rattle.wm_run.specs.Script.{TurnsLead, ScriptState, Setting, ThreadState, StepsTo, TurnLeads, access, drains, keeps, local, rests, steps_on}
 use Rattle.wm_run.specs.Scripted.{IsFirstState}
@@ -20,7 +20,7 @@ first_within g starts state f t thread at =
     let none = (f.each t start.0 thread start.1 at).made in
     omega (arith, none)
 
-step_within : (g : Setting) (h : List Item) (t : ℕ) (old new : ThreadState) (items : List Item) → StepsTo g h t old new items → new.made ≤ g.limit
+step_within : (g : Setting) (h : List HistoryStep) (t : ℕ) (old new : ThreadState) (items : List HistoryStep) → StepsTo g h t old new items → new.made ≤ g.limit
 step_within g h t old _ _ (local lt goes) = lt
 step_within g h t old _ _ (access lt few asks goes) = lt
 

@@ -10,7 +10,7 @@ use Rattle.wm_event.specs.declared.op.OpFields.{OpFields}
 use Rattle.wm_machine.specs.Step.{access_of, step}
 use Rattle.wm_machine.specs.Start.{started}
 use Rattle.wm_machine.specs.Term.{Config, Step as Outcome, Went, NoStep}
-use Rattle.wm_memory.specs.declared.item.Item.{Item}
+use Rattle.wm_memory.specs.declared.history_step.HistoryStep.{HistoryStep}
 use Rattle.wm_memory.specs.Memory.{drains_first}
 use Rattle.wm_memory.specs.Visibility.{Step}
 use Rattle.wm_recorder.specs.Transcript.{access_items}
@@ -29,7 +29,7 @@ use Rattle.wm_run.proofs.Runs.{turns_count}
 no_access : (op : OpFields) (next : Config) (s : Outcome) → s ≡ Went None next → access_of s ≡ Some op → ⊥
 no_access op next s local_step asks = none-some op (sym (ap access_of local_step) ∙ asks)
 
-one_step : (g : Setting) (h : List Item) (t : ℕ) (old a b : ThreadState) (is js : List Item) → StepsTo g h t old a is → StepsTo g h t old b js → (a ≡ b) × (is ≡ js)
+one_step : (g : Setting) (h : List HistoryStep) (t : ℕ) (old a b : ThreadState) (is js : List HistoryStep) → StepsTo g h t old a is → StepsTo g h t old b js → (a ≡ b) × (is ≡ js)
 one_step g h t old _ _ _ _ (local {next = c} lt goes) (local {next = d} lt' goes') =
     let same : Went None c ≡ Went None d = sym goes ∙ goes' in
     let next : c ≡ d = cc in
@@ -38,13 +38,13 @@ one_step g h t old _ _ _ _ (local {next = c} lt goes) (access {op = op} lt' few 
 one_step g h t old _ _ _ _ (access {op = op} lt few asks goes) (local {next = c} lt' goes') = absurd (no_access op c (step g.program 0 old.config) goes' (asks 0))
 one_step g h t old _ _ _ _ (access {op = p} {next = c} lt few asks goes) (access {op = q} {next = d} lt' few' asks' goes') =
     let same_op : p ≡ q = same_Some p q (sym (asks 0) ∙ asks' 0) in
-    let went : step g.program (value_read g h t q) old.config ≡ Went (Some q) c = subst (λ o. step g.program (value_read g h t o) old.config ≡ Went (Some o) c) same_op goes in
-    let same : Went (Some q) c ≡ Went (Some q) d = sym went ∙ goes' in
+    let next_config : step g.program (value_read g h t q) old.config ≡ Went (Some q) c = subst (λ o. step g.program (value_read g h t o) old.config ≡ Went (Some o) c) same_op goes in
+    let same : Went (Some q) c ≡ Went (Some q) d = sym next_config ∙ goes' in
     let next : c ≡ d = cc in
     (ap (λ x. record { config = x; made = suc old.made }) next, ap (λ o. access_items (drains_first (done g h) t o) t o) same_op)
 
 -- a thread that rests makes no step
-no_rest : (g : Setting) (h : List Item) (t : ℕ) (old next : ThreadState) (items : List Item) → StepsTo g h t old next items → Rests g h old → ⊥
+no_rest : (g : Setting) (h : List HistoryStep) (t : ℕ) (old next : ThreadState) (items : List HistoryStep) → StepsTo g h t old next items → Rests g h old → ⊥
 no_rest g h t old _ _ (local lt goes) (ended end over) = let none : NoStep ≡ Went None _ = sym (ap (step g.program 0) over) ∙ goes in absurd cc
 no_rest g h t old _ _ (local lt goes) (spent all) = omega (arith, lt, all)
 no_rest g h t old _ _ (local {next = c} lt goes) (full op asks much) = no_access op c (step g.program 0 old.config) goes (asks 0)
@@ -53,10 +53,10 @@ no_rest g h t old _ _ (access lt few asks goes) (spent all) = omega (arith, lt, 
 no_rest g h t old _ _ (access lt few asks goes) (full op asks' much) = omega (arith, few, much)
 
 -- the state behind a step of thread t
-abbrev pub behind : ScriptState → ℕ → ThreadState → List Item → ScriptState
+abbrev pub behind : ScriptState → ℕ → ThreadState → List HistoryStep → ScriptState
 behind old t next items = record { threads = slice_set old.threads t next; history = old.history ++ items }
 
-step_turn : (g : Setting) (old b : ScriptState) (t : ℕ) (thread next : ThreadState) (items : List Item) → slice_get old.threads t ≡ Some thread → StepsTo g old.history t thread next items → TurnLeads g old (turn.Step t) b
+step_turn : (g : Setting) (old b : ScriptState) (t : ℕ) (thread next : ThreadState) (items : List HistoryStep) → slice_get old.threads t ≡ Some thread → StepsTo g old.history t thread next items → TurnLeads g old (turn.Step t) b
     → behind old t next items ≡ b
 step_turn g old _ t thread next items at st (steps_on {thread = other} {next = next'} {items = items'} at' st') =
     let same : other ≡ thread = same_Some other thread (sym at' ∙ at) in
@@ -77,19 +77,19 @@ rest_turn g old _ t thread at rest (drains {drain = drain} is may) = absurd (non
 rest_turn g old _ t thread at rest (keeps {drain = drain} is cannot) = absurd (none-some drain is)
 
 -- the state behind a drain
-abbrev pub drained : ScriptState → Item → ScriptState
+abbrev pub drained : ScriptState → HistoryStep → ScriptState
 drained old drain = record { threads = old.threads; history = old.history ++ drain ∷ [] }
 
-drain_turn : (g : Setting) (old b : ScriptState) (t : Turn) (drain : Item) → drain_of t ≡ Some drain → MayDrain g old drain → TurnLeads g old t b → drained old drain ≡ b
+drain_turn : (g : Setting) (old b : ScriptState) (t : Turn) (drain : HistoryStep) → drain_of t ≡ Some drain → MayDrain g old drain → TurnLeads g old t b → drained old drain ≡ b
 drain_turn g old _ _ drain is may (steps_on at st) = absurd (none-some drain is)
 drain_turn g old _ _ drain is may (rests at rest) = absurd (none-some drain is)
 drain_turn g old _ t drain is may (drains {drain = other} is' may') = ap (drained old) (same_Some drain other (sym is ∙ is'))
 drain_turn g old _ t drain is may (keeps {drain = other} is' cannot) = absurd (cannot (subst (MayDrain g old) (same_Some drain other (sym is ∙ is')) may))
 
-keep_turn : (g : Setting) (old b : ScriptState) (t : Turn) (drain : Item) → drain_of t ≡ Some drain → (MayDrain g old drain → ⊥) → TurnLeads g old t b → old ≡ b
+keep_turn : (g : Setting) (old b : ScriptState) (t : Turn) (drain : HistoryStep) → drain_of t ≡ Some drain → (MayDrain g old drain → ⊥) → TurnLeads g old t b → old ≡ b
 keep_turn g old _ _ drain is cannot (steps_on at st) = refl_of_step drain is
   where
-    refl_of_step : {A : Type 0} (d : Item) → None ≡ Some d → A
+    refl_of_step : {A : Type 0} (d : HistoryStep) → None ≡ Some d → A
     refl_of_step d e = absurd (none-some d e)
 keep_turn g old _ _ drain is cannot (rests at rest) = refl
 keep_turn g old _ t drain is cannot (drains {drain = other} is' may) = absurd (cannot (subst (MayDrain g old) (same_Some other drain (sym is' ∙ is)) may))

@@ -3,8 +3,8 @@ use Rattle.std.proofs.Common.{◌≡◌, ℕ, ◌<◌, ◌≤◌, [], ◌∷◌,
 use Rattle.std.specs.Prelude.{MatchBool}
 use Rattle.std.proofs.lemmas.List.{length-reverse, reverse-append}
 use Rattle.std.proofs.lemmas.Option.{slice_get-get_or}
-use Rattle.wm_memory.specs.declared.item.Item.{Item}
-use Rattle.wm_memory.specs.declared.item.Item.TheVariants.{Drain, DrainAt}
+use Rattle.wm_memory.specs.declared.history_step.HistoryStep.{HistoryStep}
+use Rattle.wm_memory.specs.declared.history_step.HistoryStep.TheVariants.{Drain, DrainAt}
 use Rattle.wm_memory.specs.Legal.{IsLegal}
 use Rattle.wm_memory.specs.Memory.{Buffered, CannotLeave}
 use Rattle.wm_memory.specs.Visibility.{Passes, events, waiting}
@@ -26,7 +26,7 @@ pub is_full : (r : Recording) → IsRecording r → IsFull r → 16384 ≤ lengt
 is_full r k full = omega (arith, held r k, full)
 
 -- the last item of what a recorder holds follows the others
-pub last_follows : (old new : Recording) (drain : Item) → Adds (drain ∷ []) old new → IsRecording new → MayDrainFrom old drain
+pub last_follows : (old new : Recording) (drain : HistoryStep) → Adds (drain ∷ []) old new → IsRecording new → MayDrainFrom old drain
 last_follows old new drain adds k =
     let items : reverse new.history ≡ drain ∷ reverse old.history = ap reverse adds.history ∙ reverse-append old.history (drain ∷ []) in
     let legal : IsLegal (threads_of new) (initial_of new) (drain ∷ reverse old.history) = subst (IsLegal (threads_of new) (initial_of new)) items k.legal in

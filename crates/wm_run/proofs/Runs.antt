@@ -15,8 +15,8 @@ use Rattle.wm_machine.specs.Run.{Ran, Taken, and_run_on, outcome_of, ran_on, ran
 use Rattle.wm_machine.specs.Start.{started}
 use Rattle.wm_machine.specs.Step.{access_of, step}
 use Rattle.wm_machine.specs.Term.{Config, Went}
-use Rattle.wm_memory.specs.declared.item.Item.{Item}
-use Rattle.wm_memory.specs.declared.item.Item.TheVariants as item
+use Rattle.wm_memory.specs.declared.history_step.HistoryStep.{HistoryStep}
+use Rattle.wm_memory.specs.declared.history_step.HistoryStep.TheVariants as item
 use Rattle.wm_memory.specs.Memory.{drains_first, ready}
 use Rattle.wm_memory.specs.Recorded.{events_of}
 use Rattle.wm_memory.specs.Visibility.{Step, accesses, made_after, step_of}
@@ -139,20 +139,20 @@ set_at xs u t x y z there at = elim (cases_Bool (t == u)) [
 ]
 
 -- what an access of thread u makes
-abbrev pub event_after : Setting → List Item → ℕ → OpFields → Event
+abbrev pub event_after : Setting → List HistoryStep → ℕ → OpFields → Event
 event_after g h u op = made_after g.initial (ready (done g h) u op) u op
 
 -- its thread has one event more
-own_events : (g : Setting) (h : List Item) (u : ℕ) (op : OpFields) → events_of (done g (h ++ access_items (drains_first (done g h) u op) u op)) u ≡ events_of (done g h) u ++ event_after g h u op ∷ []
+own_events : (g : Setting) (h : List HistoryStep) (u : ℕ) (op : OpFields) → events_of (done g (h ++ access_items (drains_first (done g h) u op) u op)) u ≡ events_of (done g h) u ++ event_after g h u op ∷ []
 own_events g h u op =
     ap (λ s. events_of s u) (added g.initial h u op) ∙ events_made g.initial (ready (done g h) u op) u op ∙ ap (λ es. es ++ event_after g h u op ∷ []) (ready_events (done g h) u u op)
 
 -- another thread has the same ones
-same_events : (g : Setting) (h : List Item) (u t : ℕ) (op : OpFields) → (t ≡ u → ⊥) → events_of (done g (h ++ access_items (drains_first (done g h) u op) u op)) t ≡ events_of (done g h) t
+same_events : (g : Setting) (h : List HistoryStep) (u t : ℕ) (op : OpFields) → (t ≡ u → ⊥) → events_of (done g (h ++ access_items (drains_first (done g h) u op) u op)) t ≡ events_of (done g h) t
 same_events g h u t op not =
     ap (λ s. events_of s t) (added g.initial h u op) ∙ others_events g.initial (ready (done g h) u op) u op t not ∙ ready_events (done g h) u t op
 
-drain_events : (g : Setting) (h : List Item) (t : ℕ) (turn : Turn) (drain : Item) → drain_of turn ≡ Some drain → events_of (done g (h ++ drain ∷ [])) t ≡ events_of (done g h) t
+drain_events : (g : Setting) (h : List HistoryStep) (t : ℕ) (turn : Turn) (drain : HistoryStep) → drain_of turn ≡ Some drain → events_of (done g (h ++ drain ∷ [])) t ≡ events_of (done g h) t
 drain_events g h t (turn.Step u) drain is = absurd (none-some drain is)
 drain_events g h t (turn.Drain u) drain is =
     ap (λ s. events_of s t) (one_added g.initial h drain) ∙ ap (λ d. events_of (step_of g.initial (done g h) d ∷ done g h) t) (sym (same_Some (item.Drain u) drain is))
@@ -160,7 +160,7 @@ drain_events g h t (turn.DrainAt u k) drain is =
     ap (λ s. events_of s t) (one_added g.initial h drain) ∙ ap (λ d. events_of (step_of g.initial (done g h) d ∷ done g h) t) (sym (same_Some (item.DrainAt u k) drain is))
 
 -- a step of thread u
-stepped_run : (g : Setting) (h : List Item) (u : ℕ) (start : Start) (thread next : ThreadState) (items : List Item) → All (λ b. b < 256) g.initial → StepsTo g h u thread next items
+stepped_run : (g : Setting) (h : List HistoryStep) (u : ℕ) (start : Start) (thread next : ThreadState) (items : List HistoryStep) → All (λ b. b < 256) g.initial → StepsTo g h u thread next items
     → HasRun g.program u start thread (events_of (done g h) u) → HasRun g.program u start next (events_of (done g (h ++ items)) u)
 stepped_run g h u start thread _ _ bytes (local {next = next} lt goes) run =
     subst (λ k. HasRun g.program u start (record { config = next; made = suc thread.made }) (events_of (done g k) u)) (sym (append-nil h)) (ran_local g.program u start thread (events_of (done g h) u) next run goes)
@@ -173,7 +173,7 @@ stepped_run g h u start thread _ _ bytes (access {op = op} {next = next} lt few 
     subst (HasRun g.program u start (record { config = next; made = suc thread.made })) (sym (own_events g h u op))
     (ran_access g.program u start thread (events_of (done g h) u) op e next run (asks 0) goes (finds op.kind _) (fits_after g.initial s u op bytes) (no_read g.initial s u op) is)
 
-others_run : (g : Setting) (h : List Item) (u t : ℕ) (start : Start) (thread next z : ThreadState) (items : List Item) → (t ≡ u → ⊥) → StepsTo g h u thread next items
+others_run : (g : Setting) (h : List HistoryStep) (u t : ℕ) (start : Start) (thread next z : ThreadState) (items : List HistoryStep) → (t ≡ u → ⊥) → StepsTo g h u thread next items
     → HasRun g.program t start z (events_of (done g h) t) → HasRun g.program t start z (events_of (done g (h ++ items)) t)
 others_run g h u t start thread _ z _ not (local lt goes) run = subst (λ k. HasRun g.program t start z (events_of (done g k) t)) (sym (append-nil h)) run
 others_run g h u t start thread _ z _ not (access {op = op} lt few asks goes) run = subst (HasRun g.program t start z) (sym (same_events g h u t op not)) run

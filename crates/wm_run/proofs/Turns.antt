@@ -6,7 +6,7 @@ use Rattle.std.proofs.lemmas.List.Elements.{All-get_or, All-set}
 use Rattle.std.proofs.lemmas.Option.{get_or_from_slice_get, slice_get-map, slice_get_within}
 use Rattle.wm_ast.specs.declared.module.Module.{Module}
 use Rattle.wm_machine.specs.State.{State}
-use Rattle.wm_memory.specs.declared.item.Item.{Item}
+use Rattle.wm_memory.specs.declared.history_step.HistoryStep.{HistoryStep}
 use Rattle.wm_memory.specs.Legal.{MayFollow}
 use Rattle.wm_recorder.specs.Recorder.{Recording, initial_of, steps_of, threads_of}
 use Rattle.wm_valid.specs.Valid.{IsInit}
@@ -71,7 +71,7 @@ turn_stepped m limit t xs r r' old new is-set at all (runner.stays same same' re
     }
 
 -- a drain
-pub turn_drained : (m : Module) (limit : ℕ) (turn : Turn) (drain : Item) (xs : List Runner) (r r' : Recording) → IsSet m xs r → drain_of turn ≡ Some drain
+pub turn_drained : (m : Module) (limit : ℕ) (turn : Turn) (drain : HistoryStep) (xs : List Runner) (r r' : Recording) → IsSet m xs r → drain_of turn ≡ Some drain
     → DrainsBy drain r r' → TakesTurn m limit turn xs r xs r'
 turn_drained m limit turn drain xs r r' is-set is (runner.leaves may adds) =
     let count : threads_of r ≡ length (map runner_state xs) = is-set.count ∙ sym (length-map xs runner_state) in

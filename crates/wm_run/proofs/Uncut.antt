@@ -14,21 +14,21 @@ use Rattle.wm_machine.specs.Functions.{Callable, callable}
 use Rattle.wm_machine.specs.Reach.{HasEnded}
 use Rattle.wm_machine.specs.Run.{Ran, Taken, end_of, ran_on, ran_with, steps, take_read}
 use Rattle.wm_machine.specs.Start.{any_past, func_of, started_at, started_by, started_in, started_with}
-use Rattle.wm_machine.specs.Step.{access_of, ended, out_of_thread, reduce, returned, step, went}
-use Rattle.wm_machine.specs.Term.{Config, Going, Over, Reduced, Next, Ends, Leaves, Returns, Traps, Stuck, Step, Went, NoStep}
+use Rattle.wm_machine.specs.Step.{access_of, ended, out_of_thread, reduce, returned, step, next_config}
+use Rattle.wm_machine.specs.Term.{Config, Running, Over, Reduced, Next, Ends, Leaves, Returns, Traps, Stuck, Step, Went, NoStep}
 use Rattle.wm_replay.proofs.Runs.{and_some}
 use Rattle.wm_run.specs.Reached.{HasRun}
 
 -- it goes on, or has an end of its own
 abbrev pub IsUncut : Config → Type 0
-IsUncut (Going func vars body) = ⊤
+IsUncut (Running func vars body) = ⊤
 IsUncut (Over end) = end ≢ Cut
 
-uncut_end : (o : Option (List TypedValue)) (c : Config) → went (ended o) ≡ Some c → IsUncut c
+uncut_end : (o : Option (List TypedValue)) (c : Config) → next_config (ended o) ≡ Some c → IsUncut c
 uncut_end None c e = absurd (none-some c e)
 uncut_end (Some values) c e = subst IsUncut (same_Some _ c e) (λ q. cc)
 
-uncut_thread : (m : Module) (func : ℕ) (r : Reduced) (c : Config) → went (out_of_thread m func r) ≡ Some c → IsUncut c
+uncut_thread : (m : Module) (func : ℕ) (r : Reduced) (c : Config) → next_config (out_of_thread m func r) ≡ Some c → IsUncut c
 uncut_thread m func (Next made vars body) c e = subst IsUncut (same_Some _ c e) tt
 uncut_thread m func (Ends values) c e = uncut_end (returned m func values) c e
 uncut_thread m func (Leaves zero values) c e = uncut_end (returned m func values) c e
@@ -37,9 +37,9 @@ uncut_thread m func (Returns values) c e = uncut_end (returned m func values) c 
 uncut_thread m func (Traps kind) c e = subst IsUncut (same_Some _ c e) (λ q. cc)
 uncut_thread m func Stuck c e = absurd (none-some c e)
 
-uncut_step : (m : Module) (read : ℕ) (old c : Config) → went (step m read old) ≡ Some c → IsUncut c
+uncut_step : (m : Module) (read : ℕ) (old c : Config) → next_config (step m read old) ≡ Some c → IsUncut c
 uncut_step m read (Over end) c e = absurd (none-some c e)
-uncut_step m read (Going func vars body) c e = uncut_thread m func (reduce m read 1 func vars body) c e
+uncut_step m read (Running func vars body) c e = uncut_thread m func (reduce m read 1 func vars body) c e
 
 -- ---- a start
 
@@ -65,7 +65,7 @@ uncut_at m (Some x) args c e = uncut_by m (func_of x) args c e
 uncut_on : (k : ℕ) (old : Ran) (taken : Taken) (m : Module) (s : Step) (ran : Ran) → step m taken.read old.config ≡ s → ran_on k old taken s ≡ Some ran → IsUncut ran.config
 uncut_on k old taken m NoStep ran is e = absurd (none-some ran e)
 uncut_on k old taken m (Went made c) ran is e =
-    subst (λ (r : Ran). IsUncut r.config) (same_Some _ ran e) (uncut_step m taken.read old.config c (ap went is))
+    subst (λ (r : Ran). IsUncut r.config) (same_Some _ ran e) (uncut_step m taken.read old.config c (ap next_config is))
 
 uncut_with : (m : Module) (k : ℕ) (old : Ran) (o : Option Taken) (ran : Ran) → ran_with m k old o ≡ Some ran → IsUncut ran.config
 uncut_with m k old None ran e = absurd (none-some ran e)
@@ -78,7 +78,7 @@ uncut_run m k first reads (suc n) ran uncut e =
     uncut_with m k last.0 (take_read (access_of (step m 0 last.0.config)) last.0.reads) ran last.2
 
 uncut_ended : (c : Config) → IsUncut c → HasEnded c → end_of c ≢ Cut
-uncut_ended (Going func vars body) uncut over = absurd over
+uncut_ended (Running func vars body) uncut over = absurd over
 uncut_ended (Over end) uncut over = uncut
 
 -- a thread that has run and ended isn't cut

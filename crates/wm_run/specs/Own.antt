@@ -7,7 +7,7 @@ use Rattle.wm_event.specs.LoggedRun.{execution}
 use Rattle.wm_event.specs.Rules.{IsValid}
 use Rattle.wm_event.specs.Shape.{IsWellShaped}
 use Rattle.wm_logfile.specs.Document.{EndFits, IsWithinLimits}
-use Rattle.wm_memory.specs.declared.item.Item.{Item}
+use Rattle.wm_memory.specs.declared.history_step.HistoryStep.{HistoryStep}
 use Rattle.wm_memory.specs.Legal.{IsLegal}
 use Rattle.wm_memory.specs.Recorded.{Records}
 use Rattle.wm_memory.specs.Visibility.{steps}
@@ -20,7 +20,7 @@ pub record IsOwnRun (m : Module) (run : Record) : Type 0 where
   pub initial : List ℕ
   pub is_init : IsInit m initial
   pub bytes : All (λ b. b < 256) initial
-  pub history : List Item
+  pub history : List HistoryStep
   pub legal : IsLegal (length run.log) initial history
   pub records : Records (length run.log) initial (steps initial history) (over initial run)
   pub runs : AreRuns m run.log

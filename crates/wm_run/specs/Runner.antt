@@ -2,7 +2,7 @@
 use Rattle.std.specs.Prelude.{◌≡◌, ℕ, suc, ◌≤◌, List, [], ◌∷◌, length, map, All}
 use Rattle.wm_ast.specs.declared.module.Module.{Module}
 use Rattle.wm_machine.specs.State.{State, config_of}
-use Rattle.wm_memory.specs.declared.item.Item.{Item}
+use Rattle.wm_memory.specs.declared.history_step.HistoryStep.{HistoryStep}
 use Rattle.wm_memory.specs.Legal.{MayFollow}
 use Rattle.wm_recorder.specs.Recorder.{Adds, Recording, initial_of, steps_of, threads_of}
 use Rattle.wm_valid.specs.Valid.{IsInit}
@@ -32,7 +32,7 @@ pub record IsSet (m : Module) (runners : List Runner) (recorder : Recording) : T
 
 -- a step of thread t led from the one to the other
 pub record Goes (m : Module) (t limit : ℕ) (old : ThreadState) (recorder : Recording) (new : ThreadState) (recorder' : Recording) : Type 0 where
-  pub items : List Item
+  pub items : List HistoryStep
   pub steps : StepsTo (setting_of m recorder limit) recorder.history t old new items
   pub adds : Adds items recorder recorder'
 
@@ -50,11 +50,11 @@ pub data Moves (t limit : ℕ) (old : Runner) (recorder : Recording) (new : Runn
   stays : new ≡ old → recorder' ≡ recorder → Rests (setting_of old.thread.module recorder limit) recorder.history (runner_state old) → Moves t limit old recorder new recorder'
 
 -- the drain may follow what the recorder holds
-abbrev pub MayDrainFrom : Recording → Item → Type 0
+abbrev pub MayDrainFrom : Recording → HistoryStep → Type 0
 MayDrainFrom recorder drain = MayFollow (threads_of recorder) (length (initial_of recorder)) (steps_of recorder) drain
 
 -- the drain was added where it may follow, else nothing changed
-pub data DrainsBy (drain : Item) (old new : Recording) : Type 0 where
+pub data DrainsBy (drain : HistoryStep) (old new : Recording) : Type 0 where
   leaves : MayDrainFrom old drain → Adds (drain ∷ []) old new → DrainsBy drain old new
   stays : (MayDrainFrom old drain → ⊥) → new ≡ old → DrainsBy drain old new
 

@@ -6,7 +6,7 @@ ghost use Rattle.wm_machine.specs.State.{config_of, need_of};
 ghost use Rattle.wm_recorder.specs.Recorder.{initial_of, threads_of};
 ghost use Rattle.wm_valid.specs.Valid.{IsInit};
 ghost use Rattle.wm_run.specs.Plan.{thread_of};
-ghost use Rattle.wm_memory.specs.declared.item.Item.TheVariants as Item;
+ghost use Rattle.wm_memory.specs.declared.history_step.HistoryStep.TheVariants as HistoryStep;
 ghost use Rattle.wm_run.specs.Runner.{Advances, DrainsBy, IsSet, Moves, TakesTurn};
 
 use crate::turn::Turn;
@@ -111,7 +111,7 @@ fn step(
 
 /// The oldest store that waits in a thread's buffer leaves it, where there is one.
 fn drain(recorder: &mut Recorder, thread: u32) -> Result<(), AllocError>
-    ensures { OnOk result (DrainsBy (Item.Drain thread) recorder.old recorder.new) }
+    ensures { OnOk result (DrainsBy (HistoryStep.Drain thread) recorder.old recorder.new) }
 {
     recorder.recorded_log_is_valid();
     let _drained = recorder.step_drain(thread)?;
@@ -121,7 +121,7 @@ fn drain(recorder: &mut Recorder, thread: u32) -> Result<(), AllocError>
 
 /// The store leaves a thread's buffer that has so many older ones before it, where there is one and it may.
 fn drain_at(recorder: &mut Recorder, thread: u32, index: u32) -> Result<(), AllocError>
-    ensures { OnOk result (DrainsBy (Item.DrainAt thread index) recorder.old recorder.new) }
+    ensures { OnOk result (DrainsBy (HistoryStep.DrainAt thread index) recorder.old recorder.new) }
 {
     recorder.recorded_log_is_valid();
     let _drained = recorder.step_drain_at(thread, index)?;

@@ -9,7 +9,7 @@ use Rattle.wm_ast.specs.declared.instr.Instr.TheVariants.{Block, Loop, If}
 use Rattle.wm_valid.specs.InstrTypes.{Context, Labels, InstrType, listed, instr_type}
 use Rattle.wm_valid.specs.Typing.{Makes, Typed, none, plain, block, loop, if_else, if_then, TypedBlock, Nested, ElsePart}
 use Rattle.wm_valid.specs.Stacks.{Stack, Matches, empty, take_one, give_all, made_by, plain_on, ended}
-use Rattle.wm_valid.specs.Answers.{Turned, Rejects, Turns, Checked, Decides}
+use Rattle.wm_valid.specs.Implements.{MapsStack, Rejects, LeavesStack, Checked, Decides}
 use Rattle.wm_valid.proofs.ParamLaws.{unless_then}
 use Rattle.wm_valid.specs.declared.fault.InstrFault.{InstrFault}
 use Rattle.wm_valid.proofs.StackLaws.{bind_some, some_is, then_some, take_one_forth, take_one_back, give_forth, give_back, made_forth, made_back, ended_forth, ended_back}
@@ -50,7 +50,7 @@ framed_none C n labels (Loop t b) rest ts vs h = refl
 framed_none C n labels (If t one other part) rest ts vs h = refl
 framed_none C n labels _ rest ts vs h = absurd h
 
-pub plain_turned : (C : Context) (n : ℕ) (labels : Labels) (i : Instr) (s s1 : Stack) → plain_on C labels i s ≡ Some s1 → Turned C n labels i s s1
+pub plain_turned : (C : Context) (n : ℕ) (labels : Labels) (i : Instr) (s s1 : Stack) → plain_on C labels i s ≡ Some s1 → MapsStack C n labels i s s1
 plain_turned C n labels i s s1 e =
     let ty = bind_some (instr_type C labels i) (λ (t : InstrType). made_by t s) s1 e in
     record {
@@ -89,7 +89,7 @@ plain_refused C n labels i s is-plain e ts vs rest m d = elim (apart d) [
   | inr f ↦ not_framed C n labels i rest ts vs is-plain f
 ]
 
-pub block_turned : (C : Context) (n b : ℕ) (labels : Labels) (t : Option ValType) (s s1 : Stack) → Nested C n b (t ∷ labels) t → give_all (listed t) s ≡ s1 → Turned C n labels (Block t b) s s1
+pub block_turned : (C : Context) (n b : ℕ) (labels : Labels) (t : Option ValType) (s s1 : Stack) → Nested C n b (t ∷ labels) t → give_all (listed t) s ≡ s1 → MapsStack C n labels (Block t b) s s1
 block_turned C n b labels t s s1 nested e = record {
   back = λ us vs rest m d.
       let g = give_back (listed t) s us (subst (λ (q : Stack). Matches q us) (sym e) m) in
@@ -103,7 +103,7 @@ block_turned C n b labels t s s1 nested e = record {
 pub block_refused : (C : Context) (n b : ℕ) (labels : Labels) (t : Option ValType) (s : Stack) → (Nested C n b (t ∷ labels) t → ⊥) → Rejects C n labels (Block t b) s
 block_refused C n b labels t s not ts vs rest m d = elim (apart d) [ inl p ↦ absurd (cc p.is_type) | inr f ↦ not f.0 ]
 
-pub loop_turned : (C : Context) (n b : ℕ) (labels : Labels) (t : Option ValType) (s s1 : Stack) → Nested C n b (None ∷ labels) t → give_all (listed t) s ≡ s1 → Turned C n labels (Loop t b) s s1
+pub loop_turned : (C : Context) (n b : ℕ) (labels : Labels) (t : Option ValType) (s s1 : Stack) → Nested C n b (None ∷ labels) t → give_all (listed t) s ≡ s1 → MapsStack C n labels (Loop t b) s s1
 loop_turned C n b labels t s s1 nested e = record {
   back = λ us vs rest m d.
       let g = give_back (listed t) s us (subst (λ (q : Stack). Matches q us) (sym e) m) in
@@ -125,7 +125,7 @@ if_typed C n one other Present labels t rest ts vs first second d =
 if_typed C n one other Absent labels None rest ts vs first second d = if_then first.block.body first.behind first.block.is_there first.block.typed second.1 d
 if_typed C n one other Absent labels (Some t) rest ts vs first second d = absurd (cc second.0)
 
-pub if_turned : (C : Context) (n one other : ℕ) (part : Else) (labels : Labels) (t : Option ValType) (s s1 s2 : Stack) → take_one I32 s ≡ Some s1 → Nested C n one (t ∷ labels) t → ElsePart C n other labels t part → give_all (listed t) s1 ≡ s2 → Turned C n labels (If t one other part) s s2
+pub if_turned : (C : Context) (n one other : ℕ) (part : Else) (labels : Labels) (t : Option ValType) (s s1 s2 : Stack) → take_one I32 s ≡ Some s1 → Nested C n one (t ∷ labels) t → ElsePart C n other labels t part → give_all (listed t) s1 ≡ s2 → MapsStack C n labels (If t one other part) s s2
 if_turned C n one other part labels t s s1 s2 took first second e = record {
   back = λ us vs rest m d.
       let g = give_back (listed t) s1 us (subst (λ (q : Stack). Matches q us) (sym e) m) in (
@@ -166,7 +166,7 @@ begins C n labels whole (u ∷ us) vs m d = absurd m
 pub starts : (C : Context) (n : ℕ) (labels : Labels) (whole : List Instr) → SoFar C n labels whole whole empty
 starts C n labels whole = record { back = begins C n labels whole; forth = λ vs d. ([], tt, d) }
 
-pub goes_on : (C : Context) (n : ℕ) (labels : Labels) (whole rest : List Instr) (i : Instr) (s s1 : Stack) → SoFar C n labels whole (i ∷ rest) s → Turned C n labels i s s1 → SoFar C n labels whole rest s1
+pub goes_on : (C : Context) (n : ℕ) (labels : Labels) (whole rest : List Instr) (i : Instr) (s s1 : Stack) → SoFar C n labels whole (i ∷ rest) s → MapsStack C n labels i s s1 → SoFar C n labels whole rest s1
 goes_on C n labels whole rest i s s1 so turned = record {
   back = λ us vs m d. let r = turned.back us vs rest m d in so.back r.0 vs r.1 r.2;
   forth = λ vs d. let r = so.forth vs d in turned.forth r.0 vs rest r.1 r.2;
@@ -190,15 +190,15 @@ ends_badly C b labels whole s result there so e t =
     let h = ended_forth result s (subst (λ (l : List ValType). Matches s l) same-list r.1) in
     absurd (cc (e, h))
 
-pub given_checked : {X : Type 0} (r : Result X InstrFault) (C : Context) (n : ℕ) (labels : Labels) (i : Instr) (old after new : Stack) → (after ≡ new → Turned C n labels i old new) → Turns r (Some after) new → Checked r C n labels i old new
+pub given_checked : {X : Type 0} (r : Result X InstrFault) (C : Context) (n : ℕ) (labels : Labels) (i : Instr) (old after new : Stack) → (after ≡ new → MapsStack C n labels i old new) → LeavesStack r (Some after) new → Checked r C n labels i old new
 given_checked (Ok x) C n labels i old after new f h = f (some_is after new h)
 given_checked (Err e) C n labels i old after new f h = unless_then e (λ g. absurd cc) h
 
-pub plain_checked : {X : Type 0} (r : Result X InstrFault) (C : Context) (n : ℕ) (labels : Labels) (i : Instr) (old new : Stack) → IsPlain i → Turns r (plain_on C labels i old) new → Checked r C n labels i old new
+pub plain_checked : {X : Type 0} (r : Result X InstrFault) (C : Context) (n : ℕ) (labels : Labels) (i : Instr) (old new : Stack) → IsPlain i → LeavesStack r (plain_on C labels i old) new → Checked r C n labels i old new
 plain_checked (Ok x) C n labels i old new is-plain h = plain_turned C n labels i old new h
 plain_checked (Err e) C n labels i old new is-plain h = unless_then e (plain_refused C n labels i old is-plain) h
 
-pub end_decides : {X : Type 0} (r : Result X InstrFault) (C : Context) (b : ℕ) (labels : Labels) (whole rest : List Instr) (s : Stack) (result : Option ValType) → slice_get C.blocks b ≡ Some whole → SoFar C b labels whole rest s → rest ≡ [] → Turns r (ended result s) empty → Decides r (TypedBlock C b labels result)
+pub end_decides : {X : Type 0} (r : Result X InstrFault) (C : Context) (b : ℕ) (labels : Labels) (whole rest : List Instr) (s : Stack) (result : Option ValType) → slice_get C.blocks b ≡ Some whole → SoFar C b labels whole rest s → rest ≡ [] → LeavesStack r (ended result s) empty → Decides r (TypedBlock C b labels result)
 end_decides (Ok x) C b labels whole rest s result there so done h = ends_well C b labels whole s empty result there (subst (λ (l : List Instr). SoFar C b labels whole l s) done so) h
 end_decides (Err e) C b labels whole rest s result there so done h = unless_then e (ends_badly C b labels whole s result there (subst (λ (l : List Instr). SoFar C b labels whole l s) done so)) h
 

@@ -4,7 +4,7 @@ use Rattle.wm_ast.specs.declared.module.Module.{Module}
 use Rattle.wm_ast.specs.declared.module.Func.{Func}
 use Rattle.wm_ast.specs.declared.types.FuncType.{FuncType}
 use Rattle.wm_valid.specs.Typing.{TypedBlock, TypedFunc, context}
-use Rattle.wm_valid.specs.Answers.{Decides, CountsBlock}
+use Rattle.wm_valid.specs.Implements.{Decides, CountsBlock}
 use Rattle.wm_valid.specs.Blame.{JudgesBody, RefusesFunc, Breaks}
 use Rattle.wm_valid.specs.declared.fault.InstrFault.{InstrFault}
 use Rattle.wm_valid.specs.declared.fault.InstrFault.TheVariants as refusal

@@ -5,8 +5,8 @@ use Rattle.std.proofs.lemmas.List.Elements.{Contains-get_or}
 use Rattle.wm_ast.specs.declared.types.ValType.{ValType}
 use Rattle.wm_ast.specs.declared.instr.Instr.{Instr}
 use Rattle.wm_valid.specs.InstrTypes.{Context, Labels, ◌>>=◌, all_same, same, table_type}
-use Rattle.wm_valid.specs.Answers.{BrokenBy, IsUntyped, TableFault, Unless}
-use Rattle.wm_valid.specs.Places.{BreaksRule, KeepsOthers}
+use Rattle.wm_valid.specs.Implements.{BrokenBy, IsUntyped, TableFault, Unless}
+use Rattle.wm_valid.specs.Locations.{BreaksRule, KeepsOthers}
 use Rattle.wm_valid.specs.declared.fault.FaultKind.TheVariants.{Label}
 use Rattle.wm_valid.specs.declared.fault.InstrFault.{InstrFault}
 use Rattle.wm_valid.specs.declared.fault.InstrFault.TheVariants.{Breaks, OutOfMemory}

@@ -4,7 +4,7 @@ use Rattle.std.proofs.lemmas.List.{take-append-drop, take_all, drop_more}
 use Rattle.wm_ast.specs.declared.instr.Instr.{Instr}
 use Rattle.wm_valid.specs.InstrTypes.{Context, Labels}
 use Rattle.wm_valid.specs.Stacks.{Stack}
-use Rattle.wm_valid.specs.Answers.{Turned, Counted, CountedBlock, Located, LocatedBlock}
+use Rattle.wm_valid.specs.Implements.{MapsStack, Counted, CountedBlock, Located, LocatedBlock}
 use Rattle.wm_valid.specs.declared.fault.InstrFault.{InstrFault}
 use Rattle.wm_valid.proofs.BodyLaws.{SoFar, goes_on}
 use Rattle.wm_valid.proofs.PlaceLaws.{counted_more, located_block}
@@ -17,7 +17,7 @@ split_item : {X : Type 0} (xs : List X) (i : ℕ) (x : X) → i < length xs → 
 split_item {X} xs i x h is = sym (take-append-drop i xs) ∙ ap (λ (l : List X). take i xs ++ l) (next_item xs i x h is)
 
 pub stepped : (C : Context) (n : ℕ) (labels same_labels : Labels) (items : List Instr) (i : ℕ) (item : Instr) (s s1 : Stack) → i < length items → item ≡ get_or items i item → same_labels ≡ labels
-    → SoFar C n labels items (drop i items) s → Turned C n labels item s s1 → SoFar C n same_labels items (drop (i + 1) items) s1
+    → SoFar C n labels items (drop i items) s → MapsStack C n labels item s s1 → SoFar C n same_labels items (drop (i + 1) items) s1
 stepped C n labels same_labels items i item s s1 within is same so turned =
     subst (λ (l : Labels). SoFar C n l items (drop (i + 1) items) s1) (sym same)
     (goes_on C n labels items (drop (i + 1) items) item s s1 (subst (λ (l : List Instr). SoFar C n labels items l s) (next_item items i item within is) so) turned)

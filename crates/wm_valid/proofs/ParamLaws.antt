@@ -4,7 +4,7 @@ use Rattle.std.proofs.Math.Seq.{take-suc}
 use Rattle.std.proofs.lemmas.List.{reverse-append}
 use Rattle.wm_ast.specs.declared.types.ValType.{ValType}
 use Rattle.wm_valid.specs.InstrTypes.{◌>>=◌}
-use Rattle.wm_valid.specs.Answers.{Unless}
+use Rattle.wm_valid.specs.Implements.{Unless}
 use Rattle.wm_valid.specs.declared.fault.InstrFault.{InstrFault}
 use Rattle.wm_valid.specs.declared.fault.InstrFault.TheVariants.{Breaks, OutOfMemory}
 use Rattle.wm_valid.specs.Stacks.{Stack, take_one, take_all}

@@ -7,8 +7,8 @@ use Rattle.wm_ast.specs.declared.instr.Else.TheVariants.{Present, Absent}
 use Rattle.wm_ast.specs.declared.instr.Instr.{Instr}
 use Rattle.wm_ast.specs.declared.instr.Instr.TheVariants.{Block, Loop, If}
 use Rattle.wm_valid.specs.InstrTypes.{Context, Labels}
-use Rattle.wm_valid.specs.Places.{Part, parts, Opcodes, none, instr, part, At, here, behind, in_part, past_part, IsEnd, last, end_behind, end_in_part, end_past_part, number_of, BreaksRule, KeepsOthers, FaultyAt}
-use Rattle.wm_valid.specs.Answers.{IsUntyped, BrokenBy, Counted, Located, Counts, CountedBlock, LocatedBlock, CountsBlock, StopsAt, LocatedNested, CountedElse, LocatedElse}
+use Rattle.wm_valid.specs.Locations.{Part, parts, Opcodes, none, instr, part, At, here, behind, in_part, past_part, IsEnd, last, end_behind, end_in_part, end_past_part, number_of, BreaksRule, KeepsOthers, FaultyAt}
+use Rattle.wm_valid.specs.Implements.{IsUntyped, BrokenBy, Counted, Located, Counts, CountedBlock, LocatedBlock, CountsBlock, StopsAt, LocatedNested, CountedElse, LocatedElse}
 use Rattle.wm_valid.specs.declared.fault.FaultKind.{FaultKind}
 use Rattle.wm_valid.specs.declared.fault.InstrFault.{InstrFault}
 use Rattle.wm_valid.specs.declared.fault.InstrFault.TheVariants.{Breaks, OutOfMemory}

@@ -2,7 +2,7 @@
 use Rattle.std.proofs.Common.{◌≡◌, Bool, true, false, List, [], ◌∷◌, ◌++◌, Option, Some, None, refl, sym, ap, subst, ◌∙◌}
 use Rattle.wm_ast.specs.declared.types.ValType.{ValType}
 use Rattle.wm_ast.specs.declared.types.ValType.TheVariants.{I32, I64}
-use Rattle.wm_valid.specs.InstrTypes.{◌>>=◌, InstrType, turns, drops, selects, leaves, listed}
+use Rattle.wm_valid.specs.InstrTypes.{◌>>=◌, InstrType, maps, drops, selects, stack_polymorphic, listed}
 use Rattle.wm_valid.specs.Typing.{Makes}
 use Rattle.wm_valid.specs.Stacks.{Stack, IsOf, MatchesAll, Matches, Popped, empty, opened, push, pop_from, pop, joined, take_one, take_all, give_all, select_on, made_by, bare, ended}
 
@@ -134,7 +134,7 @@ select_back s s1 us e m =
 
 -- what the typing allows after the instruction, the stack after it stands for
 pub made_forth : (ty : InstrType) (s : Stack) (ts us : List ValType) → Matches s ts → Makes ty ts us → (s1 : Stack) × (made_by ty s ≡ Some s1) × Matches s1 us
-made_forth (turns takes gives) s ts us m h =
+made_forth (maps takes gives) s ts us m h =
     let one = take_forth takes s h.0 (subst (λ (l : List ValType). Matches s l) h.1 m) in (
       give_all gives one.0,
       then_some (take_all takes s) (λ (s1 : Stack). Some (give_all gives s1)) one.0 (give_all gives one.0) one.1 refl,
@@ -146,13 +146,13 @@ made_forth drops s ts us m h =
 made_forth selects s ts us m h =
     let one = select_forth s h.0 h.1 (subst (λ (l : List ValType). Matches s l) h.2 m) in
     (one.0, one.1, subst (λ (l : List ValType). Matches one.0 l) (sym h.3) one.2)
-made_forth (leaves takes) s ts us m h =
+made_forth (stack_polymorphic takes) s ts us m h =
     let one = take_forth takes s h.0 (subst (λ (l : List ValType). Matches s l) h.1 m) in
     (opened, then_some (take_all takes s) (λ (s1 : Stack). Some opened) one.0 opened one.1 refl, tt)
 
 -- what the stack after the instruction stands for, the typing allows after it
 pub made_back : (ty : InstrType) (s s1 : Stack) (us : List ValType) → made_by ty s ≡ Some s1 → Matches s1 us → (ts : List ValType) × Matches s ts × Makes ty ts us
-made_back (turns takes gives) s s1 us e m =
+made_back (maps takes gives) s s1 us e m =
     let one = bind_some (take_all takes s) (λ (s2 : Stack). Some (give_all gives s2)) s1 e in
     let given = give_back gives one.0 us (subst (λ (q : Stack). Matches q us) (sym (some_is (give_all gives one.0) s1 one.2)) m) in
     (takes ++ given.0, take_back takes s one.0 given.0 one.1 given.2, (given.0, refl, given.1))
@@ -163,7 +163,7 @@ made_back drops s s1 us e m =
 made_back selects s s1 us e m =
     let r = select_back s s1 us e m in
     (I32 ∷ r.0 ∷ r.0 ∷ r.1, r.2, (r.0, r.1, refl, r.3))
-made_back (leaves takes) s s1 us e m =
+made_back (stack_polymorphic takes) s s1 us e m =
     let one = bind_some (take_all takes s) (λ (s2 : Stack). Some opened) s1 e in
     let r = some_list one.0.known one.0.open_below in
     (takes ++ r.0, take_back takes s one.0 r.0 one.1 r.1, (r.0, refl))

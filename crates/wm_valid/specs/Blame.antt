@@ -10,7 +10,7 @@ use Rattle.wm_valid.specs.Typing.{TypedFunc, context}
 use Rattle.wm_ast.specs.Module.{memory_size}
 use Rattle.wm_valid.specs.Memory.{start}
 use Rattle.wm_valid.specs.Valid.{GoodLimits, GoodGlobal, GoodExport, GoodData, HasMemory, IsConstant}
-use Rattle.wm_valid.specs.Places.{FaultyAt}
+use Rattle.wm_valid.specs.Locations.{FaultyAt}
 use Rattle.wm_valid.specs.declared.fault.FaultKind.{FaultKind}
 use Rattle.wm_valid.specs.declared.fault.FaultKind.TheVariants.{BadType, Index, Label, Alignment, DataOutOfRange, MemoryAbsent, MemoryLimits}
 use Rattle.wm_valid.specs.declared.fault.Location.{Location}

@@ -36,12 +36,12 @@ Labels = List (Option ValType)
 
 pub data InstrType : Type 0 where
   -- takes these operands and gives those
-  turns : List ValType → List ValType → InstrType
+  maps : List ValType → List ValType → InstrType
   -- t to nothing, and t t i32 to t, for any t
   drops : InstrType
   selects : InstrType
   -- takes these operands, and then any list may stand
-  leaves : List ValType → InstrType
+  stack_polymorphic : List ValType → InstrType
 
 abbrev pub listed : Option ValType → List ValType
 listed None = []
@@ -88,40 +88,40 @@ is_aligned SeqCst width exponent = nat_eq exponent (exponent_of width)
 
 -- an access takes its address, below a value or two, and may give one
 abbrev pub access_type : AccessKind → InstrType
-access_type (Read s) = turns (I32 ∷ []) (access_operand (Read s) ∷ [])
-access_type (ReadSigned n) = turns (I32 ∷ []) (access_operand (ReadSigned n) ∷ [])
-access_type (Write s) = turns (access_operand (Write s) ∷ I32 ∷ []) []
-access_type (AtomicRead s) = turns (I32 ∷ []) (access_operand (AtomicRead s) ∷ [])
-access_type (AtomicWrite s) = turns (access_operand (AtomicWrite s) ∷ I32 ∷ []) []
-access_type (Rmw op s) = turns (access_operand (Rmw op s) ∷ I32 ∷ []) (access_operand (Rmw op s) ∷ [])
-access_type (CmpXchg t) = turns (access_operand (CmpXchg t) ∷ access_operand (CmpXchg t) ∷ I32 ∷ []) (access_operand (CmpXchg t) ∷ [])
+access_type (Read s) = maps (I32 ∷ []) (access_operand (Read s) ∷ [])
+access_type (ReadSigned n) = maps (I32 ∷ []) (access_operand (ReadSigned n) ∷ [])
+access_type (Write s) = maps (access_operand (Write s) ∷ I32 ∷ []) []
+access_type (AtomicRead s) = maps (I32 ∷ []) (access_operand (AtomicRead s) ∷ [])
+access_type (AtomicWrite s) = maps (access_operand (AtomicWrite s) ∷ I32 ∷ []) []
+access_type (Rmw op s) = maps (access_operand (Rmw op s) ∷ I32 ∷ []) (access_operand (Rmw op s) ∷ [])
+access_type (CmpXchg t) = maps (access_operand (CmpXchg t) ∷ access_operand (CmpXchg t) ∷ I32 ∷ []) (access_operand (CmpXchg t) ∷ [])
 
 -- None where the instruction has no type here, or has blocks
 abbrev pub instr_type : Context → Labels → Instr → Option InstrType
-instr_type C labels Unreachable = Some (leaves [])
-instr_type C labels Nop = Some (turns [] [])
+instr_type C labels Unreachable = Some (stack_polymorphic [])
+instr_type C labels Nop = Some (maps [] [])
 instr_type C labels (Block t b) = None
 instr_type C labels (Loop t b) = None
 instr_type C labels (If t one other part) = None
-instr_type C labels (Br l) = slice_get labels l >>= λ t. Some (leaves (listed t))
-instr_type C labels (BrIf l) = slice_get labels l >>= λ t. Some (turns (I32 ∷ listed t) (listed t))
-instr_type C labels (BrTable ks l) = table_type labels ks l >>= λ t. Some (leaves (I32 ∷ listed t))
-instr_type C labels Return = Some (leaves (listed C.result))
-instr_type C labels (Call f) = func_type C.module f >>= λ ty. Some (turns (reverse ty.params) (listed ty.result))
+instr_type C labels (Br l) = slice_get labels l >>= λ t. Some (stack_polymorphic (listed t))
+instr_type C labels (BrIf l) = slice_get labels l >>= λ t. Some (maps (I32 ∷ listed t) (listed t))
+instr_type C labels (BrTable ks l) = table_type labels ks l >>= λ t. Some (stack_polymorphic (I32 ∷ listed t))
+instr_type C labels Return = Some (stack_polymorphic (listed C.result))
+instr_type C labels (Call f) = func_type C.module f >>= λ ty. Some (maps (reverse ty.params) (listed ty.result))
 instr_type C labels Drop = Some drops
 instr_type C labels Select = Some selects
-instr_type C labels (LocalGet x) = slice_get C.locals x >>= λ t. Some (turns [] (t ∷ []))
-instr_type C labels (LocalSet x) = slice_get C.locals x >>= λ t. Some (turns (t ∷ []) [])
-instr_type C labels (LocalTee x) = slice_get C.locals x >>= λ t. Some (turns (t ∷ []) (t ∷ []))
-instr_type C labels (GlobalGet x) = slice_get C.module.globals x >>= λ g. Some (turns [] (g.ty ∷ []))
-instr_type C labels (GlobalSet x) = slice_get C.module.globals x >>= λ g. if is_variable g.mutability then Some (turns (g.ty ∷ []) []) else None
+instr_type C labels (LocalGet x) = slice_get C.locals x >>= λ t. Some (maps [] (t ∷ []))
+instr_type C labels (LocalSet x) = slice_get C.locals x >>= λ t. Some (maps (t ∷ []) [])
+instr_type C labels (LocalTee x) = slice_get C.locals x >>= λ t. Some (maps (t ∷ []) (t ∷ []))
+instr_type C labels (GlobalGet x) = slice_get C.module.globals x >>= λ g. Some (maps [] (g.ty ∷ []))
+instr_type C labels (GlobalSet x) = slice_get C.module.globals x >>= λ g. if is_variable g.mutability then Some (maps (g.ty ∷ []) []) else None
 instr_type C labels (Access kind operands) =
     if is_some C.module.memory then (if is_aligned (access_order kind) (access_width kind) operands.alignment then Some (access_type kind) else None) else None
-instr_type C labels MemorySize = if is_some C.module.memory then Some (turns [] (I32 ∷ [])) else None
-instr_type C labels (I32Const n) = Some (turns [] (I32 ∷ []))
-instr_type C labels (I64Const n) = Some (turns [] (I64 ∷ []))
-instr_type C labels (Eqz w) = Some (turns (type_of w ∷ []) (I32 ∷ []))
-instr_type C labels (Compare op w) = Some (turns (type_of w ∷ type_of w ∷ []) (I32 ∷ []))
-instr_type C labels (Unary op w) = Some (turns (type_of w ∷ []) (type_of w ∷ []))
-instr_type C labels (Binary op w) = Some (turns (type_of w ∷ type_of w ∷ []) (type_of w ∷ []))
-instr_type C labels (Convert op) = Some (turns (type_of (source_of op) ∷ []) (type_of (target_of op) ∷ []))
+instr_type C labels MemorySize = if is_some C.module.memory then Some (maps [] (I32 ∷ [])) else None
+instr_type C labels (I32Const n) = Some (maps [] (I32 ∷ []))
+instr_type C labels (I64Const n) = Some (maps [] (I64 ∷ []))
+instr_type C labels (Eqz w) = Some (maps (type_of w ∷ []) (I32 ∷ []))
+instr_type C labels (Compare op w) = Some (maps (type_of w ∷ type_of w ∷ []) (I32 ∷ []))
+instr_type C labels (Unary op w) = Some (maps (type_of w ∷ []) (type_of w ∷ []))
+instr_type C labels (Binary op w) = Some (maps (type_of w ∷ type_of w ∷ []) (type_of w ∷ []))
+instr_type C labels (Convert op) = Some (maps (type_of (source_of op) ∷ []) (type_of (target_of op) ∷ []))

@@ -1,8 +1,8 @@
 pub mod InstrTypes
 pub mod Typing
 pub mod Stacks
-pub mod Places
-pub mod Answers
+pub mod Locations
+pub mod Implements
 pub mod Memory
 pub mod Valid
 pub mod Blame

@@ -3,7 +3,7 @@ use Rattle.std.specs.Prelude.{◌≡◌, List, [], ◌∷◌, Bool, true, false,
 use Rattle.wm_ast.specs.declared.types.ValType.{ValType}
 use Rattle.wm_ast.specs.declared.types.ValType.TheVariants.{I32, I64}
 use Rattle.wm_ast.specs.declared.instr.Instr.{Instr}
-use Rattle.wm_valid.specs.InstrTypes.{◌>>=◌, Context, Labels, InstrType, turns, drops, selects, leaves, listed, instr_type}
+use Rattle.wm_valid.specs.InstrTypes.{◌>>=◌, Context, Labels, InstrType, maps, drops, selects, stack_polymorphic, listed, instr_type}
 
 -- operands, of which None is of any type, over any others where it is open
 pub record Stack : Type 0 where
@@ -71,10 +71,10 @@ select_on s = take_one I32 s >>= λ s1. pop s1 >>= λ a. pop a.under >>= λ b. j
 
 -- what an instruction of this type makes of the stack
 abbrev pub made_by : InstrType → Stack → Option Stack
-made_by (turns takes gives) s = take_all takes s >>= λ s1. Some (give_all gives s1)
+made_by (maps takes gives) s = take_all takes s >>= λ s1. Some (give_all gives s1)
 made_by drops s = pop s >>= λ p. Some p.under
 made_by selects s = select_on s
-made_by (leaves takes) s = take_all takes s >>= λ s1. Some opened
+made_by (stack_polymorphic takes) s = take_all takes s >>= λ s1. Some opened
 
 abbrev pub plain_on : Context → Labels → Instr → Stack → Option Stack
 plain_on C labels i s = instr_type C labels i >>= λ ty. made_by ty s

@@ -9,14 +9,14 @@ use Rattle.wm_ast.specs.declared.instr.Else.{Else}
 use Rattle.wm_ast.specs.declared.instr.Else.TheVariants.{Present, Absent}
 use Rattle.wm_ast.specs.declared.instr.Instr.{Instr}
 use Rattle.wm_ast.specs.declared.instr.Instr.TheVariants.{Block, Loop, If}
-use Rattle.wm_valid.specs.InstrTypes.{Context, Labels, InstrType, turns, drops, selects, leaves, listed, instr_type}
+use Rattle.wm_valid.specs.InstrTypes.{Context, Labels, InstrType, maps, drops, selects, stack_polymorphic, listed, instr_type}
 
 -- an instruction of this type makes the second list of the first
 abbrev pub Makes : InstrType → List ValType → List ValType → Type 0
-Makes (turns takes gives) ts us = (rest : List ValType) × (ts ≡ takes ++ rest) × (us ≡ gives ++ rest)
+Makes (maps takes gives) ts us = (rest : List ValType) × (ts ≡ takes ++ rest) × (us ≡ gives ++ rest)
 Makes drops ts us = (t : ValType) × (ts ≡ t ∷ us)
 Makes selects ts us = (t : ValType) × (rest : List ValType) × (ts ≡ I32 ∷ t ∷ t ∷ rest) × (us ≡ t ∷ rest)
-Makes (leaves takes) ts us = (rest : List ValType) × (ts ≡ takes ++ rest)
+Makes (stack_polymorphic takes) ts us = (rest : List ValType) × (ts ≡ takes ++ rest)
 
 -- In C, under these labels, the instructions of block n make the second list of the first. A block stands behind the block
 -- that names it.

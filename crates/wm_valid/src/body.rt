@@ -1,8 +1,8 @@
 //! The instructions of a function, block by block.
 ghost use Rattle.std.specs.Prelude.{◌≡◌, ◌+◌, ◌<◌, ◌∷◌, [], OnOk, IfErr, length};
-ghost use Rattle.wm_valid.specs.Answers.{Checked, Decides, Counts, CountsBlock, CountsElse, CountsNested, IsUntyped};
+ghost use Rattle.wm_valid.specs.Implements.{Checked, Decides, Counts, CountsBlock, CountsElse, CountsNested, IsUntyped};
 ghost use Rattle.wm_valid.specs.Typing.{TypedBlock, Nested, ElsePart, AbsentElse};
-ghost use Rattle.wm_valid.specs.Places.{number_of};
+ghost use Rattle.wm_valid.specs.Locations.{number_of};
 
 use crate::checker::Checker;
 use crate::fault::{FaultKind, InstrFault};

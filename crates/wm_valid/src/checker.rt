@@ -3,9 +3,9 @@ ghost use Rattle.std.specs.Prelude.{◌≡◌, [], ◌∷◌, IfErr, slice_get};
 ghost use Rattle.wm_num.specs.Conversion.{source_of, target_of};
 ghost use Rattle.wm_ast.specs.Access.{access_order, access_width};
 ghost use Rattle.wm_ast.specs.declared.instr.Instr.TheVariants.{Call, GlobalSet, Access, MemorySize};
-ghost use Rattle.wm_valid.specs.Answers.{Answers, Turns, BrokenBy, IsIndexFault, IsUntyped};
+ghost use Rattle.wm_valid.specs.Implements.{Implements, LeavesStack, BrokenBy, IsIndexFault, IsUntyped};
 ghost use Rattle.wm_ast.specs.Module.{func_type};
-ghost use Rattle.wm_valid.specs.InstrTypes.{turns, type_of, exponent_of, is_aligned, access_type};
+ghost use Rattle.wm_valid.specs.InstrTypes.{maps, type_of, exponent_of, is_aligned, access_type};
 ghost use Rattle.wm_valid.specs.Stacks.{plain_on, made_by};
 
 use crate::fault::{FaultKind, InstrFault};
@@ -41,7 +41,7 @@ impl<'m> Model for Checker<'m> {
 
 /// The type of a function.
 fn type_of_func(module: &Module, func: u32) -> Result<&FuncType, InstrFault>
-    ensures found { Answers (λ t. t.now) result (func_type «module».now func) }
+    ensures found { Implements (λ t. t.now) result (func_type «module».now func) }
     ensures kind { IfErr result IsIndexFault }
 {
     module
@@ -83,7 +83,7 @@ fn has_good_alignment(kind: AccessKind, alignment: u32) -> bool
 
 /// The operands of an access.
 fn access_operands(stack: &mut Stack, kind: AccessKind) -> Result<(), InstrFault>
-    ensures turns { Turns result (made_by (access_type kind) stack.old) stack.new }
+    ensures maps { LeavesStack result (made_by (access_type kind) stack.old) stack.new }
     ensures kind { IfErr result IsUntyped }
 {
     let operand = kind.operand();
@@ -109,7 +109,7 @@ fn access_operands(stack: &mut Stack, kind: AccessKind) -> Result<(), InstrFault
 
 /// The operand of a conversion.
 fn convert(stack: &mut Stack, op: Conversion) -> Result<(), InstrFault>
-    ensures turns { Turns result (made_by (turns (type_of (source_of op) ∷ []) (type_of (target_of op) ∷ [])) stack.old) stack.new }
+    ensures maps { LeavesStack result (made_by (maps (type_of (source_of op) ∷ []) (type_of (target_of op) ∷ [])) stack.old) stack.new }
     ensures kind { IfErr result IsUntyped }
 {
     match op {
@@ -121,7 +121,7 @@ fn convert(stack: &mut Stack, op: Conversion) -> Result<(), InstrFault>
 impl Checker<'_> {
     /// The type of a local.
     fn local(&self, local: u32) -> Result<ValType, InstrFault>
-        ensures found { Answers (λ t. t) result (slice_get self.now.locals local) }
+        ensures found { Implements (λ t. t) result (slice_get self.now.locals local) }
         ensures kind { IfErr result IsIndexFault }
     {
         match self.locals.get(local as usize) {
@@ -132,7 +132,7 @@ impl Checker<'_> {
 
     /// A global.
     fn global(&self, global: u32) -> Result<Global, InstrFault>
-        ensures found { Answers (λ g. g) result (slice_get self.now.module.globals global) }
+        ensures found { Implements (λ g. g) result (slice_get self.now.module.globals global) }
         ensures kind { IfErr result IsIndexFault }
     {
         match self.module.globals.get(global as usize) {
@@ -143,7 +143,7 @@ impl Checker<'_> {
 
     /// A call.
     fn call(&self, stack: &mut Stack, func: u32) -> Result<(), InstrFault>
-        ensures turns { Turns result (plain_on self.now [] (Call func) stack.old) stack.new }
+        ensures maps { LeavesStack result (plain_on self.now [] (Call func) stack.old) stack.new }
         ensures breaks { IfErr result (BrokenBy self.now [] (Call func)) }
     {
         let ty = type_of_func(self.module, func)?;
@@ -153,7 +153,7 @@ impl Checker<'_> {
 
     /// The setting of a global.
     fn global_set(&self, stack: &mut Stack, global: u32) -> Result<(), InstrFault>
-        ensures turns { Turns result (plain_on self.now [] (GlobalSet global) stack.old) stack.new }
+        ensures maps { LeavesStack result (plain_on self.now [] (GlobalSet global) stack.old) stack.new }
         ensures breaks { IfErr result (BrokenBy self.now [] (GlobalSet global)) }
     {
         let g = self.global(global)?;
@@ -170,7 +170,7 @@ impl Checker<'_> {
         kind: AccessKind,
         operands: MemArg,
     ) -> Result<(), InstrFault>
-        ensures turns { Turns result (plain_on self.now [] (Access kind operands) stack.old) stack.new }
+        ensures maps { LeavesStack result (plain_on self.now [] (Access kind operands) stack.old) stack.new }
         ensures breaks { IfErr result (BrokenBy self.now [] (Access kind operands)) }
     {
         if self.module.memory.is_none() {
@@ -184,7 +184,7 @@ impl Checker<'_> {
 
     /// The size of the memory.
     fn memory_size(&self, stack: &mut Stack) -> Result<(), InstrFault>
-        ensures turns { Turns result (plain_on self.now [] MemorySize stack.old) stack.new }
+        ensures maps { LeavesStack result (plain_on self.now [] MemorySize stack.old) stack.new }
         ensures breaks { IfErr result (BrokenBy self.now [] MemorySize) }
     {
         if self.module.memory.is_none() {
@@ -200,7 +200,7 @@ impl Checker<'_> {
         stack: &mut Stack,
         instr: &Instr,
     ) -> Result<(), InstrFault>
-        ensures turns { Turns result (plain_on self.now labels.now instr.now stack.old) stack.new }
+        ensures maps { LeavesStack result (plain_on self.now labels.now instr.now stack.old) stack.new }
         ensures breaks { IfErr result (BrokenBy self.now labels.now instr.now) }
     {
         match instr {

@@ -1,9 +1,9 @@
 //! The labels around an instruction.
 
 ghost use Rattle.std.specs.Prelude.{ℕ, ◌≡◌, All, IfErr, ◌∷◌, [], OnOk, slice_get, List, Option};
-ghost use Rattle.wm_valid.specs.Answers.{Answers, IsLabel, TableFault, IsLabelFault, Unless};
+ghost use Rattle.wm_valid.specs.Implements.{Implements, IsLabel, TableFault, IsLabelFault, Unless};
 ghost use Rattle.wm_valid.specs.InstrTypes.{all_same, table_type, same};
-ghost use Rattle.wm_valid.specs.Places.{NoSuchLabelIn};
+ghost use Rattle.wm_valid.specs.Locations.{NoSuchLabelIn};
 
 use crate::fault::{FaultKind, InstrFault};
 use std::alloc::{AllocFailed, Global};
@@ -51,7 +51,7 @@ impl Labels {
 
     /// The type of a label, from the innermost on.
     pub(crate) fn get(&self, label: u32) -> Result<BlockType, InstrFault>
-        ensures found { Answers (λ t. t) result (slice_get self.now label) }
+        ensures found { Implements (λ t. t) result (slice_get self.now label) }
         ensures kind { IfErr result IsLabelFault }
     {
         let label = label as usize;
@@ -76,7 +76,7 @@ impl Labels {
 
     /// The type of all these labels, each of which has to be there.
     pub(crate) fn table(&self, labels: &[u32], last: u32) -> Result<BlockType, InstrFault>
-        ensures found { Answers (λ t. t) result (table_type self.now labels.now last) }
+        ensures found { Implements (λ t. t) result (table_type self.now labels.now last) }
         ensures there { OnOk result (NoSuchLabelIn self.now labels.now last → ⊥) }
         ensures kind { IfErr result (TableFault self.now labels.now last) }
     {

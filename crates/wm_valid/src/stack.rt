@@ -1,9 +1,9 @@
-//! The operands of a block while it is checked. Behind an instruction that leaves the block, operands of any
+//! The operands of a block while it is checked. After an instruction that leaves the block, operands of any
 //! type stand below those that are known.
 ghost use Rattle.std.specs.Prelude.{◌≡◌, [], ◌∷◌, IfErr, Some, OnOk, MatchOption, None, reverse, is_some};
 ghost use Rattle.wm_valid.specs.Stacks.{pop, push, empty, opened, take_one, take_all, give_all, select_on, made_by, ended, joined};
-ghost use Rattle.wm_valid.specs.InstrTypes.{listed, turns, drops, leaves};
-ghost use Rattle.wm_valid.specs.Answers.{Turns, IsUntyped};
+ghost use Rattle.wm_valid.specs.InstrTypes.{listed, maps, drops, stack_polymorphic};
+ghost use Rattle.wm_valid.specs.Implements.{LeavesStack, IsUntyped};
 ghost use Rattle.wm_ast.specs.declared.types.ValType.TheVariants.{I32};
 ghost use Rattle.wm_valid.specs.declared.fault.InstrFault.TheVariants.{OutOfMemory};
 
@@ -71,7 +71,7 @@ impl Stack {
 
     /// Puts a result on top, if there is one.
     pub(crate) fn give(&mut self, result_type: BlockType) -> Result<(), InstrFault>
-        ensures turns { Turns result (Some (give_all (listed result_type) self.old)) self.new }
+        ensures maps { LeavesStack result (Some (give_all (listed result_type) self.old)) self.new }
         ensures kind { IfErr result IsUntyped }
         ensures want { IfErr result (λ e. e ≡ OutOfMemory) }
     {
@@ -83,7 +83,7 @@ impl Stack {
 
     /// Takes an operand of this type.
     pub(crate) fn take(&mut self, t: ValType) -> Result<(), InstrFault>
-        ensures turns { Turns result (take_one t self.old) self.new }
+        ensures maps { LeavesStack result (take_one t self.old) self.new }
         ensures kind { IfErr result IsUntyped }
     {
         match self.pop() {
@@ -94,7 +94,7 @@ impl Stack {
 
     /// Takes an operand of whatever type.
     pub(crate) fn take_any(&mut self) -> Result<(), InstrFault>
-        ensures turns { Turns result (made_by drops self.old) self.new }
+        ensures maps { LeavesStack result (made_by drops self.old) self.new }
         ensures kind { IfErr result IsUntyped }
     {
         match self.pop() {
@@ -105,7 +105,7 @@ impl Stack {
 
     /// Takes a result, if there is one.
     pub(crate) fn take_result(&mut self, result_type: BlockType) -> Result<(), InstrFault>
-        ensures turns { Turns result (take_all (listed result_type) self.old) self.new }
+        ensures maps { LeavesStack result (take_all (listed result_type) self.old) self.new }
         ensures kind { IfErr result IsUntyped }
     {
         match result_type {
@@ -116,7 +116,7 @@ impl Stack {
 
     /// Takes the arguments of a call.
     pub(crate) fn take_params(&mut self, params: &[ValType]) -> Result<(), InstrFault>
-        ensures turns { Turns result (take_all (reverse params.now) self.old) self.new }
+        ensures maps { LeavesStack result (take_all (reverse params.now) self.old) self.new }
         ensures kind { IfErr result IsUntyped }
     {
         let mut left = params.len();
@@ -129,7 +129,7 @@ impl Stack {
 
     /// Takes an operand and gives a result.
     pub(crate) fn unary(&mut self, operand: ValType, result_type: ValType) -> Result<(), InstrFault>
-        ensures turns { Turns result (made_by (turns (operand ∷ []) (result_type ∷ [])) self.old) self.new }
+        ensures maps { LeavesStack result (made_by (maps (operand ∷ []) (result_type ∷ [])) self.old) self.new }
         ensures kind { IfErr result IsUntyped }
     {
         self.take(operand)?;
@@ -142,7 +142,7 @@ impl Stack {
         operand: ValType,
         result_type: ValType,
     ) -> Result<(), InstrFault>
-        ensures turns { Turns result (made_by (turns (operand ∷ operand ∷ []) (result_type ∷ [])) self.old) self.new }
+        ensures maps { LeavesStack result (made_by (maps (operand ∷ operand ∷ []) (result_type ∷ [])) self.old) self.new }
         ensures kind { IfErr result IsUntyped }
     {
         self.take(operand)?;
@@ -152,7 +152,7 @@ impl Stack {
 
     /// Takes what a branch takes, and leaves the block.
     pub(crate) fn branch(&mut self, label: BlockType) -> Result<(), InstrFault>
-        ensures turns { Turns result (made_by (leaves (listed label)) self.old) self.new }
+        ensures maps { LeavesStack result (made_by (stack_polymorphic (listed label)) self.old) self.new }
         ensures kind { IfErr result IsUntyped }
     {
         self.take_result(label)?;
@@ -162,7 +162,7 @@ impl Stack {
 
     /// Takes an i32 and what a branch takes, and gives the latter back.
     pub(crate) fn branch_if(&mut self, label: BlockType) -> Result<(), InstrFault>
-        ensures turns { Turns result (made_by (turns (I32 ∷ listed label) (listed label)) self.old) self.new }
+        ensures maps { LeavesStack result (made_by (maps (I32 ∷ listed label) (listed label)) self.old) self.new }
         ensures kind { IfErr result IsUntyped }
     {
         self.take(ValType::I32)?;
@@ -172,7 +172,7 @@ impl Stack {
 
     /// Takes an i32 and what a branch takes, and leaves the block.
     pub(crate) fn branch_table(&mut self, label: BlockType) -> Result<(), InstrFault>
-        ensures turns { Turns result (made_by (leaves (I32 ∷ listed label)) self.old) self.new }
+        ensures maps { LeavesStack result (made_by (stack_polymorphic (I32 ∷ listed label)) self.old) self.new }
         ensures kind { IfErr result IsUntyped }
     {
         self.take(ValType::I32)?;
@@ -181,7 +181,7 @@ impl Stack {
 
     /// Takes t t i32 for a t, and gives t.
     pub(crate) fn select(&mut self) -> Result<(), InstrFault>
-        ensures turns { Turns result (select_on self.old) self.new }
+        ensures maps { LeavesStack result (select_on self.old) self.new }
         ensures kind { IfErr result IsUntyped }
     {
         self.take(ValType::I32)?;
@@ -200,7 +200,7 @@ impl Stack {
 
     /// Takes a result, if there is one, where nothing else is left.
     pub(crate) fn end(&mut self, result_type: BlockType) -> Result<(), InstrFault>
-        ensures turns { Turns result (ended result_type self.old) empty }
+        ensures maps { LeavesStack result (ended result_type self.old) empty }
         ensures kind { IfErr result IsUntyped }
     {
         self.take_result(result_type)?;

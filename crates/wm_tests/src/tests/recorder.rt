@@ -9,7 +9,7 @@ use std::process::Abort;
 use std::test::Fail;
 use wm_access::{AccessWidth, MemoryOrder};
 use wm_event::{EventId, EventKey, Initial, MAX_EVENTS, Op, OpFields, OpKind, Reply};
-use wm_memory::Item;
+use wm_memory::HistoryStep;
 use wm_recorder::{AccessFault, Parts, Recorder};
 
 fn load(address: u32) -> Op {
@@ -66,7 +66,7 @@ fn steps(recorder: &Recorder) -> usize {
 }
 
 /// The step with so many earlier ones.
-fn step_at(recorder: &Recorder, place: usize) -> Option<Item> {
+fn step_at(recorder: &Recorder, place: usize) -> Option<HistoryStep> {
     recorder.history().get(place).copied()
 }
 
@@ -131,11 +131,11 @@ fn a_forced_drain_is_a_step_of_its_own(rt: HostRuntime) -> Result<(), Fail> {
         step(&rt, &mut recorder, 0, store(address, 1))?;
     }
     same(&rt, steps(&recorder), 66);
-    same(&rt, step_at(&recorder, 64), Some(Item::Drain(0)));
+    same(&rt, step_at(&recorder, 64), Some(HistoryStep::Drain(0)));
     same(
         &rt,
         step_at(&recorder, 65),
-        Some(Item::Access(0, store(64, 1))),
+        Some(HistoryStep::Access(0, store(64, 1))),
     );
     same(&rt, pending(&recorder, 0), 64);
     Ok(())
@@ -205,7 +205,7 @@ fn a_store_leaves_before_older_ones_that_it_does_not_overlap(rt: HostRuntime) ->
     same(&rt, drain_at(&mut recorder, 0, 1)?, false);
     same(&rt, steps(&recorder), 3);
     same(&rt, drain_at(&mut recorder, 0, 2)?, true);
-    same(&rt, step_at(&recorder, 3), Some(Item::DrainAt(0, 2)));
+    same(&rt, step_at(&recorder, 3), Some(HistoryStep::DrainAt(0, 2)));
     same(&rt, pending(&recorder, 0), 2);
     same(&rt, reads(&rt, &mut recorder, 1, 8), Some(3));
     same(&rt, reads(&rt, &mut recorder, 1, 0), Some(0));

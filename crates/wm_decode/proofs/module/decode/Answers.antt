@@ -1,5 +1,5 @@
 use Rattle.std.proofs.Common.{arith}
-use Rattle.wm_decode.proofs.Turns.{are_bytes}
+use Rattle.wm_decode.proofs.Fuel.{are_bytes}
 use Rattle.wm_decode.proofs.Decoded.{is_found, is_only}
 use Rattle.wm_decode.proofs.Past.{is_past}
 use Rattle.wm_decode.proofs.module.decode.Goals as goal

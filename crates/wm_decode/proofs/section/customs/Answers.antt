@@ -1,6 +1,6 @@
 use Rattle.std.proofs.Common.{◌≡◌, get_or, arith, refl, sym, ◌∙◌}
 use Rattle.std.proofs.lemmas.Result.{err_from_is_err_and}
-use Rattle.wm_decode.proofs.Turns.{are_bytes}
+use Rattle.wm_decode.proofs.Fuel.{are_bytes}
 use Rattle.wm_decode.proofs.Customs.{customs_none, skips, shrinks, fails}
 use Rattle.wm_decode.proofs.section.customs.Goals as goal
 

@@ -3,43 +3,43 @@ use Rattle.wm_machine.specs.Step.{returned}
 use Rattle.wm_machine.specs.Term.{Leaves}
 use Rattle.wm_machine.specs.Inside.{out_of_labels, vars_of}
 use Rattle.wm_machine.proofs.Lift.{branches_to, branches_stuck, branches_past, branches_out, gives_back_goes}
-use Rattle.wm_machine.proofs.Todo.{drop_past}
+use Rattle.wm_machine.proofs.Continuations.{drop_past}
 use Rattle.wm_machine.specs.Nest.{landed, carried_top}
 use Rattle.wm_machine.proofs.perform.branch.Goals as goal
 use Rattle.wm_machine.proofs.perform.branch.Goals.{else-carry-via-then-carry+else-count-popped, else-carry-via-else-carry}
 
 pub returns-then-depth-label-clause-leads : goal.returns-then-depth-label-clause-leads
-returns-then-depth-label-clause-leads c = λ _ globals. (branches_past c.args.module.now c.args.running.now.func (vars_of c.args.running.now globals) _ c.args.running.now.levels.outer c.args.label (omega arith), (refl, refl))
+returns-then-depth-label-clause-leads c = λ _ globals. (branches_past c.args.module.now c.args.running.now.func (vars_of c.args.running.now globals) _ c.args.running.now.control_stack.outer c.args.label (omega arith), (refl, refl))
 
 pub returns-then-depth-label-2-clause-leads : goal.returns-then-depth-label-2-clause-leads
 returns-then-depth-label-2-clause-leads c = λ depth globals.
     let a = c.args.running.now in
-    let vs = drop c.args.popped a.levels.operands in
-    gives_back_goes c.args.module.now depth (out_of_labels c.args.module.now a.func (vars_of a globals) a.levels.outer (Leaves c.args.label vs)) a globals (returned c.args.module.now a.func vs) c.give_back.result (branches_out c.args.module.now a.func (vars_of a globals) vs a.levels.outer c.args.label (omega arith)) c.give_back.ensures.gives
+    let vs = drop c.args.popped a.control_stack.operands in
+    gives_back_goes c.args.module.now depth (out_of_labels c.args.module.now a.func (vars_of a globals) a.control_stack.outer (Leaves c.args.label vs)) a globals (returned c.args.module.now a.func vs) c.give_back.result (branches_out c.args.module.now a.func (vars_of a globals) vs a.control_stack.outer c.args.label (omega arith)) c.give_back.ensures.gives
 
 pub returns-then-count-popped-clause-leads : goal.returns-then-count-popped-clause-leads
 returns-then-count-popped-clause-leads c = λ depth globals.
     let a = c.args.running.now in
-    let e : drop c.args.popped a.levels.operands ≡ [] = drop_past a.levels.operands c.args.popped (omega arith) in
-    let lt : c.args.label < length a.levels.outer = omega arith in
-    rw e (branches_stuck c.args.module.now a.func (vars_of a globals) [] a.levels.outer c.args.label _ _ lt c.place-block.ensures.place (λ ops. c.in-Some.ensures.empty (vars_of a globals) ops c.if-carry.true), (refl, refl))
+    let e : drop c.args.popped a.control_stack.operands ≡ [] = drop_past a.control_stack.operands c.args.popped (omega arith) in
+    let lt : c.args.label < length a.control_stack.outer = omega arith in
+    rw e (branches_stuck c.args.module.now a.func (vars_of a globals) [] a.control_stack.outer c.args.label _ _ lt c.place-block.ensures.place (λ ops. c.in-Some.ensures.empty (vars_of a globals) ops c.if-carry.true), (refl, refl))
 
 pub returns-in-None-clause-leads : goal.returns-in-None-clause-leads
 returns-in-None-clause-leads c = λ depth globals.
     let a = c.args.running.now in
-    let lt : c.args.label < length a.levels.outer = omega arith in
-    (branches_stuck c.args.module.now a.func (vars_of a globals) (drop c.args.popped a.levels.operands) a.levels.outer c.args.label _ _ lt c.place-block.ensures.place (λ ops. c.in-None.ensures.none refl (vars_of a globals) ops (drop c.args.popped a.levels.operands)), (refl, refl))
+    let lt : c.args.label < length a.control_stack.outer = omega arith in
+    (branches_stuck c.args.module.now a.func (vars_of a globals) (drop c.args.popped a.control_stack.operands) a.control_stack.outer c.args.label _ _ lt c.place-block.ensures.place (λ ops. c.in-None.ensures.none refl (vars_of a globals) ops (drop c.args.popped a.control_stack.operands)), (refl, refl))
 
 pub returns-else-carry-clause-leads : goal.returns-else-carry-clause-leads
 returns-else-carry-clause-leads c = λ depth globals.
     let a = c.args.running.now in
-    let ops = drop c.args.popped a.levels.operands in
-    let lt : c.args.label < length a.levels.outer = omega arith in
+    let ops = drop c.args.popped a.control_stack.operands in
+    let lt : c.args.label < length a.control_stack.outer = omega arith in
     let pos : c.in-Some.carry ≡ true → 0 < length ops =
     elim c.else-carry.branch [
-      | else-carry-via-then-carry+else-count-popped w ↦ λ _. omega (arith, length-drop c.args.popped a.levels.operands, w.count.ensures, w.if-count-popped.false)
+      | else-carry-via-then-carry+else-count-popped w ↦ λ _. omega (arith, length-drop c.args.popped a.control_stack.operands, w.count.ensures, w.if-count-popped.false)
       | else-carry-via-else-carry w ↦ λ h. absurd (let e : true ≡ false = sym h ∙ w.if-carry.false in cc)
     ] in
-    let u : landed c.args.label (carried_top c.in-Some.carry ops) a.levels.outer ≡ Some c.unwind.new.self = rw c.pop.ensures at c.unwind.ensures in
-    let e = branches_to c.args.module.now a.func (vars_of a globals) ops a.levels.outer c.args.label _ _ c.in-Some.next c.in-Some.carry c.unwind.new.self lt c.place-block.ensures.place u (λ operands. c.in-Some.ensures.some (vars_of a globals) operands ops pos) in
+    let u : landed c.args.label (carried_top c.in-Some.carry ops) a.control_stack.outer ≡ Some c.unwind.new.self = rw c.pop.ensures at c.unwind.ensures in
+    let e = branches_to c.args.module.now a.func (vars_of a globals) ops a.control_stack.outer c.args.label _ _ c.in-Some.next c.in-Some.carry c.unwind.new.self lt c.place-block.ensures.place u (λ operands. c.in-Some.ensures.some (vars_of a globals) operands ops pos) in
     rw c.set_at.ensures (e, refl)

@@ -9,5 +9,5 @@ returns-in-Access c = λ depth read func vars rest.
     let instrs = Access c.in-Access.kind c.in-Access.operands ∷ rest in
     rw c.in-Access.is (
     ap made_of (c.access.ensures.means vars depth read func rest)
-    ∙ made_does c.args.module.now depth read func vars c.args.levels.now.operands instrs c.access.result
+    ∙ made_does c.args.module.now depth read func vars c.args.control_stack.now.operands instrs c.access.result
     ∙ sym c.op.ensures)

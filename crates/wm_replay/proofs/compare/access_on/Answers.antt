@@ -1,7 +1,7 @@
 use Rattle.std.proofs.Common.{◌≡◌, inr, Some, refl, sym, subst, ◌∙◌}
 use Rattle.std.proofs.lemmas.Option.{none-some, slice_get_past}
 use Rattle.wm_machine.specs.State.{config_of}
-use Rattle.wm_machine.specs.Step.{step, went}
+use Rattle.wm_machine.specs.Step.{step, next_config}
 use Rattle.wm_replay.proofs.Needs.{access_at, access_of_need, other_at}
 use Rattle.wm_replay.proofs.compare.access_on.Goals as goal
 
@@ -28,5 +28,5 @@ returns-in-Ok-clause-steps c =
       refl,
       access_at m old new c.args.op.now c.args.stated.now c.args.made _ c.if-made-stated.false (c.if-not-is_made.ensures.made refl)
           (λ r. access_of_need c.args.thread.now r c.args.op.now (c.requires r))
-          (subst (λ r. went (step m r old) ≡ Some new) c.reply_of.ensures.value c.in-Ok.ensures.ok),
+          (subst (λ r. next_config (step m r old) ≡ Some new) c.reply_of.ensures.value c.in-Ok.ensures.ok),
     )

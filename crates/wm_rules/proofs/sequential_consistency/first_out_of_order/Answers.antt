@@ -11,7 +11,7 @@ use Rattle.wm_event.specs.Execution.{event_at}
 use Rattle.wm_event.specs.Faults.{BreaksSequentialConsistency}
 use Rattle.wm_event.specs.LoggedRun.{LoggedRun, execution}
 use Rattle.wm_event.specs.Shape.{ListsEachOnce}
-use Rattle.wm_event.specs.AtomicWrites.{starts_atomic}
+use Rattle.wm_event.specs.AtomicWrites.{begins_atomic}
 use Rattle.wm_event.specs.Writes.{listed_from}
 use Rattle.wm_rules.specs.Between.{IsPlaceOf, Rises, stands_between}
 use Rattle.wm_rules.proofs.BetweenLemmas.{found_none, found_some, none_written, writes_rise}
@@ -23,7 +23,7 @@ returns-then-not-may_be_overtaken-clause-first c = λ n key at p. both_ways c.ma
 
 pub part_between-write-items-requires : goal.part_between-write-items-requires
 part_between-write-items-requires c =
-    subst (λ (xs : List ByteWrite). Rises xs) (sym c.atomic_writes-writes.ensures) (writes_rise (starts_atomic c.candidate-candidate.result.now.log c.range_by_case.result.width c.range_by_case.result.address) c.range_by_case.result.address c.candidate-candidate.result.now.witness.order)
+    subst (λ (xs : List ByteWrite). Rises xs) (sym c.atomic_writes-writes.ensures) (writes_rise (begins_atomic c.candidate-candidate.result.now.log c.range_by_case.result.width c.range_by_case.result.address) c.range_by_case.result.address c.candidate-candidate.result.now.witness.order)
 
 pub returns-then-is_some-clause-first : goal.returns-then-is_some-clause-first
 returns-then-is_some-clause-first c =
@@ -31,7 +31,7 @@ returns-then-is_some-clause-first c =
     let e = c.args.event.now in
     let x = execution run in
     let range = c.range_by_case.result in
-    let same : c.part_between-write-items.result.now ≡ filter (stands_between (unwrap_or c.place-start.result 0) c.in-Some.end) (listed_from (starts_atomic run.log range.width range.address) range.address 0 run.witness.order) =
+    let same : c.part_between-write-items.result.now ≡ filter (stands_between (unwrap_or c.place-start.result 0) c.in-Some.end) (listed_from (begins_atomic run.log range.width range.address) range.address 0 run.witness.order) =
     cc (c.part_between-write-items.ensures, c.atomic_writes-writes.ensures, c.candidate-candidate.ensures.value, c.unwrap_or.ensures) in
     let is : IsPlaceOf run.witness.order c.place-start.result c.args.writer = search rules in
     let at : slice_get run.witness.order c.in-Some.end ≡ Some (key_of e) = search rules in
@@ -48,7 +48,7 @@ loop-write-preserved c =
     let e = c.args.event.now in
     let x = execution run in
     let range = c.range_by_case.result in
-    let same : c.part_between-write-items.result.now ≡ filter (stands_between (unwrap_or c.place-start.result 0) c.in-Some.end) (listed_from (starts_atomic run.log range.width range.address) range.address 0 run.witness.order) =
+    let same : c.part_between-write-items.result.now ≡ filter (stands_between (unwrap_or c.place-start.result 0) c.in-Some.end) (listed_from (begins_atomic run.log range.width range.address) range.address 0 run.witness.order) =
     cc (c.part_between-write-items.ensures, c.atomic_writes-writes.ensures, c.candidate-candidate.ensures.value, c.unwrap_or.ensures) in
     let is : IsPlaceOf run.witness.order c.place-start.result c.args.writer = search rules in
     let at : slice_get run.witness.order c.in-Some.end ≡ Some (key_of e) = search rules in
@@ -65,7 +65,7 @@ returns-clause-first c =
     let e = c.args.event.now in
     let x = execution run in
     let range = c.range_by_case.result in
-    let same : c.part_between-write-items.result.now ≡ filter (stands_between (unwrap_or c.place-start.result 0) c.in-Some.end) (listed_from (starts_atomic run.log range.width range.address) range.address 0 run.witness.order) =
+    let same : c.part_between-write-items.result.now ≡ filter (stands_between (unwrap_or c.place-start.result 0) c.in-Some.end) (listed_from (begins_atomic run.log range.width range.address) range.address 0 run.witness.order) =
     cc (c.part_between-write-items.ensures, c.atomic_writes-writes.ensures, c.candidate-candidate.ensures.value, c.unwrap_or.ensures) in
     let is : IsPlaceOf run.witness.order c.place-start.result c.args.writer = search rules in
     let at : slice_get run.witness.order c.in-Some.end ≡ Some (key_of e) = search rules in

@@ -1,7 +1,7 @@
 use Rattle.std.proofs.Common.{◌≡◌, ℕ, ◌+◌, ◌<◌, ◌≤◌, Some, length, refl, sym, ap, subst, ◌∙◌, arith}
 use Rattle.wm_access.specs.AccessWidth.{bytes_of}
 use Rattle.wm_machine.specs.State.{Answers, config_of, value_or_zero}
-use Rattle.wm_machine.specs.Step.{step, went}
+use Rattle.wm_machine.specs.Step.{step, next_config}
 use Rattle.wm_ast.specs.Module.{memory_size}
 use Rattle.wm_memory.specs.Memory.{drains_first, ready}
 use Rattle.wm_memory.specs.Visibility.{events}
@@ -29,7 +29,7 @@ returns-in-Ok-advance-clause-moves c made limit below =
     let brings : value_or_zero c.in-Ok.reply.read ≡ v =
     ap (λ given. value_or_zero given.read) c.in-Ok.ensures.ok.reply ∙ reply_value (initial_of r) (ready (steps_of r) c.args.number op) c.args.number op in
     let goes = made_access (step thread.module v (config_of thread)) op (config_of c.advance.new.self) (asks v)
-    (subst (λ read. went (step thread.module read (config_of thread)) ≡ Some (config_of c.advance.new.self)) brings c.in-Ok-advance.ensures.ok) in
+    (subst (λ read. next_config (step thread.module read (config_of thread)) ≡ Some (config_of c.advance.new.self)) brings c.in-Ok-advance.ensures.ok) in
     let few : length (events (steps_of r)) < 16384 = not_full r c.recorded_log_is_valid.ensures.recording c.in-Ok.ensures.fault.2 in
     record {
       items = access_items (drains_first (steps_of r) c.args.number op) c.args.number op;

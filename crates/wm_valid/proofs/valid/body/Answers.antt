@@ -2,7 +2,7 @@ use Rattle.std.proofs.Common.{◌≡◌, ℕ, List, [], ◌∷◌, ◌++◌, ap,
 use Rattle.wm_ast.specs.declared.types.ValType.{ValType}
 use Rattle.wm_valid.specs.InstrTypes.{Context, Labels}
 use Rattle.wm_valid.specs.Typing.{TypedBlock, context}
-use Rattle.wm_valid.specs.Answers.{Decides, CountsBlock}
+use Rattle.wm_valid.specs.Implements.{Decides, CountsBlock}
 use Rattle.wm_valid.proofs.FuncLaws.{judged_body}
 use Rattle.wm_valid.proofs.valid.body.Goals as goal
 

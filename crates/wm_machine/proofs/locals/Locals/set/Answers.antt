@@ -9,14 +9,14 @@ pub returns-then-index-len-clause-ok : goal.returns-then-index-len-clause-ok
 returns-then-index-len-clause-ok c =
     let s = c.self.inside in
     let e : c.len.result ≡ length s.held.items = search rules in
-    set_held s.held.items (box_value s.late) s.unset.now c.args.index c.args.value (omega (arith, c.if-index-len.true)) ∙ ap (λ (vs : List TypedValue). set vs c.args.index c.args.value) c.self.view_is
+    set_held s.held.items (box_value s.sparse_locals) s.unset.now c.args.index c.args.value (omega (arith, c.if-index-len.true)) ∙ ap (λ (vs : List TypedValue). set vs c.args.index c.args.value) c.self.view_is
 
 pub returns-then-beyond-self-clause-ok : goal.returns-then-beyond-self-clause-ok
 returns-then-beyond-self-clause-ok c =
     let s = c.self.inside in
     let e : c.len-2.result ≡ length s.held.items = search rules in
     let f : c.len.result ≡ length s.held.items = search rules in
-    set_more s.held.items c.hold.new.values.items (box_value s.late) s.unset.now c.args.index (c.args.index - c.len-2.result + 1) c.args.value (omega (arith, c.if-index-len.false)) (omega arith) (omega (arith, c.if-beyond-self.true)) c.in_ok-hold.ensures.ok
+    set_more s.held.items c.hold.new.values.items (box_value s.sparse_locals) s.unset.now c.args.index (c.args.index - c.len-2.result + 1) c.args.value (omega (arith, c.if-index-len.false)) (omega arith) (omega (arith, c.if-beyond-self.true)) c.in_ok-hold.ensures.ok
     ∙ ap (λ (vs : List TypedValue). set vs c.args.index c.args.value) c.self.view_is
 
 pub returns-clause-ok : goal.returns-clause-ok
@@ -25,5 +25,5 @@ returns-clause-ok c =
     let e : c.len-2.result ≡ length s.held.items = search rules in
     let f : c.len.result ≡ length s.held.items = search rules in
     on_ok_weaker c.set.result (λ d.
-    set_late s.held.items (box_value s.late) c.set.new.self s.unset.now c.args.index (c.args.index - c.len-2.result - length s.unset.now) c.args.value (omega (arith, c.if-index-len.false, c.if-beyond-self.false)) d
+    set_late s.held.items (box_value s.sparse_locals) c.set.new.self s.unset.now c.args.index (c.args.index - c.len-2.result - length s.unset.now) c.args.value (omega (arith, c.if-index-len.false, c.if-beyond-self.false)) d
     ∙ ap (λ (vs : List TypedValue). set vs c.args.index c.args.value) c.self.view_is) (rw c.deref_mut.ensures.value at c.set.ensures.ok)

@@ -6,7 +6,7 @@ use Rattle.wm_machine.proofs.thread.Thread.next.Goals as goal
 pub returns-in-Some-next_op : goal.returns-in-Some-next_op
 returns-in-Some-next_op c = λ read.
     let s = c.self.inside in
-    let cs = s.callers in
+    let cs = s.call_stack in
     let e : s.end ≡ None = c.in-None.is in
     let g = c.in-Some-next_op.ensures (suc (length cs)) read s.globals in
     let t = made_step s.module.now read s.globals cs s.running ∙ g in
@@ -15,7 +15,7 @@ returns-in-Some-next_op c = λ read.
 pub returns-in-None-next_op : goal.returns-in-None-next_op
 returns-in-None-next_op c = λ read.
     let s = c.self.inside in
-    let cs = s.callers in
+    let cs = s.call_stack in
     let e : s.end ≡ None = c.in-None.is in
     let g = c.in-None-next_op.ensures (suc (length cs)) read s.globals in
     let t = made_step s.module.now read s.globals cs s.running ∙ g in

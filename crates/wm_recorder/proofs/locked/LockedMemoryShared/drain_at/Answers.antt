@@ -1,4 +1,4 @@
-use Rattle.wm_memory.specs.declared.item.Item.TheVariants.{DrainAt}
+use Rattle.wm_memory.specs.declared.history_step.HistoryStep.TheVariants.{DrainAt}
 use Rattle.wm_recorder.proofs.Holds.{store_left}
 use Rattle.wm_recorder.proofs.locked.LockedMemoryShared.drain_at.Goals as goal
 

@@ -5,8 +5,8 @@ use Rattle.wm_ast.specs.declared.instr.Instr.TheVariants.{Block, Loop, If}
 use Rattle.wm_valid.specs.InstrTypes.{Context, Labels, listed}
 use Rattle.wm_valid.specs.Typing.{ElsePart}
 use Rattle.wm_valid.specs.Stacks.{Stack, give_all}
-use Rattle.wm_valid.specs.Answers.{LocatedElse}
-use Rattle.wm_valid.specs.Places.{number_of}
+use Rattle.wm_valid.specs.Implements.{LocatedElse}
+use Rattle.wm_valid.specs.Locations.{number_of}
 use Rattle.wm_valid.proofs.ParamLaws.{unless_then}
 use Rattle.wm_valid.proofs.BodyLaws.{given_checked, plain_refused, plain_turned, end_decides, is_plain, block_turned, loop_turned, if_turned, if_first_refused, if_other_refused, starts, SoFar}
 use Rattle.wm_valid.proofs.PlaceLaws.{counted_none, counts, counts_block, plain_counted, plain_located, one_part, stops_located, first_located, if_first_located, if_counted, if_else_located}
@@ -41,7 +41,7 @@ block-returns-clause-decides t c =
     ap (λ (C : Context). slice_get C.blocks c.args.number) (sym c.self.view_is) ∙ sym c.in-Some.ensures ∙ ap Some (sym c.as_slice-instr-items.ensures) in
     let so = subst (λ (l : Labels). SoFar c.args.self.now c.args.number l c.as_slice-instr-items.result.now (drop c.loop-instr.instr-index c.as_slice-instr-items.result.now) c.loop-instr.stack) c.loop-instr.invariant.same c.loop-instr.invariant.so in
     end_decides c.end.result c.args.self.now c.args.number c.args.labels.now c.as_slice-instr-items.result.now (drop c.loop-instr.instr-index c.as_slice-instr-items.result.now) c.loop-instr.stack c.args.result_type there so
-    (drop_all c.loop-instr.instr-index c.as_slice-instr-items.result.now c.loop-instr-test.false) c.end.ensures.turns
+    (drop_all c.loop-instr.instr-index c.as_slice-instr-items.result.now c.loop-instr-test.false) c.end.ensures.maps
 
 pub block-returns-clause-place : goal.block-returns-clause-place
 block-returns-clause-place t c =
@@ -95,7 +95,7 @@ pub instr-returns-in_err-plain-in_default-clause-checked : goal.instr-returns-in
 instr-returns-in_err-plain-in_default-clause-checked t c =
     let p = err_from_is_err_and c.from_residual-in_err-plain-in_default.result c.from_residual-in_err-plain-in_default.ensures.1 in
     rw (p.1, p.2) (unless_then c.in_err-plain-in_default.field-0.0
-    (plain_refused c.args.self.now c.args.number c.args.labels.now c.args.instr.now c.args.stack.now (is_plain c.args.instr.now c.in_default.not-Block c.in_default.not-Loop c.in_default.not-If)) c.in_err-plain-in_default.ensures.turns)
+    (plain_refused c.args.self.now c.args.number c.args.labels.now c.args.instr.now c.args.stack.now (is_plain c.args.instr.now c.in_default.not-Block c.in_default.not-Loop c.in_default.not-If)) c.in_err-plain-in_default.ensures.maps)
 
 pub instr-returns-in_err-plain-in_default-clause-place : goal.instr-returns-in_err-plain-in_default-clause-place
 instr-returns-in_err-plain-in_default-clause-place t c =
@@ -104,7 +104,7 @@ instr-returns-in_err-plain-in_default-clause-place t c =
 
 pub instr-returns-in_ok-plain-in_default-clause-checked : goal.instr-returns-in_ok-plain-in_default-clause-checked
 instr-returns-in_ok-plain-in_default-clause-checked t c =
-    plain_turned c.args.self.now c.args.number c.args.labels.now c.args.instr.now c.args.stack.now c.plain.new.stack c.in_ok-plain-in_default.ensures.turns
+    plain_turned c.args.self.now c.args.number c.args.labels.now c.args.instr.now c.args.stack.now c.plain.new.stack c.in_ok-plain-in_default.ensures.maps
 
 pub instr-returns-in_ok-plain-in_default-clause-place : goal.instr-returns-in_ok-plain-in_default-clause-place
 instr-returns-in_ok-plain-in_default-clause-place t c =
@@ -113,7 +113,7 @@ instr-returns-in_ok-plain-in_default-clause-place t c =
 pub instr-returns-in_ok-nested-in-Block-clause-checked : goal.instr-returns-in_ok-nested-in-Block-clause-checked
 instr-returns-in_ok-nested-in-Block-clause-checked t c =
     rw c.in-Block.is (given_checked c.give.result c.args.self.now c.args.number c.args.labels.now (Block c.in-Block.t c.in-Block.block) c.args.stack.now (give_all (listed c.in-Block.t) c.args.stack.now) c.give.new.self
-    (block_turned c.args.self.now c.args.number c.in-Block.block c.args.labels.now c.in-Block.t c.args.stack.now c.give.new.self c.in_ok-nested-in-Block.ensures.decides) c.give.ensures.turns)
+    (block_turned c.args.self.now c.args.number c.in-Block.block c.args.labels.now c.in-Block.t c.args.stack.now c.give.new.self c.in_ok-nested-in-Block.ensures.decides) c.give.ensures.maps)
 
 pub instr-returns-in_ok-nested-in-Block-clause-place : goal.instr-returns-in_ok-nested-in-Block-clause-place
 instr-returns-in_ok-nested-in-Block-clause-place t c =
@@ -123,7 +123,7 @@ instr-returns-in_ok-nested-in-Block-clause-place t c =
 pub instr-returns-in_ok-nested-in-Loop-clause-checked : goal.instr-returns-in_ok-nested-in-Loop-clause-checked
 instr-returns-in_ok-nested-in-Loop-clause-checked t c =
     rw c.in-Loop.is (given_checked c.give-in-Loop.result c.args.self.now c.args.number c.args.labels.now (Loop c.in-Loop.t c.in-Loop.block) c.args.stack.now (give_all (listed c.in-Loop.t) c.args.stack.now) c.give-in-Loop.new.self
-    (loop_turned c.args.self.now c.args.number c.in-Loop.block c.args.labels.now c.in-Loop.t c.args.stack.now c.give-in-Loop.new.self c.in_ok-nested-in-Loop.ensures.decides) c.give-in-Loop.ensures.turns)
+    (loop_turned c.args.self.now c.args.number c.in-Loop.block c.args.labels.now c.in-Loop.t c.args.stack.now c.give-in-Loop.new.self c.in_ok-nested-in-Loop.ensures.decides) c.give-in-Loop.ensures.maps)
 
 pub instr-returns-in_ok-nested-in-Loop-clause-place : goal.instr-returns-in_ok-nested-in-Loop-clause-place
 instr-returns-in_ok-nested-in-Loop-clause-place t c =
@@ -134,7 +134,7 @@ pub instr-returns-in_ok-else_part-in-If-clause-checked : goal.instr-returns-in_o
 instr-returns-in_ok-else_part-in-If-clause-checked t c =
     let second = subst (λ (l : Labels). ElsePart c.args.self.now c.args.number c.in-If.second l c.in-If.t c.in-If.part) c.in_ok-nested-in-If.ensures.same c.in_ok-else_part-in-If.ensures.decides in
     rw c.in-If.is (given_checked c.give-in-If.result c.args.self.now c.args.number c.args.labels.now (If c.in-If.t c.in-If.first c.in-If.second c.in-If.part) c.args.stack.now (give_all (listed c.in-If.t) c.take.new.self) c.give-in-If.new.self
-    (if_turned c.args.self.now c.args.number c.in-If.first c.in-If.second c.in-If.part c.args.labels.now c.in-If.t c.args.stack.now c.take.new.self c.give-in-If.new.self c.in_ok-take-in-If.ensures.turns c.in_ok-nested-in-If.ensures.decides second) c.give-in-If.ensures.turns)
+    (if_turned c.args.self.now c.args.number c.in-If.first c.in-If.second c.in-If.part c.args.labels.now c.in-If.t c.args.stack.now c.take.new.self c.give-in-If.new.self c.in_ok-take-in-If.ensures.maps c.in_ok-nested-in-If.ensures.decides second) c.give-in-If.ensures.maps)
 
 pub instr-returns-in_ok-else_part-in-If-clause-place : goal.instr-returns-in_ok-else_part-in-If-clause-place
 instr-returns-in_ok-else_part-in-If-clause-place t c =

@@ -1,5 +1,5 @@
 use Rattle.std.proofs.Common.{◌≡◌, ◌+◌, ◌-◌, ◌*◌, length, drop, take}
-use Rattle.wm_valid.specs.Answers.{Counted}
+use Rattle.wm_valid.specs.Implements.{Counted}
 use Rattle.wm_valid.proofs.BodyLaws.{SoFar}
 use Rattle.wm_valid.proofs.checker.Checker.+body.Given as goal
 

@@ -1,6 +1,6 @@
 use Rattle.std.proofs.Common.{List, ℕ, subst}
 use Rattle.wm_ast.specs.declared.instr.Instr.TheVariants.{BrTable}
-use Rattle.wm_valid.specs.Places.{NoSuchLabelIn}
+use Rattle.wm_valid.specs.Locations.{NoSuchLabelIn}
 use Rattle.wm_valid.proofs.LabelLaws.{untyped_breaks}
 use Rattle.wm_valid.proofs.checker.Checker.plain.Goals as goal
 

@@ -1,5 +1,5 @@
 use Rattle.std.proofs.Common.{ℕ, ◌<◌, get_or}
-use Rattle.wm_valid.specs.Answers.{IsLabel}
+use Rattle.wm_valid.specs.Implements.{IsLabel}
 use Rattle.wm_valid.proofs.labels.Labels.check.Given as goal
 
 abbrev pub invariant-loop-label : goal.invariant-loop-label

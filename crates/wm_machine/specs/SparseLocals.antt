@@ -1,0 +1,25 @@
+-- Locals of which those that were set are held, as they came.
+use Rattle.std.specs.Prelude.{ℕ, List, [], ◌∷◌, ◌≡◌, ◌≢◌, Option, Some, None, slice_get, option_and_then, ◌==◌, if◌then◌else◌, suc}
+use Rattle.wm_ast.specs.declared.types.ValType.{ValType}
+use Rattle.wm_machine.specs.declared.sparse_locals.Kept.{Kept}
+use Rattle.wm_machine.specs.declared.value.TypedValue.{TypedValue}
+use Rattle.wm_machine.specs.Values.{zero_of}
+
+-- what is held where a local has its place
+abbrev pub found : List ℕ → List Kept → ℕ → Option Kept
+found places held index = option_and_then (slice_get held) (slice_get places index)
+
+-- the value of a local: what was found, where that is of this local, else zero
+abbrev pub value_of : ℕ → ValType → Option Kept → TypedValue
+value_of index ty None = zero_of ty
+value_of index ty (Some kept) = if kept.index == index then kept.value else zero_of ty
+
+-- the locals from this index on
+abbrev pub locals_from : List ℕ → List Kept → ℕ → List ValType → List TypedValue
+locals_from places held index [] = []
+locals_from places held index (ty ∷ types) = value_of index ty (found places held index) ∷ locals_from places held (suc index) types
+
+-- one local has this value now, and the others are as they were
+pub record Sets (places : List ℕ) (held : List Kept) (index : ℕ) (value : TypedValue) (places_now : List ℕ) (held_now : List Kept) : Type 0 where
+  pub set : (ty : ValType) → value_of index ty (found places_now held_now index) ≡ value
+  pub others : (other : ℕ) → (ty : ValType) → other ≢ index → value_of other ty (found places_now held_now other) ≡ value_of other ty (found places held other)

@@ -1,0 +1,96 @@
+-- What the calls that make a step say: of a call's frame, and of a thread.
+use Rattle.std.specs.Prelude.{◌≡◌, ◌⊎◌, ◌++◌, ◌<◌, ℕ, List, [], Option, Some, None, Bool, true, Result, Ok, Err, drop, length, option_map}
+use Rattle.wm_access.specs.AccessWidth.{bytes_of}
+use Rattle.wm_num.specs.Conversion.{low_part}
+use Rattle.wm_ast.specs.declared.access.Storage.{Storage}
+use Rattle.wm_ast.specs.declared.module.Module.{Module}
+use Rattle.wm_ast.specs.Access.{storage_operand, storage_width}
+use Rattle.wm_ast.specs.Types.{width_of}
+use Rattle.wm_event.specs.declared.log.End.{End}
+use Rattle.wm_event.specs.declared.op.OpFields.{OpFields}
+use Rattle.wm_machine.specs.declared.call_frame.CallFrame.{CallFrame}
+use Rattle.wm_machine.specs.declared.call_frame.Flow.{Flow}
+use Rattle.wm_machine.specs.declared.call_frame.StepOutcome.{StepOutcome}
+use Rattle.wm_machine.specs.declared.call_frame.StepOutcome.TheVariants.{Made}
+use Rattle.wm_machine.specs.declared.call_frame.StepOutcome.TheVariants as outcome
+use Rattle.wm_machine.specs.declared.fault.StartFault.{StartFault}
+use Rattle.wm_machine.specs.declared.fault.StartFault.TheVariants.{OutOfMemory}
+use Rattle.wm_machine.specs.declared.fault.StepFault.{StepFault}
+use Rattle.wm_machine.specs.declared.thread.Need.TheVariants as need
+use Rattle.wm_machine.specs.declared.thread.Stepped.{Stepped}
+use Rattle.wm_machine.specs.declared.thread.Stepped.TheVariants as stepped
+use Rattle.wm_machine.specs.declared.value.TypedValue.{TypedValue}
+use Rattle.wm_machine.specs.Functions.{continuation}
+use Rattle.wm_machine.specs.Inside.{StepsTo, asked_for, asking, call_step, made_of, unanswered}
+use Rattle.wm_machine.specs.Nest.{carried_top}
+use Rattle.wm_machine.specs.State.{State, config_of, need_of, value_or_zero}
+use Rattle.wm_machine.specs.Step.{access_of, land, next_config, push_optional, stays, step}
+use Rattle.wm_machine.specs.Term.{Config, Stuck, Vars}
+use Rattle.wm_machine.specs.Values.{number_at}
+
+-- ---- a call's frame
+
+-- the low bytes of the topmost operand that a store of this storage writes
+abbrev pub low_operand_of : Storage → List TypedValue → Option ℕ
+low_operand_of storage operands = option_map (low_part (storage_width storage)) (number_at (width_of (storage_operand storage)) operands 0)
+
+-- a value, if there is one, in the place of the topmost operands
+abbrev pub replaced : ℕ → Option TypedValue → CallFrame → CallFrame
+replaced popped pushed a =
+    record a { control_stack = record a.control_stack { operands = push_optional pushed (drop popped a.control_stack.operands) } }
+
+-- a branch to the instruction at this place goes on at place next of its block, with the topmost operand if it carries one
+abbrev pub LandsAt : Module → ℕ → ℕ → ℕ → Bool → ℕ → Type 0
+LandsAt m func block at carry next = (vars : Vars) → (operands values : List TypedValue) → (carry ≡ true → 0 < length values)
+    → land vars operands (continuation m func block at) values ≡ stays vars (carried_top carry values ++ operands) (continuation m func block next)
+
+-- a branch that carries an operand is stuck without one
+abbrev pub LandsWithOperand : Module → ℕ → ℕ → ℕ → Bool → Type 0
+LandsWithOperand m func block at carry =
+    (vars : Vars) → (operands : List TypedValue) → carry ≡ true → land vars operands (continuation m func block at) [] ≡ Stuck
+
+-- no branch goes to the instruction at this place
+abbrev pub LandsNowhere : Module → ℕ → ℕ → ℕ → Type 0
+LandsNowhere m func block at = (vars : Vars) → (operands values : List TypedValue) → land vars operands (continuation m func block at) values ≡ Stuck
+
+-- the step within the call, however many calls are active, if its access reads the value given
+abbrev pub StepsAs : Module → Option ℕ → CallFrame → List TypedValue → CallFrame → List TypedValue → Result Flow StepFault → Type 0
+StepsAs m given old globals new globals' result =
+    (depth : ℕ) → StepsTo m depth (call_step m (value_or_zero given) depth old globals) old globals new globals' result
+
+-- the access that the step needs the value of is named, and no other
+abbrev pub NamesAccess : Module → Option ℕ → CallFrame → List TypedValue → Result Flow StepFault → Type 0
+NamesAccess m given old globals result = (depth read : ℕ) → asking result ≡ unanswered given (made_of (call_step m read depth old globals))
+
+-- ---- a thread
+
+-- a thread of the module that is in this configuration
+abbrev pub IsIn : Module → Result Config StartFault → State → Type 0
+IsIn m config t = (config ≡ Ok (config_of t)) × (t.module ≡ m)
+
+-- the fault of the start, or an allocation failed
+abbrev pub IsStartFault : Result Config StartFault → StartFault → Type 0
+IsStartFault config fault = (fault ≡ OutOfMemory) ⊎ (config ≡ Err fault)
+
+-- the access that the thread's step needs the value of is named, and no other
+abbrev pub NamesNextAccess : Option ℕ → State → StepOutcome → Type 0
+NamesNextAccess given old o = (read : ℕ) → asked_for o ≡ unanswered given (access_of (step old.module read (config_of old)))
+
+-- the thread has made its step, if its access reads the value given
+abbrev pub MakesStep : Option ℕ → State → State → StepOutcome → Type 0
+MakesStep given old new o = o ≡ Made → next_config (step old.module (value_or_zero given) (config_of old)) ≡ Some (config_of new)
+
+abbrev pub KeepsThread : State → State → StepOutcome → Type 0
+KeepsThread old new o = (op : OpFields) → o ≡ outcome.NeedsReply op → new ≡ old
+
+-- the thread needs this access's reply, and nothing has changed
+abbrev pub NeedsAccess : State → State → Stepped → Type 0
+NeedsAccess old new s = (op : OpFields) → s ≡ stepped.Access op → ((read : ℕ) → need_of read old ≡ need.Access op) × (new ≡ old)
+
+-- the thread had ended so, and nothing has changed
+abbrev pub HasEnded : State → State → Stepped → Type 0
+HasEnded old new s = (end : End) → s ≡ stepped.Ended end → ((read : ℕ) → need_of read old ≡ need.Ended end) × (new ≡ old)
+
+-- there is a step, if the access reads this value
+abbrev pub HasStep : State → ℕ → Type 0
+HasStep t read = (c : Config) × (next_config (step t.module read (config_of t)) ≡ Some c)

@@ -1,0 +1,147 @@
+//! The calls that wait for another.
+ghost use Rattle.std.specs.Prelude.{◌^◌, ◌≡◌, ◌≤◌, ◌<◌, ◌+◌, [], ◌∷◌, length, take, reverse, Some, OnErr, OnOk, IfOk};
+ghost use Rattle.wm_machine.specs.Inside.{ReturnsTo, called_frame, without_arguments};
+
+use crate::call_frame::{CallFrame, ReturnTo};
+use crate::control_stack::ControlStack;
+use crate::locals::Locals;
+use crate::value::TypedValue;
+use std::alloc::{AllocError, Global};
+use std::marker::Model;
+use std::mem::swap;
+use wm_ast::ValType;
+
+/// The calls that wait for another, and calls that were left, whose memory those to come take over. Contracts see those that
+/// wait, the innermost first.
+#[derive(Drop)]
+pub struct CallStack<'m> {
+    /// The outermost first; those that were left stand behind those that wait.
+    calls: Vec<CallFrame<'m>>,
+    /// How many of them wait.
+    depth: usize,
+}
+
+impl<'m> Model for CallStack<'m> {
+    ghost use Rattle.std.specs.Prelude.{List, ◌≤◌, length, take, reverse};
+    ghost use Rattle.wm_machine.specs.declared.call_frame.CallFrame.{CallFrame};
+
+    ghost Value = { List CallFrame };
+
+    ghost view = { λ c. reverse (take c.depth c.calls.items) };
+
+    ghost invariant = { λ c. c.depth ≤ length c.calls.items };
+}
+
+impl<'m> CallStack<'m> {
+    /// No call.
+    pub fn new(alloc: Global) -> Self
+        ensures { result ≡ [] }
+    {
+        CallStack {
+            calls: Vec::new(alloc),
+            depth: 0,
+        }
+    }
+
+    /// How many calls wait.
+    pub fn count(&self) -> usize
+        ensures { result ≡ length self.now }
+    {
+        self.depth
+    }
+
+    /// Enters a function, which takes so many operands of the running call as its arguments; this now waits. An `Err` changes
+    /// nothing.
+    pub fn enter(
+        &mut self,
+        alloc: Global,
+        running: &mut CallFrame<'m>,
+        func: usize,
+        count: usize,
+        others: &'m [ValType],
+    ) -> Result<(), AllocError>
+        requires count { count ≤ length running.old.control_stack.operands }
+        requires followed { running.old.control_stack.at + 1 < 2 ^ 64 }
+        ensures waits { OnOk result (self.new ≡ without_arguments count running.old ∷ self.old) }
+        ensures entered { OnOk result (running.new ≡ called_frame func count running.old others.now) }
+        ensures err { OnErr result ((running.new ≡ running.old) × (self.new ≡ self.old)) }
+    {
+        make_room(alloc, &mut self.calls, self.depth)?;
+        hand_over(running, &mut self.calls[self.depth], func, count, others)?;
+        self.depth += 1;
+        Ok(())
+    }
+
+    /// StepsTo back to the innermost call that waits, if there is one, with what was given back; else, and at an `Err`, nothing
+    /// changes.
+    pub fn leave(
+        &mut self,
+        running: &mut CallFrame<'m>,
+        value: Option<TypedValue>,
+    ) -> Result<ReturnTo, AllocError>
+        ensures ok { IfOk result (λ to. to ≡ ReturnTo.Caller → ReturnsTo value self.old running.new self.new) }
+        ensures none { IfOk result (λ to. to ≡ ReturnTo.Outside → (self.old ≡ []) × (running.new ≡ running.old) × (self.new ≡ self.old)) }
+        ensures err { OnErr result ((running.new ≡ running.old) × (self.new ≡ self.old)) }
+    {
+        if self.depth == 0 {
+            return Ok(ReturnTo::Outside);
+        }
+        let last = self.depth - 1;
+        match value {
+            None => {}
+            Some(value) => self.calls[last].control_stack.replace(0, value)?,
+        }
+        swap(running, &mut self.calls[last]);
+        self.depth = last;
+        Ok(ReturnTo::Caller)
+    }
+}
+
+/// Sees to it that there is a call at this place, whatever it is. Those before it stay as they were.
+fn make_room(alloc: Global, calls: &mut Vec<CallFrame>, place: usize) -> Result<(), AllocError>
+    requires { place ≤ length calls.old.items }
+    ensures before { take place calls.new.items ≡ take place calls.old.items }
+    ensures ok { OnOk result (place < length calls.new.items) }
+    ensures err { place ≤ length calls.new.items }
+{
+    if place == calls.len() {
+        calls.push(CallFrame {
+            func: 0,
+            locals: Locals::new(alloc)?,
+            control_stack: ControlStack::new(alloc, 0),
+        })?;
+    }
+    Ok(())
+}
+
+/// Moves the running call to a place where it waits, and makes what was there a call of a function, with so many operands of
+/// the other as its arguments and zeros of these types. An `Err` leaves the running call as it was.
+fn hand_over<'m>(
+    running: &mut CallFrame<'m>,
+    place: &mut CallFrame<'m>,
+    func: usize,
+    count: usize,
+    others: &'m [ValType],
+) -> Result<(), AllocError>
+    requires count { count ≤ length running.old.control_stack.operands }
+    requires followed { running.old.control_stack.at + 1 < 2 ^ 64 }
+    ensures waits { OnOk result (place.new ≡ without_arguments count running.old) }
+    ensures entered { OnOk result (running.new ≡ called_frame func count running.old others.now) }
+    ensures err { OnErr result (running.new ≡ running.old) }
+{
+    swap(running, place);
+    running.func = func;
+    running.control_stack.restart();
+    match running.locals.restart(place.control_stack.top(count), others) {
+        Err(refused) => {
+            swap(running, place);
+            Err(refused)
+        }
+        Ok(()) => {
+            place.control_stack.pop(count);
+            let next = place.control_stack.at() + 1;
+            place.control_stack.set_at(next);
+            Ok(())
+        }
+    }
+}

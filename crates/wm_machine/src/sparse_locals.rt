@@ -1,0 +1,137 @@
+//! Locals of which few are set.
+ghost use Rattle.std.specs.Prelude.{◌≡◌, ◌<◌, ◌^◌, ◌+◌, [], length, map, slice_get, slice_index_or, slice_set, nat_lt, OnOk, OnErr, IfSome, Some, None};
+ghost use Rattle.wm_ast.specs.declared.types.ValType.{ValType as ValTypeOf};
+ghost use Rattle.wm_machine.specs.declared.sparse_locals.Kept.{Kept as KeptAt};
+ghost use Rattle.wm_machine.specs.SparseLocals.{found, value_of, Sets};
+ghost use Rattle.wm_machine.specs.Values.{zero_of};
+
+use crate::value::TypedValue;
+use std::alloc::{AllocError, Global};
+use std::marker::Model;
+use wm_ast::ValType;
+
+/// A local that was set.
+#[derive(Clone, Copy, Debug)]
+struct Kept {
+    index: usize,
+    value: TypedValue,
+}
+
+/// Locals of which those that were set are held, one behind the other as they came, so that the others cost nothing. A place
+/// holds a local only where what is held there says so: places that were used before need no clearing.
+#[derive(Drop)]
+pub struct SparseLocals<'m> {
+    types: &'m [ValType],
+    places: Vec<usize>,
+    held: Vec<Kept>,
+}
+
+impl<'m> Model for SparseLocals<'m> {
+    ghost use Rattle.std.specs.Prelude.{List};
+    ghost use Rattle.wm_machine.specs.SparseLocals.{locals_from};
+    ghost use Rattle.wm_machine.specs.declared.value.TypedValue.{TypedValue};
+
+    ghost Value = { List TypedValue };
+
+    ghost view = { λ l. locals_from l.places.items l.held.items 0 l.types.now };
+}
+
+impl<'m> SparseLocals<'m> {
+    /// No local.
+    pub fn new(alloc: Global) -> Self
+        ensures { result ≡ [] }
+    {
+        SparseLocals {
+            types: &[],
+            places: Vec::new(alloc),
+            held: Vec::new(alloc),
+        }
+    }
+
+    /// Zeros of these types, in the memory of what was there.
+    #[tactic(auto, using(crate::proofs::SparseLocals::none_held))]
+    pub fn restart(&mut self, types: &'m [ValType])
+        ensures { self.new ≡ map zero_of types.now }
+    {
+        self.held.clear();
+        self.types = types;
+    }
+
+    /// Whether there is a local of this index.
+    #[tactic(auto, using(crate::proofs::SparseLocals::length_locals))]
+    pub fn has(&self, index: usize) -> bool
+        ensures { result ≡ nat_lt index (length self.now) }
+    {
+        index < self.types.len()
+    }
+
+    /// The local of this index.
+    pub fn get(&self, index: usize) -> Option<TypedValue>
+        ensures { result ≡ slice_get self.now index }
+    {
+        match self.types.get(index) {
+            None => None,
+            Some(ty) => match find(&self.places, &self.held, index) {
+                Some(place) => Some(self.held[place].value),
+                None => Some(TypedValue::zero(*ty)),
+            },
+        }
+    }
+
+    /// Sets a local. An `Err` changes nothing.
+    pub fn set(&mut self, index: usize, value: TypedValue) -> Result<(), AllocError>
+        requires { index < length self.old }
+        ensures ok { OnOk result (self.new ≡ slice_set self.old index value) }
+        ensures err { OnErr result (self.new ≡ self.old) }
+    {
+        match find(&self.places, &self.held, index) {
+            Some(place) => {
+                self.held[place] = Kept { index, value };
+                Ok(())
+            }
+            None => add(&mut self.places, &mut self.held, index, value),
+        }
+    }
+}
+
+/// Where a local is held, if it was set.
+fn find(places: &[usize], held: &[Kept], index: usize) -> Option<usize>
+    ensures place { IfSome result (λ place. (slice_get places.now index ≡ Some place) × (place < length held.now)) }
+    ensures some { IfSome result (λ place. (d : KeptAt) → (slice_index_or held.now place d).index ≡ index) }
+    ensures none { result ≡ None → (ty : ValTypeOf) → value_of index ty (found places.now held.now index) ≡ zero_of ty }
+{
+    match places.get(index) {
+        None => None,
+        Some(place) => {
+            if *place < held.len() && held[*place].index == index {
+                Some(*place)
+            } else {
+                None
+            }
+        }
+    }
+}
+
+/// Holds a local that wasn't set before. An `Err` changes no local.
+fn add(
+    places: &mut Vec<usize>,
+    held: &mut Vec<Kept>,
+    index: usize,
+    value: TypedValue,
+) -> Result<(), AllocError>
+    requires { index + 1 < 2 ^ 64 }
+    ensures ok { OnOk result (Sets places.old.items held.old.items index value places.new.items held.new.items) }
+    ensures err { OnErr result ((places.new.items ≡ places.old.items) × (held.new.items ≡ held.old.items)) }
+{
+    held.reserve(1)?;
+    let place = held.len();
+    if index < places.len() {
+        places[index] = place;
+    } else {
+        places.resize(index + 1, place)?;
+    }
+    match held.push(Kept { index, value }) {
+        Ok(()) => Ok(()),
+        Err(_) => unreachable!(),
+    }
+}
