@@ -10,6 +10,7 @@ ghost use Rattle.wm_logfile.specs.Faults.{Gives, DocGives};
 ghost use Rattle.wm_logfile.specs.Limits.{max_document_bytes};
 ghost use Rattle.wm_logfile.specs.Reading.{items_in, few_at, name_at, pair_1_at, pair_2_at, version_at, parts_from, document_at};
 
+use crate::MAX_DOCUMENT_BYTES;
 use crate::fault::{DocFault, ReadFault};
 use crate::fields::list_of;
 use crate::items::{ItemReader, each_of, unzipped};
@@ -17,7 +18,6 @@ use crate::path::Path;
 use crate::quick::{TakeFault, take_document};
 use crate::thread::{ThreadByReader, ThreadReader};
 use crate::witness::{order_keys_of, witness_of};
-use crate::MAX_DOCUMENT_BYTES;
 use serde_json::Value;
 use std::alloc::Global;
 use wm_event::{Log, MAX_THREADS, ThreadLog, Witness};

@@ -6,6 +6,7 @@ ghost use Rattle.wm_logfile.specs.Reading.{list_at, number_at, width_at, kind_at
 
 use crate::fault::ReadFault;
 use crate::path::Path;
+use crate::words::{kind_of_word, order_of_word, width_of_bytes};
 use serde_json::Value;
 use wm_access::{AccessWidth, MemoryOrder};
 use wm_event::EventKind;
@@ -38,12 +39,10 @@ pub(crate) fn number_of(value: &Value, limit: u64, path: &Path) -> Result<u64, R
 pub(crate) fn width_of(value: &Value, path: &Path) -> Result<AccessWidth, ReadFault>
     ensures { Gives (λ w. w) result (width_at (view value.now)) }
 {
-    match number_of(value, 8, path)? {
-        1 => Ok(AccessWidth::One),
-        2 => Ok(AccessWidth::Two),
-        4 => Ok(AccessWidth::Four),
-        8 => Ok(AccessWidth::Eight),
-        _ => Err(ReadFault::Range(path.copied())),
+    let bytes = number_of(value, 8, path)?;
+    match width_of_bytes(bytes) {
+        Some(width) => Ok(width),
+        None => Err(ReadFault::Range(path.copied())),
     }
 }
 
@@ -51,11 +50,12 @@ pub(crate) fn width_of(value: &Value, path: &Path) -> Result<AccessWidth, ReadFa
 pub(crate) fn kind_of(value: &Value, path: &Path) -> Result<EventKind, ReadFault>
     ensures { Gives (λ k. k) result (kind_at (view value.now)) }
 {
-    match value.as_str() {
-        Some("r") => Ok(EventKind::Read),
-        Some("w") => Ok(EventKind::Write),
-        Some("x") => Ok(EventKind::Update),
-        _ => Err(ReadFault::Shape(path.copied())),
+    let Some(word) = value.as_str() else {
+        return Err(ReadFault::Shape(path.copied()));
+    };
+    match kind_of_word(word) {
+        Some(kind) => Ok(kind),
+        None => Err(ReadFault::Shape(path.copied())),
     }
 }
 
@@ -63,9 +63,11 @@ pub(crate) fn kind_of(value: &Value, path: &Path) -> Result<EventKind, ReadFault
 pub(crate) fn order_of(value: &Value, path: &Path) -> Result<MemoryOrder, ReadFault>
     ensures { Gives (λ o. o) result (order_at (view value.now)) }
 {
-    match value.as_str() {
-        Some("un") => Ok(MemoryOrder::Unordered),
-        Some("sc") => Ok(MemoryOrder::SeqCst),
-        _ => Err(ReadFault::Shape(path.copied())),
+    let Some(word) = value.as_str() else {
+        return Err(ReadFault::Shape(path.copied()));
+    };
+    match order_of_word(word) {
+        Some(order) => Ok(order),
+        None => Err(ReadFault::Shape(path.copied())),
     }
 }

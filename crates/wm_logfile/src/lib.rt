@@ -31,6 +31,7 @@ mod quick;
 mod text;
 mod thread;
 mod witness;
+mod words;
 
 pub use document::{one_pair, read_document};
 pub use fault::DocFault;

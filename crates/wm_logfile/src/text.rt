@@ -11,8 +11,8 @@ ghost use Rattle.wm_logfile.specs.Document.{by_cells, count, document_2, end, ev
 ghost use Rattle.wm_logfile.specs.DocumentBytes.{IsDocumentOf};
 ghost use Rattle.wm_logfile.specs.Limits.{max_document_bytes};
 ghost use Rattle.wm_logfile.specs.Tokens.{Adds, cells_tokens, tokens_of};
-ghost use Rattle.wm_logfile.specs.Words.{kind_word, order_word};
 
+use crate::words::{word_of_kind, word_of_order, word_of_trap};
 use json::Writer;
 use std::alloc::{AllocError, Global};
 use wm_access::MemoryOrder;
@@ -92,27 +92,6 @@ impl ItemWriter<EventId> for IdWriter {
     }
 }
 
-/// The word of a kind.
-fn kind_name(kind: EventKind) -> &'static str
-    ensures { result.now ≡ kind_word kind }
-{
-    match kind {
-        EventKind::Read => "r",
-        EventKind::Write => "w",
-        EventKind::Update => "x",
-    }
-}
-
-/// The word of an ordering.
-fn order_name(order: MemoryOrder) -> &'static str
-    ensures { result.now ≡ order_word order }
-{
-    match order {
-        MemoryOrder::Unordered => "un",
-        MemoryOrder::SeqCst => "sc",
-    }
-}
-
 /// Writes the values of an event of the kind.
 fn write_values(
     kind: EventKind,
@@ -147,8 +126,8 @@ fn write_event(event: &Event, writers: &[EventId], out: &mut Writer) -> Result<(
     ensures { OnOk result (Adds out.old out.new (tokens_of (event_by event.now writers.now))) }
 {
     out.begin_array()?;
-    out.string(kind_name(event.kind))?;
-    out.string(order_name(event.order))?;
+    out.string(word_of_kind(event.kind))?;
+    out.string(word_of_order(event.order))?;
     out.u64(u64::from(event.address))?;
     out.u64(u64::from(event.width.bytes()))?;
     write_values(event.kind, event.read, event.written, out)?;
@@ -186,7 +165,7 @@ fn write_end(ended: End, out: &mut Writer) -> Result<(), AllocError>
         }
         End::Trap(kind) => {
             out.string("trap")?;
-            out.string(kind.name())?;
+            out.string(word_of_trap(kind))?;
         }
         End::Cut => out.string("cut")?,
     }

@@ -10,6 +10,7 @@ use crate::fault::ReadFault;
 use crate::fields::{list_of, number_of};
 use crate::items::{ItemReader, NumberReader, items_of, unzipped};
 use crate::path::Path;
+use crate::words::trap_of_word;
 use serde_json::Value;
 use std::alloc::Global;
 use wm_event::{End, Event, EventId, MAX_STEPS, Start, ThreadLog, TrapKind};
@@ -29,14 +30,12 @@ fn name_of(alloc: Global, value: &Value, path: &Path) -> Result<Text, ReadFault>
 fn trap_of(value: &Value, path: &Path) -> Result<TrapKind, ReadFault>
     ensures { Gives (λ k. k) result (trap_at (view value.now)) }
 {
-    match value.as_str() {
-        Some("unreachable") => Ok(TrapKind::Unreachable),
-        Some("divide-by-zero") => Ok(TrapKind::DivideByZero),
-        Some("overflow") => Ok(TrapKind::Overflow),
-        Some("out-of-bounds") => Ok(TrapKind::OutOfBounds),
-        Some("unaligned") => Ok(TrapKind::Unaligned),
-        Some("exhausted") => Ok(TrapKind::Exhausted),
-        _ => Err(ReadFault::Shape(path.copied())),
+    let Some(word) = value.as_str() else {
+        return Err(ReadFault::Shape(path.copied()));
+    };
+    match trap_of_word(word) {
+        Some(kind) => Ok(kind),
+        None => Err(ReadFault::Shape(path.copied())),
     }
 }
 

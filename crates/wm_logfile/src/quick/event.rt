@@ -1,39 +1,17 @@
 //! Quick reading of events and of the names of events.
-ghost use Rattle.std.specs.Prelude.{◌≡◌, Some, IfOk, IfSome};
-ghost use Rattle.wm_logfile.specs.Reading.{kind_from, kind_at, order_from, order_at, order_for, width_at, key_at, writer_at, event_writers_at, number_event_at, number_event_by_at, event_at, event_by_at, key_from, keys_at, by_from};
+ghost use Rattle.std.specs.Prelude.{Some, IfOk};
+ghost use Rattle.wm_logfile.specs.Reading.{kind_at, order_at, order_for, width_at, key_at, writer_at, event_writers_at, number_event_at, number_event_by_at, event_at, event_by_at, key_from, keys_at, by_from};
 ghost use Rattle.wm_logfile.specs.Taking.{Taken, TakenFront, TakenOn, TakenEvent, TakenValues};
 
 use crate::quick::{
     ItemTaker, TakeFault, close_list, open_list, take_list, take_number, take_text,
 };
+use crate::words::{kind_of_word, order_of_word, width_of_bytes};
 use json::Reader;
 use std::alloc::Global;
 use wm_access::{AccessWidth, MemoryOrder};
 use wm_event::{Event, EventId, EventKey, EventKind};
 use wm_list::List;
-
-/// The kind of an event that the word names.
-fn kind_of_word(word: &str) -> Option<EventKind>
-    ensures { IfSome result (λ k. kind_from word.now ≡ Some k) }
-{
-    match word {
-        "r" => Some(EventKind::Read),
-        "w" => Some(EventKind::Write),
-        "x" => Some(EventKind::Update),
-        _ => None,
-    }
-}
-
-/// The ordering that the word names.
-fn order_of_word(word: &str) -> Option<MemoryOrder>
-    ensures { IfSome result (λ o. order_from word.now ≡ Some o) }
-{
-    match word {
-        "un" => Some(MemoryOrder::Unordered),
-        "sc" => Some(MemoryOrder::SeqCst),
-        _ => None,
-    }
-}
 
 /// Takes the word of an event's kind.
 #[tactic(auto, using(crate::proofs::Taking::word_taken))]
@@ -76,12 +54,10 @@ fn take_order_for(kind: EventKind, reader: &mut Reader<'_>) -> Result<MemoryOrde
 fn take_width(reader: &mut Reader<'_>) -> Result<AccessWidth, TakeFault>
     ensures { IfOk result (λ w. Taken 0 width_at reader.old w reader.new) }
 {
-    match take_number(reader, 8)? {
-        1 => Ok(AccessWidth::One),
-        2 => Ok(AccessWidth::Two),
-        4 => Ok(AccessWidth::Four),
-        8 => Ok(AccessWidth::Eight),
-        _ => Err(TakeFault::Other),
+    let bytes = take_number(reader, 8)?;
+    match width_of_bytes(bytes) {
+        Some(width) => Ok(width),
+        None => Err(TakeFault::Other),
     }
 }
 

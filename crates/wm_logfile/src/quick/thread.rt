@@ -1,7 +1,7 @@
 //! Quick reading of the logs of threads.
-ghost use Rattle.std.specs.Prelude.{◌≡◌, Some, IfOk, IfSome, suc};
+ghost use Rattle.std.specs.Prelude.{Some, IfOk, suc};
 ghost use Rattle.serde_json.specs.Find.{as_str};
-ghost use Rattle.wm_logfile.specs.Reading.{trap_from, trap_at, result_from, end_at, few_at, thread_at, thread_by_at, limited_thread_at, limited_thread_by_at};
+ghost use Rattle.wm_logfile.specs.Reading.{trap_at, result_from, end_at, few_at, thread_at, thread_by_at, limited_thread_at, limited_thread_by_at};
 ghost use Rattle.wm_logfile.specs.Taking.{Taken, TakenOn, TakenHead, result_at};
 
 use crate::items::unzipped;
@@ -10,6 +10,7 @@ use crate::quick::{
     ItemTaker, NumberTaker, TakeFault, close_list, open_list, take_list, take_number, take_text,
 };
 use crate::thread::ThreadHead;
+use crate::words::trap_of_word;
 use json::Reader;
 use std::alloc::Global;
 use wm_event::{End, EventId, MAX_STEPS, MAX_THREADS, Start, ThreadLog, TrapKind};
@@ -21,21 +22,6 @@ fn take_name(alloc: Global, reader: &mut Reader<'_>) -> Result<Text, TakeFault>
 {
     let name = take_text(reader)?;
     Ok(Text::from_string(String::from_str(alloc, name)?))
-}
-
-/// Why a thread trapped, by its word.
-fn trap_of_word(word: &str) -> Option<TrapKind>
-    ensures { IfSome result (λ k. trap_from word.now ≡ Some k) }
-{
-    match word {
-        "unreachable" => Some(TrapKind::Unreachable),
-        "divide-by-zero" => Some(TrapKind::DivideByZero),
-        "overflow" => Some(TrapKind::Overflow),
-        "out-of-bounds" => Some(TrapKind::OutOfBounds),
-        "unaligned" => Some(TrapKind::Unaligned),
-        "exhausted" => Some(TrapKind::Exhausted),
-        _ => None,
-    }
 }
 
 /// Takes why a thread trapped.
