@@ -29,7 +29,11 @@ fn add_locals(found: &mut List<ValType>, count: u32, ty: ValType) -> Result<(), 
 
 /// Reads an entry of at most `locals_left` locals.
 #[tactic(auto, unfolding(crate::specs::ReadingParts::local_entry_at))]
-fn local_entry(alloc: Global, locals_left: usize, bytes: &[u8]) -> Result<(u32, ValType, &[u8]), ItemFault>
+fn local_entry(
+    alloc: Global,
+    locals_left: usize,
+    bytes: &[u8],
+) -> Result<(u32, ValType, &[u8]), ItemFault>
     ensures { Implements (λ x. ((x.0, x.1), x.2.now)) result (local_entry_at locals_left bytes.now) }
 {
     let (count, rest) = unsigned_32(bytes)?;

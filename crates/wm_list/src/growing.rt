@@ -72,17 +72,14 @@ impl<T> Growing<T> {
     }
 
     /// Puts an item into room taken before, behind the others. It takes no memory.
-    pub fn push_within(&mut self, item: T)
+    pub fn push_reserved(&mut self, item: T)
     where
         T: Drop,
         requires { length self.old.items < self.old.capacity }
         ensures items { self.new.items ≡ self.old.items ++ item ∷ [] }
         ensures capacity { self.old.capacity ≤ self.new.capacity }
     {
-        match self.entries.push(item) {
-            Ok(()) => (),
-            Err(_) => unreachable!(),
-        }
+        self.entries.push_reserved(item);
     }
 
     /// Copies items into room taken before, behind the others. It takes no memory.

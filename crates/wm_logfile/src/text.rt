@@ -15,7 +15,6 @@ ghost use Rattle.wm_logfile.specs.Tokens.{Adds, cells_tokens, tokens_of};
 use crate::words::{word_of_kind, word_of_order, word_of_trap};
 use json::Writer;
 use std::alloc::{AllocError, Global};
-use wm_access::MemoryOrder;
 use wm_event::{End, Event, EventId, EventKey, EventKind, Log, ThreadLog, Witness};
 
 /// Writes one item of a list.

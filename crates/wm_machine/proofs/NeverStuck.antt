@@ -1,4 +1,4 @@
--- A thread of a valid module begins with a configuration that fits, and goes on from each such one to another.
+-- A thread of a valid module begins with a configuration that fits, and stepped on from each such one to another.
 use Rattle.std.proofs.Common.{◌≡◌, ℕ, zero, suc, List, [], ◌∷◌, ◌++◌, map, length, Option, Some, None, Result, Ok, Err, refl, sym, ap, subst, ◌∙◌, Bool, true, false, arith}
 use Rattle.std.specs.Prelude.{slice_get, if◌then◌else◌, ◌==◌, All}
 use Rattle.std.proofs.lemmas.Bool.{eqb-true}

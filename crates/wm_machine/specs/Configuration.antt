@@ -21,7 +21,7 @@ abbrev pub waiting : Module → CallFrame → ℕ → List TypedValue → Term �
 waiting m c callee locals t =
     around m c.func c.control_stack.outer (Frame c.control_stack.operands (continuation m c.func c.control_stack.block c.control_stack.at) callee locals t)
 
--- a call under its callers, the innermost first
+-- a call under its call_stack, the innermost first
 abbrev pub under : Module → List CallFrame → ℕ → Vars → Term → Config
 under m [] func vars t = Running func vars t
 under m (c ∷ cs) func vars t = under m cs c.func (record vars { locals = c.locals }) (waiting m c func vars.locals t)

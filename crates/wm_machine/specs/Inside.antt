@@ -116,7 +116,7 @@ GivesBack values (Ok (Asking op)) = ⊥
 GivesBack values (Err StuckFault) = values ≡ None
 GivesBack values (Err OutOfMemory) = ⊥
 
--- back to the first of the callers, with a value on its operands
+-- back to the first of the call_stack, with a value on its operands
 abbrev pub ReturnsTo : Option TypedValue → List CallFrame → CallFrame → List CallFrame → Type 0
 ReturnsTo value [] new rest = ⊥
 ReturnsTo value (a ∷ call_stack) new rest =

@@ -132,7 +132,10 @@ fn hand_over<'m>(
     swap(running, place);
     running.func = func;
     running.control_stack.restart();
-    match running.locals.restart(place.control_stack.top(count), others) {
+    match running
+        .locals
+        .restart(place.control_stack.top(count), others)
+    {
         Err(refused) => {
             swap(running, place);
             Err(refused)

@@ -19,7 +19,13 @@ use wm_list::List;
 use wm_num::Width;
 
 /// `if`: enters its second block where the topmost operand is 0, else the first.
-fn entered(control_stack: &ControlStack, ty: BlockType, first: usize, second: usize, other: Else) -> Action
+fn entered(
+    control_stack: &ControlStack,
+    ty: BlockType,
+    first: usize,
+    second: usize,
+    other: Else,
+) -> Action
     ensures means { (m : Module) (vars : Vars) → Acts m (Instr.If ty first second other) vars control_stack.now.operands result }
     ensures room { popped_by result ≤ length control_stack.now.operands }
     ensures sets { SetsNothing result }

@@ -66,7 +66,8 @@ impl<'m> Locals<'m> {
     pub fn has(&self, index: usize) -> bool
         ensures { result ≡ nat_lt index (length self.now) }
     {
-        index < self.held.len() || has_unheld(self.unset, &self.sparse_locals, index - self.held.len())
+        index < self.held.len()
+            || has_unheld(self.unset, &self.sparse_locals, index - self.held.len())
     }
 
     /// The local of this index.

@@ -138,7 +138,12 @@ fn whole(ty: ValType) -> Storage
 }
 
 /// A memory instruction. Its effective address is its operand plus the offset, not wrapped.
-pub fn access(module: &Module, control_stack: &ControlStack, kind: AccessKind, operands: MemArg) -> Action
+pub fn access(
+    module: &Module,
+    control_stack: &ControlStack,
+    kind: AccessKind,
+    operands: MemArg,
+) -> Action
     requires { pages_of «module».now.memory ≤ 65536 }
     ensures means { (vars : Vars) → Acts «module».now (Instr.Access kind operands) vars control_stack.now.operands result }
     ensures room { popped_by result ≤ length control_stack.now.operands }

@@ -73,7 +73,10 @@ pub fn comparison(control_stack: &ControlStack, op: Comparison, width: Width) ->
     ensures room { popped_by result ≤ length control_stack.now.operands }
     ensures sets { SetsNothing result }
 {
-    match (number(control_stack, 1, width), number(control_stack, 0, width)) {
+    match (
+        number(control_stack, 1, width),
+        number(control_stack, 0, width),
+    ) {
         (Some(left), Some(right)) => Action::Replace(
             2,
             Some(truth(compare(op, width, left, right))),
@@ -101,7 +104,10 @@ pub fn calculated(control_stack: &ControlStack, op: BinaryOperator, width: Width
     ensures room { popped_by result ≤ length control_stack.now.operands }
     ensures sets { SetsNothing result }
 {
-    match (number(control_stack, 1, width), number(control_stack, 0, width)) {
+    match (
+        number(control_stack, 1, width),
+        number(control_stack, 0, width),
+    ) {
         (Some(left), Some(right)) => match binary(op, width, left, right) {
             Ok(value) => Action::Replace(2, Some(TypedValue::of(width, value))),
             Err(trap) => Action::Trap(trap_of(trap)),

@@ -9,13 +9,13 @@ ghost use Rattle.wm_machine.specs.Inside.{as_list};
 ghost use Rattle.wm_machine.specs.Stepping.{HasEnded, HasStep, IsIn, IsStartFault, KeepsThread, MakesStep, NamesNextAccess, NeedsAccess};
 ghost use Rattle.wm_event.specs.declared.op.OpFields.{OpFields};
 
-use crate::call_frame::{CallFrame, StepOutcome, Invocation, Flow, ReturnTo};
 use crate::call::call;
+use crate::call_frame::{CallFrame, Flow, Invocation, ReturnTo, StepOutcome};
 use crate::call_stack::CallStack;
+use crate::control_stack::ControlStack;
 use crate::fault::{AdvanceFault, StartFault, StepFault};
 use crate::functions::callable;
-use crate::control_stack::ControlStack;
-use crate::perform::{step_in_frame, next_op};
+use crate::perform::{next_op, step_in_frame};
 use crate::start::{any_past, first_globals, first_locals, func_of};
 use crate::value::TypedValue;
 use std::alloc::Global;
@@ -192,7 +192,12 @@ impl<'m> Thread<'m> {
         ensures err { OnErr result (self.new ≡ self.old) }
         ensures same { self.new.module ≡ self.old.module }
     {
-        let reached = match step_in_frame(self.module, &mut self.running, &mut self.globals, given) {
+        let reached = match step_in_frame(
+            self.module,
+            &mut self.running,
+            &mut self.globals,
+            given,
+        ) {
             Err(StepFault::Stuck) => unreachable!(),
             Err(StepFault::OutOfMemory) => return Err(AdvanceFault::OutOfMemory),
             Ok(reached) => reached,

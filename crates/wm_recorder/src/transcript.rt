@@ -30,8 +30,8 @@ impl ThreadRecord {
         ensures events { self.new.events.items ≡ self.old.events.items ++ event ∷ [] }
         ensures writers { self.new.writers.items ≡ self.old.writers.items ++ writers ∷ [] }
     {
-        self.events.push_within(event);
-        self.writers.push_within(writers);
+        self.events.push_reserved(event);
+        self.writers.push_reserved(writers);
     }
 }
 
@@ -129,7 +129,7 @@ impl Transcript {
         ensures { AddsAccess drained thread op event writers self.old self.new }
     {
         add_steps(&mut self.history, drained, thread, op);
-        self.order.push_within(event.key());
+        self.order.push_reserved(event.key());
         self.threads[thread as usize].add(event, writers);
     }
 }
@@ -140,7 +140,7 @@ fn add_steps(history: &mut Growing<HistoryStep>, drained: bool, thread: u32, op:
     ensures { history.new.items ≡ history.old.items ++ access_items drained thread op }
 {
     if drained {
-        history.push_within(HistoryStep::Drain(thread));
+        history.push_reserved(HistoryStep::Drain(thread));
     }
-    history.push_within(HistoryStep::Access(thread, op));
+    history.push_reserved(HistoryStep::Access(thread, op));
 }

@@ -50,7 +50,7 @@ fn access<S: Shared, G: Gate>(
                 thread,
                 number: events.len() as u32,
             };
-            events.push_within(op.event(key, reply.read.unwrap_or(0)));
+            events.push_reserved(op.event(key, reply.read.unwrap_or(0)));
             match running.advance(Some(reply)) {
                 Ok(()) => Ok(None),
                 Err(AdvanceFault::OutOfMemory) => Err(AllocError),

@@ -172,7 +172,7 @@ goes_on C n labels whole rest i s s1 so turned = record {
   forth = λ vs d. let r = so.forth vs d in turned.forth r.0 vs rest r.1 r.2;
 }
 
--- the instruction that was refused leaves the block without a type
+-- the instruction that was refused stack_polymorphic the block without a type
 pub refuses : (C : Context) (b : ℕ) (labels : Labels) (whole rest : List Instr) (i : Instr) (s : Stack) (result : Option ValType) → slice_get C.blocks b ≡ Some whole → SoFar C b labels whole (i ∷ rest) s → Rejects C b labels i s → TypedBlock C b labels result → ⊥
 refuses C b labels whole rest i s result there so refused t =
     let same-is : t.body ≡ whole = some_is t.body whole (sym t.is_there ∙ there) in

@@ -1,4 +1,4 @@
-//! The operands of a block while it is checked. After an instruction that leaves the block, operands of any
+//! The operands of a block while it is checked. After an instruction that stack_polymorphic the block, operands of any
 //! type stand below those that are known.
 ghost use Rattle.std.specs.Prelude.{◌≡◌, [], ◌∷◌, IfErr, Some, OnOk, MatchOption, None, reverse, is_some};
 ghost use Rattle.wm_valid.specs.Stacks.{pop, push, empty, opened, take_one, take_all, give_all, select_on, made_by, ended, joined};
@@ -150,7 +150,7 @@ impl Stack {
         self.give(Some(result_type))
     }
 
-    /// Takes what a branch takes, and leaves the block.
+    /// Takes what a branch takes, and stack_polymorphic the block.
     pub(crate) fn branch(&mut self, label: BlockType) -> Result<(), InstrFault>
         ensures maps { LeavesStack result (made_by (stack_polymorphic (listed label)) self.old) self.new }
         ensures kind { IfErr result IsUntyped }
@@ -170,7 +170,7 @@ impl Stack {
         self.give(label)
     }
 
-    /// Takes an i32 and what a branch takes, and leaves the block.
+    /// Takes an i32 and what a branch takes, and stack_polymorphic the block.
     pub(crate) fn branch_table(&mut self, label: BlockType) -> Result<(), InstrFault>
         ensures maps { LeavesStack result (made_by (stack_polymorphic (I32 ∷ listed label)) self.old) self.new }
         ensures kind { IfErr result IsUntyped }

@@ -34,12 +34,12 @@ fn a_growing_list_takes_its_room_first(rt: HostRuntime) -> Result<(), Fail> {
     list.extend_within(&[7u64, 8]);
     assert_eq!(rt; list.len(), 2);
     list.reserve(1)?;
-    list.push_within(9);
+    list.push_reserved(9);
     assert_eq!(rt; list.as_slice(), [7, 8, 9].as_slice());
     assert_eq!(rt; list.into_list().as_slice(), [7, 8, 9].as_slice());
     let mut empty = Growing::new(rt.alloc());
     empty.reserve(1)?;
-    empty.push_within(5u64);
+    empty.push_reserved(5u64);
     assert_eq!(rt; empty.as_slice(), [5].as_slice());
     Ok(())
 }

@@ -5,7 +5,7 @@ use Rattle.wm_run.proofs.worker.access.Goals as goal
 
 pub returns-in-Ok-advance-clause-made : goal.returns-in-Ok-advance-clause-made
 returns-in-Ok-advance-clause-made g c = λ _ first n so.
-    leads_by_reply c.args.running.now c.args.thread first (config_of c.advance.new.self) c.args.events.now.items c.push_within.new.self.items n c.args.op c.in-Ok.reply
+    leads_by_reply c.args.running.now c.args.thread first (config_of c.advance.new.self) c.args.events.now.items c.push_reserved.new.self.items n c.args.op c.in-Ok.reply
     c.event.result c.unwrap_or.result so c.requires.asks c.in-Ok.ensures.answers (search rules) (search rules) (search rules) c.in-Ok-advance.ensures.ok
 
 pub returns-then-not-before-clause-stopped : goal.returns-then-not-before-clause-stopped
