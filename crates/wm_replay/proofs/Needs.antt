@@ -11,7 +11,7 @@ use Rattle.wm_machine.specs.declared.thread.Need.TheVariants as need
 use Rattle.wm_machine.specs.Run.{end_of}
 use Rattle.wm_machine.specs.State.{State, as_need, config_from, config_of, need_in, need_of}
 use Rattle.wm_machine.specs.Step.{access_of, step, went}
-use Rattle.wm_replay.specs.Answers.{Accesses, IsMade, IsNotMade}
+use Rattle.wm_replay.specs.Following.{Accesses, MakesEvent, MakesNotEvent}
 use Rattle.wm_machine.specs.Term.{Config, Over, Step, Term, Vars, Went, NoStep}
 use Rattle.wm_machine.specs.Configuration.{left_of, under, waiting}
 use Rattle.wm_machine.specs.Inside.{vars_of}
@@ -95,17 +95,17 @@ still_goes n (inr e) end f = absurd (cc (e.1, f))
 -- ---- an event by its number
 
 -- an event of the list isn't made by an access, as far as the list has it
-pub other_at : (op : OpFields) (es : List Event) (n : ℕ) (d : Event) → IsNotMade op (get_or es n d) → (e : Event) → slice_get es n ≡ Some e → IsNotMade op e
-other_at op es n d other e is = subst (IsNotMade op) (get_or_from_slice_get es n e d is) other
+pub other_at : (op : OpFields) (es : List Event) (n : ℕ) (d : Event) → MakesNotEvent op (get_or es n d) → (e : Event) → slice_get es n ≡ Some e → MakesNotEvent op e
+other_at op es n d other e is = subst (MakesNotEvent op) (get_or_from_slice_get es n e d is) other
 
 -- the step makes the access that is the event of this number
-pub access_at : (m : Module) (old new : Config) (op : OpFields) (es : List Event) (n : ℕ) (d : Event) → n < length es → IsMade op (get_or es n d)
+pub access_at : (m : Module) (old new : Config) (op : OpFields) (es : List Event) (n : ℕ) (d : Event) → n < length es → MakesEvent op (get_or es n d)
     → ((r : ℕ) → access_of (step m r old) ≡ Some op) → went (step m (get_or es n d).read old) ≡ Some new → Accesses m old new es n
 access_at m old new op es n d lt made asks goes = record {
   op = op;
   event = get_or es n d;
   listed = slice_get-get_or es n d lt;
-  made = made;
+  makes = made;
   asks = asks;
-  goes = made_access (step m (get_or es n d).read old) op new (asks (get_or es n d).read) goes;
+  steps_to = made_access (step m (get_or es n d).read old) op new (asks (get_or es n d).read) goes;
 }

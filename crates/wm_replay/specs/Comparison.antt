@@ -1,69 +1,19 @@
--- What the replay answers.
-use Rattle.std.specs.Prelude.{◌≡◌, ◌≢◌, ℕ, ◌+◌, ◌<◌, ◌⊎◌, List, Option, Some, None, Result, Ok, Err, length, slice_get, nat_lt, if◌then◌else◌, ⊤}
+-- How a log compares with the runs of its threads, as the replay answers it.
+use Rattle.std.specs.Prelude.{◌≡◌, ◌≢◌, ℕ, ◌<◌, List, Option, Some, None, Result, Ok, Err, length, slice_get, nat_lt, if◌then◌else◌}
 use Rattle.wm_ast.specs.declared.module.Module.{Module}
-use Rattle.wm_event.specs.declared.event.Event.{Event}
 use Rattle.wm_event.specs.declared.log.ThreadLog.{ThreadLog}
-use Rattle.wm_event.specs.declared.op.OpFields.{OpFields}
-use Rattle.wm_event.specs.Event.{key_of}
-use Rattle.wm_event.specs.Op.{event_made}
-use Rattle.wm_access.specs.AccessWidth.{Fits}
 use Rattle.wm_machine.specs.declared.fault.StartFault.TheVariants.{OutOfMemory}
-use Rattle.wm_machine.specs.Step.{access_of, step}
-use Rattle.wm_machine.specs.Term.{Config, Went, NoStep}
 use Rattle.wm_replay.specs.declared.answer.Place.{Place}
 use Rattle.wm_replay.specs.declared.answer.Place.TheVariants as place
 use Rattle.wm_replay.specs.declared.answer.ReplayAnswer.{ReplayAnswer}
 use Rattle.wm_replay.specs.declared.answer.ReplayAnswer.TheVariants.{Same, StartRefused, Differs}
-use Rattle.wm_replay.specs.declared.compare.Progress.{Progress}
-use Rattle.wm_replay.specs.declared.compare.Progress.TheVariants as progress
 use Rattle.wm_replay.specs.Replay.{AreRuns, DiffersAt, IsRun, start_of}
-
--- ---- a step beside the log
-
--- the access makes the event, where it reads the value that the event read
-abbrev pub IsMade : OpFields → Event → Type 0
-IsMade a e = (event_made (key_of e) a e.read ≡ e) × Fits a.width e.read
-
--- it doesn't make it, whatever value it reads
-abbrev pub IsNotMade : OpFields → Event → Type 0
-IsNotMade a e = (r : ℕ) → Fits a.width r → event_made (key_of e) a r ≢ e
-
--- the step makes the access that is the log's event n
-pub record Accesses (m : Module) (old new : Config) (events : List Event) (n : ℕ) : Type 0 where
-  pub op : OpFields
-  pub event : Event
-  pub listed : slice_get events n ≡ Some event
-  pub made : IsMade op event
-  pub asks : (r : ℕ) → access_of (step m r old) ≡ Some op
-  pub goes : step m event.read old ≡ Went (Some op) new
-
--- the step would make an access that isn't the log's event n
-pub record AccessesOther (m : Module) (old : Config) (events : List Event) (n : ℕ) : Type 0 where
-  pub op : OpFields
-  pub asks : (r : ℕ) → access_of (step m r old) ≡ Some op
-  pub not_made : (e : Event) → slice_get events n ≡ Some e → IsNotMade op e
-
--- a step of a thread that has made the log's events below n
-abbrev pub Steps : Module → Config → Config → List Event → ℕ → Progress → Type 0
-Steps m old new events n (progress.Made now) = ((now ≡ n) × (step m 0 old ≡ Went None new)) ⊎ ((now ≡ n + 1) × Accesses m old new events n)
-Steps m old new events n progress.Other = AccessesOther m old events n
-Steps m old new events n progress.Rests = step m 0 old ≡ NoStep
-
--- a step that isn't made changes nothing
-abbrev pub Stays : Config → Config → Progress → Type 0
-Stays old new (progress.Made now) = ⊤
-Stays old new progress.Other = new ≡ old
-Stays old new progress.Rests = new ≡ old
 
 -- ---- a thread
 
 -- where a thread that makes no further step differs from its log, of whose events it has made so many
 abbrev pub end_place : ℕ → ℕ → Place
 end_place made stated = if nat_lt made stated then place.Event made else place.End
-
--- event i of thread k stands there
-abbrev pub HasPlaces : ℕ → List Event → Type 0
-HasPlaces k events = (i : ℕ) (e : Event) → slice_get events i ≡ Some e → (e.thread ≡ k) × (e.number ≡ i)
 
 abbrev pub IsDifference : Module → ℕ → ThreadLog → Option Place → Type 0
 IsDifference m k t None = IsRun m k t

@@ -3,7 +3,7 @@ use Rattle.std.specs.Prelude.{Ok}
 use Rattle.wm_machine.specs.State.{config_of}
 use Rattle.wm_machine.specs.Step.{step}
 use Rattle.wm_replay.proofs.Needs.{local_of_need, made_local, no_step_of_need}
-use Rattle.wm_replay.proofs.compare.step_on.Goals as goal
+use Rattle.wm_replay.proofs.by_log.step_by_log.Goals as goal
 
 pub returns-in-Ended-clause-steps : goal.returns-in-Ended-clause-steps
 returns-in-Ended-clause-steps c =

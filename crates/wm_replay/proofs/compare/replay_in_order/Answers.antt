@@ -1,8 +1,8 @@
 use Rattle.std.proofs.Common.{◌≡◌, Some, subst}
 use Rattle.std.specs.Prelude.{slice_get}
-use Rattle.wm_replay.specs.Answers.{ComparesThread}
+use Rattle.wm_replay.specs.Comparison.{ComparesThread}
 use Rattle.wm_replay.proofs.Logs.{all_below, first_other, item_at, places_in, runs_more}
-use Rattle.wm_replay.proofs.compare.replay_in_turn.Goals as goal
+use Rattle.wm_replay.proofs.compare.replay_in_order.Goals as goal
 
 pub difference-requires : goal.difference-requires
 difference-requires c =
