@@ -1,2 +1,1 @@
-pub mod ArrowLaws
 mod ColumnLaws
