@@ -1,9 +1,9 @@
 //! Why bytes are not a document.
+ghost use Rattle.std.specs.Prelude.{◌≤◌, length};
 
 use crate::document_part::{PartPhrase, count_threads};
 use crate::expected::ExpectedPhrase;
-use serde_json::Value;
-use serde_json::error::Category;
+use serde_json::{Category, Error, Value};
 use std::alloc::{AllocError, Global};
 use std::fmt;
 use wm_logfile::{DocFault, MAX_DOCUMENT_BYTES, MAX_THREADS};
@@ -91,7 +91,9 @@ impl fmt::Display for TextPosition {
 }
 
 /// The offset of a line's column, both from 1.
-fn offset_of(bytes: &[u8], line: usize, column: usize) -> usize {
+fn offset_of(bytes: &[u8], line: usize, column: usize) -> usize
+    ensures inside { result ≤ length bytes.now }
+{
     let mut seen = 1usize;
     let mut start = 0usize;
     for (offset, byte) in bytes.iter().enumerate() {
@@ -117,15 +119,33 @@ fn expected_at(bytes: &[u8], offset: usize) -> &'static str {
         .find(|byte| !matches!(**byte, b' ' | b'\t' | b'\n' | b'\r'));
     let is_value = matches!(before, None | Some(b',' | b':' | b'['));
     match bytes.get(offset) {
-        Some(b'[' | b'{') if is_value => "at most 127 nested lists",
-        Some(b'-' | b'0'..=b'9') if is_value => {
-            "a number as JSON writes it, within the range of a double"
+        Some(b'[' | b'{' | b'"' | b'-' | b'0'..=b'9') if is_value => {
+            "JSON (RFC 8259) with at most 127 nested lists"
         }
-        Some(b'"') if is_value => "a string with the escapes of JSON",
         _ if before == Some(&b'[') => "a value or ]",
         _ if is_value => "a value",
         _ => "JSON (RFC 8259)",
     }
+}
+
+/// Why a text is not JSON where a fault was found, which isn't its end.
+fn fault_inside(alloc: Global, bytes: &[u8], fault: &Error) -> Result<String, AllocError> {
+    let offset = offset_of(bytes, fault.line(), fault.column());
+    let position = TextPosition::of(bytes, offset);
+    let words = format!(in alloc; "{fault}")?;
+    if words.as_str().starts_with("number out of range") {
+        return format!(in alloc;
+            "The document is not JSON as it is read here: the number before {position} is out of the range of a double.\n"
+        );
+    }
+    let expected = expected_at(bytes, offset);
+    let found = PartPhrase {
+        document: &bytes[offset..],
+        path: &[],
+    };
+    format!(in alloc;
+        "The document is not JSON at {position}.\nFound: {found}\nExpected: {expected}\n"
+    )
 }
 
 /// Why a text that is UTF-8 is not JSON.
@@ -140,18 +160,7 @@ fn json_fault(alloc: Global, bytes: &[u8]) -> Result<String, AllocError> {
         Category::Eof => format!(in alloc;
             "The document is not JSON: it ends too early, at {end}. Expected: the rest of a value, with its closing quotes and brackets.\n"
         ),
-        _ => {
-            let offset = offset_of(bytes, fault.line(), fault.column());
-            let position = TextPosition::of(bytes, offset);
-            let expected = expected_at(bytes, offset);
-            let found = PartPhrase {
-                document: &bytes[offset..],
-                path: &[],
-            };
-            format!(in alloc;
-                "The document is not JSON at {position}.\nFound: {found}\nExpected: {expected}\n"
-            )
-        }
+        _ => fault_inside(alloc, bytes, &fault),
     }
 }
 

@@ -1,1 +1,2 @@
 mod ColumnLaws
+mod EdgeLaws

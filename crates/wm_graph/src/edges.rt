@@ -12,7 +12,7 @@ use wm_hb::{FaultChain, LinkKind, WriterRun, fault_chains, synchronizes, writer_
 use wm_list::List;
 
 /// Which bytes of a read its writer wrote, and how.
-#[derive(Clone, Copy, Debug, PartialEq, Eq)]
+#[derive(Clone, Copy)]
 pub(crate) struct ReadsFrom {
     /// The bytes, by their numbers in the read's range.
     pub first: usize,
@@ -24,7 +24,7 @@ pub(crate) struct ReadsFrom {
 }
 
 /// What an edge states.
-#[derive(Clone, Copy, Debug, PartialEq, Eq)]
+#[derive(Clone, Copy)]
 pub(crate) enum EdgeKind {
     /// The second event is the next one of the thread.
     Sequenced,
@@ -37,7 +37,7 @@ pub(crate) enum EdgeKind {
 }
 
 /// An edge of a picture.
-#[derive(Clone, Copy, Debug, PartialEq, Eq)]
+#[derive(Clone, Copy)]
 pub(crate) struct Edge {
     pub from: EventId,
     pub to: EventKey,

@@ -453,7 +453,7 @@ const NOT_JSON: [(&[u8], &str); 6] = [
     ),
     (
         b"[1e999]",
-        "The document is not JSON at byte 1 (line 1, column 2).\nFound: 1e999\nExpected: a number as JSON writes it, within the range of a double\n",
+        "The document is not JSON as it is read here: the number before byte 6 (line 1, column 7) is out of the range of a double.\n",
     ),
     (
         b"[\"a\xFF\"]",
