@@ -30,7 +30,7 @@ use Rattle.wm_logfile.specs.Document.{IsDocument}
 use Rattle.wm_logfile.specs.DocumentBytes.{IsDocumentOf}
 use Rattle.wm_replay.specs.declared.answer.ReplayAnswer.{ReplayAnswer}
 use Rattle.wm_replay.specs.declared.answer.ReplayAnswer.TheVariants as replay
-use Rattle.wm_replay.specs.Answers.{Replays}
+use Rattle.wm_replay.specs.Comparison.{Replays}
 use Rattle.wm_replay.specs.Replay.{AreRuns}
 use Rattle.wm_valid.specs.Valid.{IsInit, Valid}
 use Rattle.wm_valid.proofs.Initial.{one_init}

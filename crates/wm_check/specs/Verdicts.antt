@@ -19,7 +19,7 @@ use Rattle.wm_event.specs.Shape.{Misshapes, event_count, shape_rank}
 use Rattle.wm_logfile.specs.DocumentBytes.{IsNoDocument}
 use Rattle.wm_replay.specs.declared.answer.ReplayAnswer.{ReplayAnswer}
 use Rattle.wm_replay.specs.declared.answer.ReplayAnswer.TheVariants as replay
-use Rattle.wm_replay.specs.Answers.{Replays}
+use Rattle.wm_replay.specs.Comparison.{Replays}
 use Rattle.wm_replay.specs.Replay.{AreRuns}
 use Rattle.wm_valid.specs.declared.fault.ValidFault.{ValidFault}
 use Rattle.wm_valid.specs.declared.fault.ValidFault.TheVariants as valid

@@ -1,3 +1,1 @@
-pub mod Chain
-pub mod Table
-pub mod Difference
+pub mod Compared

@@ -1,5 +1,6 @@
 //! What an allowed run rests on.
 
+use crate::json_text::JsonText;
 use crate::phrase::{Count, EndPhrase};
 use crate::row::add_rows;
 use std::alloc::{AllocError, Global};
@@ -7,14 +8,14 @@ use wm_event::{Candidate, ThreadLog};
 
 /// Adds how a thread starts and ends.
 fn add_thread(text: &mut String, number: usize, thread: &ThreadLog) -> Result<(), AllocError> {
-    let name = thread.start.name.as_str();
+    let name = JsonText(thread.start.name.as_str());
     let args = Count(thread.start.args.len() as u64, "argument");
     let steps = Count(u64::from(thread.steps), "step");
     let events = Count(thread.events.len() as u64, "event");
     let end = EndPhrase(thread.end);
     writeln!(
         text,
-        "  thread {number} runs {name:?} on {args}: {steps}, {events}, and then it {end}"
+        "  thread {number} runs {name} on {args}: {steps}, {events}, and then it {end}"
     )
 }
 
@@ -22,17 +23,20 @@ fn add_thread(text: &mut String, number: usize, thread: &ThreadLog) -> Result<()
 ///
 /// # Errors
 ///
-/// Only where memory was refused.
+/// Only if an allocation fails.
 pub(crate) fn allowed_reason(alloc: Global, candidate: &Candidate) -> Result<String, AllocError> {
     let mut text = String::new(alloc);
     text.push_str(
-        "Each thread's events and end are those that the module gives it on the values that it read, and the memory rules permit the events with these writers in this order.\n",
+        "Each thread's events and end are those of its run on the values that it read. The memory rules allow the events with these writers in this order.\n",
     )?;
     text.push_str("The threads:\n")?;
+    if candidate.log().threads().is_empty() {
+        text.push_str("  none\n")?;
+    }
     for (number, thread) in candidate.log().threads().iter().enumerate() {
         add_thread(&mut text, number, thread)?;
     }
     text.push_str("The events in their order, with who wrote what was read:\n")?;
-    add_rows(&mut text, candidate)?;
+    add_rows(alloc, &mut text, candidate)?;
     Ok(text)
 }

@@ -1,4 +1,4 @@
-//! The part of a document at a path, as it stands in the bytes.
+//! The part of a document at a path, as its bytes are.
 ghost use Rattle.std.specs.Prelude.{◌≤◌, length};
 
 use std::fmt;
@@ -57,7 +57,7 @@ fn without_back(bytes: &[u8]) -> &[u8] {
     &bytes[..end]
 }
 
-/// What stands behind the opening bracket of a list; None where the bytes begin with no list.
+/// What comes after the opening bracket of a list; None if the bytes don't begin with a list.
 fn inside(bytes: &[u8]) -> Option<&[u8]> {
     match without_front(bytes) {
         [b'[', rest @ ..] => Some(rest),
@@ -70,7 +70,7 @@ fn item(bytes: &[u8], index: u32) -> Option<&[u8]> {
     let mut rest = inside(bytes)?;
     for _ in 0..index {
         match &rest[value_end(rest)..] {
-            [b',', behind @ ..] => rest = behind,
+            [b',', after @ ..] => rest = after,
             _ => return None,
         }
     }
@@ -83,8 +83,8 @@ fn count_items(bytes: &[u8]) -> Option<u64> {
     let mut count = 1u64;
     for _ in 0..bytes.len() {
         match &rest[value_end(rest)..] {
-            [b',', behind @ ..] => {
-                rest = behind;
+            [b',', after @ ..] => {
+                rest = after;
                 count = count.saturating_add(1);
             }
             _ => return Some(count),
@@ -93,13 +93,13 @@ fn count_items(bytes: &[u8]) -> Option<u64> {
     Some(count)
 }
 
-/// The bytes of the value at a path of a JSON text; None where there is none.
-fn value_at<'a>(bytes: &'a [u8], path: &[u32]) -> Option<&'a [u8]> {
+/// The bytes of the value at a path of a JSON text, without white space around them; None if there is none.
+pub(crate) fn value_at<'a>(bytes: &'a [u8], path: &[u32]) -> Option<&'a [u8]> {
     let mut value = bytes;
     for index in path {
         value = item(value, *index)?;
     }
-    Some(value)
+    Some(without_back(without_front(value)))
 }
 
 /// How many threads a document has.
@@ -132,10 +132,7 @@ fn shown(bytes: &[u8]) -> usize
 
 impl fmt::Display for PartPhrase<'_> {
     fn fmt<W: fmt::Write>(&self, f: &mut fmt::Formatter<W>) -> fmt::Result {
-        let value = match value_at(self.document, self.path) {
-            Some(value) => without_back(without_front(value)),
-            None => &[],
-        };
+        let value = value_at(self.document, self.path).unwrap_or(&[]);
         let length = shown(value);
         for piece in str::from_utf8(&value[..length])
             .unwrap_or("")

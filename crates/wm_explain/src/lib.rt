@@ -1,12 +1,14 @@
-//! Why a check answers what it answers, in sentences: what stands behind each verdict.
+//! Why a check answers what it answers, in sentences and tables.
 #![tactic(auto)]
 
 mod allowed;
-mod chain;
+mod compared;
 mod document_part;
-mod fault_chain;
+mod document_refusal;
+mod expected;
+mod feature;
 mod instr;
-mod log_refusal;
+mod json_text;
 mod module_count;
 mod module_refusal;
 mod phrase;
@@ -15,12 +17,10 @@ mod reasons;
 mod replay;
 mod row;
 mod rule;
-mod table;
+mod shape_refusal;
+mod start_refusal;
 
-pub use chain::{Link, LinkKind, shortest_chain};
-pub use fault_chain::{FaultChain, fault_chains};
 pub use reasons::{explain_refusal, explain_run};
-pub use rule::grounds;
 
 #[cfg(test)]
 mod tests;

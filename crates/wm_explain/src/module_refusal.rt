@@ -1,5 +1,6 @@
 //! Why a module is refused.
 
+use crate::feature::UnsupportedSentence;
 use crate::module_count::{number_at, parameters_and_locals};
 use std::alloc::{AllocError, Global};
 use std::fmt;
@@ -35,22 +36,22 @@ impl fmt::Display for LimitSentence {
         match self.limit {
             Limit::ModuleBytes => write!(
                 f,
-                "The module has more than 1048576 bytes, the most that are read; {found} of them were looked at."
+                "The module has more than 1048576 bytes, the most that are read."
             ),
             Limit::Pages => write!(
                 f,
-                "The memory has {found} pages at first, and at most 16 are read."
+                "The memory has {found} initial pages. At most 16 are supported."
             ),
             Limit::Functions => write!(
                 f,
-                "The module has {found} functions, and at most 1000 are read."
+                "The module has {found} functions. At most 1000 are supported."
             ),
             Limit::Locals => write!(
                 f,
-                "A function has {found} parameters and locals together up to here, and at most 1000 are read."
+                "A function has {found} parameters and locals up to here. At most 1000 are supported."
             ),
             Limit::Nesting => f.write_str(
-                "This is the 65th block inside one another in a function's body, and at most 64 are read.",
+                "This block has a nesting depth of 65. At most 64 is supported.",
             ),
         }
     }
@@ -58,44 +59,44 @@ impl fmt::Display for LimitSentence {
 
 /// What is wrong with the bytes of a module.
 #[derive(Clone, Copy)]
-pub(crate) struct DecodeSentence {
+pub(crate) struct DecodeSentence<'a> {
     pub kind: FaultKind,
+    /// The bytes of the module from the faulty one on.
+    pub bytes: &'a [u8],
     /// The number that passes a limit, where it is known.
     pub found: Option<u64>,
 }
 
-impl fmt::Display for DecodeSentence {
+impl fmt::Display for DecodeSentence<'_> {
     fn fmt<W: fmt::Write>(&self, f: &mut fmt::Formatter<W>) -> fmt::Result {
         let text = match self.kind {
             FaultKind::Magic => "A binary module begins with the bytes 00 61 73 6d.",
             FaultKind::Version => {
-                "Behind its first four bytes a binary module has 01 00 00 00, the version."
+                "After its first four bytes a binary module has 01 00 00 00, the version."
             }
-            FaultKind::Truncated => "The bytes end where more have to come.",
+            FaultKind::Truncated => "The bytes end too early.",
             FaultKind::BadNumber =>
-                "A number is too long or too large here, or a byte isn't one of those that may stand here.",
+                "A number is too long or too large here, or a byte isn't one of those that are allowed here.",
             FaultKind::BadName => "A name isn't UTF-8.",
             FaultKind::SectionOrder => {
-                "A section stands twice, or behind one that it has to stand before."
+                "A section comes twice, or after one that it has to precede."
             }
             FaultKind::SectionSize =>
                 "An item runs past the size of its section or body, or bytes are left over there.",
-            FaultKind::CountMismatch => "Two counts that have to agree don't agree.",
+            FaultKind::CountMismatch => "Two counts that have to be equal differ.",
             FaultKind::DuplicateExport => "Two exports have one name.",
             FaultKind::UnknownOpcode(0x05) => {
-                "An else stands outside of every if, or is the second one of its if."
+                "An else is outside of every if, or is the second one of its if."
             }
             FaultKind::UnknownOpcode(0xfe) => {
-                "No instruction has the code that stands behind the prefix fe."
+                "No instruction has this code after the prefix fe."
             }
             FaultKind::UnknownOpcode(opcode) => {
                 return write!(f, "No instruction has the opcode {opcode:02x}.");
             }
             FaultKind::Unsupported(feature) => {
-                return write!(
-                    f,
-                    "The module uses a part of WebAssembly that is left out here: {feature}."
-                );
+                let bytes = self.bytes;
+                return write!(f, "{}", UnsupportedSentence { feature, bytes });
             }
             FaultKind::Limit(limit) => {
                 let found = Found(self.found);
@@ -124,9 +125,12 @@ impl fmt::Display for Heading {
     fn fmt<W: fmt::Write>(&self, f: &mut fmt::Formatter<W>) -> fmt::Result {
         let Heading(offset, size) = *self;
         if offset < size {
-            return write!(f, "The bytes there, the one at {offset} in brackets");
+            return write!(f, "The bytes there, the one at {offset} in brackets:");
         }
-        f.write_str("The last bytes")
+        if size == 0 {
+            return f.write_str("The bytes there: none");
+        }
+        f.write_str("The last bytes:")
     }
 }
 
@@ -153,11 +157,11 @@ impl fmt::Display for BytesAround<'_> {
     }
 }
 
-/// Why bytes are no module within the limits.
+/// Why bytes are not a module within the limits.
 ///
 /// # Errors
 ///
-/// Only where memory was refused.
+/// Only if an allocation fails.
 pub(crate) fn decode_reason(
     alloc: Global,
     fault: &DecodeFault,
@@ -168,13 +172,14 @@ pub(crate) fn decode_reason(
         DecodeFault::At(kind, offset) => {
             let sentence = DecodeSentence {
                 kind: *kind,
+                bytes: bytes.get(*offset..).unwrap_or(&[]),
                 found: found_at(*kind, bytes, *offset),
             };
             let around = BytesAround(bytes, *offset);
             let size = bytes.len();
             let heading = Heading(*offset, size);
             format!(in alloc;
-                "The bytes are no module that is read here, from byte {offset} of {size} on. {sentence}\n{heading}:{around}\n"
+                "The module can't be decoded at byte {offset} of {size}. {sentence}\n{heading}{around}\n"
             )
         }
     }
@@ -188,22 +193,26 @@ impl fmt::Display for ValidSentence {
     fn fmt<W: fmt::Write>(&self, f: &mut fmt::Formatter<W>) -> fmt::Result {
         match self.0 {
             ValidKind::BadType => f.write_str(
-                "The operands, a label, a global or an offset aren't of the types that are wanted there, or a constant global is set.",
+                "The operands, a label, a global or an offset don't have the types that are expected there, or an immutable global is set.",
             ),
             ValidKind::Index => f.write_str(
-                "A type, function, local, global or memory is named by an index that isn't there.",
+                "An index names no type, function, local, global or memory.",
             ),
             ValidKind::Label => {
-                f.write_str("A branch names a label, and fewer blocks stand around it.")
+                f.write_str(
+                    "A branch names a label that is greater than the number of blocks around it.",
+                )
             }
             ValidKind::Alignment => f.write_str(
-                "A plain access may not claim more alignment than its width, and an atomic one has to claim just its width.",
+                "The alignment of a plain access may not be greater than its width, and that of an atomic access has to be its width.",
             ),
             ValidKind::DataOutOfRange => {
-                f.write_str("A data segment doesn't lie in the memory as it is at first.")
+                f.write_str("A data segment isn't inside the initial memory.")
             }
             ValidKind::MemoryAbsent => {
-                f.write_str("An instruction or a data segment needs a memory, and there is none.")
+                f.write_str(
+                    "An instruction or a data segment needs a memory, and the module has none.",
+                )
             }
             ValidKind::MemoryLimits => f.write_str(
                 "The memory's maximum is below its minimum, or above 65536 pages.",
@@ -222,7 +231,7 @@ impl fmt::Display for LocationPhrase {
             Location::Module => f.write_str("outside the functions' instructions"),
             Location::Instr { func, instr } => write!(
                 f,
-                "in function {func} at instruction {instr}, both counted from 0, and each else and end counted too"
+                "in function {func} at instruction {instr}, both counted from 0, with each else and end"
             ),
         }
     }
@@ -232,14 +241,14 @@ impl fmt::Display for LocationPhrase {
 ///
 /// # Errors
 ///
-/// Only where memory was refused.
+/// Only if an allocation fails.
 pub(crate) fn valid_reason(alloc: Global, fault: &ValidFault) -> Result<String, AllocError> {
     match fault {
         ValidFault::OutOfMemory => Err(AllocError),
         ValidFault::At(kind, location) => {
             let sentence = ValidSentence(*kind);
             let place = LocationPhrase(*location);
-            format!(in alloc; "The bytes spell a module that isn't valid, {place}. {sentence}\n")
+            format!(in alloc; "The module isn't valid, {place}. {sentence}\n")
         }
     }
 }

@@ -2,7 +2,8 @@
 
 use std::fmt;
 use wm_access::RmwOperator;
-use wm_event::{End, Event, EventId, OpFields, OpKind};
+use wm_event::{End, Event, OpFields, OpKind};
+use wm_hb::WriterRun;
 
 /// A number of things, as `1 step` or `2 steps`.
 #[derive(Clone, Copy)]
@@ -90,7 +91,7 @@ impl fmt::Display for OpPhrase {
             }
             OpKind::CmpXchg(expected, new) => write!(
                 f,
-                "{order} compare-exchange of {size} at address {address}, which writes {new} where it reads {expected}"
+                "{order} compare-exchange of {size} at address {address}, which writes {new} if it reads {expected}"
             ),
         }
     }
@@ -98,40 +99,30 @@ impl fmt::Display for OpPhrase {
 
 /// Who wrote the bytes that were read: one event, or which bytes each wrote.
 #[derive(Clone, Copy)]
-pub(crate) struct WritersPhrase<'a>(pub &'a [EventId]);
+pub(crate) struct WritersPhrase<'a>(pub &'a [WriterRun]);
 
 impl fmt::Display for WritersPhrase<'_> {
     fn fmt<W: fmt::Write>(&self, f: &mut fmt::Formatter<W>) -> fmt::Result {
-        let writers = self.0;
-        let mut first = 0usize;
-        for (last, writer) in writers.iter().enumerate() {
-            let behind = last.saturating_add(1);
-            if writers.get(behind) == Some(writer) {
-                continue;
-            }
-            if first == 0 && behind == writers.len() {
-                return write!(f, "from {writer}");
-            }
-            if first > 0 {
+        if let [run] = self.0 {
+            return write!(f, "from {}", run.writer);
+        }
+        for (position, run) in self.0.iter().enumerate() {
+            if position > 0 {
                 f.write_str(", ")?;
             }
-            write!(f, "{} from {writer}", BytesPhrase { first, last })?;
-            first = behind;
+            write!(f, "{} from {}", BytesPhrase(*run), run.writer)?;
         }
         Ok(())
     }
 }
 
-/// The bytes of a range from the first to the last one.
+/// The bytes of a run, from the first to the last one.
 #[derive(Clone, Copy)]
-struct BytesPhrase {
-    first: usize,
-    last: usize,
-}
+struct BytesPhrase(WriterRun);
 
 impl fmt::Display for BytesPhrase {
     fn fmt<W: fmt::Write>(&self, f: &mut fmt::Formatter<W>) -> fmt::Result {
-        let BytesPhrase { first, last } = *self;
+        let WriterRun { first, last, .. } = self.0;
         if first == last {
             write!(f, "byte {first}")
         } else {

@@ -1,6 +1,7 @@
 //! Where a thread stands in the text of its module.
 
 use crate::instr::InstrPhrase;
+use crate::json_text::JsonText;
 use std::alloc::{AllocError, Global};
 use std::fmt;
 use wm_ast::{Block, Else, ExportKind, Instr, Module};
@@ -117,7 +118,9 @@ impl FunctionName<'_> {
 impl fmt::Display for FunctionName<'_> {
     fn fmt<W: fmt::Write>(&self, f: &mut fmt::Formatter<W>) -> fmt::Result {
         match self {
-            FunctionName::Exported(name) => write!(f, "the exported function {name:?}"),
+            FunctionName::Exported(name) => {
+                write!(f, "the exported function {}", JsonText(name))
+            },
             FunctionName::Index(index) => write!(f, "function {index}"),
         }
     }

@@ -1,10 +1,11 @@
 //! Why a verdict says what it says.
 
 use crate::allowed::allowed_reason;
-use crate::log_refusal::{document_reason, shape_reason};
+use crate::document_refusal::document_reason;
 use crate::module_refusal::{decode_reason, valid_reason};
 use crate::replay::replay_reason;
 use crate::rule::rule_reason;
+use crate::shape_refusal::shape_reason;
 use std::alloc::{AllocError, Global};
 use std::thread::Threads;
 use wm_check::{Breach, Refusal, Unread, Verdict, read_module};
@@ -21,7 +22,7 @@ fn read_log(alloc: Global, bytes: &[u8]) -> Result<Option<(Log, Witness)>, Alloc
     }
 }
 
-/// What stands behind the refusal of a log's shape over a module.
+/// Why a log's shape is refused over a module.
 fn refused_log(
     alloc: Global,
     fault: ShapeFault,
@@ -36,7 +37,7 @@ fn refused_log(
     }
 }
 
-/// What stands behind the refusal of a log's shape: module and document are read once more, since nothing of them was kept.
+/// Why a log's shape is refused. Module and document are read again, since the refusal keeps nothing of them.
 fn refused_shape(
     alloc: Global,
     fault: ShapeFault,
@@ -50,12 +51,12 @@ fn refused_shape(
     }
 }
 
-/// What stands behind the line of a refusal of the bytes of a module and of a document: where it is, what was found and
-/// what was wanted, each line ended by a newline.
+/// Why the bytes of a module or of a document are refused: where the fault is, what was found and what was expected.
+/// Each line ends with a newline.
 ///
 /// # Errors
 ///
-/// Only where memory was refused.
+/// Only if an allocation fails.
 pub fn explain_refusal(
     alloc: Global,
     refusal: &Refusal,
@@ -70,13 +71,12 @@ pub fn explain_refusal(
     }
 }
 
-/// What stands behind the line of the verdict that a check gave on a candidate over the initial
-/// memory of a module: in sentences and a table, each line ended by a newline. Nothing stands behind a refusal here: it has
-/// no candidate, and [`explain_refusal`] has its reason.
+/// Why a check gave its verdict on a candidate over the initial memory of a module, in sentences and a table. Each line
+/// ends with a newline. The text is empty for a refusal: that has no candidate, and [`explain_refusal`] has its reason.
 ///
 /// # Errors
 ///
-/// Only where memory was refused.
+/// Only if an allocation fails.
 pub fn explain_run<R: AllocGlobal + Threads + Sync>(
     rt: &R,
     verdict: &Verdict,

@@ -1,383 +1,257 @@
 //! Why a thread's log isn't its run.
-ghost use Rattle.std.specs.Prelude.{◌≡◌, ℕ, IfOk, slice_get};
-ghost use Rattle.wm_event.specs.Op.{kind_finds};
-ghost use Rattle.wm_event.specs.Reply.{ReadAnswers};
-ghost use Rattle.wm_explain.specs.Difference.{IsFollowed, next_by_log, next_by_module};
-ghost use Rattle.wm_machine.specs.State.{need_of};
 
-use crate::phrase::{Count, EndPhrase, EventPhrase, OpPhrase};
+use crate::compared::{Compared, Next, compare};
+use crate::json_text::JsonText;
+use crate::phrase::{Count, EndPhrase};
 use crate::position::position_phrase;
+use crate::start_refusal::start_reason;
 use std::alloc::{AllocError, Global};
 use std::cmp::Ordering;
-use std::fmt;
 use std::thread::Threads;
-use wm_event::{Candidate, End, Event, EventId, Judgement, Op, OpFields, Reply, Rule, ThreadLog};
-use wm_machine::{AdvanceFault, CodePosition, Need, StartFault, Thread};
-use wm_num::low_bytes;
-use wm_replay::{Place, ReplayAnswer};
+use wm_event::{Candidate, EventKey, Judgement, OpKind, Rule, RuleFault, ThreadLog};
+use wm_replay::{MAX_STEPS, Place, ReplayAnswer};
 use wm_rules::judge;
 use wm_valid::ValidModule;
 
-/// How many steps a thread is run for at most.
-const MAX_STEPS: u32 = 1_000_000;
-
-/// What comes next in a thread, by its log or by its module.
+/// A thread of a log, by its number.
 #[derive(Clone, Copy)]
-pub(crate) enum Next {
-    /// This event of the log.
-    Event(Event),
-    /// No event: the log has no further one.
-    NoEvent,
-    /// This access of the module.
-    Access(OpFields),
-    /// No access: the thread has ended so.
-    Ended(End),
-    /// No access yet: it has made [`MAX_STEPS`] steps.
-    Limit,
+struct LoggedThread<'a> {
+    number: usize,
+    log: &'a ThreadLog,
 }
 
-/// What the log has next of a thread, and what the module makes there.
-#[derive(Clone, Copy)]
-pub(crate) struct Difference {
-    pub logged: Next,
-    pub made: Next,
-}
-
-/// How far a thread goes on the values of its log.
-#[derive(Clone, Copy)]
-pub(crate) struct Followed {
-    pub steps: u32,
-    /// How many of the log's events it made.
-    pub events: usize,
-    pub difference: Difference,
-    /// Where it stands then.
-    pub position: CodePosition,
-}
-
-/// The reply to an access that reads as the event does.
-fn reply_of(op: &Op, event: &Event) -> Reply
-    ensures { ReadAnswers (kind_finds op.now.kind) op.now.width result.read }
-{
-    let width = op.fields().width;
-    Reply {
-        read: if op.reads() {
-            Some(low_bytes(event.read, width))
-        } else {
-            None
-        },
-        stored: event.writes(),
-        writers: [EventId::Init; 8],
-    }
-}
-
-/// Whether an access makes the event, where it reads the value that the event read.
-fn is_made(op: &Op, event: &Event) -> bool {
-    let width = op.fields().width;
-    low_bytes(event.read, width) == event.read && op.event(event.key(), event.read) == *event
-}
-
-/// What the next step of a thread is beside its log.
-#[derive(Clone, Copy)]
-enum Progress {
-    /// It was made, and makes no access.
-    Local,
-    /// It was made, and makes the log's next event.
-    Event,
-    /// It can't be made by the log.
-    Stands,
-}
-
-/// Makes an access where it is the log's next event.
-fn access_on(thread: &mut Thread, op: &Op, next: Option<&Event>) -> Result<Progress, AllocError>
-    requires { (read : ℕ) → need_of read thread.old ≡ Need.Access op.now }
-{
-    let Some(event) = next else {
-        return Ok(Progress::Stands);
-    };
-    if !is_made(op, event) {
-        return Ok(Progress::Stands);
-    }
-    match thread.advance(Some(reply_of(op, event))) {
-        Ok(()) => Ok(Progress::Event),
-        Err(AdvanceFault::OutOfMemory) => Err(AllocError),
-    }
-}
-
-/// Makes the next step of a thread, where an access has to be the log's next event.
-fn step_on(thread: &mut Thread, next: Option<&Event>) -> Result<Progress, AllocError> {
-    match thread.next() {
-        Need::Ended(_) => Ok(Progress::Stands),
-        Need::Access(op) => access_on(thread, &op, next),
-        Need::Local => match thread.advance(None) {
-            Ok(()) => Ok(Progress::Local),
-            Err(AdvanceFault::OutOfMemory) => Err(AllocError),
-        },
-    }
-}
-
-/// What the log has next behind so many events.
-fn logged_next(stated: &[Event], events: usize) -> Next
-    ensures { result ≡ next_by_log (slice_get stated.now events) }
-{
-    match stated.get(events) {
-        Some(event) => Next::Event(*event),
-        None => Next::NoEvent,
-    }
-}
-
-/// What the module makes next of a thread.
-fn made_next(thread: &Thread) -> Next
-    ensures { (read : ℕ) → result ≡ next_by_module (need_of read thread.now) }
-{
-    match thread.next() {
-        Need::Access(op) => Next::Access(op.fields()),
-        Need::Ended(end) => Next::Ended(end),
-        Need::Local => Next::Limit,
-    }
-}
-
-/// How far a thread has gone that made so many steps and so many of the log's events.
-fn standing(thread: &Thread, stated: &[Event], steps: u32, events: usize) -> Followed
-    ensures { IsFollowed thread.now stated.now result }
-{
-    Followed {
-        steps,
-        events,
-        difference: Difference {
-            logged: logged_next(stated, events),
-            made: made_next(thread),
-        },
-        position: thread.position(),
-    }
-}
-
-/// Runs a thread on the values that its log read, as far as it goes.
-fn go(thread: &mut Thread, stated: &[Event]) -> Result<Followed, AllocError>
-    ensures { IfOk result (IsFollowed thread.new stated.now) }
-{
-    let mut events = 0usize;
-    for steps in 0..MAX_STEPS {
-        match step_on(thread, stated.get(events))? {
-            Progress::Local => {}
-            Progress::Event => events = events.saturating_add(1),
-            Progress::Stands => return Ok(standing(thread, stated, steps, events)),
-        }
-    }
-    Ok(standing(thread, stated, MAX_STEPS, events))
-}
-
-/// Starts a thread as its log says, and runs it on the values that its log read, as far as it goes; None where it doesn't
-/// start.
-///
-/// # Errors
-///
-/// Only where memory was refused.
-fn follow(
-    alloc: Global,
-    module: &ValidModule,
-    stated: &ThreadLog,
-) -> Result<Option<Followed>, AllocError> {
-    let name = stated.start.name.as_str();
-    let args = stated.start.args.as_slice();
-    let mut thread = match Thread::start(alloc, module, name, args) {
-        Ok(thread) => thread,
-        Err(StartFault::OutOfMemory) => return Err(AllocError),
-        Err(_) => return Ok(None),
-    };
-    Ok(Some(go(&mut thread, stated.events.as_slice())?))
-}
-
-/// Why a thread doesn't start.
-#[derive(Clone, Copy)]
-pub(crate) struct StartSentence<'a> {
-    pub name: &'a str,
-    pub args: usize,
-    pub fault: StartFault,
-}
-
-impl fmt::Display for StartSentence<'_> {
-    fn fmt<W: fmt::Write>(&self, f: &mut fmt::Formatter<W>) -> fmt::Result {
-        let name = self.name;
-        let args = Count(self.args as u64, "argument");
-        match self.fault {
-            StartFault::NoExport => {
-                write!(f, "The module exports nothing under the name {name:?}.")
-            }
-            StartFault::NotFunction => {
-                write!(f, "The export {name:?} of the module is no function.")
-            }
-            StartFault::ArgCount => write!(
-                f,
-                "The log starts the function {name:?} with {args}, and the function has another number of parameters."
-            ),
-            StartFault::ArgRange => write!(
-                f,
-                "The log starts the function {name:?} with an argument of 4294967296 or more for a parameter of type i32."
-            ),
-            StartFault::OutOfMemory => f.write_str("Memory was refused."),
-        }
-    }
-}
-
-impl fmt::Display for Next {
-    fn fmt<W: fmt::Write>(&self, f: &mut fmt::Formatter<W>) -> fmt::Result {
-        match self {
-            Next::Event(event) => write!(f, "{} ({})", EventPhrase(event), event.key()),
-            Next::NoEvent => f.write_str("no further event"),
-            Next::Access(op) => write!(f, "{}", OpPhrase(*op)),
-            Next::Ended(end) => write!(f, "no further access: it {}", EndPhrase(*end)),
-            Next::Limit => f.write_str("no further access within 1000000 steps"),
-        }
-    }
-}
-
-/// Adds what the log and the module have at the place where a thread differs.
-fn add_difference(text: &mut String, followed: &Followed) -> Result<(), AllocError> {
-    let steps = Count(u64::from(followed.steps), "step");
-    let events = Count(followed.events as u64, "event");
-    let Difference { logged, made } = followed.difference;
+/// Adds what the log and the module have where they differ.
+fn add_difference(text: &mut String, compared: &Compared) -> Result<(), AllocError> {
+    let steps = Count(u64::from(compared.steps), "step");
+    let events = Count(compared.events as u64, "event");
+    let Compared { logged, made, .. } = *compared;
     writeln!(
         text,
-        "Run again on the values that the log says it read, it makes {steps} and {events} as the log has them. Then\n  the log has     {logged}\n  the module has  {made}"
+        "Run again on the values that the log reads, it makes {steps} and {events} as logged. Next,\n  the log has     {logged}\n  the module has  {made}"
     )
 }
 
-/// Adds how the log's steps and end compare with those of the run.
-fn add_ends(text: &mut String, stated: &ThreadLog, followed: &Followed) -> Result<(), AllocError> {
-    let said = Count(u64::from(stated.steps), "step");
-    let end = EndPhrase(stated.end);
-    let steps = Count(u64::from(followed.steps), "step");
-    let events = Count(followed.events as u64, "event");
-    let made = followed.difference.made;
-    writeln!(
-        text,
-        "  the log has     {said}, and then it {end}\n  the module has  {steps} with {events} as the log has them, and then {made}"
-    )?;
-    let word = match stated.steps.cmp(&followed.steps) {
-        Ordering::Less => "short",
-        Ordering::Greater => "long",
+/// Adds how the log and the run end.
+fn add_ends(
+    text: &mut String,
+    thread: LoggedThread,
+    compared: &Compared,
+) -> Result<(), AllocError> {
+    let said = Count(u64::from(thread.log.steps), "step");
+    let end = EndPhrase(thread.log.end);
+    let steps = Count(u64::from(compared.steps), "step");
+    let events = Count(compared.events as u64, "event");
+    writeln!(text, "  the log has     {said}, and then it {end}")?;
+    match compared.made {
+        Next::Ended(end) => {
+            let end = EndPhrase(end);
+            writeln!(
+                text,
+                "  the module has  {steps} and {events} as logged, and then it {end}"
+            )
+        }
+        Next::Limit => writeln!(
+            text,
+            "  the module has  {events} as logged, and has not ended after {MAX_STEPS} steps"
+        ),
+        next => writeln!(
+            text,
+            "  the module has  {steps} and {events} as logged, and then {next}"
+        ),
+    }
+}
+
+/// Adds how the log's steps compare with those of a run that ended.
+fn add_length(
+    text: &mut String,
+    thread: LoggedThread,
+    compared: &Compared,
+) -> Result<(), AllocError> {
+    let word = match thread.log.steps.cmp(&compared.steps) {
+        Ordering::Less => "few",
+        Ordering::Greater => "many",
         Ordering::Equal => return Ok(()),
     };
     writeln!(
         text,
-        "The log's steps are {word}: it has {}, and the run has {}.",
-        stated.steps, followed.steps
+        "The log has too {word} steps: {}. The run has {}.",
+        thread.log.steps, compared.steps
     )
 }
 
-/// Adds where the thread stands that was run again.
+/// Adds why a run that did not end differs from a log with fewer steps.
+fn add_unended(
+    text: &mut String,
+    thread: LoggedThread,
+    compared: &Compared,
+    place: Place,
+) -> Result<(), AllocError> {
+    let steps = Count(u64::from(thread.log.steps), "step");
+    match place {
+        Place::Event(number) => {
+            let key = EventKey {
+                thread: thread.number as u32,
+                number: number as u32,
+            };
+            writeln!(
+                text,
+                "The log has too few steps: after {steps} the module has not made event {key} yet."
+            )?;
+        }
+        Place::End => writeln!(text, "The run has not ended after {steps}.")?,
+    }
+    match (compared.made, compared.logged) {
+        (Next::Access(_), Next::Event(event)) => {
+            let logged = compared.logged;
+            let key = event.key();
+            writeln!(text, "Event {key} differs too: the log has {logged}.")
+        }
+        (_, _) => Ok(()),
+    }
+}
+
+/// Adds where a thread differs from its log.
+fn add_place(
+    text: &mut String,
+    thread: LoggedThread,
+    compared: &Compared,
+    place: Place,
+) -> Result<(), AllocError> {
+    let is_made = match place {
+        Place::End => true,
+        Place::Event(event) => event < compared.events,
+    };
+    if !is_made {
+        return add_difference(text, compared);
+    }
+    add_ends(text, thread, compared)?;
+    match compared.made {
+        Next::Ended(_) => add_length(text, thread, compared),
+        _ if thread.log.steps < compared.steps => add_unended(text, thread, compared, place),
+        _ => Ok(()),
+    }
+}
+
+/// Adds where in its code the thread is.
 fn add_position(
     alloc: Global,
     text: &mut String,
     module: &ValidModule,
-    stated: &ThreadLog,
-    followed: &Followed,
+    thread: LoggedThread,
+    compared: &Compared,
 ) -> Result<(), AllocError> {
-    let start = stated.start.name.as_str();
-    let place = position_phrase(alloc, module.module(), start, followed.position)?;
-    match followed.difference.made {
+    let start = thread.log.start.name.as_str();
+    let position = compared.position;
+    let place = position_phrase(alloc, module.module(), start, position)?;
+    match compared.made {
         Next::Ended(_) => writeln!(text, "The thread ended at {place}."),
-        _ => writeln!(text, "The thread stands before {place}."),
+        _ => {
+            let steps = Count(u64::from(compared.steps), "step");
+            writeln!(text, "After {steps} the next instruction is {place}.")
+        }
+    }
+}
+
+/// What a fault of V1 at a read of the thread says about the thread's run.
+fn hint(compared: &Compared, fault: &RuleFault) -> &'static str {
+    if fault.case != 3 {
+        return "That is about who wrote a byte; a thread's run depends on the values that it reads alone.";
+    }
+    if (fault.event.number as usize) < compared.events {
+        return "That read comes before the difference: a wrong value often shows later, as another step.";
+    }
+    match compared.made {
+        Next::Access(op)
+            if fault.event.number as usize == compared.events
+                && matches!(op.kind, OpKind::CmpXchg(_, _)) => {
+            "That read is at the difference: what a compare-exchange writes depends on the value that it reads."
+        }
+        _ => "That read doesn't come before the difference, so it isn't its cause.",
     }
 }
 
 /// Adds what the memory rules say of the events, since a wrong value that was read often shows later as another step.
 fn add_judgement(
     text: &mut String,
-    number: usize,
+    thread: LoggedThread,
+    compared: &Compared,
     judgement: &Judgement,
 ) -> Result<(), AllocError> {
     let Judgement::Broken(fault) = judgement else {
-        text.push_str("The memory rules permit the events as they stand in the log.\n")?;
+        text.push_str("The memory rules allow the events as logged.\n")?;
         return Ok(());
     };
-    writeln!(text, "The memory rules are broken too, first so: {fault}.")?;
-    if fault.rule == Rule::WrittenValues && fault.event.thread as usize == number {
-        text.push_str(
-            "That is a read of this thread: a wrong value that was read often shows as a difference later.\n",
-        )?;
+    writeln!(
+        text,
+        "The memory rules are also violated; the first violation is {fault}."
+    )?;
+    if fault.rule == Rule::WrittenValues && fault.event.thread as usize == thread.number {
+        let hint = hint(compared, fault);
+        writeln!(text, "{hint}")?;
     }
     Ok(())
-}
-
-/// Adds where a thread differs from its log, which goes so far by it.
-fn add_place(
-    text: &mut String,
-    stated: &ThreadLog,
-    followed: &Followed,
-    place: Place,
-) -> Result<(), AllocError> {
-    let is_made = match place {
-        Place::End => true,
-        Place::Event(event) => event < followed.events,
-    };
-    if is_made {
-        add_ends(text, stated, followed)
-    } else {
-        add_difference(text, followed)
-    }
-}
-
-/// Why a thread doesn't start.
-fn start_reason(
-    alloc: Global,
-    number: usize,
-    stated: &ThreadLog,
-    fault: StartFault,
-) -> Result<String, AllocError> {
-    let sentence = StartSentence {
-        name: stated.start.name.as_str(),
-        args: stated.start.args.len(),
-        fault,
-    };
-    format!(in alloc; "Thread {number} doesn't start. {sentence}\n")
 }
 
 /// Why the log of a thread that starts isn't its run.
 fn thread_reason(
     alloc: Global,
     module: &ValidModule,
-    number: usize,
-    stated: &ThreadLog,
+    thread: LoggedThread,
+    compared: &Compared,
     place: Place,
 ) -> Result<String, AllocError> {
-    let name = stated.start.name.as_str();
+    let number = thread.number;
+    let name = JsonText(thread.log.start.name.as_str());
     let mut text = format!(in alloc;
-        "Thread {number} runs the exported function {name:?}, and its log isn't what the module makes of it.\n"
+        "Thread {number} runs the exported function {name}. Its log isn't what the module does.\n"
     )?;
-    if let Some(followed) = follow(alloc, module, stated)? {
-        add_place(&mut text, stated, &followed, place)?;
-        add_position(alloc, &mut text, module, stated, &followed)?;
-    }
+    add_place(&mut text, thread, compared, place)?;
+    add_position(alloc, &mut text, module, thread, compared)?;
     Ok(text)
 }
 
-/// Why a thread's log isn't its run: what the log has and what the module makes there, and at which instruction; steps that
-/// are short or long; and what the memory rules say.
+/// Why the log of the thread of this number isn't its run, and what the memory rules say of the events.
+fn differing_reason<R: AllocGlobal + Threads + Sync>(
+    rt: &R,
+    module: &ValidModule,
+    candidate: &Candidate,
+    number: usize,
+    place: Place,
+) -> Result<String, AllocError> {
+    let threads = candidate.log().threads();
+    if number >= threads.len() {
+        return Ok(String::new(rt.alloc()));
+    }
+    let log = &threads[number];
+    let Some(compared) = compare(rt.alloc(), module, log, number)? else {
+        return Ok(String::new(rt.alloc()));
+    };
+    let thread = LoggedThread { number, log };
+    let mut text = thread_reason(rt.alloc(), module, thread, &compared, place)?;
+    add_judgement(&mut text, thread, &compared, &judge(rt, candidate)?)?;
+    Ok(text)
+}
+
+/// Why a thread's log isn't its run: what the log has and what the module does there, and at which instruction; too few or
+/// too many steps; and what the memory rules say.
 ///
 /// # Errors
 ///
-/// Only where memory was refused.
+/// Only if an allocation fails.
 pub(crate) fn replay_reason<R: AllocGlobal + Threads + Sync>(
     rt: &R,
     module: &ValidModule,
     candidate: &Candidate,
     answer: ReplayAnswer,
 ) -> Result<String, AllocError> {
-    let threads = candidate.log().threads();
     match answer {
         ReplayAnswer::Same => Ok(String::new(rt.alloc())),
-        ReplayAnswer::StartRefused(number, fault) => match threads.get(number) {
-            Some(stated) => start_reason(rt.alloc(), number, stated, fault),
+        ReplayAnswer::StartRefused(number, fault) => match candidate.log().threads().get(number) {
+            Some(stated) => start_reason(rt.alloc(), module.module(), number, stated, fault),
             None => Ok(String::new(rt.alloc())),
         },
         ReplayAnswer::Differs(number, place) => {
-            let Some(stated) = threads.get(number) else {
-                return Ok(String::new(rt.alloc()));
-            };
-            let mut text = thread_reason(rt.alloc(), module, number, stated, place)?;
-            add_judgement(&mut text, number, &judge(rt, candidate)?)?;
-            Ok(text)
+            differing_reason(rt, module, candidate, number, place)
         }
     }
 }

@@ -1,11 +1,10 @@
 //! Why a memory rule is broken.
 
-use crate::chain::{Link, LinkKind};
-use crate::fault_chain::{FaultChain, fault_chains};
 use crate::row::{HEAD, add_row};
 use std::alloc::{AllocError, Global};
 use std::fmt;
 use wm_event::{Candidate, EventId, Rule, RuleFault, byte_of};
+use wm_hb::{FaultChain, Link, LinkKind, fault_chains};
 
 /// A fault with what is said of its byte.
 #[derive(Clone, Copy)]
@@ -150,7 +149,7 @@ impl RuleSentence {
         let other = OtherName(other);
         write!(
             f,
-            "{event} takes its byte {byte} from {writer} and an earlier byte from {other}. All three are accesses of one range that may not tear (atomic, or plain of at most 4 bytes at a multiple of their width): {event} has to see one of the two writes whole."
+            "{event} takes its byte {byte} from {writer} and an earlier byte from {other}. All three are accesses of one range that may not tear (atomic, or plain of at most 4 bytes at a multiple of their width): {event} has to read one of the two writes whole."
         )
     }
 
@@ -167,15 +166,15 @@ impl RuleSentence {
         match case {
             1 => write!(
                 f,
-                "{event} reads from {writer}, which synchronizes with it, but {other}, an atomic write of the same range, stands between the two in the order: {event} has to see {other} or what comes behind it."
+                "{event} reads from {writer}, which synchronizes with it, but {other}, an atomic write of the same range, is between the two in the order: {event} has to read from {other} or a later write."
             ),
             2 => write!(
                 f,
-                "{event} reads from {writer}, but {other}, an atomic write of the range of {writer}, stands between the two in the order, and both writes are atomic and happen before {event}: {event} has to see {other} or what comes behind it."
+                "{event} reads from {writer}, but {other}, an atomic write of the range of {writer}, is between the two in the order, and both writes are atomic and happen before {event}: {event} has to read from {other} or a later write."
             ),
             _ => write!(
                 f,
-                "{event} is atomic and reads from {writer}, but {other}, an atomic write of the same range, stands between the two in the order, and {writer} happens before both: {event} has to see {other} or what comes behind it."
+                "{event} is atomic and reads from {writer}, but {other}, an atomic write of the same range, is between the two in the order, and {writer} happens before both: {event} has to read from {other} or a later write."
             ),
         }
     }
@@ -204,7 +203,7 @@ impl fmt::Display for RuleName {
                 f.write_str("V1, written values: each byte read was written so by its writer.")
             }
             Rule::Order => f.write_str(
-                "V2, order: what happens before an event stands before it in the order.",
+                "V2, order: what happens before an event precedes it in the order.",
             ),
             Rule::Coherence => f.write_str(
                 "V3, coherence: a read doesn't happen before its writer, and no write of the byte happens between the two.",
@@ -213,30 +212,13 @@ impl fmt::Display for RuleName {
                 "V4, no tearing: a read that may not tear sees at most one such write of its range.",
             ),
             Rule::SequentialConsistency => f.write_str(
-                "V5, sequential consistency: no atomic write stands in the order between a read and its writer where the two are ordered by atomic accesses.",
+                "V5, sequential consistency: no atomic write is in the order between a read and its writer if atomic accesses order the two.",
             ),
         }
     }
 }
 
-/// The pairs of events of which a fault of a memory rule says that the first happens before the second.
-pub fn grounds(fault: &RuleFault) -> [Option<(EventId, EventId)>; 2] {
-    let event = EventId::At(fault.event);
-    let writer = fault.writer;
-    match (fault.rule, fault.case, fault.other) {
-        (Rule::Coherence, 1, _) => [Some((event, writer)), None],
-        (Rule::Coherence, _, Some(other)) => [Some((writer, other)), Some((other, event))],
-        (Rule::SequentialConsistency, 2, Some(other)) => {
-            [Some((writer, event)), Some((other, event))]
-        }
-        (Rule::SequentialConsistency, 3, Some(other)) => {
-            [Some((writer, event)), Some((writer, other))]
-        }
-        (_, _, _) => [None, None],
-    }
-}
-
-/// A link behind the event that it leaves.
+/// A link after the event that it leaves.
 #[derive(Clone, Copy)]
 struct LinkSentence(EventId, Link);
 
@@ -275,28 +257,42 @@ fn add_chain(text: &mut String, chain: &FaultChain) -> Result<(), AllocError> {
 
 /// Adds the rows of the events of a fault.
 fn add_events(
+    alloc: Global,
     text: &mut String,
     candidate: &Candidate,
     fault: &RuleFault,
 ) -> Result<(), AllocError> {
     text.push_str("The events, with their places in the order:\n")?;
     text.push_str(HEAD)?;
-    add_row(text, candidate, fault.writer)?;
+    add_row(alloc, text, candidate, fault.writer)?;
     if let Some(other) = fault.other {
-        add_row(text, candidate, other)?;
+        add_row(alloc, text, candidate, other)?;
     }
     if fault.writer != EventId::At(fault.event) {
-        add_row(text, candidate, EventId::At(fault.event))?;
+        add_row(alloc, text, candidate, EventId::At(fault.event))?;
     }
     Ok(())
 }
 
+/// What of the witness a rule depends on. V1, V3 and V4 don't depend on the order.
+fn remedy(fault: &RuleFault) -> &'static str {
+    match (fault.rule, fault.case) {
+        (Rule::Order, 1) => "With another order of the events, the same accesses may be allowed.",
+        (Rule::Order | Rule::SequentialConsistency, _) => {
+            "With another order of the events, or other writers, the same accesses may be allowed."
+        }
+        (Rule::WrittenValues | Rule::Coherence | Rule::NoTearing, _) => {
+            "This rule doesn't depend on the order of the events. With other writers, the same accesses may be allowed."
+        }
+    }
+}
+
 /// Why a run breaks a memory rule: the rule, the fault in a sentence, its events, and for each happens-before that it
-/// stands on a shortest chain.
+/// rests on a shortest chain.
 ///
 /// # Errors
 ///
-/// Only where memory was refused.
+/// Only if an allocation fails.
 pub(crate) fn rule_reason(
     alloc: Global,
     candidate: &Candidate,
@@ -305,12 +301,11 @@ pub(crate) fn rule_reason(
     let rule = RuleName(fault.rule);
     let sentence = RuleSentence::of(candidate, fault);
     let mut text = format!(in alloc; "{rule}\n{sentence}\n")?;
-    add_events(&mut text, candidate, fault)?;
+    add_events(alloc, &mut text, candidate, fault)?;
     for chain in fault_chains(alloc, candidate, fault)?.as_slice() {
         add_chain(&mut text, chain)?;
     }
-    text.push_str(
-        "With another order of the events, or other writers, the same accesses may be allowed.\n",
-    )?;
+    let remedy = remedy(fault);
+    writeln!(&mut text, "{remedy}")?;
     Ok(text)
 }

@@ -1,2 +1,2 @@
-pub mod ArrowLaws
 mod ColumnLaws
+mod EdgeLaws

@@ -17,7 +17,7 @@ use Rattle.wm_graph.specs.declared.columns.Node.{Node}
 abbrev pub events_of : Column → List Event
 events_of column = map (λ node. node.event) column.nodes
 
--- each thread has a column, and each of its events a node there, both in turn and once; there is no other node
+-- each thread has a column, and each of its events a node there, both in order and once; there is no other node
 abbrev pub AreColumnsOf : List ThreadLog → List Column → Type 0
 AreColumnsOf log columns = map events_of columns ≡ map (λ thread. thread.events) log
 

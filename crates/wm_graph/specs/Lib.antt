@@ -1,2 +1,2 @@
-pub mod Arrows
 pub mod Columns
+pub mod Edges

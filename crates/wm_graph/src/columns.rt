@@ -51,7 +51,7 @@ pub(crate) struct Column {
     pub nodes: List<Node>,
 }
 
-/// The column of a thread: a node for each of its events, in turn.
+/// The column of a thread: a node for each of its events, in order.
 fn column_of(alloc: Global, thread: &ThreadLog, verdict: &Verdict) -> Result<Column, AllocError>
     ensures events { IfOk result (λ column. events_of column ≡ thread.now.events) }
     ensures marks { IfOk result (λ column. All (IsMarkedBy verdict.now) column.nodes) }
@@ -63,7 +63,7 @@ fn column_of(alloc: Global, thread: &ThreadLog, verdict: &Verdict) -> Result<Col
     Ok(Column { nodes })
 }
 
-/// The columns of a log: one for each thread, in turn.
+/// The columns of a log: one for each thread, in order.
 pub(crate) fn columns(
     alloc: Global,
     log: &Log,

@@ -1,203 +1,175 @@
-//! The arrows of a picture.
+//! The edges of a picture.
+ghost use Rattle.std.specs.Prelude.{◌≡◌, ◌↔◌, ℕ, All, IfOk, IfSome, IsTrue, Some, slice_get};
+ghost use Rattle.wm_event.specs.LoggedRun.{LoggedRun, execution};
+ghost use Rattle.wm_event.specs.Witness.{writers_in};
+ghost use Rattle.wm_graph.specs.Edges.{IsRight, SyncsWith};
+ghost use Rattle.wm_hb.specs.Chain.{IsShortestChain};
+ghost use Rattle.wm_hb.specs.ReadsFrom.{NamesByte};
 
-use crate::arrows::{ReadArrow, read_arrows};
-use crate::label::{ByteLabel, FAULT_COLOUR, NodeName};
 use std::alloc::{AllocError, Global};
-use std::fmt;
 use wm_event::{Candidate, Event, EventId, EventKey, RuleFault, ThreadLog};
-use wm_explain::{FaultChain, LinkKind, fault_chains};
-use wm_hb::synchronizes;
+use wm_hb::{FaultChain, LinkKind, WriterRun, fault_chains, synchronizes, writer_runs};
+use wm_list::List;
 
-/// What an arrow says.
+/// Which bytes of a read its writer wrote, and how.
 #[derive(Clone, Copy)]
-enum ArrowKind {
-    /// To the next event of the thread.
+pub(crate) struct ReadsFrom {
+    /// The bytes, by their numbers in the read's range.
+    pub first: usize,
+    pub last: usize,
+    /// Whether these are all bytes of the read.
+    pub is_whole: bool,
+    /// Whether the writer synchronizes with the read.
+    pub synchronizes: bool,
+}
+
+/// What an edge states.
+#[derive(Clone, Copy)]
+pub(crate) enum EdgeKind {
+    /// The second event is the next one of the thread.
     Sequenced,
-    /// From a writer to these bytes of a read, or to all of them, and whether it synchronizes with the read.
-    Reads {
-        bytes: Option<ByteLabel>,
-        synchronizes: bool,
-    },
-    /// The order lists the first event before the second, and another arrow goes back.
+    /// The second event reads bytes that the first one wrote.
+    ReadsFrom(ReadsFrom),
+    /// The order lists the first event before the second, against another edge.
     Order,
-    /// A link of a chain that a fault stands on.
+    /// A link of a chain that a fault rests on.
     Chain(LinkKind),
 }
 
-/// Which bytes are read from a writer, where these aren't all.
+/// An edge of a picture.
 #[derive(Clone, Copy)]
-struct ReadLabel(Option<ByteLabel>);
-
-impl fmt::Display for ReadLabel {
-    fn fmt<W: fmt::Write>(&self, f: &mut fmt::Formatter<W>) -> fmt::Result {
-        match self.0 {
-            Some(bytes) => write!(f, "{bytes}"),
-            None => f.write_str("rf"),
-        }
-    }
+pub(crate) struct Edge {
+    pub from: EventId,
+    pub to: EventKey,
+    pub kind: EdgeKind,
 }
 
-/// The attributes of an arrow.
-#[derive(Clone, Copy)]
-struct Attributes(ArrowKind);
-
-impl fmt::Display for Attributes {
-    fn fmt<W: fmt::Write>(&self, f: &mut fmt::Formatter<W>) -> fmt::Result {
-        match self.0 {
-            ArrowKind::Sequenced => f.write_str("label=\"sb\""),
-            ArrowKind::Reads {
-                bytes,
-                synchronizes,
-            } => {
-                let label = ReadLabel(bytes);
-                if synchronizes {
-                    return write!(
-                        f,
-                        "xlabel=\"{label}, sw\", color=\"blue\", fontcolor=\"blue\", constraint=false"
-                    );
-                }
-                write!(
-                    f,
-                    "xlabel=\"{label}\", color=\"darkgreen\", fontcolor=\"darkgreen\", constraint=false"
-                )
-            }
-            ArrowKind::Order => {
-                f.write_str("xlabel=\"order\", style=\"dotted\", constraint=false")
-            }
-            ArrowKind::Chain(kind) => {
-                let name = match kind {
-                    LinkKind::Initial => "before all",
-                    LinkKind::Sequenced => "sb",
-                    LinkKind::Synchronizes => "sw",
-                };
-                write!(
-                    f,
-                    "xlabel=\"{name}\", color=\"{FAULT_COLOUR}\", fontcolor=\"{FAULT_COLOUR}\", penwidth=2, constraint=false"
-                )
-            }
-        }
+/// Adds an edge, and one of the order if that lists the edge's second event before its first.
+fn add_edge(edges: &mut List<Edge>, candidate: &Candidate, edge: Edge) -> Result<(), AllocError>
+    requires edges { All (IsRight candidate.now) edges.old }
+    requires edge { IsRight candidate.now edge }
+    ensures { All (IsRight candidate.now) edges.new }
+{
+    edges.push(edge)?;
+    let EventId::At(from) = edge.from else {
+        return Ok(());
+    };
+    match (
+        candidate.place(edge.from),
+        candidate.place(EventId::At(edge.to)),
+    ) {
+        (Some(first), Some(second)) if second < first => edges.push(Edge {
+            from: EventId::At(edge.to),
+            to: from,
+            kind: EdgeKind::Order,
+        })?,
+        (_, _) => {}
     }
-}
-
-/// Adds an arrow.
-fn add_arrow(
-    text: &mut String,
-    from: EventId,
-    to: EventId,
-    kind: ArrowKind,
-) -> Result<(), AllocError> {
-    let start = NodeName(from);
-    let end = NodeName(to);
-    let attributes = Attributes(kind);
-    writeln!(text, "  {start} -> {end} [{attributes}];")
-}
-
-/// Adds an arrow of the order where it lists the second event of another arrow before the first.
-fn add_order(
-    text: &mut String,
-    candidate: &Candidate,
-    from: EventId,
-    to: EventId,
-) -> Result<(), AllocError> {
-    match (candidate.place(from), candidate.place(to)) {
-        (Some(first), Some(second)) if second < first => {
-            add_arrow(text, to, from, ArrowKind::Order)
-        }
-        (_, _) => Ok(()),
-    }
+    Ok(())
 }
 
 /// Whether the writer of a byte synchronizes with the read.
-fn is_synchronized(candidate: &Candidate, writer: EventId, reader: EventKey) -> bool {
+fn is_synchronized(candidate: &Candidate, writer: EventId, reader: EventKey) -> bool
+    ensures { IsTrue result ↔ SyncsWith candidate.now writer reader }
+{
     match writer {
         EventId::Init => false,
         EventId::At(key) => synchronizes(candidate, key, reader),
     }
 }
 
-/// What an arrow of reads-from says of a read of so many bytes.
-fn read_kind(
-    candidate: &Candidate,
-    arrow: &ReadArrow,
-    reader: EventKey,
-    bytes: usize,
-) -> ArrowKind {
-    let reads_all = arrow.bytes.first == 0 && arrow.bytes.last.saturating_add(1) == bytes;
-    ArrowKind::Reads {
-        bytes: if reads_all { None } else { Some(arrow.bytes) },
-        synchronizes: is_synchronized(candidate, arrow.writer, reader),
-    }
-}
-
-/// Adds the arrows to a read from the writers of its bytes.
-fn add_reads(
-    alloc: Global,
-    text: &mut String,
-    candidate: &Candidate,
-    reader: EventKey,
-) -> Result<(), AllocError> {
+/// The edge to a read from the writer of a run of its bytes.
+fn read_edge(candidate: &Candidate, run: &WriterRun, reader: EventKey) -> Edge
+    requires { (k : ℕ) → NamesByte run.now k → slice_get (writers_in candidate.now.witness reader) k ≡ Some run.now.writer }
+    ensures { IsRight candidate.now result }
+{
     let bytes = candidate.writers(reader).len();
-    let arrows = read_arrows(alloc, candidate, reader)?;
-    for arrow in arrows.as_slice() {
-        let kind = read_kind(candidate, arrow, reader, bytes);
-        add_arrow(text, arrow.writer, EventId::At(reader), kind)?;
-        add_order(text, candidate, arrow.writer, EventId::At(reader))?;
+    Edge {
+        from: run.writer,
+        to: reader,
+        kind: EdgeKind::ReadsFrom(ReadsFrom {
+            first: run.first,
+            last: run.last,
+            is_whole: run.first == 0 && run.last.saturating_add(1) == bytes,
+            synchronizes: is_synchronized(candidate, run.writer, reader),
+        }),
     }
-    Ok(())
 }
 
-/// Adds the arrow to an event from the one before it in its thread.
-fn add_sequenced(
-    text: &mut String,
-    candidate: &Candidate,
-    event: &Event,
-) -> Result<(), AllocError> {
-    let Some(number) = event.number.checked_sub(1) else {
-        return Ok(());
-    };
-    let previous = EventId::At(EventKey {
-        thread: event.thread,
-        number,
-    });
-    let next = EventId::At(event.key());
-    add_arrow(text, previous, next, ArrowKind::Sequenced)?;
-    add_order(text, candidate, previous, next)
+/// The edge to an event from the one before it in its thread; None to the first one.
+fn sequenced_edge(event: &Event) -> Option<Edge>
+    ensures { (x : LoggedRun) → IfSome result (IsRight x) }
+{
+    let number = event.number.checked_sub(1)?;
+    Some(Edge {
+        from: EventId::At(EventKey {
+            thread: event.thread,
+            number,
+        }),
+        to: event.key(),
+        kind: EdgeKind::Sequenced,
+    })
 }
 
-/// Adds the arrows to the events of a thread.
-pub(crate) fn add_edges(
+/// Adds the edges to the events of a thread.
+fn add_thread(
     alloc: Global,
-    text: &mut String,
+    edges: &mut List<Edge>,
     candidate: &Candidate,
     thread: &ThreadLog,
-) -> Result<(), AllocError> {
+) -> Result<(), AllocError>
+    requires { All (IsRight candidate.now) edges.old }
+    ensures { All (IsRight candidate.now) edges.new }
+{
     for event in thread.events.as_slice() {
-        add_sequenced(text, candidate, event)?;
-        add_reads(alloc, text, candidate, event.key())?;
+        if let Some(edge) = sequenced_edge(event) {
+            add_edge(edges, candidate, edge)?;
+        }
+        let reader = event.key();
+        for run in writer_runs(alloc, candidate, reader)?.as_slice() {
+            add_edge(edges, candidate, read_edge(candidate, run, reader))?;
+        }
     }
     Ok(())
 }
 
 /// Adds the links of a chain.
-fn add_chain(text: &mut String, chain: &FaultChain) -> Result<(), AllocError> {
-    let mut last = chain.from;
+fn add_chain(edges: &mut List<Edge>, chain: &FaultChain) -> Result<(), AllocError>
+    ensures { (x : LoggedRun) → IsShortestChain (execution x) chain.now.from chain.now.links chain.now.to
+        → All (IsRight x) edges.old → All (IsRight x) edges.new }
+{
+    let mut from = chain.from;
     for link in chain.links.as_slice() {
-        let next = EventId::At(link.event);
-        add_arrow(text, last, next, ArrowKind::Chain(link.kind))?;
-        last = next;
+        edges.push(Edge {
+            from,
+            to: link.event,
+            kind: EdgeKind::Chain(link.kind),
+        })?;
+        from = EventId::At(link.event);
     }
     Ok(())
 }
 
-/// Adds the chains that a fault stands on.
-pub(crate) fn add_chains(
+/// The edges of a candidate's picture: thread by thread those to its events, and then the chains that a fault rests on.
+///
+/// # Errors
+///
+/// Only if an allocation fails.
+pub(crate) fn edges(
     alloc: Global,
-    text: &mut String,
     candidate: &Candidate,
-    fault: &RuleFault,
-) -> Result<(), AllocError> {
-    for chain in fault_chains(alloc, candidate, fault)?.as_slice() {
-        add_chain(text, chain)?;
+    fault: Option<&RuleFault>,
+) -> Result<List<Edge>, AllocError>
+    ensures { IfOk result (All (IsRight candidate.now)) }
+{
+    let mut edges = List::new(alloc);
+    for thread in candidate.log().threads() {
+        add_thread(alloc, &mut edges, candidate, thread)?;
     }
-    Ok(())
+    if let Some(fault) = fault {
+        for chain in fault_chains(alloc, candidate, fault)?.as_slice() {
+            add_chain(&mut edges, chain)?;
+        }
+    }
+    Ok(edges)
 }

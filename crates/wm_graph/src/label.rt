@@ -1,9 +1,9 @@
-//! The names of nodes, and what stands in and beside them.
+//! The names of nodes, and their labels.
 
 use std::fmt;
 use wm_event::{Event, EventId, EventKey};
 
-/// The colour of what a fault speaks of.
+/// The colour of what a fault names.
 pub(crate) const FAULT_COLOUR: &str = "red";
 
 /// The name of a node.
@@ -19,7 +19,7 @@ impl fmt::Display for NodeName {
     }
 }
 
-/// An event as people of the field write it: `R`, `W` or `U`, `sc` where it is atomic, its bytes and its values.
+/// An event as people of the field write it: `R`, `W` or `U`, `sc` if it is atomic, its bytes and its values.
 #[derive(Clone, Copy)]
 pub(crate) struct NodeLabel<'a>(pub &'a Event);
 
@@ -36,24 +36,6 @@ impl fmt::Display for NodeLabel<'_> {
             (true, true) => { write!(f, "{key}: U{order} [{address}..{last}] {read} to {written}") }
             (true, false) => write!(f, "{key}: R{order} [{address}..{last}] = {read}"),
             (false, _) => write!(f, "{key}: W{order} [{address}..{last}] := {written}"),
-        }
-    }
-}
-
-/// The bytes of a range from the first to the last one.
-#[derive(Clone, Copy)]
-pub(crate) struct ByteLabel {
-    pub first: usize,
-    pub last: usize,
-}
-
-impl fmt::Display for ByteLabel {
-    fn fmt<W: fmt::Write>(&self, f: &mut fmt::Formatter<W>) -> fmt::Result {
-        let ByteLabel { first, last } = *self;
-        if first == last {
-            write!(f, "rf {first}")
-        } else {
-            write!(f, "rf {first}..{last}")
         }
     }
 }

@@ -1,10 +1,10 @@
-//! An execution as a picture, in the language of Graphviz.
+//! An execution as a picture: its data, and its text in the language of Graphviz.
 #![tactic(auto)]
 
-mod arrows;
 mod columns;
+mod dot;
 mod edges;
 mod label;
 mod picture;
 
-pub use picture::draw;
+pub use dot::draw;

@@ -1,81 +1,51 @@
-//! The picture of an execution.
+//! The picture of an execution, as data.
+ghost use Rattle.std.specs.Prelude.{◌↔◌, All, IfOk, IsTrue};
+ghost use Rattle.wm_event.specs.declared.event.EventId.TheVariants.{Init};
+ghost use Rattle.wm_graph.specs.Columns.{AreColumnsOf, IsMarked, IsMarkedBy};
+ghost use Rattle.wm_graph.specs.Edges.{IsRight};
 
-use crate::columns::{Column, Node, columns, is_marked};
-use crate::edges::{add_chains, add_edges};
-use crate::label::{FAULT_COLOUR, NodeLabel, NodeName};
+use crate::columns::{Column, columns, is_marked};
+use crate::edges::{Edge, edges};
 use std::alloc::{AllocError, Global};
 use wm_check::{Breach, Verdict};
-use wm_event::{Candidate, EventId, Log};
+use wm_event::{Candidate, EventId, RuleFault};
+use wm_list::List;
 
-/// Adds the node of an event.
-fn add_node(text: &mut String, node: &Node) -> Result<(), AllocError> {
-    let name = NodeName(EventId::At(node.event.key()));
-    let label = NodeLabel(&node.event);
-    if node.is_marked {
-        writeln!(
-            text,
-            "    {name} [label=\"{label}\", color=\"{FAULT_COLOUR}\", fontcolor=\"{FAULT_COLOUR}\"];"
-        )
-    } else {
-        writeln!(text, "    {name} [label=\"{label}\"];")
+/// The picture of an execution: a column of nodes for each thread, a node for Init, and edges.
+#[derive(Drop)]
+pub(crate) struct Picture {
+    /// Whether the verdict speaks of Init.
+    pub is_init_marked: bool,
+    pub columns: List<Column>,
+    pub edges: List<Edge>,
+}
+
+/// The fault of a memory rule that a verdict names.
+fn rule_fault(verdict: &Verdict) -> Option<&RuleFault> {
+    match verdict {
+        Verdict::Broken(Breach::Rule(fault)) => Some(fault),
+        _ => None,
     }
 }
 
-/// Adds the column of a thread.
-fn add_column(text: &mut String, number: usize, column: &Column) -> Result<(), AllocError> {
-    writeln!(
-        text,
-        "  subgraph cluster_{number} {{\n    label=\"thread {number}\";"
-    )?;
-    for node in column.nodes.as_slice() {
-        add_node(text, node)?;
-    }
-    text.push_str("  }\n")?;
-    Ok(())
-}
-
-/// Adds the node of Init, above the first event of each thread.
-fn add_init(text: &mut String, log: &Log, is_marked: bool) -> Result<(), AllocError> {
-    let colour = if is_marked { FAULT_COLOUR } else { "black" };
-    writeln!(
-        text,
-        "  init [label=\"init\", color=\"{colour}\", fontcolor=\"{colour}\"];"
-    )?;
-    for thread in log.threads() {
-        if let Some(event) = thread.events.get(0) {
-            let name = NodeName(EventId::At(event.key()));
-            writeln!(text, "  init -> {name} [style=\"invis\"];")?;
-        }
-    }
-    Ok(())
-}
-
-/// The execution that a candidate is, as text for Graphviz, where `verdict` is what
-/// a check gave on it. A column for each thread, a node for each event and for Init; arrows for
-/// sequenced-before (`sb`), reads-from (`rf`, with the bytes where a read has several writers), synchronizes-with (`sw`),
-/// and for the order where it goes against one of these; in red the events of a fault and the chains of happens-before that
-/// it stands on, or the event at which a thread differs from its log.
+/// The picture of a candidate on which a check gave a verdict.
 ///
 /// # Errors
 ///
-/// Only where memory was refused.
-pub fn draw(alloc: Global, verdict: &Verdict, candidate: &Candidate) -> Result<String, AllocError> {
-    let log = candidate.log();
-    let mut text = String::new(alloc);
-    text.push_str(
-        "digraph execution {\n  node [shape=\"box\", fontname=\"monospace\"];\n  edge [fontname=\"monospace\"];\n",
-    )?;
-    add_init(&mut text, log, is_marked(verdict, EventId::Init))?;
-    let columns = columns(alloc, log, verdict)?;
-    for (number, column) in columns.as_slice().iter().enumerate() {
-        add_column(&mut text, number, column)?;
-    }
-    for thread in log.threads() {
-        add_edges(alloc, &mut text, candidate, thread)?;
-    }
-    if let Verdict::Broken(Breach::Rule(fault)) = verdict {
-        add_chains(alloc, &mut text, candidate, fault)?;
-    }
-    text.push_str("}\n")?;
-    Ok(text)
+/// Only if an allocation fails.
+pub(crate) fn picture(
+    alloc: Global,
+    verdict: &Verdict,
+    candidate: &Candidate,
+) -> Result<Picture, AllocError>
+    ensures init { IfOk result (λ p. IsTrue p.is_init_marked ↔ IsMarked verdict.now Init) }
+    ensures columns { IfOk result (λ p. AreColumnsOf candidate.now.log p.columns) }
+    ensures marks { IfOk result (λ p. All (λ column. All (IsMarkedBy verdict.now) column.nodes) p.columns) }
+    ensures edges { IfOk result (λ p. All (IsRight candidate.now) p.edges) }
+{
+    Ok(Picture {
+        is_init_marked: is_marked(verdict, EventId::Init),
+        columns: columns(alloc, candidate.log(), verdict)?,
+        edges: edges(alloc, candidate, rule_fault(verdict))?,
+    })
 }

@@ -10,12 +10,13 @@ use Rattle.wm_event.specs.declared.log.ThreadLog.{ThreadLog}
 use Rattle.wm_machine.specs.Term.{Config, NoStep}
 use Rattle.wm_machine.specs.Step.{step}
 use Rattle.wm_machine.specs.Run.{Ran, end_of, outcome_of, outcome_with, run_from, steps}
-use Rattle.wm_replay.specs.Answers.{AccessesOther, HasPlaces, Steps, end_place}
+use Rattle.wm_replay.specs.Comparison.{end_place}
+use Rattle.wm_replay.specs.Following.{AccessesOther, HasPlaces, Steps}
 use Rattle.wm_replay.specs.Replay.{DiffersAt, IsRun, Reaches, reads_of, start_of}
 use Rattle.wm_replay.specs.Replay.DiffersAt.{access, left_over, end}
 use Rattle.wm_replay.specs.declared.answer.Place.TheVariants as place
-use Rattle.wm_replay.specs.declared.compare.Progress.{Progress}
-use Rattle.wm_replay.specs.declared.compare.Progress.TheVariants as progress
+use Rattle.wm_replay.specs.declared.by_log.StepByLog.{StepByLog}
+use Rattle.wm_replay.specs.declared.by_log.StepByLog.TheVariants as by_log
 use Rattle.wm_replay.proofs.Following.{access_on, local_on, so_far}
 
 -- thread k has followed its log for j steps, up to the events below n
@@ -38,13 +39,13 @@ follows_in m m' k t start c j n same is_start places listed so =
 pub runs_in : (m m' : Module) (k : ℕ) (start : Config) (reads : List ℕ) (j : ℕ) (ran : Ran) → m' ≡ m → steps m k start reads j ≡ Some ran → steps m' k start reads j ≡ Some ran
 runs_in m m' k start reads j ran same so = subst (λ x. steps x k start reads j ≡ Some ran) (sym same) so
 
-pub steps_as : (m m' : Module) (old new : Config) (es es' : List Event) (n : ℕ) (p p' : Progress) → m' ≡ m → es' ≡ es → p' ≡ p → Steps m' old new es' n p' → Steps m old new es n p
+pub steps_as : (m m' : Module) (old new : Config) (es es' : List Event) (n : ℕ) (p p' : StepByLog) → m' ≡ m → es' ≡ es → p' ≡ p → Steps m' old new es' n p' → Steps m old new es n p
 steps_as m m' old new es es' n p p' same list is s =
     subst (Steps m old new es n) is (subst (λ x. Steps m old new x n p') list (subst (λ x. Steps x old new es' n p') same s))
 
 -- ---- a step that is made
 
-pub followed : (m : Module) (k : ℕ) (t : ThreadLog) (start old new : Config) (j n now : ℕ) → Follows m k t start old j n → Steps m old new t.events n (progress.Made now)
+pub followed : (m : Module) (k : ℕ) (t : ThreadLog) (start old new : Config) (j n now : ℕ) → Follows m k t start old j n → Steps m old new t.events n (by_log.Stepped now)
     → (now ≤ length t.events) × (steps m k start (reads_of t.events) (j + 1) ≡ Some (so_far new t.events now))
 followed m k t start old new j n now f (inl local) = (
   subst (λ i. i ≤ length t.events) (sym local.0) f.listed,
@@ -56,7 +57,7 @@ followed m k t start old new j n now f (inr made) =
     let at = f.places n a.event a.listed in (
       subst (λ i. i ≤ length t.events) (sym made.0) (let lt = slice_get_within t.events n a.event a.listed in omega (arith, lt)),
       ap (steps m k start (reads_of t.events)) (add-one j) ∙ subst (λ i. steps m k start (reads_of t.events) (suc j) ≡ Some (so_far new t.events i)) (sym made.0)
-          (access_on m k start old new t.events j n a.op a.event f.ran_so a.listed a.made.0 a.made.1 (a.asks 0) a.goes at.0 at.1),
+          (access_on m k start old new t.events j n a.op a.event f.ran_so a.listed a.makes.0 a.makes.1 (a.asks 0) a.steps_to at.0 at.1),
     )
 
 -- ---- a difference
@@ -65,7 +66,7 @@ pub other_differs : (m : Module) (k : ℕ) (t : ThreadLog) (start c : Config) (j
     → AccessesOther m c t.events n → DiffersAt m k t (place.Event n)
 other_differs m k t start c j n f lt other =
     access (reaches m k t start c j n f (let w : j ≤ t.steps = omega (arith, lt) in w)) lt other.asks
-    (λ r fits is. other.not_made _ is r fits refl)
+    (λ r fits is. other.makes_not _ is r fits refl)
 
 -- no step is made, or none is stated
 at_place : (m : Module) (k : ℕ) (t : ThreadLog) (start c : Config) (j n : ℕ) → Follows m k t start c j n → j ≤ t.steps

@@ -5,7 +5,7 @@ use Rattle.std.proofs.lemmas.Option.{slice_get_read, slice_get_within}
 use Rattle.wm_ast.specs.declared.module.Module.{Module}
 use Rattle.wm_event.specs.declared.log.ThreadLog.{ThreadLog}
 use Rattle.wm_replay.specs.declared.answer.ReplayAnswer.{ReplayAnswer}
-use Rattle.wm_replay.specs.Answers.{ComparesEach, ComparesThread, Replays}
+use Rattle.wm_replay.specs.Comparison.{ComparesEach, ComparesThread, Replays}
 use Rattle.wm_replay.specs.Replay.{AreRuns}
 use Rattle.wm_replay.proofs.Logs.{RunsBelow, first_other, runs_more}
 

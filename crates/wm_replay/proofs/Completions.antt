@@ -7,7 +7,7 @@ use Rattle.wm_event.specs.declared.log.ThreadLog.{ThreadLog}
 use Rattle.wm_event.specs.Log.{AreEvents, AreThreads, IsLog}
 use Rattle.wm_replay.specs.declared.answer.ReplayAnswer.{ReplayAnswer}
 use Rattle.wm_replay.specs.declared.answer.ReplayAnswer.TheVariants.{Same, StartRefused, Differs}
-use Rattle.wm_replay.specs.Answers.{IsOther}
+use Rattle.wm_replay.specs.Comparison.{IsOther}
 use Rattle.wm_replay.specs.Complete.{IsCompletion, IsFirstWithoutRun, IsLongestRun, IsWithoutRun, MakesEvents, ending}
 use Rattle.wm_replay.specs.Replay.{IsRun}
 

@@ -3,6 +3,7 @@ pub mod Differing
 pub mod Following
 pub mod Needs
 pub mod Comparing
+pub mod Stopping
 pub mod Logs
 pub mod Longest
 pub mod Completions

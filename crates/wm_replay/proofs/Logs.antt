@@ -8,7 +8,8 @@ use Rattle.wm_event.specs.declared.log.ThreadLog.{ThreadLog}
 use Rattle.wm_event.specs.Log.{HasKeys}
 use Rattle.wm_replay.specs.declared.answer.ReplayAnswer.{ReplayAnswer}
 use Rattle.wm_replay.specs.declared.answer.ReplayAnswer.TheVariants.{Same, StartRefused, Differs}
-use Rattle.wm_replay.specs.Answers.{HasPlaces, IsFirstOther, IsOther, Replays}
+use Rattle.wm_replay.specs.Comparison.{IsFirstOther, IsOther, Replays}
+use Rattle.wm_replay.specs.Following.{HasPlaces}
 use Rattle.wm_replay.specs.Replay.{AreRuns, IsRun}
 
 -- the events of a log's thread stand there

@@ -7,16 +7,15 @@ use Rattle.wm_event.specs.declared.log.ThreadLog.{ThreadLog}
 use Rattle.wm_machine.specs.Run.{end_of, steps}
 use Rattle.wm_machine.specs.Term.{Config}
 use Rattle.wm_replay.specs.declared.answer.Place.TheVariants as place
-use Rattle.wm_replay.specs.declared.completing.Gone.{Gone}
-use Rattle.wm_replay.specs.Answers.{HasPlaces, end_place}
+use Rattle.wm_replay.specs.Comparison.{end_place}
 use Rattle.wm_replay.specs.Complete.{IsLongestRun, MakesEvents, ending}
-use Rattle.wm_replay.specs.Completing.{HasGone, Stops}
-use Rattle.wm_replay.specs.Completing.Stops.{at_limit, at_other, at_end}
+use Rattle.wm_replay.specs.Following.{HasPlaces, RunsByLog, Stops}
+use Rattle.wm_replay.specs.Following.Stops.{at_limit, at_other, at_end}
 use Rattle.wm_replay.specs.Replay.{DiffersAt, reads_of}
-use Rattle.wm_replay.specs.Replay.DiffersAt.{left_over}
-use Rattle.wm_replay.proofs.Comparing.{Follows, is_run, left_differs, other_differs, reaches, rests_differs}
+use Rattle.wm_replay.proofs.Comparing.{Follows, is_run, other_differs, rests_differs}
 use Rattle.wm_replay.proofs.Differing.{no_run, whole_of}
 use Rattle.wm_replay.proofs.Following.{so_far}
+use Rattle.wm_replay.proofs.Stopping.{follows, stop_differs, stops_within}
 use Rattle.wm_replay.proofs.Runs.{more, more_grows, steps_more}
 use Rattle.wm_event.specs.declared.log.End.{End}
 
@@ -24,19 +23,10 @@ use Rattle.wm_event.specs.declared.log.End.{End}
 with_ending : (m : Module) (k : ℕ) (t : ThreadLog) (start c : Config) (j n i : ℕ) (end : End) → Follows m k t start c j n → Follows m k (ending t i end) start c j n
 with_ending m k t start c j n i end f = record { is_start = f.is_start; places = f.places; listed = f.listed; ran_so = f.ran_so }
 
-pub gone_so : (m : Module) (k : ℕ) (t : ThreadLog) (start c new : Config) (gone : Gone) → new ≡ c → Follows m k t start c gone.steps gone.made
-    → Stops m c t.events gone.steps gone.made → HasGone m k t new gone
-gone_so m k t start c new gone same f stops =
-    subst (λ x. HasGone m k t x gone) (sym same)
-    (record { start = start; is_start = f.is_start; listed = f.listed; ran_so = f.ran_so; stops = stops })
-
-follows : (m : Module) (k : ℕ) (t : ThreadLog) (c : Config) (gone : Gone) → HasPlaces k t.events → (g : HasGone m k t c gone) → Follows m k t g.start c gone.steps gone.made
-follows m k t c gone places g = record { is_start = g.is_start; places = places; listed = g.listed; ran_so = g.ran_so }
-
 -- ---- more steps
 
 -- where it stops, no more steps make just the log's events
-no_more : (m : Module) (k : ℕ) (t : ThreadLog) (start c : Config) (j n : ℕ) → Follows m k t start c j n → Stops m c t.events j n
+no_more : (m : Module) (k : ℕ) (t : ThreadLog) (start c : Config) (j n : ℕ) → Follows m k t start c j n → Stops m c t.events 1000000 j n
     → (i : ℕ) → j < i → i ≤ 1000000 → ¬ MakesEvents m k t i
 no_more m k t start c j n f (at_limit e) i lt le makes = omega (arith, e, lt, le)
 no_more m k t start c j n f (at_other before other) i lt le makes =
@@ -46,21 +36,16 @@ no_more m k t start c j n f (at_end before stops) i lt le makes =
     no_run m k (ending t i makes.0) (end_place n (length t.events))
     (rests_differs m k (ending t i makes.0) start c j n (with_ending m k t start c j n i makes.0 f) lt stops) makes.1
 
-steps_within : (m : Module) (c : Config) (t : ThreadLog) (j n : ℕ) → Stops m c t.events j n → j ≤ 1000000
-steps_within m c t j n (at_limit e) = omega (arith, e)
-steps_within m c t j n (at_other before other) = omega (arith, before)
-steps_within m c t j n (at_end before stops) = omega (arith, before)
-
 -- the longest run of a thread that has made all events
-pub is_longest : (m : Module) (k : ℕ) (t : ThreadLog) (c : Config) (gone : Gone) → HasPlaces k t.events → HasGone m k t c gone → length t.events ≤ gone.made
-    → IsLongestRun m k t (ending t gone.steps (end_of c))
-is_longest m k t c gone places g all =
-    let f = follows m k t c gone places g in record {
+pub is_longest : (m : Module) (k : ℕ) (t : ThreadLog) (c : Config) (j n : ℕ) → HasPlaces k t.events → RunsByLog m k t 1000000 c j n → length t.events ≤ n
+    → IsLongestRun m k t (ending t j (end_of c))
+is_longest m k t c j n places g all =
+    let f = follows m k t 1000000 c j n places g in record {
       start = refl;
       events = refl;
-      is_run = is_run m k (ending t gone.steps (end_of c)) g.start c gone.steps gone.made (with_ending m k t g.start c gone.steps gone.made gone.steps (end_of c) f) refl all refl;
-      within = steps_within m c t gone.steps gone.made g.stops;
-      longest = no_more m k t g.start c gone.steps gone.made f g.stops;
+      is_run = is_run m k (ending t j (end_of c)) g.start c j n (with_ending m k t g.start c j n j (end_of c) f) refl all refl;
+      within = stops_within m c t 1000000 j n g.stops;
+      longest = no_more m k t g.start c j n f g.stops;
     }
 
 -- ---- fewer steps
@@ -78,26 +63,16 @@ no_fewer m k t start c j n f left i le makes =
     omega (arith, left, count)
 
 -- where it stops before it has made all events, no number of steps makes them
-pub no_steps : (m : Module) (k : ℕ) (t : ThreadLog) (c : Config) (gone : Gone) → HasPlaces k t.events → HasGone m k t c gone → gone.made < length t.events
+pub no_steps : (m : Module) (k : ℕ) (t : ThreadLog) (c : Config) (j n : ℕ) → HasPlaces k t.events → RunsByLog m k t 1000000 c j n → n < length t.events
     → (i : ℕ) → i ≤ 1000000 → ¬ MakesEvents m k t i
-no_steps m k t c gone places g left i le = either (nat_lt gone.steps i) refl
+no_steps m k t c j n places g left i le = either (nat_lt j i) refl
   where
-    either : (b : Bool) → nat_lt gone.steps i ≡ b → ¬ MakesEvents m k t i
-    either true is = no_more m k t g.start c gone.steps gone.made (follows m k t c gone places g) g.stops i (ltb-true gone.steps i is) le
-    either false is = no_fewer m k t g.start c gone.steps gone.made (follows m k t c gone places g) left i (ltb-false gone.steps i is)
-
-stop_differs : (m : Module) (k : ℕ) (t : ThreadLog) (start c : Config) (j n : ℕ) → Follows m k t start c j n → Stops m c t.events j n → n < length t.events
-    → DiffersAt m k (ending t 1000000 t.end) (place.Event n)
-stop_differs m k t start c j n f (at_limit e) left =
-    left_differs m k (ending t 1000000 t.end) start c j n (with_ending m k t start c j n 1000000 t.end f) e left
-stop_differs m k t start c j n f (at_other before other) left =
-    other_differs m k (ending t 1000000 t.end) start c j n (with_ending m k t start c j n 1000000 t.end f) before other
-stop_differs m k t start c j n f (at_end before stops) left =
-    left_over (reaches m k (ending t 1000000 t.end) start c j n (with_ending m k t start c j n 1000000 t.end f) (let le : j ≤ 1000000 = omega (arith, before) in le))
-    left (inr stops)
+    either : (b : Bool) → nat_lt j i ≡ b → ¬ MakesEvents m k t i
+    either true is = no_more m k t g.start c j n (follows m k t 1000000 c j n places g) g.stops i (ltb-true j i is) le
+    either false is = no_fewer m k t g.start c j n (follows m k t 1000000 c j n places g) left i (ltb-false j i is)
 
 -- a replay of 1,000,000 steps says so
-pub gone_differs : (m : Module) (k : ℕ) (t : ThreadLog) (c : Config) (gone : Gone) → HasPlaces k t.events → HasGone m k t c gone → gone.made < length t.events
-    → DiffersAt m k (ending t 1000000 t.end) (place.Event gone.made)
-gone_differs m k t c gone places g left =
-    stop_differs m k t g.start c gone.steps gone.made (follows m k t c gone places g) g.stops left
+pub stop_at_differs : (m : Module) (k : ℕ) (t : ThreadLog) (c : Config) (j n : ℕ) → HasPlaces k t.events → RunsByLog m k t 1000000 c j n → n < length t.events
+    → DiffersAt m k (ending t 1000000 t.end) (place.Event n)
+stop_at_differs m k t c j n places g left =
+    stop_differs m k (ending t 1000000 t.end) g.start c j n (with_ending m k t g.start c j n 1000000 t.end (follows m k t 1000000 c j n places g)) g.stops left

@@ -10,8 +10,8 @@ use Rattle.wm_machine.specs.declared.thread.Need.{Need}
 use Rattle.wm_machine.specs.declared.thread.Need.TheVariants as need
 use Rattle.wm_machine.specs.Run.{end_of}
 use Rattle.wm_machine.specs.State.{State, as_need, config_from, config_of, need_in, need_of}
-use Rattle.wm_machine.specs.Step.{access_of, step, next_config}
-use Rattle.wm_replay.specs.Answers.{Accesses, IsMade, IsNotMade}
+use Rattle.wm_machine.specs.Step.{access_of, step, went}
+use Rattle.wm_replay.specs.Following.{Accesses, MakesEvent, MakesNotEvent}
 use Rattle.wm_machine.specs.Term.{Config, Over, Step, Term, Vars, Went, NoStep}
 use Rattle.wm_machine.specs.Configuration.{left_of, under, waiting}
 use Rattle.wm_machine.specs.Inside.{vars_of}
@@ -57,20 +57,20 @@ pub no_step_of_need : (s : State) (r : ℕ) (end : End) → need_of r s ≡ need
 no_step_of_need s r end e = ap (step s.module 0) (ended_of_need s r end e)
 
 -- a step that is made, by its access
-pub made_access : (s : Step) (op : OpFields) (c : Config) → access_of s ≡ Some op → next_config s ≡ Some c → s ≡ Went (Some op) c
+pub made_access : (s : Step) (op : OpFields) (c : Config) → access_of s ≡ Some op → went s ≡ Some c → s ≡ Went (Some op) c
 made_access NoStep op c is goes = absurd (none-some op is)
 made_access (Went made after) op c is goes = ap (λ o. Went o after) is ∙ ap (Went (Some op)) (same_Some after c goes)
 
-pub made_local : (s : Step) (c : Config) → access_of s ≡ None → next_config s ≡ Some c → s ≡ Went None c
+pub made_local : (s : Step) (c : Config) → access_of s ≡ None → went s ≡ Some c → s ≡ Went None c
 made_local NoStep c is goes = absurd (none-some c goes)
 made_local (Went made after) c is goes = ap (λ o. Went o after) is ∙ ap (Went None) (same_Some after c goes)
 
-pub no_step : (s : Step) → next_config s ≡ None → s ≡ NoStep
+pub no_step : (s : Step) → went s ≡ None → s ≡ NoStep
 no_step NoStep e = refl
 no_step (Went made after) e = absurd (none-some after (sym e))
 
 -- a step that makes an access is one
-pub access_goes : (s : Step) (op : OpFields) → access_of s ≡ Some op → next_config s ≡ None → ⊥
+pub access_goes : (s : Step) (op : OpFields) → access_of s ≡ Some op → went s ≡ None → ⊥
 access_goes NoStep op is e = none-some op is
 access_goes (Went made after) op is e = none-some after (sym e)
 
@@ -95,17 +95,17 @@ still_goes n (inr e) end f = absurd (cc (e.1, f))
 -- ---- an event by its number
 
 -- an event of the list isn't made by an access, as far as the list has it
-pub other_at : (op : OpFields) (es : List Event) (n : ℕ) (d : Event) → IsNotMade op (get_or es n d) → (e : Event) → slice_get es n ≡ Some e → IsNotMade op e
-other_at op es n d other e is = subst (IsNotMade op) (get_or_from_slice_get es n e d is) other
+pub other_at : (op : OpFields) (es : List Event) (n : ℕ) (d : Event) → MakesNotEvent op (get_or es n d) → (e : Event) → slice_get es n ≡ Some e → MakesNotEvent op e
+other_at op es n d other e is = subst (MakesNotEvent op) (get_or_from_slice_get es n e d is) other
 
 -- the step makes the access that is the event of this number
-pub access_at : (m : Module) (old new : Config) (op : OpFields) (es : List Event) (n : ℕ) (d : Event) → n < length es → IsMade op (get_or es n d)
-    → ((r : ℕ) → access_of (step m r old) ≡ Some op) → next_config (step m (get_or es n d).read old) ≡ Some new → Accesses m old new es n
+pub access_at : (m : Module) (old new : Config) (op : OpFields) (es : List Event) (n : ℕ) (d : Event) → n < length es → MakesEvent op (get_or es n d)
+    → ((r : ℕ) → access_of (step m r old) ≡ Some op) → went (step m (get_or es n d).read old) ≡ Some new → Accesses m old new es n
 access_at m old new op es n d lt made asks goes = record {
   op = op;
   event = get_or es n d;
   listed = slice_get-get_or es n d lt;
-  made = made;
+  makes = made;
   asks = asks;
-  goes = made_access (step m (get_or es n d).read old) op new (asks (get_or es n d).read) goes;
+  steps_to = made_access (step m (get_or es n d).read old) op new (asks (get_or es n d).read) goes;
 }

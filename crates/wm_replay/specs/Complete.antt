@@ -1,5 +1,5 @@
 -- Logs with the steps and the ends of their runs.
-use Rattle.std.specs.Prelude.{◌≡◌, ℕ, ◌<◌, ◌≤◌, List, length, Some, slice_get}
+use Rattle.std.specs.Prelude.{◌≡◌, ℕ, ◌<◌, ◌≤◌, List, length, Result, Ok, Err, Some, slice_get}
 use Rattle.wm_ast.specs.declared.module.Module.{Module}
 use Rattle.wm_event.specs.Limits.{max_steps}
 use Rattle.wm_event.specs.declared.log.End.{End}
@@ -8,7 +8,7 @@ use Rattle.wm_replay.specs.declared.answer.ReplayAnswer.{ReplayAnswer}
 use Rattle.wm_replay.specs.declared.answer.ReplayAnswer.TheVariants.{Same, StartRefused, Differs}
 use Rattle.wm_replay.specs.declared.completing.Completion.{Completion}
 use Rattle.wm_replay.specs.declared.completing.Completion.TheVariants.{Completed, NoRun}
-use Rattle.wm_replay.specs.Answers.{IsOther}
+use Rattle.wm_replay.specs.Comparison.{IsOther}
 use Rattle.wm_replay.specs.Replay.{AreRuns, IsRun}
 
 -- the log of a thread, with other steps and another end
@@ -26,6 +26,11 @@ pub record IsLongestRun (m : Module) (k : ℕ) (t completed : ThreadLog) : Type 
   pub is_run : IsRun m k completed
   pub within : completed.steps ≤ max_steps
   pub longest : (n : ℕ) → completed.steps < n → n ≤ max_steps → ¬ MakesEvents m k t n
+
+-- the log of thread k completed, or why no number of steps makes its events
+abbrev pub CompletesThread : Module → ℕ → ThreadLog → Result ThreadLog ReplayAnswer → Type 0
+CompletesThread m k t (Ok completed) = IsLongestRun m k t completed
+CompletesThread m k t (Err answer) = ((n : ℕ) → n ≤ 1000000 → ¬ MakesEvents m k t n) × IsOther m k (ending t 1000000 t.end) answer
 
 -- each thread of the log is completed
 pub record IsCompletion (m : Module) (log completed : List ThreadLog) : Type 0 where

@@ -1,4 +1,4 @@
 pub mod Replay
-pub mod Answers
+pub mod Following
+pub mod Comparison
 pub mod Complete
-pub mod Completing

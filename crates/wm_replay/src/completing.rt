@@ -1,17 +1,13 @@
 //! Logs with the steps and the ends of their runs.
-ghost use Rattle.std.specs.Prelude.{◌≡◌, ℕ, Ok, IfOk};
-ghost use Rattle.wm_machine.specs.State.{config_of};
-ghost use Rattle.wm_replay.specs.Answers.{HasPlaces};
-ghost use Rattle.wm_replay.specs.Complete.{CompletesLog, ending};
-ghost use Rattle.wm_replay.specs.Completing.{CompletesThread, HasGone};
-ghost use Rattle.wm_replay.specs.Replay.{start_of};
+ghost use Rattle.std.specs.Prelude.{◌≡◌, IfOk};
+ghost use Rattle.wm_replay.specs.Complete.{CompletesLog, CompletesThread, ending};
+ghost use Rattle.wm_replay.specs.Following.{HasPlaces};
 
 use crate::answer::{Place, ReplayAnswer};
-use crate::compare::{Progress, end_of, step_on};
+use crate::by_log::{end_of, follow};
 use std::alloc::{AllocError, Global};
-use wm_event::{End, Event, Log, Start, ThreadLog};
+use wm_event::{End, Log, Start, ThreadLog};
 use wm_list::{Growing, List, Text};
-use wm_machine::{StartFault, Thread};
 use wm_valid::ValidModule;
 
 /// How many steps a thread is run for at most.
@@ -25,37 +21,6 @@ pub enum Completion {
     /// The first thread whose events no number of steps up to [`MAX_STEPS`] makes, and why: what a replay of
     /// [`MAX_STEPS`] steps says of it. The answer isn't `Same`.
     NoRun(ReplayAnswer),
-}
-
-/// How far a thread has gone.
-#[derive(Clone, Copy)]
-struct Gone {
-    steps: u32,
-    /// How many of its log's events it made.
-    made: usize,
-}
-
-/// Runs a thread on the values that its log read, up to its end, an access that isn't the log's next event, or
-/// [`MAX_STEPS`].
-fn go(thread: &mut Thread, stated: &ThreadLog, number: usize) -> Result<Gone, AllocError>
-    requires start { start_of thread.old.module stated.now ≡ Ok (config_of thread.old) }
-    requires places { HasPlaces number stated.now.events }
-    ensures gone { IfOk result (HasGone thread.old.module number stated.now (config_of thread.new)) }
-{
-    let events = stated.events.as_slice();
-    let mut made = 0usize;
-    for steps in 0..MAX_STEPS {
-        match step_on(thread, events, made) {
-            Err(refused) => return Err(refused),
-            Ok(Progress::Made(now)) => made = now,
-            Ok(Progress::Other) => return Ok(Gone { steps, made }),
-            Ok(Progress::Rests) => return Ok(Gone { steps, made }),
-        }
-    }
-    Ok(Gone {
-        steps: MAX_STEPS,
-        made,
-    })
 }
 
 /// A copy of items.
@@ -97,30 +62,27 @@ fn complete_thread(
     requires { HasPlaces number stated.now.events }
     ensures { IfOk result (CompletesThread «module».now number stated.now) }
 {
-    let name = stated.start.name.as_str();
-    let args = stated.start.args.as_slice();
-    let mut thread = match Thread::start(alloc, module, name, args) {
-        Ok(thread) => thread,
-        Err(StartFault::OutOfMemory) => return Err(AllocError),
-        Err(fault) => return Ok(Err(ReplayAnswer::StartRefused(number, fault))),
+    let followed = match follow(alloc, module, stated, number, MAX_STEPS) {
+        Err(refused) => return Err(refused),
+        Ok(Err(fault)) => return Ok(Err(ReplayAnswer::StartRefused(number, fault))),
+        Ok(Ok(followed)) => followed,
     };
-    let gone = go(&mut thread, stated, number)?;
-    if gone.made < stated.events.len() {
-        let place = Place::Event(gone.made);
+    if followed.events < stated.events.len() {
+        let place = Place::Event(followed.events);
         return Ok(Err(ReplayAnswer::Differs(number, place)));
     }
-    let completed = with_end(alloc, stated, gone.steps, end_of(&thread))?;
+    let completed = with_end(alloc, stated, followed.steps, end_of(&followed.thread))?;
     Ok(Ok(completed))
 }
 
 /// Completes a log: each thread gets the steps and the end of the longest of its runs that make just its events, on the
-/// values that they read, of at most [`MAX_STEPS`] steps. So it goes on until its events are used up and it has ended or
-/// stands before an access that the log doesn't have, where it is cut. The steps and the ends that the log has play no
+/// values that they read, of at most [`MAX_STEPS`] steps. It runs until its events are used up and it has ended or
+/// comes to an access that the log doesn't have, where it is cut. The steps and the ends that the log has play no
 /// part; starts and events stay as they are.
 ///
 /// # Errors
 ///
-/// Only where memory was refused.
+/// Only if an allocation fails.
 pub fn complete(alloc: Global, module: &ValidModule, log: &Log) -> Result<Completion, AllocError>
     ensures { IfOk result (CompletesLog «module».now log.now) }
 {

@@ -3,10 +3,12 @@
 #![tactic(auto)]
 
 mod answer;
+mod by_log;
 mod compare;
 mod completing;
 mod parallel;
 
 pub use answer::{Place, ReplayAnswer};
+pub use by_log::{Followed, follow};
 pub use compare::replay;
 pub use completing::{Completion, MAX_STEPS, complete};

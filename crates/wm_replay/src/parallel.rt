@@ -1,7 +1,7 @@
 //! Long threads are replayed at the same time.
 ghost use Rattle.std.specs.Prelude.{◌<◌, IfOk, length};
 ghost use Rattle.wm_event.specs.Log.{HasKeys};
-ghost use Rattle.wm_replay.specs.Answers.{ComparesAt, ComparesEach, Replays};
+ghost use Rattle.wm_replay.specs.Comparison.{ComparesAt, ComparesEach, Replays};
 
 use crate::answer::ReplayAnswer;
 use crate::compare::difference;

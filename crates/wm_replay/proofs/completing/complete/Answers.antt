@@ -1,8 +1,7 @@
 use Rattle.std.proofs.Common.{◌≡◌, ◌+◌, [], ◌∷◌, ◌++◌, Some, ap, length, rules, subst, sym, ◌∙◌}
 use Rattle.std.specs.Prelude.{slice_get}
 use Rattle.std.proofs.lemmas.List.{length-append}
-use Rattle.wm_replay.specs.Complete.{IsCompletion}
-use Rattle.wm_replay.specs.Completing.{CompletesThread}
+use Rattle.wm_replay.specs.Complete.{CompletesThread, IsCompletion}
 use Rattle.wm_replay.proofs.Completions.{AreCompleted, completed_more, first_without, is_completion, is_log}
 use Rattle.wm_replay.proofs.Logs.{item_at, places_in}
 use Rattle.wm_replay.proofs.completing.complete.Goals as goal

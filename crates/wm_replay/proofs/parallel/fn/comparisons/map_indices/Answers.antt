@@ -3,7 +3,7 @@ use Rattle.std.specs.Prelude.{slice_get}
 use Rattle.std.proofs.lemmas.Option.{same_Some}
 use Rattle.std.proofs.lemmas.Result.{IfOk-weaker}
 use Rattle.wm_event.specs.declared.log.ThreadLog.{ThreadLog}
-use Rattle.wm_replay.specs.Answers.{ComparesAt, ComparesThread}
+use Rattle.wm_replay.specs.Comparison.{ComparesAt, ComparesThread}
 use Rattle.wm_replay.proofs.Logs.{item_at, places_in}
 use Rattle.wm_replay.proofs.parallel.fn.comparisons.map_indices.Goals as goal
 

@@ -1,0 +1,31 @@
+//! Strings as a document writes them.
+
+use std::fmt;
+
+/// A string in quotes, with the escapes of JSON (RFC 8259, section 7). Control characters are escaped, U+007F too, so
+/// that no name can write to the terminal.
+#[derive(Clone, Copy)]
+pub(crate) struct JsonText<'a>(pub &'a str);
+
+/// Writes a character of a string.
+fn write_char<W: fmt::Write>(f: &mut fmt::Formatter<W>, character: char) -> fmt::Result {
+    match character {
+        '"' => f.write_str("\\\""),
+        '\\' => f.write_str("\\\\"),
+        '\n' => f.write_str("\\n"),
+        '\r' => f.write_str("\\r"),
+        '\t' => f.write_str("\\t"),
+        '\u{0}'..='\u{1f}' | '\u{7f}'..='\u{9f}' => write!(f, "\\u{:04x}", character as u32),
+        _ => write!(f, "{character}"),
+    }
+}
+
+impl fmt::Display for JsonText<'_> {
+    fn fmt<W: fmt::Write>(&self, f: &mut fmt::Formatter<W>) -> fmt::Result {
+        f.write_str("\"")?;
+        for character in self.0.chars() {
+            write_char(f, character)?;
+        }
+        f.write_str("\"")
+    }
+}

@@ -1,0 +1,22 @@
+-- The bytes of a read by their writers.
+use Rattle.std.specs.Prelude.{◌≡◌, ℕ, ◌≤◌, List, Some, slice_get}
+use Rattle.wm_event.specs.declared.event.EventId.{EventId}
+use Rattle.wm_hb.specs.declared.reads_from.WriterRun.{WriterRun}
+
+-- byte k is one of the run
+abbrev pub NamesByte : WriterRun → ℕ → Type 0
+NamesByte run k = (run.first ≤ k) × (k ≤ run.last)
+
+-- byte k is in a run
+abbrev pub IsNamed : List WriterRun → ℕ → Type 0
+IsNamed runs k = (i : ℕ) × (run : WriterRun) × (slice_get runs i ≡ Some run) × NamesByte run k
+
+-- each run has the writer of its bytes
+abbrev pub ComeFromWriters : List EventId → List WriterRun → Type 0
+ComeFromWriters writers runs =
+    (i : ℕ) (run : WriterRun) → slice_get runs i ≡ Some run → (k : ℕ) → NamesByte run k → slice_get writers k ≡ Some run.writer
+
+-- each byte is in a run of its writer, and there is no other run
+pub record AreFromWriters (writers : List EventId) (runs : List WriterRun) : Type 0 where
+  pub from_writers : ComeFromWriters writers runs
+  pub each : (k : ℕ) (writer : EventId) → slice_get writers k ≡ Some writer → IsNamed runs k

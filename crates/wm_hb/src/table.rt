@@ -1,0 +1,197 @@
+//! How each event is reached from a first one by the fewest links of happens-before.
+ghost use Rattle.std.specs.Prelude.{◌≡◌, ◌<◌, ◌≤◌, ◌+◌, ◌⊎◌, ℕ, length, IfOk, IfSome, MatchOption};
+ghost use Rattle.wm_event.specs.declared.event.EventKey.{EventKey};
+ghost use Rattle.wm_event.specs.declared.event.EventId.TheVariants.{At};
+ghost use Rattle.wm_event.specs.HappensBefore.{SequencedBefore, SynchronizesWith};
+ghost use Rattle.wm_event.specs.LoggedRun.{LoggedRun, execution};
+ghost use Rattle.wm_event.specs.Rules.{KeepsOrder};
+ghost use Rattle.wm_hb.specs.Chain.{IsEdge};
+ghost use Rattle.wm_hb.specs.Table.{BoundsThrough, IsBestOfThread, IsHop, IsRow, IsSmall, IsTable, IsWithin, StandsAt, hop_links};
+
+use crate::chain::LinkKind;
+use crate::writers::synchronizes;
+use std::alloc::{AllocError, Global};
+use wm_event::{Candidate, EventId, EventKey};
+
+/// The last link to an event of a chain with the fewest links.
+#[derive(Clone, Copy)]
+pub(crate) struct Hop {
+    /// How many links the chain has.
+    pub links: usize,
+    pub kind: LinkKind,
+    /// The place in the order of the event that the link leaves.
+    pub previous: usize,
+}
+
+/// How an event is reached from the first one.
+#[derive(Clone, Copy)]
+pub(crate) enum Reach {
+    /// By no chain.
+    Never,
+    /// It is the first event.
+    First,
+    /// By a chain with this last link.
+    By(Hop),
+}
+
+/// What is known of the event at a place.
+#[derive(Clone, Copy)]
+pub(crate) struct Row {
+    pub reach: Reach,
+    /// The best last link from an earlier event of its thread.
+    pub earlier: Option<Hop>,
+}
+
+/// Of two last links to an event the one with the fewer links.
+fn shorter(first: Option<Hop>, second: Option<Hop>) -> Option<Hop>
+    ensures one { (result ≡ first) ⊎ (result ≡ second) }
+    ensures least { (n : ℕ) → IsWithin (hop_links first) n ⊎ IsWithin (hop_links second) n → IsWithin (hop_links result) n }
+{
+    match (first, second) {
+        (Some(one), Some(other)) => {
+            if one.links <= other.links {
+                first
+            } else {
+                second
+            }
+        }
+        (Some(_), None) => first,
+        (None, _) => second,
+    }
+}
+
+/// The last link from the event at a place, where that is reached.
+fn hop_from(table: &[Row], kind: LinkKind, previous: usize) -> Option<Hop>
+    requires there { previous < length table.now }
+    requires small { IsSmall table.now }
+    ensures hop { (x : LoggedRun) (p b : EventKey) → StandsAt x previous p → IsEdge (execution x) kind (At p) b → IfSome result (λ hop. IsHop x table.now b hop) }
+    ensures kind { IfSome result (λ hop. hop.kind ≡ kind) }
+    ensures least { (x : LoggedRun) (a p : EventKey) → IsTable x a table.now → StandsAt x previous p → BoundsThrough x a p (hop_links result) }
+{
+    let row = table[previous];
+    match row.reach {
+        Reach::Never => None,
+        Reach::First => Some(Hop {
+            links: 1,
+            kind,
+            previous,
+        }),
+        Reach::By(hop) => Some(Hop {
+            links: hop.links + 1,
+            kind,
+            previous,
+        }),
+    }
+}
+
+/// The place of the event before this one in its thread.
+fn place_before(candidate: &Candidate, key: EventKey) -> Option<usize>
+    ensures { MatchOption result ((p : EventKey) → SequencedBefore (execution candidate.now) p key → ⊥)
+        (λ m. (p : EventKey) × StandsAt candidate.now m p × SequencedBefore (execution candidate.now) p key × (p.number + 1 ≡ key.number)) }
+{
+    candidate.event(EventId::At(key))?;
+    let number = key.number.checked_sub(1)?;
+    candidate.place(EventId::At(EventKey {
+        thread: key.thread,
+        number,
+    }))
+}
+
+/// The best last link to an event from an earlier one of its thread.
+fn from_thread(candidate: &Candidate, table: &[Row], key: EventKey) -> Option<Hop>
+    requires agrees { KeepsOrder (execution candidate.now) }
+    requires stands { StandsAt candidate.now (length table.now) key }
+    requires small { IsSmall table.now }
+    ensures { (a : EventKey) → IsTable candidate.now a table.now → IsBestOfThread candidate.now table.now a key result }
+{
+    let previous = place_before(candidate, key)?;
+    let _order = candidate.witness();
+    shorter(
+        table[previous].earlier,
+        hop_from(table, LinkKind::Sequenced, previous),
+    )
+}
+
+/// The last link from the writer of a byte of a read, where it synchronizes with the read.
+fn from_writer(
+    candidate: &Candidate,
+    table: &[Row],
+    writer: EventId,
+    reader: EventKey,
+) -> Option<Hop>
+    requires agrees { KeepsOrder (execution candidate.now) }
+    requires stands { StandsAt candidate.now (length table.now) reader }
+    requires small { IsSmall table.now }
+    ensures hop { IfSome result (λ hop. IsHop candidate.now table.now reader hop) }
+    ensures least { (a p : EventKey) → IsTable candidate.now a table.now → writer ≡ At p → SynchronizesWith (execution candidate.now) p reader
+        → BoundsThrough candidate.now a p (hop_links result) }
+{
+    let EventId::At(key) = writer else {
+        return None;
+    };
+    if !synchronizes(candidate, key, reader) {
+        return None;
+    }
+    let _order = candidate.witness();
+    let place = candidate.place(writer)?;
+    hop_from(table, LinkKind::Synchronizes, place)
+}
+
+/// The best last link to an event.
+fn best(candidate: &Candidate, table: &[Row], key: EventKey, earlier: Option<Hop>) -> Option<Hop>
+    requires agrees { KeepsOrder (execution candidate.now) }
+    requires stands { StandsAt candidate.now (length table.now) key }
+    requires small { IsSmall table.now }
+    requires earlier { IfSome earlier (λ hop. IsHop candidate.now table.now key hop) }
+    ensures hop { IfSome result (λ hop. IsHop candidate.now table.now key hop) }
+    ensures thread { (n : ℕ) → IsWithin (hop_links earlier) n → IsWithin (hop_links result) n }
+    ensures writers { (a p : EventKey) → IsTable candidate.now a table.now → SynchronizesWith (execution candidate.now) p key
+        → BoundsThrough candidate.now a p (hop_links result) }
+{
+    let mut best = earlier;
+    for writer in candidate.writers(key) {
+        best = shorter(best, from_writer(candidate, table, *writer, key));
+    }
+    best
+}
+
+/// How the event behind those of the table is reached.
+fn row_of(candidate: &Candidate, table: &[Row], from: EventKey, key: EventKey) -> Row
+    requires agrees { KeepsOrder (execution candidate.now) }
+    requires stands { StandsAt candidate.now (length table.now) key }
+    requires small { IsSmall table.now }
+    requires table { IsTable candidate.now from table.now }
+    ensures { IsRow candidate.now table.now from key result }
+{
+    let earlier = from_thread(candidate, table, key);
+    if key == from {
+        return Row {
+            reach: Reach::First,
+            earlier,
+        };
+    }
+    let reach = match best(candidate, table, key, earlier) {
+        Some(hop) => Reach::By(hop),
+        None => Reach::Never,
+    };
+    Row { reach, earlier }
+}
+
+/// How each event is reached from one of them, by its place in the order.
+pub(crate) fn table(
+    alloc: Global,
+    candidate: &Candidate,
+    from: EventKey,
+) -> Result<Vec<Row>, AllocError>
+    requires { KeepsOrder (execution candidate.now) }
+    ensures table { IfOk result (λ t. IsTable candidate.now from t.items) }
+    ensures all { IfOk result (λ t. length t.items ≡ length candidate.now.witness.order) }
+{
+    let order = candidate.witness().order.as_slice();
+    let mut rows = Vec::with_capacity(alloc, order.len())?;
+    for key in order {
+        let row = row_of(candidate, rows.as_slice(), from, *key);
+        rows.push(row)?;
+    }
+    Ok(rows)
+}

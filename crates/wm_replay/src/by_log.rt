@@ -1,0 +1,190 @@
+//! A thread that is run by its log: on the values that its events read, as long as it makes them.
+ghost use Rattle.std.specs.Prelude.{◌≡◌, ℕ, Ok, true, false, IfOk};
+ghost use Rattle.wm_event.specs.Op.{kind_finds};
+ghost use Rattle.wm_event.specs.Reply.{ReadAnswers};
+ghost use Rattle.wm_machine.specs.Run.{end_of as config_end};
+ghost use Rattle.wm_machine.specs.State.{config_of, need_of, value_or_zero};
+ghost use Rattle.wm_replay.specs.Following.{FollowsLog, HasPlaces, MakesEvent, MakesNotEvent, RunsByLog, Stays, Steps};
+ghost use Rattle.wm_replay.specs.Replay.{start_of};
+
+use std::alloc::{AllocError, Global};
+use wm_event::{End, Event, EventId, Op, Reply, ThreadLog};
+use wm_machine::{AdvanceFault, Need, StartFault, Stepped, Thread};
+use wm_num::low_bytes;
+use wm_valid::ValidModule;
+
+/// What became of the next step of a thread beside its log.
+#[derive(Clone, Copy)]
+enum StepByLog {
+    /// It was made: it makes no access, or the access is the log's next event. The thread has now made the given number
+    /// of events.
+    Stepped(usize),
+    /// It wasn't made: its access isn't the log's next event, or the log has no further event.
+    OtherAccess,
+    /// There is no step: the thread has ended.
+    Ended,
+}
+
+/// How far a thread was run by its log.
+#[derive(Clone, Copy)]
+struct Progress {
+    steps: u32,
+    /// How many events of its log it made.
+    events: usize,
+}
+
+/// A thread that was run by its log until it ended, came to an access that isn't the log's next event, or had made the
+/// given number of steps.
+#[derive(Drop)]
+pub struct Followed<'m> {
+    /// The thread after its last step.
+    pub thread: Thread<'m>,
+    /// How many steps it made.
+    pub steps: u32,
+    /// How many events of its log it made. They are the log's first ones.
+    pub events: usize,
+}
+
+/// Whether the access makes the event when it reads the value that the event read.
+fn makes_event(op: &Op, event: &Event) -> bool
+    ensures yes { result ≡ true → MakesEvent op.now event.now }
+    ensures no { result ≡ false → MakesNotEvent op.now event.now }
+{
+    let width = op.fields().width;
+    low_bytes(event.read, width) == event.read && op.event(event.key(), event.read) == *event
+}
+
+/// The reply to an access that makes the event.
+fn reply_of(op: &Op, event: &Event) -> Reply
+    requires { MakesEvent op.now event.now }
+    ensures answers { ReadAnswers (kind_finds op.now.kind) op.now.width result.read }
+    ensures value { value_or_zero result.read ≡ event.now.read }
+{
+    Reply {
+        read: if op.reads() { Some(event.read) } else { None },
+        stored: event.writes(),
+        writers: [EventId::Init; 8],
+    }
+}
+
+/// Makes an access if it is the log's next event, after the given number of events.
+fn access_by_log(
+    thread: &mut Thread,
+    op: &Op,
+    stated: &[Event],
+    events: usize,
+) -> Result<StepByLog, AllocError>
+    requires { (read : ℕ) → need_of read thread.old ≡ Need.Access op.now }
+    ensures steps { IfOk result (Steps thread.old.module (config_of thread.old) (config_of thread.new) stated.now events) }
+    ensures stays { IfOk result (Stays (config_of thread.old) (config_of thread.new)) }
+    ensures same { thread.new.module ≡ thread.old.module }
+{
+    if events >= stated.len() {
+        return Ok(StepByLog::OtherAccess);
+    }
+    let event = &stated[events];
+    if !makes_event(op, event) {
+        return Ok(StepByLog::OtherAccess);
+    }
+    match thread.advance(Some(reply_of(op, event))) {
+        Ok(()) => Ok(StepByLog::Stepped(events + 1)),
+        Err(AdvanceFault::OutOfMemory) => Err(AllocError),
+    }
+}
+
+/// Makes the next step of a thread. If it makes an access, that has to be the log's next event, after the given number
+/// of events.
+#[inline(always)]
+fn step_by_log(
+    thread: &mut Thread,
+    stated: &[Event],
+    events: usize,
+) -> Result<StepByLog, AllocError>
+    ensures steps { IfOk result (Steps thread.old.module (config_of thread.old) (config_of thread.new) stated.now events) }
+    ensures stays { IfOk result (Stays (config_of thread.old) (config_of thread.new)) }
+    ensures same { thread.new.module ≡ thread.old.module }
+{
+    let stepped = match thread.step() {
+        Ok(stepped) => stepped,
+        Err(AdvanceFault::OutOfMemory) => return Err(AllocError),
+    };
+    match stepped {
+        Stepped::Local => Ok(StepByLog::Stepped(events)),
+        Stepped::Access(op) => access_by_log(thread, &op, stated, events),
+        Stepped::Ended(_) => Ok(StepByLog::Ended),
+    }
+}
+
+/// The end of a thread that makes no further step here.
+pub(crate) fn end_of(thread: &Thread) -> End
+    ensures { result ≡ config_end (config_of thread.now) }
+{
+    match thread.next() {
+        Need::Ended(end) => end,
+        Need::Local | Need::Access(_) => End::Cut,
+    }
+}
+
+/// Runs a thread on the values that its log read, until it ends, comes to an access that isn't the log's next event, or
+/// has made `limit` steps.
+fn run_by_log(
+    thread: &mut Thread,
+    stated: &ThreadLog,
+    number: usize,
+    limit: u32,
+) -> Result<Progress, AllocError>
+    requires start { start_of thread.old.module stated.now ≡ Ok (config_of thread.old) }
+    requires places { HasPlaces number stated.now.events }
+    ensures runs { IfOk result (λ p. RunsByLog thread.old.module number stated.now limit (config_of thread.new) p.steps p.events) }
+    ensures same { thread.new.module ≡ thread.old.module }
+{
+    let stated_events = stated.events.as_slice();
+    let mut events = 0usize;
+    for steps in 0..limit {
+        match step_by_log(thread, stated_events, events) {
+            Err(refused) => return Err(refused),
+            Ok(StepByLog::Stepped(now)) => events = now,
+            Ok(StepByLog::OtherAccess) => return Ok(Progress { steps, events }),
+            Ok(StepByLog::Ended) => return Ok(Progress { steps, events }),
+        }
+    }
+    Ok(Progress {
+        steps: limit,
+        events,
+    })
+}
+
+/// Starts a thread as its log states, and runs it on the values that its events read. It stops when it has ended, before
+/// an access that isn't the log's next event, or after `limit` steps. The steps and the end that the log states play no
+/// part. `number` is the thread's number in the log. If the thread doesn't start, the answer is why; that is never
+/// `OutOfMemory`.
+///
+/// # Errors
+///
+/// Only if an allocation fails.
+pub fn follow<'m>(
+    alloc: Global,
+    module: &'m ValidModule,
+    stated: &ThreadLog,
+    number: usize,
+    limit: u32,
+) -> Result<Result<Followed<'m>, StartFault>, AllocError>
+    requires { HasPlaces number stated.now.events }
+    ensures { IfOk result (FollowsLog «module».now number stated.now limit) }
+{
+    let name = stated.start.name.as_str();
+    let args = stated.start.args.as_slice();
+    let mut thread = match Thread::start(alloc, module, name, args) {
+        Ok(thread) => thread,
+        Err(StartFault::OutOfMemory) => return Err(AllocError),
+        Err(fault) => return Ok(Err(fault)),
+    };
+    match run_by_log(&mut thread, stated, number, limit) {
+        Err(refused) => Err(refused),
+        Ok(progress) => Ok(Ok(Followed {
+            thread,
+            steps: progress.steps,
+            events: progress.events,
+        })),
+    }
+}
