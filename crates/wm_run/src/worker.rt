@@ -17,7 +17,7 @@ use std::alloc::{AllocError, Global};
 use std::snapshot::Snapshot;
 use wm_event::{Event, EventKey, Op, Start};
 use wm_list::Growing;
-use wm_machine::{AdvanceFault, Need, StartFault, Thread};
+use wm_machine::{AdvanceFault, StartFault, Stepped, Thread};
 use wm_recorder::{AccessFault, Shared};
 use wm_valid::ValidModule;
 
@@ -76,13 +76,14 @@ fn step<S: Shared, G: Gate>(
     ensures stopped { IfOk result (λ r. IfSome r (λ stop. (events.new.items ≡ events.old.items) × (running.new ≡ running.old)
         × StopsFor (G.is_open gate.now) running.old.module (config_of running.old) stop)) }
 {
-    match running.next() {
-        Need::Ended(_) => Ok(Some(Stop::Own)),
-        Need::Access(op) => access(running, events, thread, op, shared, gate),
-        Need::Local => match running.advance(None) {
-            Ok(()) => Ok(None),
-            Err(AdvanceFault::OutOfMemory) => Err(AllocError),
-        },
+    let stepped = match running.step() {
+        Ok(stepped) => stepped,
+        Err(AdvanceFault::OutOfMemory) => return Err(AllocError),
+    };
+    match stepped {
+        Stepped::Local => Ok(None),
+        Stepped::Access(op) => access(running, events, thread, op, shared, gate),
+        Stepped::Ended(_) => Ok(Some(Stop::Own)),
     }
 }
 
