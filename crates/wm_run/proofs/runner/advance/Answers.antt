@@ -18,7 +18,7 @@ returns-in-Local-clause-moves c made limit below =
       items = [];
       steps = local (let lt : made < limit = omega (arith, below) in lt)
           (made_local (step thread.module 0 (config_of thread)) (config_of c.step.new.self)
-              (local_of_need thread 0 (c.in-Ok.ensures.needs_nothing (ap Ok c.in-Local.is) 0)) (c.in-Ok.ensures.local (ap Ok c.in-Local.is)));
+          (local_of_need thread 0 (c.in-Ok.ensures.needs_nothing (ap Ok c.in-Local.is) 0)) (c.in-Ok.ensures.local (ap Ok c.in-Local.is)));
       adds = record { history = sym (append-nil c.args.recorder.now.history); initial = refl; threads = refl };
     }
 
