@@ -1,7 +1,7 @@
 //! The command line.
 ghost use Rattle.std.specs.Prelude.{◌≡◌, ◌∷◌, [], false, Err, IfOk, IfSome, None, Some, fold, map};
-ghost use Rattle.clap.specs.Words.{app_of, first_of, found_of, kind_of, rows_of, rule_of, subcommand_rows_of};
-ghost use Rattle.wm_litmus.specs.Commands.{AddsAs, HasFields, IsCommand, IsNamed, IsNoCommand, LacksField, Means, any_words_rule, checked_form, document_form, fault_of_kind, form_app, forms, plain_form, started_form, with_form, wmlab_app, word_rule};
+ghost use Rattle.clap.specs.Words.{app_of, first_of, kind_of, rule_of, subcommand_rows_of};
+ghost use Rattle.wm_litmus.specs.Commands.{AddsAs, HasFields, IsCommand, IsNamed, IsNoCommand, LacksField, Means, any_words_rule, checked_form, document_form, fault_of_kind, form_app, forms, plain_form, rows_in, started_form, with_form, wmlab_app, word_rule};
 ghost use Rattle.wm_litmus.specs.declared.command.Command.{Command};
 ghost use Rattle.wm_litmus.specs.declared.command.CommandFault.TheVariants.{OutOfMemory, Words};
 
@@ -187,16 +187,16 @@ fn parser<'a>(alloc: Global) -> Result<Parser<'a>, AllocError>
 
 /// The value of a required word.
 fn one_word<'a>(words: &ArgMatches<'a>, name: &str) -> Option<&'a str>
-    ensures some { IfSome result (λ value. first_of name.now (rows_of (found_of words.now)) ≡ Some value.now) }
-    ensures none { result ≡ None → LacksField (rows_of (found_of words.now)) (name.now ∷ []) }
+    ensures some { IfSome result (λ value. first_of name.now (rows_in words.now) ≡ Some value.now) }
+    ensures none { result ≡ None → LacksField (rows_in words.now) (name.now ∷ []) }
 {
     words.get_str(name)
 }
 
 /// The values of two required words.
 fn two_words<'a>(words: &ArgMatches<'a>, first: &str, second: &str) -> Option<(&'a str, &'a str)>
-    ensures some { IfSome result (λ both. HasFields (rows_of (found_of words.now)) ((first.now, both.0.now) ∷ (second.now, both.1.now) ∷ [])) }
-    ensures none { result ≡ None → LacksField (rows_of (found_of words.now)) (first.now ∷ second.now ∷ []) }
+    ensures some { IfSome result (λ both. HasFields (rows_in words.now) ((first.now, both.0.now) ∷ (second.now, both.1.now) ∷ [])) }
+    ensures none { result ≡ None → LacksField (rows_in words.now) (first.now ∷ second.now ∷ []) }
 {
     let one = words.get_str(first)?;
     let two = words.get_str(second)?;
@@ -205,8 +205,8 @@ fn two_words<'a>(words: &ArgMatches<'a>, first: &str, second: &str) -> Option<(&
 
 /// The command of this name, with its words.
 fn command_of<'a>(name: &str, words: &ArgMatches<'a>) -> Option<Command<'a>>
-    ensures some { IfSome result (IsNamed name.now (rows_of (found_of words.now))) }
-    ensures none { result ≡ None → (command : Command) → IsNamed name.now (rows_of (found_of words.now)) command → ⊥ }
+    ensures some { IfSome result (IsNamed name.now (rows_in words.now)) }
+    ensures none { result ≡ None → (command : Command) → IsNamed name.now (rows_in words.now) command → ⊥ }
 {
     match name {
         "rules" => {

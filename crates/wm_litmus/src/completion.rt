@@ -10,7 +10,7 @@ use wm_check::{Breach, CompletedDocument, Verdict, complete_document};
 ///
 /// # Errors
 ///
-/// Only where memory was refused.
+/// Only if memory was refused.
 pub(crate) fn completion_answer(
     alloc: Global,
     module_bytes: &[u8],

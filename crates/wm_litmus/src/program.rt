@@ -47,7 +47,7 @@ impl From<AllocError> for Failure<'_> {
     }
 }
 
-/// The bytes of the file `name`, to so many and one more.
+/// The first `limit` bytes of the file `name`, and one more.
 fn read_file<'a, F: Files>(
     files: &mut F,
     name: &'a str,
@@ -68,7 +68,7 @@ fn read_file<'a, F: Files>(
     }
 }
 
-/// The bytes of the input, to so many and one more.
+/// The first `limit` bytes of the input, and one more.
 fn read_input<'a, I: Read>(
     alloc: Global,
     input: &mut I,

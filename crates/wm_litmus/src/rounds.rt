@@ -59,7 +59,7 @@ fn make_rounds<R: AllocGlobal + Threads + Wait + Sync>(
 ///
 /// # Errors
 ///
-/// Only where memory was refused.
+/// Only if memory was refused.
 pub(crate) fn rounds_answer<R: AllocGlobal + Threads + Wait + Sync>(
     rt: &R,
     module_bytes: &[u8],

@@ -88,7 +88,7 @@ fn advance(thread: &mut Thread, number: u32, recorder: &mut Recorder) -> Result<
     }
 }
 
-/// A step of a thread that makes at most so many.
+/// A step of a thread that makes at most `limit`.
 fn step(
     runner: &mut Runner,
     number: u32,
@@ -120,7 +120,7 @@ fn drain(recorder: &mut Recorder, thread: u32) -> Result<(), AllocError>
     Ok(())
 }
 
-/// The store leaves a thread's buffer that has so many older ones before it, where there is one and it may.
+/// The store that has `index` older ones before it leaves a thread's buffer, if there is one and it may.
 fn drain_at(recorder: &mut Recorder, thread: u32, index: u32) -> Result<(), AllocError>
     ensures { OnOk result (DrainsBy (Item.DrainAt thread index) recorder.old recorder.new) }
 {
