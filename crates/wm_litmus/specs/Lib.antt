@@ -1,4 +1,4 @@
-pub mod Answers
+pub mod Replies
 pub mod Drive
 pub mod Explanation
 pub mod Rounds

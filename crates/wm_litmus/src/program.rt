@@ -1,6 +1,6 @@
 //! The whole program.
 ghost use Rattle.std.specs.Prelude.{◌≡◌, ◌+◌, ◌^◌, ◌≤◌, ◌<◌, IfErr, IfOk, OnOk, List, ℕ, drop, map, string_bytes};
-ghost use Rattle.wm_litmus.specs.Answers.{IsAnswer, WritesAnswer, WritesFront, given};
+ghost use Rattle.wm_litmus.specs.Replies.{IsAnswer, WritesAnswer, WritesFront, given};
 ghost use Rattle.wm_litmus.specs.Drive.{IsScriptAnswer};
 ghost use Rattle.wm_litmus.specs.Failures.{IsUnreadFile};
 ghost use Rattle.wm_litmus.specs.Input.{IsDocumentRead, IsReadOf};
