@@ -129,7 +129,7 @@ fn compare_log<'m, R: AllocGlobal + Threads + Sync>(
 ///
 /// # Errors
 ///
-/// Only where memory was refused.
+/// Only if memory was refused.
 pub fn check_log<'m, R: AllocGlobal + Threads + Sync>(
     rt: &R,
     module: &'m ValidModule,
@@ -175,7 +175,7 @@ fn verdict_of<R: AllocGlobal + Threads + Sync>(
 ///
 /// # Errors
 ///
-/// Only where memory was refused.
+/// Only if memory was refused.
 pub fn check<R: AllocGlobal + Threads + Sync>(
     rt: &R,
     module_bytes: &[u8],

@@ -61,7 +61,7 @@ fn complete_over(
 ///
 /// # Errors
 ///
-/// Only where memory was refused.
+/// Only if memory was refused.
 pub fn complete_document(
     alloc: Global,
     module_bytes: &[u8],

@@ -15,7 +15,7 @@ pub struct Certificate {
     pub events: usize,
 }
 
-/// Why a module or a log is refused. Each fault comes only where those before it don't. None of them is want of memory.
+/// Why a module or a log is refused. Each fault comes only if those before it don't. None of them is `OutOfMemory`.
 #[derive(Debug, Drop)]
 pub enum Refusal {
     /// The bytes are no module within the limits.

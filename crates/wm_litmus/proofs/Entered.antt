@@ -1,6 +1,6 @@
 -- The subcommand that was met, and what its words mean.
-use Rattle.std.proofs.Common.{◌≡◌, ℕ, zero, suc, ◌+◌, ◌*◌, ◌<◌, ◌≤◌, true, false, List, [], ◌∷◌, length, get_or, map, slice_index, Option, None, Some, option_map, codes, refl, sym, ap, ap₂, ◌∙◌, arith, Bor}
-use Rattle.std.specs.Prelude.{Contains}
+use Rattle.std.proofs.Common.{◌≡◌, ℕ, zero, suc, ◌+◌, ◌<◌, ◌≤◌, inl, inr, true, false, List, [], ◌∷◌, length, get_or, map, Option, None, Some, option_map, refl, sym, ap, ap₂, subst, ◌∙◌, arith, Bor}
+use Rattle.std.specs.Prelude.{Contains, IfSome, if◌then◌else◌}
 use Rattle.std.specs.Str.{bytes_eq}
 use Rattle.std.proofs.lemmas.List.{length-map}
 use Rattle.std.proofs.lemmas.Slice.Eq.{bytes_eq-Decides}
@@ -9,9 +9,9 @@ use Rattle.clap.specs.Words.{Row, Text, first_of, first_value, found_of, rows_of
 use Rattle.clap.specs.declared.parser.matches.ArgMatches.{ArgMatches}
 use Rattle.clap.specs.declared.parser.matches.Found.{Found}
 use Rattle.clap.proofs.WalkLemmas.{first_value-rows}
-use Rattle.wm_litmus.specs.Commands.{Means}
+use Rattle.wm_litmus.specs.Commands.{Form, HasFields, IsNamed, LacksField, Means, fields_of, forms, name_of}
 use Rattle.wm_litmus.specs.declared.command.Command.{Command}
-use Rattle.wm_litmus.specs.declared.command.Command.TheVariants.{Rules, Check, Migrate, Complete, Drive, Run, Explain, Graph}
+use Rattle.wm_litmus.specs.declared.command.Command.TheVariants.{Rules, Check, Migrate, Complete, Drive, Run, Explain, Graph, Help, Version}
 
 -- the first parts of pairs
 first_parts : {X Y Z : Type 0} (f : X → Y) (g : X → Z) (o : Option X) → option_map f o ≡ option_map (λ (p : Y × Z). p.0) (option_map (λ x. (f x, g x)) o)
@@ -39,257 +39,57 @@ value_is f id o v is got = sym (first_value-rows f id) ∙ sym got ∙ ap (optio
 pub no_value : (f : Found) (id : Text) (o : Option (Bor Text)) → o ≡ None → option_map (λ (s : Bor Text). s.now) o ≡ first_value f id → first_of id (rows_of f) ≡ None
 no_value f id o is got = sym (first_value-rows f id) ∙ sym got ∙ ap (option_map (λ (s : Bor Text). s.now)) is
 
+pub some_value : (f : Found) (id : Text) (o : Option (Bor Text)) → option_map (λ (s : Bor Text). s.now) o ≡ first_value f id → IfSome o (λ v. first_of id (rows_of f) ≡ Some v.now)
+some_value f id None got = tt
+some_value f id (Some v) got = value_is f id (Some v) v refl got
+
 -- one subcommand has one name and one list of rows
 parts : (found : Option (Text × List Row)) (name other : Text) (rows others : List Row) → found ≡ Some (name, rows) → found ≡ Some (other, others) → (name ≡ other) × (rows ≡ others)
 parts found name other rows others is also =
     let same = same_Some (name, rows) (other, others) (sym is ∙ also) in
     (ap (λ (p : Text × List Row). p.0) same, ap (λ (p : Text × List Row). p.1) same)
 
--- a number that the names of the commands differ in: their first three letters
-abbrev letters : Text → ℕ
-letters t = slice_index t 0 * 65536 + slice_index t 1 * 256 + slice_index t 2
+-- the words that the form of this name requires; none where no form has it
+abbrev pub required_in : List Form → Text → List Text
+required_in [] name = []
+required_in (form ∷ forms) name = if bytes_eq form.name name then form.required else required_in forms name
 
--- a subcommand without one of its words is no command
-missing : (rows others : List Row) (id : Text) (v : Bor Text) → rows ≡ others → first_of id others ≡ None → first_of id rows ≡ Some v.now → ⊥
-missing rows others id v same none some = let no : None ≡ Some v.now = sym none ∙ ap (first_of id) (sym same) ∙ some in cc
+-- the fields of each command are the words that its form requires
+fields_are_required : (command : Command) → map (λ (field : Text × Text). field.0) (fields_of command) ≡ required_in forms (name_of command)
+fields_are_required (Rules d) = refl
+fields_are_required (Check m d) = refl
+fields_are_required (Migrate d) = refl
+fields_are_required (Complete m d) = refl
+fields_are_required (Drive m t) = refl
+fields_are_required (Run m r) = refl
+fields_are_required (Explain m d) = refl
+fields_are_required (Graph m d) = refl
+fields_are_required Help = refl
+fields_are_required Version = refl
 
-pub no_rules : (found : Option (Text × List Row)) (rows : List Row) → found ≡ Some (codes "rules", rows) → first_of (codes "document") rows ≡ None → (command : Command) → Means found command → ⊥
-no_rules found rows is none (Rules d) means = missing means.0 rows (codes "document") d (parts found _ _ means.0 rows means.1 is).1 none means.2
-no_rules found rows is none (Check m d) means =
-    let other = ap letters (parts found (codes "rules") (codes "check") rows means.0 is means.1).0 in absurd (omega arith)
-no_rules found rows is none (Migrate d) means =
-    let other = ap letters (parts found (codes "rules") (codes "migrate") rows means.0 is means.1).0 in absurd (omega arith)
-no_rules found rows is none (Complete m d) means =
-    let other = ap letters (parts found (codes "rules") (codes "complete") rows means.0 is means.1).0 in absurd (omega arith)
-no_rules found rows is none (Drive m t) means =
-    let other = ap letters (parts found (codes "rules") (codes "drive") rows means.0 is means.1).0 in absurd (omega arith)
-no_rules found rows is none (Run m r) means =
-    let other = ap letters (parts found (codes "rules") (codes "run") rows means.0 is means.1).0 in absurd (omega arith)
-no_rules found rows is none (Explain m d) means =
-    let other = ap letters (parts found (codes "rules") (codes "explain") rows means.0 is means.1).0 in absurd (omega arith)
-no_rules found rows is none (Graph m d) means =
-    let other = ap letters (parts found (codes "rules") (codes "graph") rows means.0 is means.1).0 in absurd (omega arith)
+-- no field that has a value lacks one
+has_or_lacks : (rows : List Row) (fields : List (Text × Text)) → HasFields rows fields → LacksField rows (map (λ (field : Text × Text). field.0) fields) → ⊥
+has_or_lacks rows [] has lacks = lacks
+has_or_lacks rows (field ∷ fields) has (inl none) = let no : None ≡ Some field.1 = sym none ∙ has.0 in absurd cc
+has_or_lacks rows (field ∷ fields) has (inr lacks) = has_or_lacks rows fields has.1 lacks
 
-pub no_module : (found : Option (Text × List Row)) (rows : List Row) → found ≡ Some (codes "check", rows) → first_of (codes "module") rows ≡ None → (command : Command) → Means found command → ⊥
-no_module found rows is none (Rules d) means =
-    let other = ap letters (parts found (codes "check") (codes "rules") rows means.0 is means.1).0 in absurd (omega arith)
-no_module found rows is none (Check m d) means = missing means.0 rows (codes "module") m (parts found _ _ means.0 rows means.1 is).1 none means.2
-no_module found rows is none (Migrate d) means =
-    let other = ap letters (parts found (codes "check") (codes "migrate") rows means.0 is means.1).0 in absurd (omega arith)
-no_module found rows is none (Complete m d) means =
-    let other = ap letters (parts found (codes "check") (codes "complete") rows means.0 is means.1).0 in absurd (omega arith)
-no_module found rows is none (Drive m t) means =
-    let other = ap letters (parts found (codes "check") (codes "drive") rows means.0 is means.1).0 in absurd (omega arith)
-no_module found rows is none (Run m r) means =
-    let other = ap letters (parts found (codes "check") (codes "run") rows means.0 is means.1).0 in absurd (omega arith)
-no_module found rows is none (Explain m d) means =
-    let other = ap letters (parts found (codes "check") (codes "explain") rows means.0 is means.1).0 in absurd (omega arith)
-no_module found rows is none (Graph m d) means =
-    let other = ap letters (parts found (codes "check") (codes "graph") rows means.0 is means.1).0 in absurd (omega arith)
+-- a subcommand that lacks a word that its form requires is no command
+pub no_command : (name : Text) (rows : List Row) (ids : List Text) → required_in forms name ≡ ids → LacksField rows ids → (command : Command) → IsNamed name rows command → ⊥
+no_command name rows ids are lacks command is =
+    let same = sym are ∙ ap (required_in forms) is.0 ∙ sym (fields_are_required command) in
+    has_or_lacks rows (fields_of command) is.1 (subst (LacksField rows) same lacks)
 
-pub no_document : (found : Option (Text × List Row)) (rows : List Row) → found ≡ Some (codes "check", rows) → first_of (codes "document") rows ≡ None → (command : Command) → Means found command → ⊥
-no_document found rows is none (Rules d) means =
-    let other = ap letters (parts found (codes "check") (codes "rules") rows means.0 is means.1).0 in absurd (omega arith)
-no_document found rows is none (Check m d) means = missing means.0 rows (codes "document") d (parts found _ _ means.0 rows means.1 is).1 none means.3
-no_document found rows is none (Migrate d) means =
-    let other = ap letters (parts found (codes "check") (codes "migrate") rows means.0 is means.1).0 in absurd (omega arith)
-no_document found rows is none (Complete m d) means =
-    let other = ap letters (parts found (codes "check") (codes "complete") rows means.0 is means.1).0 in absurd (omega arith)
-no_document found rows is none (Drive m t) means =
-    let other = ap letters (parts found (codes "check") (codes "drive") rows means.0 is means.1).0 in absurd (omega arith)
-no_document found rows is none (Run m r) means =
-    let other = ap letters (parts found (codes "check") (codes "run") rows means.0 is means.1).0 in absurd (omega arith)
-no_document found rows is none (Explain m d) means =
-    let other = ap letters (parts found (codes "check") (codes "explain") rows means.0 is means.1).0 in absurd (omega arith)
-no_document found rows is none (Graph m d) means =
-    let other = ap letters (parts found (codes "check") (codes "graph") rows means.0 is means.1).0 in absurd (omega arith)
+-- the command of a subcommand's name and rows is that of the subcommand
+pub means_some : (o : Option Command) (found : Option (Text × List Row)) (name : Text) (rows : List Row) → found ≡ Some (name, rows)
+    → IfSome o (IsNamed name rows) → IfSome o (Means found)
+means_some None found name rows is named = tt
+means_some (Some command) found name rows is named = (rows, is ∙ ap (λ (t : Text). Some (t, rows)) named.0, named.1)
 
-pub no_migrate : (found : Option (Text × List Row)) (rows : List Row) → found ≡ Some (codes "migrate", rows) → first_of (codes "document") rows ≡ None → (command : Command) → Means found command → ⊥
-no_migrate found rows is none (Rules d) means =
-    let other = ap letters (parts found (codes "migrate") (codes "rules") rows means.0 is means.1).0 in absurd (omega arith)
-no_migrate found rows is none (Check m d) means =
-    let other = ap letters (parts found (codes "migrate") (codes "check") rows means.0 is means.1).0 in absurd (omega arith)
-no_migrate found rows is none (Migrate d) means = missing means.0 rows (codes "document") d (parts found _ _ means.0 rows means.1 is).1 none means.2
-no_migrate found rows is none (Complete m d) means =
-    let other = ap letters (parts found (codes "migrate") (codes "complete") rows means.0 is means.1).0 in absurd (omega arith)
-no_migrate found rows is none (Drive m t) means =
-    let other = ap letters (parts found (codes "migrate") (codes "drive") rows means.0 is means.1).0 in absurd (omega arith)
-no_migrate found rows is none (Run m r) means =
-    let other = ap letters (parts found (codes "migrate") (codes "run") rows means.0 is means.1).0 in absurd (omega arith)
-no_migrate found rows is none (Explain m d) means =
-    let other = ap letters (parts found (codes "migrate") (codes "explain") rows means.0 is means.1).0 in absurd (omega arith)
-no_migrate found rows is none (Graph m d) means =
-    let other = ap letters (parts found (codes "migrate") (codes "graph") rows means.0 is means.1).0 in absurd (omega arith)
-
-pub no_complete_module : (found : Option (Text × List Row)) (rows : List Row) → found ≡ Some (codes "complete", rows) → first_of (codes "module") rows ≡ None → (command : Command) → Means found command → ⊥
-no_complete_module found rows is none (Rules d) means =
-    let other = ap letters (parts found (codes "complete") (codes "rules") rows means.0 is means.1).0 in absurd (omega arith)
-no_complete_module found rows is none (Check m d) means =
-    let other = ap letters (parts found (codes "complete") (codes "check") rows means.0 is means.1).0 in absurd (omega arith)
-no_complete_module found rows is none (Migrate d) means =
-    let other = ap letters (parts found (codes "complete") (codes "migrate") rows means.0 is means.1).0 in absurd (omega arith)
-no_complete_module found rows is none (Complete m d) means = missing means.0 rows (codes "module") m (parts found _ _ means.0 rows means.1 is).1 none means.2
-no_complete_module found rows is none (Drive m t) means =
-    let other = ap letters (parts found (codes "complete") (codes "drive") rows means.0 is means.1).0 in absurd (omega arith)
-no_complete_module found rows is none (Run m r) means =
-    let other = ap letters (parts found (codes "complete") (codes "run") rows means.0 is means.1).0 in absurd (omega arith)
-no_complete_module found rows is none (Explain m d) means =
-    let other = ap letters (parts found (codes "complete") (codes "explain") rows means.0 is means.1).0 in absurd (omega arith)
-no_complete_module found rows is none (Graph m d) means =
-    let other = ap letters (parts found (codes "complete") (codes "graph") rows means.0 is means.1).0 in absurd (omega arith)
-
-pub no_complete_document : (found : Option (Text × List Row)) (rows : List Row) → found ≡ Some (codes "complete", rows) → first_of (codes "document") rows ≡ None → (command : Command) → Means found command → ⊥
-no_complete_document found rows is none (Rules d) means =
-    let other = ap letters (parts found (codes "complete") (codes "rules") rows means.0 is means.1).0 in absurd (omega arith)
-no_complete_document found rows is none (Check m d) means =
-    let other = ap letters (parts found (codes "complete") (codes "check") rows means.0 is means.1).0 in absurd (omega arith)
-no_complete_document found rows is none (Migrate d) means =
-    let other = ap letters (parts found (codes "complete") (codes "migrate") rows means.0 is means.1).0 in absurd (omega arith)
-no_complete_document found rows is none (Complete m d) means = missing means.0 rows (codes "document") d (parts found _ _ means.0 rows means.1 is).1 none means.3
-no_complete_document found rows is none (Drive m t) means =
-    let other = ap letters (parts found (codes "complete") (codes "drive") rows means.0 is means.1).0 in absurd (omega arith)
-no_complete_document found rows is none (Run m r) means =
-    let other = ap letters (parts found (codes "complete") (codes "run") rows means.0 is means.1).0 in absurd (omega arith)
-no_complete_document found rows is none (Explain m d) means =
-    let other = ap letters (parts found (codes "complete") (codes "explain") rows means.0 is means.1).0 in absurd (omega arith)
-no_complete_document found rows is none (Graph m d) means =
-    let other = ap letters (parts found (codes "complete") (codes "graph") rows means.0 is means.1).0 in absurd (omega arith)
-
-pub no_drive_module : (found : Option (Text × List Row)) (rows : List Row) → found ≡ Some (codes "drive", rows) → first_of (codes "module") rows ≡ None → (command : Command) → Means found command → ⊥
-no_drive_module found rows is none (Rules d) means =
-    let other = ap letters (parts found (codes "drive") (codes "rules") rows means.0 is means.1).0 in absurd (omega arith)
-no_drive_module found rows is none (Check m d) means =
-    let other = ap letters (parts found (codes "drive") (codes "check") rows means.0 is means.1).0 in absurd (omega arith)
-no_drive_module found rows is none (Migrate d) means =
-    let other = ap letters (parts found (codes "drive") (codes "migrate") rows means.0 is means.1).0 in absurd (omega arith)
-no_drive_module found rows is none (Complete m d) means =
-    let other = ap letters (parts found (codes "drive") (codes "complete") rows means.0 is means.1).0 in absurd (omega arith)
-no_drive_module found rows is none (Drive m t) means = missing means.0 rows (codes "module") m (parts found _ _ means.0 rows means.1 is).1 none means.2
-no_drive_module found rows is none (Run m r) means =
-    let other = ap letters (parts found (codes "drive") (codes "run") rows means.0 is means.1).0 in absurd (omega arith)
-no_drive_module found rows is none (Explain m d) means =
-    let other = ap letters (parts found (codes "drive") (codes "explain") rows means.0 is means.1).0 in absurd (omega arith)
-no_drive_module found rows is none (Graph m d) means =
-    let other = ap letters (parts found (codes "drive") (codes "graph") rows means.0 is means.1).0 in absurd (omega arith)
-
-pub no_drive_turns : (found : Option (Text × List Row)) (rows : List Row) → found ≡ Some (codes "drive", rows) → first_of (codes "turns") rows ≡ None → (command : Command) → Means found command → ⊥
-no_drive_turns found rows is none (Rules d) means =
-    let other = ap letters (parts found (codes "drive") (codes "rules") rows means.0 is means.1).0 in absurd (omega arith)
-no_drive_turns found rows is none (Check m d) means =
-    let other = ap letters (parts found (codes "drive") (codes "check") rows means.0 is means.1).0 in absurd (omega arith)
-no_drive_turns found rows is none (Migrate d) means =
-    let other = ap letters (parts found (codes "drive") (codes "migrate") rows means.0 is means.1).0 in absurd (omega arith)
-no_drive_turns found rows is none (Complete m d) means =
-    let other = ap letters (parts found (codes "drive") (codes "complete") rows means.0 is means.1).0 in absurd (omega arith)
-no_drive_turns found rows is none (Drive m t) means = missing means.0 rows (codes "turns") t (parts found _ _ means.0 rows means.1 is).1 none means.3
-no_drive_turns found rows is none (Run m r) means =
-    let other = ap letters (parts found (codes "drive") (codes "run") rows means.0 is means.1).0 in absurd (omega arith)
-no_drive_turns found rows is none (Explain m d) means =
-    let other = ap letters (parts found (codes "drive") (codes "explain") rows means.0 is means.1).0 in absurd (omega arith)
-no_drive_turns found rows is none (Graph m d) means =
-    let other = ap letters (parts found (codes "drive") (codes "graph") rows means.0 is means.1).0 in absurd (omega arith)
-
-pub no_run_module : (found : Option (Text × List Row)) (rows : List Row) → found ≡ Some (codes "run", rows) → first_of (codes "module") rows ≡ None → (command : Command) → Means found command → ⊥
-no_run_module found rows is none (Rules d) means =
-    let other = ap letters (parts found (codes "run") (codes "rules") rows means.0 is means.1).0 in absurd (omega arith)
-no_run_module found rows is none (Check m d) means =
-    let other = ap letters (parts found (codes "run") (codes "check") rows means.0 is means.1).0 in absurd (omega arith)
-no_run_module found rows is none (Migrate d) means =
-    let other = ap letters (parts found (codes "run") (codes "migrate") rows means.0 is means.1).0 in absurd (omega arith)
-no_run_module found rows is none (Complete m d) means =
-    let other = ap letters (parts found (codes "run") (codes "complete") rows means.0 is means.1).0 in absurd (omega arith)
-no_run_module found rows is none (Drive m t) means =
-    let other = ap letters (parts found (codes "run") (codes "drive") rows means.0 is means.1).0 in absurd (omega arith)
-no_run_module found rows is none (Run m r) means = missing means.0 rows (codes "module") m (parts found _ _ means.0 rows means.1 is).1 none means.2
-no_run_module found rows is none (Explain m d) means =
-    let other = ap letters (parts found (codes "run") (codes "explain") rows means.0 is means.1).0 in absurd (omega arith)
-no_run_module found rows is none (Graph m d) means =
-    let other = ap letters (parts found (codes "run") (codes "graph") rows means.0 is means.1).0 in absurd (omega arith)
-
-pub no_run_rounds : (found : Option (Text × List Row)) (rows : List Row) → found ≡ Some (codes "run", rows) → first_of (codes "rounds") rows ≡ None → (command : Command) → Means found command → ⊥
-no_run_rounds found rows is none (Rules d) means =
-    let other = ap letters (parts found (codes "run") (codes "rules") rows means.0 is means.1).0 in absurd (omega arith)
-no_run_rounds found rows is none (Check m d) means =
-    let other = ap letters (parts found (codes "run") (codes "check") rows means.0 is means.1).0 in absurd (omega arith)
-no_run_rounds found rows is none (Migrate d) means =
-    let other = ap letters (parts found (codes "run") (codes "migrate") rows means.0 is means.1).0 in absurd (omega arith)
-no_run_rounds found rows is none (Complete m d) means =
-    let other = ap letters (parts found (codes "run") (codes "complete") rows means.0 is means.1).0 in absurd (omega arith)
-no_run_rounds found rows is none (Drive m t) means =
-    let other = ap letters (parts found (codes "run") (codes "drive") rows means.0 is means.1).0 in absurd (omega arith)
-no_run_rounds found rows is none (Run m r) means = missing means.0 rows (codes "rounds") r (parts found _ _ means.0 rows means.1 is).1 none means.3
-no_run_rounds found rows is none (Explain m d) means =
-    let other = ap letters (parts found (codes "run") (codes "explain") rows means.0 is means.1).0 in absurd (omega arith)
-no_run_rounds found rows is none (Graph m d) means =
-    let other = ap letters (parts found (codes "run") (codes "graph") rows means.0 is means.1).0 in absurd (omega arith)
-
-pub no_explain_module : (found : Option (Text × List Row)) (rows : List Row) → found ≡ Some (codes "explain", rows) → first_of (codes "module") rows ≡ None → (command : Command) → Means found command → ⊥
-no_explain_module found rows is none (Rules d) means =
-    let other = ap letters (parts found (codes "explain") (codes "rules") rows means.0 is means.1).0 in absurd (omega arith)
-no_explain_module found rows is none (Check m d) means =
-    let other = ap letters (parts found (codes "explain") (codes "check") rows means.0 is means.1).0 in absurd (omega arith)
-no_explain_module found rows is none (Migrate d) means =
-    let other = ap letters (parts found (codes "explain") (codes "migrate") rows means.0 is means.1).0 in absurd (omega arith)
-no_explain_module found rows is none (Complete m d) means =
-    let other = ap letters (parts found (codes "explain") (codes "complete") rows means.0 is means.1).0 in absurd (omega arith)
-no_explain_module found rows is none (Drive m t) means =
-    let other = ap letters (parts found (codes "explain") (codes "drive") rows means.0 is means.1).0 in absurd (omega arith)
-no_explain_module found rows is none (Run m r) means =
-    let other = ap letters (parts found (codes "explain") (codes "run") rows means.0 is means.1).0 in absurd (omega arith)
-no_explain_module found rows is none (Explain m d) means = missing means.0 rows (codes "module") m (parts found _ _ means.0 rows means.1 is).1 none means.2
-no_explain_module found rows is none (Graph m d) means =
-    let other = ap letters (parts found (codes "explain") (codes "graph") rows means.0 is means.1).0 in absurd (omega arith)
-
-pub no_explain_document : (found : Option (Text × List Row)) (rows : List Row) → found ≡ Some (codes "explain", rows) → first_of (codes "document") rows ≡ None → (command : Command) → Means found command → ⊥
-no_explain_document found rows is none (Rules d) means =
-    let other = ap letters (parts found (codes "explain") (codes "rules") rows means.0 is means.1).0 in absurd (omega arith)
-no_explain_document found rows is none (Check m d) means =
-    let other = ap letters (parts found (codes "explain") (codes "check") rows means.0 is means.1).0 in absurd (omega arith)
-no_explain_document found rows is none (Migrate d) means =
-    let other = ap letters (parts found (codes "explain") (codes "migrate") rows means.0 is means.1).0 in absurd (omega arith)
-no_explain_document found rows is none (Complete m d) means =
-    let other = ap letters (parts found (codes "explain") (codes "complete") rows means.0 is means.1).0 in absurd (omega arith)
-no_explain_document found rows is none (Drive m t) means =
-    let other = ap letters (parts found (codes "explain") (codes "drive") rows means.0 is means.1).0 in absurd (omega arith)
-no_explain_document found rows is none (Run m r) means =
-    let other = ap letters (parts found (codes "explain") (codes "run") rows means.0 is means.1).0 in absurd (omega arith)
-no_explain_document found rows is none (Explain m d) means = missing means.0 rows (codes "document") d (parts found _ _ means.0 rows means.1 is).1 none means.3
-no_explain_document found rows is none (Graph m d) means =
-    let other = ap letters (parts found (codes "explain") (codes "graph") rows means.0 is means.1).0 in absurd (omega arith)
-
-pub no_graph_module : (found : Option (Text × List Row)) (rows : List Row) → found ≡ Some (codes "graph", rows) → first_of (codes "module") rows ≡ None → (command : Command) → Means found command → ⊥
-no_graph_module found rows is none (Rules d) means =
-    let other = ap letters (parts found (codes "graph") (codes "rules") rows means.0 is means.1).0 in absurd (omega arith)
-no_graph_module found rows is none (Check m d) means =
-    let other = ap letters (parts found (codes "graph") (codes "check") rows means.0 is means.1).0 in absurd (omega arith)
-no_graph_module found rows is none (Migrate d) means =
-    let other = ap letters (parts found (codes "graph") (codes "migrate") rows means.0 is means.1).0 in absurd (omega arith)
-no_graph_module found rows is none (Complete m d) means =
-    let other = ap letters (parts found (codes "graph") (codes "complete") rows means.0 is means.1).0 in absurd (omega arith)
-no_graph_module found rows is none (Drive m t) means =
-    let other = ap letters (parts found (codes "graph") (codes "drive") rows means.0 is means.1).0 in absurd (omega arith)
-no_graph_module found rows is none (Run m r) means =
-    let other = ap letters (parts found (codes "graph") (codes "run") rows means.0 is means.1).0 in absurd (omega arith)
-no_graph_module found rows is none (Explain m d) means =
-    let other = ap letters (parts found (codes "graph") (codes "explain") rows means.0 is means.1).0 in absurd (omega arith)
-no_graph_module found rows is none (Graph m d) means = missing means.0 rows (codes "module") m (parts found _ _ means.0 rows means.1 is).1 none means.2
-
-pub no_graph_document : (found : Option (Text × List Row)) (rows : List Row) → found ≡ Some (codes "graph", rows) → first_of (codes "document") rows ≡ None → (command : Command) → Means found command → ⊥
-no_graph_document found rows is none (Rules d) means =
-    let other = ap letters (parts found (codes "graph") (codes "rules") rows means.0 is means.1).0 in absurd (omega arith)
-no_graph_document found rows is none (Check m d) means =
-    let other = ap letters (parts found (codes "graph") (codes "check") rows means.0 is means.1).0 in absurd (omega arith)
-no_graph_document found rows is none (Migrate d) means =
-    let other = ap letters (parts found (codes "graph") (codes "migrate") rows means.0 is means.1).0 in absurd (omega arith)
-no_graph_document found rows is none (Complete m d) means =
-    let other = ap letters (parts found (codes "graph") (codes "complete") rows means.0 is means.1).0 in absurd (omega arith)
-no_graph_document found rows is none (Drive m t) means =
-    let other = ap letters (parts found (codes "graph") (codes "drive") rows means.0 is means.1).0 in absurd (omega arith)
-no_graph_document found rows is none (Run m r) means =
-    let other = ap letters (parts found (codes "graph") (codes "run") rows means.0 is means.1).0 in absurd (omega arith)
-no_graph_document found rows is none (Explain m d) means =
-    let other = ap letters (parts found (codes "graph") (codes "explain") rows means.0 is means.1).0 in absurd (omega arith)
-no_graph_document found rows is none (Graph m d) means = missing means.0 rows (codes "document") d (parts found _ _ means.0 rows means.1 is).1 none means.3
+pub means_none : (found : Option (Text × List Row)) (name : Text) (rows : List Row) → found ≡ Some (name, rows)
+    → ((command : Command) → IsNamed name rows command → ⊥) → (command : Command) → Means found command → ⊥
+means_none found name rows is none command means =
+    let same = parts found name (name_of command) rows means.0 is means.1 in
+    none command (same.0, subst (λ (r : List Row). HasFields r (fields_of command)) (sym same.1) means.2)
 
 -- a word is there as a text where one of the words is that text
 word_at : (ws : List (Bor Text)) (t : Text) (k : ℕ) → k < length ws → ((d : Bor Text) → bytes_eq (get_or ws k d).now t ≡ true) → get_or (map (λ (w : Bor Text). w.now) ws) k t ≡ t

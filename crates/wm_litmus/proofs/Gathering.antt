@@ -9,32 +9,30 @@ use Rattle.std.proofs.lemmas.List.Elements.{All-push}
 use Rattle.wm_ast.specs.declared.module.Module.{Module}
 use Rattle.wm_run.specs.declared.plan.Plan.{Plan}
 use Rattle.wm_run.specs.Run.{Record}
-use Rattle.wm_litmus.specs.Counts.{Counts, row_of}
-use Rattle.wm_litmus.specs.Table.{IsTable}
-use Rattle.wm_litmus.proofs.Tabling.{rows_are_table}
+use Rattle.wm_litmus.specs.Counts.{Counts}
 use Rattle.wm_litmus.specs.Outcomes.{outcome_text}
 use Rattle.wm_litmus.specs.Rounds.{CountsRound, IsAllowedRound, outcomes}
 
 -- so many rounds were made, each is allowed, and their outcomes are counted
-pub record HasMade (module_bytes : List ℕ) («module» : Module) (plan : Plan) (number : ℕ) (counts : BTreeMap (String Global) ℕ) : Type 0 where
+pub record HasMade («module» : Module) (plan : Plan) (number : ℕ) (counts : BTreeMap (String Global) ℕ) : Type 0 where
   pub runs : List Record
   pub many : length runs ≡ number
-  pub allowed : All (IsAllowedRound module_bytes «module» plan) runs
+  pub allowed : All (IsAllowedRound «module» plan) runs
   pub counted : Counts (outcomes runs) counts
 
-pub none_made : (module_bytes : List ℕ) («module» : Module) (plan : Plan) (counts : BTreeMap (String Global) ℕ) → Counts [] counts
-    → HasMade module_bytes «module» plan 0 counts
-none_made module_bytes «module» plan counts h = record { runs = []; many = refl; allowed = λ k d inside. absurd (omega arith); counted = h }
+pub none_made : («module» : Module) (plan : Plan) (counts : BTreeMap (String Global) ℕ) → Counts [] counts
+    → HasMade «module» plan 0 counts
+none_made «module» plan counts h = record { runs = []; many = refl; allowed = λ k d inside. absurd (omega arith); counted = h }
 
 one_more : (runs : List Record) (run : Record) (number : ℕ) → length runs ≡ number → length (runs ++ run ∷ []) ≡ number + 1
 one_more runs run number is = length-append runs (run ∷ []) ∙ ap (λ n. n + 1) is
 
-pub made_more : (module_bytes : List ℕ) («module» : Module) (plan : Plan) (number : ℕ) (old new : BTreeMap (String Global) ℕ) → number + 1 < 2 ^ 64
-    → HasMade module_bytes «module» plan number old → CountsRound module_bytes «module» plan old new → HasMade module_bytes «module» plan (number + 1) new
-made_more module_bytes «module» plan number old new small h r = record {
+pub made_more : («module» : Module) (plan : Plan) (number : ℕ) (old new : BTreeMap (String Global) ℕ) → number + 1 < 2 ^ 64
+    → HasMade «module» plan number old → CountsRound «module» plan old new → HasMade «module» plan (number + 1) new
+made_more «module» plan number old new small h r = record {
   runs = h.runs ++ r.run ∷ [];
   many = one_more h.runs r.run number h.many;
-  allowed = All-push (IsAllowedRound module_bytes «module» plan) h.runs r.run h.allowed r.allowed;
+  allowed = All-push (IsAllowedRound «module» plan) h.runs r.run h.allowed r.allowed;
   counted =
       let many : length (outcomes h.runs) ≡ number = length-map h.runs (λ (run : Record). outcome_text run.log) ∙ h.many in
       let few : length (outcomes h.runs) + 1 < 2 ^ 64 = subst (λ (n : ℕ). n + 1 < 2 ^ 64) (sym many) small in
@@ -54,6 +52,5 @@ reported_next runs i run old new inside small at h counted =
     let few : length (outcomes (take i runs)) + 1 < 2 ^ 64 = subst (λ (n : ℕ). n + 1 < 2 ^ 64) (sym many) (omega (arith, inside, small)) in
     subst (λ came. Counts came new) (sym grown) (counted (outcomes (take i runs)) h few)
 
-pub reported : (runs : List Record) (i : ℕ) (counts : BTreeMap (String Global) ℕ) → length runs ≤ i → Counts (outcomes (take i runs)) counts
-    → IsTable (outcomes runs) (map row_of counts.entries)
-reported runs i counts all h = rows_are_table (outcomes runs) counts (subst (λ (rs : List Record). Counts (outcomes rs) counts) (take_all i runs all) h)
+pub all_reported : (runs : List Record) (i : ℕ) (counts : BTreeMap (String Global) ℕ) → length runs ≤ i → Counts (outcomes (take i runs)) counts → Counts (outcomes runs) counts
+all_reported runs i counts all h = subst (λ (rs : List Record). Counts (outcomes rs) counts) (take_all i runs all) h

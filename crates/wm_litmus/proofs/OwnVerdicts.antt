@@ -1,6 +1,7 @@
 -- The verdict on a run's own document.
 use Rattle.std.proofs.Common.{◌≡◌, ℕ, ◌<◌, ◌≤◌, inl, inr, List, length, refl, sym, ap, subst}
 use Rattle.std.proofs.lemmas.Bool.{cases_lt}
+use Rattle.wm_ast.specs.declared.module.Module.{Module}
 use Rattle.wm_check.specs.declared.verdict.Certificate.{Certificate}
 use Rattle.wm_check.specs.declared.verdict.Refusal.TheVariants as refusal
 use Rattle.wm_check.specs.declared.verdict.Verdict.{Verdict}
@@ -30,19 +31,19 @@ allowance run initial (Allowed certificate) counts = counts
 allowance run initial (Refused reason) none = absurd none
 allowance run initial (Broken breach) none = absurd none
 
-pub own_verdict : (mb : List ℕ) (run : Record) (v : Verdict) → OwnLaws → IsMadeOf mb run → IsReadAgain (run_text run) run → Says mb (run_text run) v → IsOwnVerdict run v
-own_verdict mb run v laws made again says = elim (cases_lt 8388608 (length (run_text run))) [
-  | inl past ↦ subst (IsOwnVerdict run) (sym (laws.too_large mb (run_text run) made.«module» v made.modules past says)) (refl, past)
+pub own_verdict : (mb : List ℕ) (m : Module) (run : Record) (v : Verdict) → OwnLaws → IsMadeOf mb m run → IsReadAgain (run_text run) run → Says mb (run_text run) v → IsOwnVerdict run v
+own_verdict mb m run v laws made again says = elim (cases_lt 8388608 (length (run_text run))) [
+  | inl past ↦ subst (IsOwnVerdict run) (sym (laws.too_large mb (run_text run) m v made.modules past says)) (refl, past)
   | inr small ↦
       let initial = made.own.initial in
-      let good = laws.allowed made.«module» run initial made.own made.own.is_init in
-      let document = again small (laws.limits made.«module» run made.modules.valid made.own made.within) in
-      let permitted : IsPermitted mb (run_text run) made.«module» (over initial run) = record {
+      let good = laws.allowed m run initial made.own made.own.is_init in
+      let document = again small (laws.limits m run made.modules.valid made.own made.within) in
+      let permitted : IsPermitted mb (run_text run) m (over initial run) = record {
         candidate = record { is_run = record { modules = made.modules; document = document; initial = made.own.is_init }; shape = good.shape };
         threads_are_runs = good.runs;
         execution_is_valid = good.valid;
       } in
-      allowance run initial v (laws.alone mb (run_text run) made.«module» (over initial run) v permitted says)
+      allowance run initial v (laws.alone mb (run_text run) m (over initial run) v permitted says)
 ]
 
 -- one that isn't allowed is past the limit of bytes

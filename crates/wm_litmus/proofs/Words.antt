@@ -77,10 +77,38 @@ an_option_is_no_name : IsNoCommand (codes "rules" ∷ codes "-x" ∷ [])
 unfolding clap_on_literals
 an_option_is_no_name command is = let none = is.taken in cc
 
-there_is_no_help : IsNoCommand (codes "rules" ∷ codes "--help" ∷ [])
+there_is_no_help_of_a_command : IsNoCommand (codes "rules" ∷ codes "--help" ∷ [])
 unfolding clap_on_literals
-there_is_no_help command is = let none = is.taken in cc
+there_is_no_help_of_a_command command is = let none = is.taken in cc
 
 there_is_no_other_command : IsNoCommand (codes "judge" ∷ codes "-" ∷ [])
 unfolding clap_on_literals
 there_is_no_other_command command is = let none = is.taken in cc
+
+help_is_taken : fault_of wmlab_app (codes "help" ∷ []) ≡ []
+unfolding clap_on_literals
+help_is_taken = refl
+
+help_is_read : read (codes "help" ∷ []) ≡ Some (codes "help", None, None)
+unfolding clap_on_literals read
+help_is_read = refl
+
+version_is_taken : fault_of wmlab_app (codes "version" ∷ []) ≡ []
+unfolding clap_on_literals
+version_is_taken = refl
+
+version_is_read : read (codes "version" ∷ []) ≡ Some (codes "version", None, None)
+unfolding clap_on_literals read
+version_is_read = refl
+
+help_takes_no_word : IsNoCommand (codes "help" ∷ codes "rules" ∷ [])
+unfolding clap_on_literals
+help_takes_no_word command is = let none = is.taken in cc
+
+version_takes_no_word : IsNoCommand (codes "version" ∷ codes "-" ∷ [])
+unfolding clap_on_literals
+version_takes_no_word command is = let none = is.taken in cc
+
+there_is_no_help_flag : IsNoCommand (codes "--help" ∷ [])
+unfolding clap_on_literals
+there_is_no_help_flag command is = let none = is.taken in cc

@@ -19,7 +19,7 @@ use Rattle.wm_litmus.specs.declared.answer.Answer.{Answer}
 use Rattle.wm_litmus.specs.Input.{IsReadOf}
 use Rattle.wm_litmus.specs.Lines.{run_fault_line_text, verdict_status, verdict_text, word_line_text}
 use Rattle.wm_litmus.specs.Outcomes.{outcome_text}
-use Rattle.wm_litmus.specs.Own.{IsOwnVerdict, run_text}
+use Rattle.wm_litmus.specs.Own.{IsMadeOf, IsOwnVerdict, run_text}
 use Rattle.wm_litmus.specs.Prints.{ended}
 use Rattle.wm_words.specs.declared.fault.WordFault.{WordFault}
 use Rattle.wm_words.specs.declared.fault.WordFault.TheVariants as word
@@ -42,6 +42,10 @@ pub record IsDriven (module_bytes : List ℕ) (run : Record) (answer : Answer) :
   pub own : IsOwnVerdict run verdict
   pub prints : PrintsRun (outcome_text run.log) verdict (run_text run) answer
 
+-- the same of whichever bytes spell the module
+abbrev pub IsDrivenOver : Module → Record → Answer → Type 0
+IsDrivenOver «module» run answer = (module_bytes : List ℕ) → IsMadeOf module_bytes «module» run → IsDriven module_bytes run answer
+
 -- the status and the text that answer a module and a script: the scripted run, with the verdict on its document
 pub data AnswersDrive (module_bytes : List ℕ) (plan : Plan) (turns : List Turn) (status : ℕ) (text : List ℕ) : Type 0 where
   no_module : (refusal : Refusal) → IsModuleRefusal module_bytes refusal
@@ -51,6 +55,11 @@ pub data AnswersDrive (module_bytes : List ℕ) (plan : Plan) (turns : List Turn
   driven : («module» : Module) (run : Record) (verdict : Verdict) → IsModuleOf module_bytes «module» → IsScripted «module» plan turns run
       → Says module_bytes (run_text run) verdict → IsOwnVerdict run verdict
       → status ≡ verdict_status verdict → text ≡ driven_text (outcome_text run.log) verdict (run_text run) → AnswersDrive module_bytes plan turns status text
+
+-- an answer to a script, whichever bytes spell the module
+abbrev pub DrivesOver : Module → Script → Answer → Type 0
+DrivesOver «module» script answer =
+    (module_bytes : List ℕ) → IsModuleOf module_bytes «module» → AnswersDrive module_bytes script.plan script.turns answer.status (string_bytes answer.text)
 
 -- the status and the text that answer the words of a script over the module of a file, whose bytes may be known: those of the
 -- script that a word of turns and the words of the starts spell, or a refusal of the first of them that spells nothing

@@ -1,4 +1,4 @@
-pub mod Answers
+pub mod Replies
 pub mod Drive
 pub mod Explanation
 pub mod Rounds
@@ -7,6 +7,7 @@ pub mod Own
 pub mod Commands
 pub mod Counts
 pub mod Failures
+pub mod Help
 pub mod Input
 pub mod Lines
 pub mod Output

@@ -17,9 +17,8 @@ use Rattle.wm_run.specs.Run.{Record}
 abbrev pub run_text : Record → List ℕ
 run_text run = compact_text (document_2 run.log run.witness)
 
--- an own run of the module that these bytes spell
-pub record IsMadeOf (module_bytes : List ℕ) (run : Record) : Type 0 where
-  pub «module» : Module
+-- an own run of this module, which these bytes spell
+pub record IsMadeOf (module_bytes : List ℕ) («module» : Module) (run : Record) : Type 0 where
   pub modules : IsModuleOf module_bytes «module»
   pub own : IsOwnRun «module» run
   pub within : IsWithinPlan run
@@ -29,3 +28,7 @@ abbrev pub IsOwnVerdict : Record → Verdict → Type 0
 IsOwnVerdict run (Allowed certificate) = (certificate.threads ≡ length run.log) × (certificate.events ≡ event_count run.log)
 IsOwnVerdict run (Refused reason) = (reason ≡ refusal.Document TooLarge) × (max_document_bytes < length (run_text run))
 IsOwnVerdict run (Broken breach) = ⊥
+
+-- the verdict on an own run, whichever bytes spell its module
+abbrev pub IsOwnVerdictOver : Module → Record → Verdict → Type 0
+IsOwnVerdictOver «module» run verdict = (module_bytes : List ℕ) → IsMadeOf module_bytes «module» run → IsOwnVerdict run verdict

@@ -9,11 +9,8 @@ use Rattle.wm_check.specs.declared.verdict.Certificate.{Certificate}
 use Rattle.wm_check.specs.declared.verdict.Refusal.{Refusal}
 use Rattle.wm_check.specs.declared.verdict.Refusal.TheVariants as refusal
 use Rattle.wm_check.specs.declared.verdict.Verdict.TheVariants.{Allowed, Refused}
-use Rattle.wm_check.specs.Reading.{IsModuleRefusal}
+use Rattle.wm_check.specs.Reading.{IsModuleRefusal, SaysOver}
 use Rattle.wm_check.specs.Run.{IsModuleOf}
-use Rattle.wm_check.specs.Verdicts.{Says}
-use Rattle.wm_decode.specs.Bounds.{max_module_bytes}
-use Rattle.wm_logfile.specs.Limits.{max_document_bytes}
 use Rattle.wm_logfile.specs.declared.fault.DocFault.TheVariants.{TooLarge}
 use Rattle.wm_run.specs.declared.fault.RunFault.{RunFault}
 use Rattle.wm_run.specs.declared.fault.RunFault.TheVariants.{OutOfMemory}
@@ -33,21 +30,25 @@ use Rattle.wm_words.specs.declared.fault.WordFault.TheVariants as word
 use Rattle.wm_words.specs.declared.words.Rounds.{Rounds}
 use Rattle.wm_words.specs.Words.{IsRoundsOf, SpellNoRounds}
 
--- a round of the plan whose document's verdict is allowed
-pub record IsAllowedRound (module_bytes : List ℕ) («module» : Module) (plan : Plan) (run : Record) : Type 0 where
+-- a round of the plan whose document's verdict is allowed, whichever bytes spell the module
+pub record IsAllowedRound («module» : Module) (plan : Plan) (run : Record) : Type 0 where
   pub round : IsRound true «module» plan run
   pub certificate : Certificate
-  pub says : Says module_bytes (run_text run) (Allowed certificate)
+  pub says : SaysOver «module» (run_text run) (Allowed certificate)
 
 -- the outcome of each run
 abbrev pub outcomes : List Record → List (List ℕ)
 outcomes runs = map (λ (run : Record). outcome_text run.log) runs
 
+-- one more run was counted
+abbrev pub CountsRun : Record → BTreeMap (String Global) ℕ → BTreeMap (String Global) ℕ → Type 0
+CountsRun run old new = (came : List (List ℕ)) → Counts came old → length came + 1 < 2 ^ 64 → Counts (came ++ outcome_text run.log ∷ []) new
+
 -- a round was made, is allowed, and was counted
-pub record CountsRound (module_bytes : List ℕ) («module» : Module) (plan : Plan) (old new : BTreeMap (String Global) ℕ) : Type 0 where
+pub record CountsRound («module» : Module) (plan : Plan) (old new : BTreeMap (String Global) ℕ) : Type 0 where
   pub run : Record
-  pub allowed : IsAllowedRound module_bytes «module» plan run
-  pub counted : (came : List (List ℕ)) → Counts came old → length came + 1 < 2 ^ 64 → Counts (came ++ outcome_text run.log ∷ []) new
+  pub allowed : IsAllowedRound «module» plan run
+  pub counted : CountsRun run old new
 
 -- a table, and how many rounds there were
 abbrev pub rounds_text : List ℕ → ℕ → List ℕ
@@ -65,17 +66,22 @@ pub data AnswersRounds (module_bytes : List ℕ) (plan : Plan) (count : ℕ) (st
   refused : («module» : Module) (fault : RunFault) → IsModuleOf module_bytes «module» → fault ≢ OutOfMemory → IsRoundFault «module» plan fault
       → status ≡ 2 → text ≡ ended (run_fault_line_text fault) → AnswersRounds module_bytes plan count status text
   -- the document of a round is past the limit of bytes
-  too_large : («module» : Module) (run : Record) → IsModuleOf module_bytes «module» → IsRound true «module» plan run → max_document_bytes < length (run_text run)
+  too_large : («module» : Module) (run : Record) → IsModuleOf module_bytes «module» → IsRound true «module» plan run → 8388608 < length (run_text run)
       → status ≡ 2 → text ≡ ended (verdict_text (Refused (refusal.Document TooLarge))) → AnswersRounds module_bytes plan count status text
   -- so many rounds, each of them allowed, and the table of their outcomes
   made : («module» : Module) (runs : List Record) (table : List ℕ) → IsModuleOf module_bytes «module»
-      → length runs ≡ count → All (IsAllowedRound module_bytes «module» plan) runs → IsTableText (outcomes runs) table
+      → length runs ≡ count → All (IsAllowedRound «module» plan) runs → IsTableText (outcomes runs) table
       → status ≡ 0 → text ≡ rounds_text table count → AnswersRounds module_bytes plan count status text
+
+-- an answer to rounds, whichever bytes spell the module
+abbrev pub RunsOver : Module → Rounds → Answer → Type 0
+RunsOver «module» rounds answer =
+    (module_bytes : List ℕ) → IsModuleOf module_bytes «module» → AnswersRounds module_bytes rounds.plan rounds.count answer.status (string_bytes answer.text)
 
 -- the status and the text that answer the words of rounds of the module of a file, whose bytes may be known: those of the rounds
 -- that a word of their number and the words of the starts spell, or a refusal of the first of them that spells nothing
 pub data IsRoundsAnswer (known : Option (List ℕ)) (count : List ℕ) (starts : List (List ℕ)) (status : ℕ) (text : List ℕ) : Type 0 where
-  ran : (rounds : Rounds) (module_bytes : List ℕ) → IsRoundsOf count starts rounds → IsReadOf known max_module_bytes module_bytes
+  ran : (rounds : Rounds) (module_bytes : List ℕ) → IsRoundsOf count starts rounds → IsReadOf known 1048576 module_bytes
       → AnswersRounds module_bytes rounds.plan rounds.count status text → IsRoundsAnswer known count starts status text
   no_rounds : (fault : WordFault) → fault ≢ word.OutOfMemory → SpellNoRounds count starts fault
       → status ≡ 2 → text ≡ ended (word_line_text fault) → IsRoundsAnswer known count starts status text

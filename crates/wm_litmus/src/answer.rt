@@ -68,7 +68,7 @@ impl Answer {
         Answer::of_line(verdict_status_of(verdict), line)
     }
 
-    /// The refusal of a document, such as `refused document BadShape at /2/0/1`; want of memory is no answer.
+    /// The refusal of a document, such as `refused document BadShape at /2/0/1`; an allocation failure is no answer.
     pub fn refused_document(alloc: Global, fault: &DocFault) -> Result<Answer, AllocError>
         ensures { IfOk result (λ answer. (fault.now ≢ DocFault.OutOfMemory)
             × Prints 2 (document_line_text fault.now) answer) }
@@ -82,8 +82,8 @@ impl Answer {
         }
     }
 
-    /// The refusal of a log and a witness that are no candidate, such as `refused shape WriterCount at 0.1`; want of
-    /// memory is no answer.
+    /// The refusal of a log and a witness that are no candidate, such as `refused shape WriterCount at 0.1`; an
+    /// allocation failure is no answer.
     pub fn refused_shape(alloc: Global, fault: ShapeFault) -> Result<Answer, AllocError>
         ensures { IfOk result (λ answer. (fault ≢ ShapeFault.OutOfMemory)
             × Prints 2 (shape_line_text fault) answer) }
@@ -105,7 +105,7 @@ impl Answer {
         Answer::of_line(2, line)
     }
 
-    /// The refusal of a word; want of memory is no answer.
+    /// The refusal of a word; an allocation failure is no answer.
     pub fn refused_word(alloc: Global, fault: WordFault) -> Result<Answer, AllocError>
         ensures { IfOk result (λ answer. (fault ≢ WordFault.OutOfMemory) × Prints 2 (word_line_text fault) answer) }
     {
@@ -136,7 +136,7 @@ impl Answer {
         })
     }
 
-    /// The answer that rounds are, each of which is allowed: the table of their outcomes, and how many there were.
+    /// The answer that rounds are, each of which is allowed: the table of their outcomes, and their number.
     pub fn rounds(alloc: Global, table: &str, count: u32) -> Result<Answer, AllocError>
         ensures { IfOk result (PrintsRounds table.now count) }
     {
@@ -144,7 +144,7 @@ impl Answer {
         Ok(Answer { text, status: 0 })
     }
 
-    /// The line of a verdict, and the sentences that say what stands behind it.
+    /// The line of a verdict, and the sentences that explain it.
     pub fn explained(alloc: Global, verdict: &Verdict, reasons: &str) -> Result<Answer, AllocError>
         ensures { IfOk result (PrintsReasons verdict.now reasons.now) }
     {

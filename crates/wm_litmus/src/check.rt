@@ -1,6 +1,6 @@
 //! The command `check`: a document is checked against a module.
 ghost use Rattle.std.specs.Prelude.{◌≡◌, IfOk, string_bytes};
-ghost use Rattle.wm_litmus.specs.Answers.{AnswersCheck};
+ghost use Rattle.wm_litmus.specs.Replies.{AnswersCheck};
 
 use crate::answer::Answer;
 use std::alloc::AllocError;
@@ -11,7 +11,7 @@ use wm_check::check;
 ///
 /// # Errors
 ///
-/// Only where memory was refused.
+/// Only if memory was refused.
 pub(crate) fn check_answer<R: AllocGlobal + Threads + Sync>(
     rt: &R,
     module_bytes: &[u8],

@@ -1,7 +1,7 @@
 //! The command line.
-ghost use Rattle.std.specs.Prelude.{◌≡◌, false, Err, IfOk, IfSome, None, map};
-ghost use Rattle.clap.specs.Words.{app_of, kind_of, rule_of, subcommand_rows_of, with_subcommand};
-ghost use Rattle.wm_litmus.specs.Commands.{AddsAs, IsCommand, IsNoCommand, Means, any_words_rule, both_app, document_app, fault_of_kind, start_app, with_checks, with_reasons, with_runs, wmlab_app, word_rule};
+ghost use Rattle.std.specs.Prelude.{◌≡◌, ◌∷◌, [], false, Err, IfOk, IfSome, None, Some, fold, map};
+ghost use Rattle.clap.specs.Words.{app_of, first_of, kind_of, rule_of, subcommand_rows_of};
+ghost use Rattle.wm_litmus.specs.Commands.{AddsAs, HasFields, IsCommand, IsNamed, IsNoCommand, LacksField, Means, any_words_rule, checked_form, document_form, fault_of_kind, form_app, forms, plain_form, rows_in, started_form, with_form, wmlab_app, word_rule};
 ghost use Rattle.wm_litmus.specs.declared.command.Command.{Command};
 ghost use Rattle.wm_litmus.specs.declared.command.CommandFault.TheVariants.{OutOfMemory, Words};
 
@@ -20,14 +20,18 @@ pub enum Command<'a> {
     Migrate { document: &'a str },
     /// Prints a document with the steps and the ends that its module gives it.
     Complete { module: &'a str, document: &'a str },
-    /// Plays a script over a module; the words behind say what its threads start with.
+    /// Plays a script over a module; the remaining words are what its threads start with.
     Drive { module: &'a str, turns: &'a str },
-    /// Makes so many rounds of a module's threads; the words behind say what these start with.
+    /// Makes this number of rounds of a module's threads; the remaining words are what these start with.
     Run { module: &'a str, rounds: &'a str },
     /// Checks a run, and says why the answer is what it is.
     Explain { module: &'a str, document: &'a str },
     /// Checks a run, and draws it.
     Graph { module: &'a str, document: &'a str },
+    /// Prints how the program is used.
+    Help,
+    /// Prints the version.
+    Version,
 }
 
 /// Why the words are no command.
@@ -74,30 +78,48 @@ fn any_words<'a>(alloc: Global, name: &'a str) -> Arg<'a>
         .action(ArgAction::Append)
 }
 
+/// A command without words.
+fn plain_parser<'a>(alloc: Global, name: &'a str) -> Parser<'a>
+    ensures { AddsAs (form_app (plain_form name.now)) result }
+{
+    Parser::new(alloc, name)
+}
+
 /// A command of a document.
 fn document_parser<'a>(alloc: Global, name: &'a str) -> Result<Parser<'a>, AllocError>
-    ensures { IfOk result (AddsAs (document_app name.now)) }
+    ensures { IfOk result (AddsAs (form_app (document_form name.now))) }
 {
     Parser::new(alloc, name).arg(word(alloc, "document"))
 }
 
 /// A command of a module and a document.
-fn both_parser<'a>(alloc: Global, name: &'a str) -> Result<Parser<'a>, AllocError>
-    ensures { IfOk result (AddsAs (both_app name.now)) }
+fn checked_parser<'a>(alloc: Global, name: &'a str) -> Result<Parser<'a>, AllocError>
+    ensures { IfOk result (AddsAs (form_app (checked_form name.now))) }
 {
     Parser::new(alloc, name)
         .arg(word(alloc, "module"))?
         .arg(word(alloc, "document"))
 }
 
-/// A command of a module, a word of this name, and what threads start with.
-fn start_parser<'a>(alloc: Global, name: &'a str, how: &'a str) -> Result<Parser<'a>, AllocError>
-    ensures { IfOk result (AddsAs (start_app name.now how.now)) }
+/// A command of a module, a word `how`, and what threads start with.
+fn started_parser<'a>(alloc: Global, name: &'a str, how: &'a str) -> Result<Parser<'a>, AllocError>
+    ensures { IfOk result (AddsAs (form_app (started_form name.now how.now))) }
 {
     Parser::new(alloc, name)
         .arg(word(alloc, "module"))?
         .arg(word(alloc, how))?
         .arg(any_words(alloc, "start"))
+}
+
+/// Adds a command without words.
+fn with_plain<'a>(
+    alloc: Global,
+    parser: Parser<'a>,
+    name: &'a str,
+) -> Result<Parser<'a>, AllocError>
+    ensures { IfOk result (λ more. app_of more ≡ with_form (app_of parser.entry) (plain_form name.now)) }
+{
+    parser.subcommand(plain_parser(alloc, name))
 }
 
 /// Adds a command of a document.
@@ -106,54 +128,48 @@ fn with_document<'a>(
     parser: Parser<'a>,
     name: &'a str,
 ) -> Result<Parser<'a>, AllocError>
-    ensures { IfOk result (λ more. app_of more ≡ with_subcommand (app_of parser.entry) (document_app name.now).top) }
+    ensures { IfOk result (λ more. app_of more ≡ with_form (app_of parser.entry) (document_form name.now)) }
 {
     parser.subcommand(document_parser(alloc, name)?)
 }
 
 /// Adds a command of a module and a document.
-fn with_both<'a>(alloc: Global, parser: Parser<'a>, name: &'a str) -> Result<Parser<'a>, AllocError>
-    ensures { IfOk result (λ more. app_of more ≡ with_subcommand (app_of parser.entry) (both_app name.now).top) }
+fn with_checked<'a>(
+    alloc: Global,
+    parser: Parser<'a>,
+    name: &'a str,
+) -> Result<Parser<'a>, AllocError>
+    ensures { IfOk result (λ more. app_of more ≡ with_form (app_of parser.entry) (checked_form name.now)) }
 {
-    parser.subcommand(both_parser(alloc, name)?)
+    parser.subcommand(checked_parser(alloc, name)?)
 }
 
-/// Adds a command of a module, a word of this name, and what threads start with.
-fn with_start<'a>(
+/// Adds a command of a module, a word `how`, and what threads start with.
+fn with_started<'a>(
     alloc: Global,
     parser: Parser<'a>,
     name: &'a str,
     how: &'a str,
 ) -> Result<Parser<'a>, AllocError>
-    ensures { IfOk result (λ more. app_of more ≡ with_subcommand (app_of parser.entry) (start_app name.now how.now).top) }
+    ensures { IfOk result (λ more. app_of more ≡ with_form (app_of parser.entry) (started_form name.now how.now)) }
 {
-    parser.subcommand(start_parser(alloc, name, how)?)
+    parser.subcommand(started_parser(alloc, name, how)?)
 }
 
-/// Adds the commands that look at a document.
-fn with_checks<'a>(alloc: Global, parser: Parser<'a>) -> Result<Parser<'a>, AllocError>
-    ensures { IfOk result (λ more. app_of more ≡ with_checks (app_of parser.entry)) }
+/// Adds each command, in the order of the table.
+fn with_commands<'a>(alloc: Global, parser: Parser<'a>) -> Result<Parser<'a>, AllocError>
+    ensures { IfOk result (λ more. app_of more ≡ fold with_form (app_of parser.entry) forms) }
 {
     let parser = with_document(alloc, parser, "rules")?;
-    let parser = with_both(alloc, parser, "check")?;
+    let parser = with_checked(alloc, parser, "check")?;
     let parser = with_document(alloc, parser, "migrate")?;
-    with_both(alloc, parser, "complete")
-}
-
-/// Adds the commands that run a module.
-fn with_runs<'a>(alloc: Global, parser: Parser<'a>) -> Result<Parser<'a>, AllocError>
-    ensures { IfOk result (λ more. app_of more ≡ with_runs (app_of parser.entry)) }
-{
-    let parser = with_start(alloc, parser, "drive", "turns")?;
-    with_start(alloc, parser, "run", "rounds")
-}
-
-/// Adds the commands that say why a check answers what it answers.
-fn with_reasons<'a>(alloc: Global, parser: Parser<'a>) -> Result<Parser<'a>, AllocError>
-    ensures { IfOk result (λ more. app_of more ≡ with_reasons (app_of parser.entry)) }
-{
-    let parser = with_both(alloc, parser, "explain")?;
-    with_both(alloc, parser, "graph")
+    let parser = with_checked(alloc, parser, "complete")?;
+    let parser = with_started(alloc, parser, "drive", "turns")?;
+    let parser = with_started(alloc, parser, "run", "rounds")?;
+    let parser = with_checked(alloc, parser, "explain")?;
+    let parser = with_checked(alloc, parser, "graph")?;
+    let parser = with_plain(alloc, parser, "help")?;
+    with_plain(alloc, parser, "version")
 }
 
 /// The commands and their words.
@@ -166,9 +182,69 @@ fn parser<'a>(alloc: Global) -> Result<Parser<'a>, AllocError>
         .no_binary_name(true)
         .disable_help_subcommand(true)
         .subcommand_required(true);
-    let parser = with_checks(alloc, parser)?;
-    let parser = with_runs(alloc, parser)?;
-    with_reasons(alloc, parser)
+    with_commands(alloc, parser)
+}
+
+/// The value of a required word.
+fn one_word<'a>(words: &ArgMatches<'a>, name: &str) -> Option<&'a str>
+    ensures some { IfSome result (λ value. first_of name.now (rows_in words.now) ≡ Some value.now) }
+    ensures none { result ≡ None → LacksField (rows_in words.now) (name.now ∷ []) }
+{
+    words.get_str(name)
+}
+
+/// The values of two required words.
+fn two_words<'a>(words: &ArgMatches<'a>, first: &str, second: &str) -> Option<(&'a str, &'a str)>
+    ensures some { IfSome result (λ both. HasFields (rows_in words.now) ((first.now, both.0.now) ∷ (second.now, both.1.now) ∷ [])) }
+    ensures none { result ≡ None → LacksField (rows_in words.now) (first.now ∷ second.now ∷ []) }
+{
+    let one = words.get_str(first)?;
+    let two = words.get_str(second)?;
+    Some((one, two))
+}
+
+/// The command of this name, with its words.
+fn command_of<'a>(name: &str, words: &ArgMatches<'a>) -> Option<Command<'a>>
+    ensures some { IfSome result (IsNamed name.now (rows_in words.now)) }
+    ensures none { result ≡ None → (command : Command) → IsNamed name.now (rows_in words.now) command → ⊥ }
+{
+    match name {
+        "rules" => {
+            let document = one_word(words, "document")?;
+            Some(Command::Rules { document })
+        }
+        "check" => {
+            let (module, document) = two_words(words, "module", "document")?;
+            Some(Command::Check { module, document })
+        }
+        "migrate" => {
+            let document = one_word(words, "document")?;
+            Some(Command::Migrate { document })
+        }
+        "complete" => {
+            let (module, document) = two_words(words, "module", "document")?;
+            Some(Command::Complete { module, document })
+        }
+        "drive" => {
+            let (module, turns) = two_words(words, "module", "turns")?;
+            Some(Command::Drive { module, turns })
+        }
+        "run" => {
+            let (module, rounds) = two_words(words, "module", "rounds")?;
+            Some(Command::Run { module, rounds })
+        }
+        "explain" => {
+            let (module, document) = two_words(words, "module", "document")?;
+            Some(Command::Explain { module, document })
+        }
+        "graph" => {
+            let (module, document) = two_words(words, "module", "document")?;
+            Some(Command::Graph { module, document })
+        }
+        "help" => Some(Command::Help),
+        "version" => Some(Command::Version),
+        _ => None,
+    }
 }
 
 /// The command that was named, with its words.
@@ -177,47 +253,7 @@ fn named<'a>(matches: &ArgMatches<'a>) -> Option<Command<'a>>
     ensures none { result ≡ None → (command : Command) → Means (subcommand_rows_of matches.now) command → ⊥ }
 {
     let (name, words) = matches.subcommand()?;
-    match name {
-        "rules" => {
-            let document = words.get_str("document")?;
-            Some(Command::Rules { document })
-        }
-        "check" => {
-            let module = words.get_str("module")?;
-            let document = words.get_str("document")?;
-            Some(Command::Check { module, document })
-        }
-        "migrate" => {
-            let document = words.get_str("document")?;
-            Some(Command::Migrate { document })
-        }
-        "complete" => {
-            let module = words.get_str("module")?;
-            let document = words.get_str("document")?;
-            Some(Command::Complete { module, document })
-        }
-        "drive" => {
-            let module = words.get_str("module")?;
-            let turns = words.get_str("turns")?;
-            Some(Command::Drive { module, turns })
-        }
-        "run" => {
-            let module = words.get_str("module")?;
-            let rounds = words.get_str("rounds")?;
-            Some(Command::Run { module, rounds })
-        }
-        "explain" => {
-            let module = words.get_str("module")?;
-            let document = words.get_str("document")?;
-            Some(Command::Explain { module, document })
-        }
-        "graph" => {
-            let module = words.get_str("module")?;
-            let document = words.get_str("document")?;
-            Some(Command::Graph { module, document })
-        }
-        _ => None,
-    }
+    command_of(name, words)
 }
 
 /// The command that `words`, those after the program's name, are by clap's model of the parse. A word other than `-`

@@ -1,6 +1,6 @@
 //! The command `complete`: a document is printed with the steps and the ends of its threads' runs.
 ghost use Rattle.std.specs.Prelude.{◌≡◌, IfOk, string_bytes};
-ghost use Rattle.wm_litmus.specs.Answers.{AnswersComplete};
+ghost use Rattle.wm_litmus.specs.Replies.{AnswersComplete};
 
 use crate::answer::Answer;
 use std::alloc::{AllocError, Global};
@@ -10,7 +10,7 @@ use wm_check::{Breach, CompletedDocument, Verdict, complete_document};
 ///
 /// # Errors
 ///
-/// Only where memory was refused.
+/// Only if memory was refused.
 pub(crate) fn completion_answer(
     alloc: Global,
     module_bytes: &[u8],

@@ -1,8 +1,6 @@
 //! The command `drive`: a script is played over a module.
-ghost use Rattle.std.specs.Prelude.{◌≡◌, IfOk, string_bytes};
-ghost use Rattle.wm_check.specs.Run.{IsModuleOf};
-ghost use Rattle.wm_litmus.specs.Drive.{AnswersDrive, IsDriven};
-ghost use Rattle.wm_litmus.specs.Own.{IsMadeOf};
+ghost use Rattle.std.specs.Prelude.{IfOk, string_bytes};
+ghost use Rattle.wm_litmus.specs.Drive.{AnswersDrive, DrivesOver, IsDrivenOver};
 
 use crate::answer::Answer;
 use crate::outcomes::outcome;
@@ -17,13 +15,12 @@ use wm_words::Script;
 /// The answer that a run is.
 fn driven<R: AllocGlobal + Threads + Sync>(
     rt: &R,
-    module_bytes: &[u8],
+    module: &ValidModule,
     run: &Run,
 ) -> Result<Answer, AllocError>
-    requires made { IsMadeOf module_bytes.now run.now }
-    ensures { IfOk result (IsDriven module_bytes.now run.now) }
+    ensures { IfOk result (IsDrivenOver «module».now run.now) }
 {
-    let checked = check_own(rt, module_bytes, run)?;
+    let checked = check_own(rt, module, run)?;
     let outcome = outcome(rt.alloc(), run)?;
     Answer::driven(
         rt.alloc(),
@@ -33,19 +30,16 @@ fn driven<R: AllocGlobal + Threads + Sync>(
     )
 }
 
-/// The answer to a script over a module that these bytes spell.
+/// The answer to a script over a module.
 fn play<R: AllocGlobal + Threads + Sync>(
     rt: &R,
     module: &ValidModule,
-    module_bytes: &[u8],
     script: &Script,
 ) -> Result<Answer, AllocError>
-    requires { IsModuleOf module_bytes.now «module».now }
-    ensures { IfOk result (λ answer.
-        AnswersDrive module_bytes.now script.now.plan script.now.turns answer.status (string_bytes answer.text)) }
+    ensures { IfOk result (DrivesOver «module».now script.now) }
 {
     match drive(rt.alloc(), module, &script.plan, script.turns.as_slice()) {
-        Ok(run) => driven(rt, module_bytes, &run),
+        Ok(run) => driven(rt, module, &run),
         Err(RunFault::OutOfMemory) => Err(AllocError),
         Err(fault) => Answer::refused_run(rt.alloc(), fault),
     }
@@ -55,7 +49,7 @@ fn play<R: AllocGlobal + Threads + Sync>(
 ///
 /// # Errors
 ///
-/// Only where memory was refused.
+/// Only if memory was refused.
 pub(crate) fn drive_answer<R: AllocGlobal + Threads + Sync>(
     rt: &R,
     module_bytes: &[u8],
@@ -65,7 +59,7 @@ pub(crate) fn drive_answer<R: AllocGlobal + Threads + Sync>(
         AnswersDrive module_bytes.now script.now.plan script.now.turns answer.status (string_bytes answer.text)) }
 {
     match read_module(rt.alloc(), module_bytes) {
-        Ok(module) => play(rt, &module, module_bytes, script),
+        Ok(module) => play(rt, &module, script),
         Err(Unread::Refused(refusal)) => Answer::of_verdict(rt.alloc(), &Verdict::Refused(refusal)),
         Err(Unread::OutOfMemory) => Err(AllocError),
     }

@@ -13,7 +13,7 @@ use wm_explain::{explain_refusal, explain_run};
 use wm_graph::draw;
 use wm_valid::ValidModule;
 
-/// What stands behind the verdict on a document: of its candidate, or of what was refused.
+/// The explanation of the verdict on a document: of its candidate, or of what was refused.
 fn reasons_of<R: AllocGlobal + Threads + Sync>(
     rt: &R,
     module: &ValidModule,
@@ -30,7 +30,7 @@ fn reasons_of<R: AllocGlobal + Threads + Sync>(
     }
 }
 
-/// The line of the verdict on a document, and what stands behind it.
+/// The line of the verdict on a document, and its explanation.
 fn explain_checked<R: AllocGlobal + Threads + Sync>(
     rt: &R,
     module: &ValidModule,
@@ -70,11 +70,11 @@ fn explain_unread(
     Answer::explained(alloc, &Verdict::Refused(refusal), reasons.as_str())
 }
 
-/// The line of the check of these bytes, and what stands behind it.
+/// The line of the check of these bytes, and its explanation.
 ///
 /// # Errors
 ///
-/// Only where memory was refused.
+/// Only if memory was refused.
 pub(crate) fn explain_answer<R: AllocGlobal + Threads + Sync>(
     rt: &R,
     module_bytes: &[u8],
@@ -122,7 +122,7 @@ fn show_log<R: AllocGlobal + Threads + Sync>(
 ///
 /// # Errors
 ///
-/// Only where memory was refused.
+/// Only if memory was refused.
 pub(crate) fn graph_answer<R: AllocGlobal + Threads + Sync>(
     rt: &R,
     module_bytes: &[u8],

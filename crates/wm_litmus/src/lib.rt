@@ -12,6 +12,7 @@
 //! | the module isn't valid | `refused valid Alignment in function 0 instruction 2` | 2 |
 //! | the document is refused | `refused document BadShape at /2/0/1` | 2 |
 //! | its log and witness are no candidate | `refused shape WriterCount at 0.1` | 2 |
+//! | how the program is used, its version | the text of `help`, of `version` | 0 |
 //! | the words are refused | `refused command words` | 2 |
 //! | memory was refused | `out of memory`, on standard error | 3 |
 //! | a device failed | `cannot read NAME` or `cannot write`, on standard error | 3 |
@@ -27,6 +28,7 @@ mod completion;
 mod drive;
 mod explanation;
 mod files;
+mod help;
 mod input;
 mod line;
 mod migration;

@@ -1,6 +1,6 @@
 //! The command `migrate`: a document is printed in version 2.
 ghost use Rattle.std.specs.Prelude.{◌≡◌, IfOk, string_bytes};
-ghost use Rattle.wm_litmus.specs.Answers.{AnswersMigrate};
+ghost use Rattle.wm_litmus.specs.Replies.{AnswersMigrate};
 
 use crate::answer::Answer;
 use std::alloc::{AllocError, Global};
@@ -10,7 +10,7 @@ use wm_logfile::migrate;
 ///
 /// # Errors
 ///
-/// Only where memory was refused.
+/// Only if memory was refused.
 pub(crate) fn migrate_answer(alloc: Global, bytes: &[u8]) -> Result<Answer, AllocError>
     ensures { IfOk result (λ answer.
         AnswersMigrate bytes.now answer.status (string_bytes answer.text)) }

@@ -1,13 +1,11 @@
 //! The whole program.
 ghost use Rattle.std.specs.Prelude.{◌≡◌, ◌+◌, ◌^◌, ◌≤◌, ◌<◌, IfErr, IfOk, OnOk, List, ℕ, drop, map, string_bytes};
-ghost use Rattle.wm_decode.specs.Bounds.{max_module_bytes};
-ghost use Rattle.wm_litmus.specs.Answers.{IsAnswer, WritesAnswer, WritesFront, given};
+ghost use Rattle.wm_litmus.specs.Replies.{IsAnswer, WritesAnswer, WritesFront, given};
 ghost use Rattle.wm_litmus.specs.Drive.{IsScriptAnswer};
 ghost use Rattle.wm_litmus.specs.Failures.{IsUnreadFile};
 ghost use Rattle.wm_litmus.specs.Input.{IsDocumentRead, IsReadOf};
 ghost use Rattle.wm_litmus.specs.Rounds.{IsRoundsAnswer};
 ghost use Rattle.wm_litmus.specs.declared.program.Failure.TheVariants.{OutOfMemory};
-ghost use Rattle.wm_logfile.specs.Limits.{max_document_bytes};
 
 use crate::answer::Answer;
 use crate::check::check_answer;
@@ -16,6 +14,7 @@ use crate::completion::completion_answer;
 use crate::drive::drive_answer;
 use crate::explanation::{explain_answer, graph_answer};
 use crate::files::{FileFault, Files};
+use crate::help::{help_answer, version_answer};
 use crate::input::read_limited;
 use crate::migration::migrate_answer;
 use crate::output::write_text;
@@ -48,7 +47,7 @@ impl From<AllocError> for Failure<'_> {
     }
 }
 
-/// The bytes of the file `name`, to so many and one more.
+/// The first `limit` bytes of the file `name`, and one more.
 fn read_file<'a, F: Files>(
     files: &mut F,
     name: &'a str,
@@ -69,7 +68,7 @@ fn read_file<'a, F: Files>(
     }
 }
 
-/// The bytes of the input, to so many and one more.
+/// The first `limit` bytes of the input, and one more.
 fn read_input<'a, I: Read>(
     alloc: Global,
     input: &mut I,
@@ -95,7 +94,7 @@ fn read_document_bytes<'a, R: AllocGlobal, F: Files, I: Read>(
 ) -> Result<Vec<u8>, Failure<'a>>
     requires { F.failures_of files.old + 1 < 2 ^ 64 }
     ensures known { IfOk result (λ bytes.
-        IsDocumentRead (F.content_of files.old) (I.remaining input.old) max_document_bytes name.now bytes.items) }
+        IsDocumentRead (F.content_of files.old) (I.remaining input.old) 8388608 name.now bytes.items) }
     ensures unread { IfErr result (λ stop. IsUnreadFile stop
         → F.failures_of files.old < F.failures_of files.new) }
 {
@@ -116,9 +115,9 @@ fn read_run<'a, R: AllocGlobal, F: Files, I: Read>(
 ) -> Result<(Vec<u8>, Vec<u8>), Failure<'a>>
     requires { F.failures_of files.old + 1 < 2 ^ 64 }
     ensures modules { IfOk result (λ read.
-        IsReadOf (F.content_of files.old «module».now) max_module_bytes read.0.items) }
+        IsReadOf (F.content_of files.old «module».now) 1048576 read.0.items) }
     ensures documents { IfOk result (λ read.
-        IsDocumentRead (F.content_of files.old) (I.remaining input.old) max_document_bytes document.now read.1.items) }
+        IsDocumentRead (F.content_of files.old) (I.remaining input.old) 8388608 document.now read.1.items) }
     ensures unread { IfErr result (λ stop. IsUnreadFile stop
         → F.failures_of files.old < F.failures_of files.new) }
 {
@@ -127,7 +126,7 @@ fn read_run<'a, R: AllocGlobal, F: Files, I: Read>(
     Ok((module_bytes, document_bytes))
 }
 
-/// The words that say what threads start with: those behind the command, the module, and the turns or rounds.
+/// The words that the threads start with: those after the command, the module, and the turns or rounds.
 fn starts_of<'a>(words: &'a [&'a str]) -> &'a [&'a str]
     ensures { map (λ word. word.now) result.now ≡ drop 3 (map (λ word. word.now) words.now) }
 {
@@ -204,6 +203,7 @@ fn answer_of<'a, R: AllocGlobal + Threads + Wait + Sync, F: Files, I: Read>(
     ensures unread { IfErr result (λ stop. IsUnreadFile stop
         → F.failures_of files.old < F.failures_of files.new) }
 {
+    let starts = starts_of(words);
     match read_command(rt.alloc(), words) {
         Ok(Command::Rules { document }) => {
             let bytes = read_document_bytes(rt, files, input, document)?;
@@ -229,20 +229,10 @@ fn answer_of<'a, R: AllocGlobal + Threads + Wait + Sync, F: Files, I: Read>(
             let read = read_run(rt, files, input, module, document)?;
             Ok(graph_answer(rt, read.0.as_slice(), read.1.as_slice())?)
         }
-        Ok(Command::Drive { module, turns }) => script_of(
-            rt,
-            files,
-            module,
-            turns,
-            starts_of(words),
-        ),
-        Ok(Command::Run { module, rounds }) => rounds_of(
-            rt,
-            files,
-            module,
-            rounds,
-            starts_of(words),
-        ),
+        Ok(Command::Drive { module, turns }) => script_of(rt, files, module, turns, starts),
+        Ok(Command::Run { module, rounds }) => rounds_of(rt, files, module, rounds, starts),
+        Ok(Command::Help) => Ok(help_answer(rt.alloc())?),
+        Ok(Command::Version) => Ok(version_answer(rt.alloc())?),
         Err(CommandFault::Words) => Ok(Answer::refused_words(rt.alloc())?),
         Err(CommandFault::OutOfMemory) => Err(Failure::OutOfMemory),
     }
@@ -255,15 +245,16 @@ fn answer_of<'a, R: AllocGlobal + Threads + Wait + Sync, F: Files, I: Read>(
 /// then the document, and checks its run against the module and the memory rules. `migrate DOC` reads a document
 /// and prints it in version 2. `complete MODULE DOC` reads both as `check` does, and prints the document in version 2
 /// with the steps and the ends that the module gives its threads on the values that their events read.
-/// `explain MODULE DOC` prints the line of `check`, and behind it in sentences why it is that; `graph MODULE DOC` prints
+/// `explain MODULE DOC` prints the line of `check`, and then explains it in sentences; `graph MODULE DOC` prints
 /// the execution for Graphviz, or the line of a refusal, each with the status of `check`.
 /// `drive MODULE TURNS START..` plays a script over a module, and prints the outcome, the verdict on what was logged, and
-/// its document. `run MODULE ROUNDS START..` lets the threads run at the same time, so many times over, checks each log,
+/// its document. `run MODULE ROUNDS START..` lets the threads run at the same time, ROUNDS times over, checks each log,
 /// and prints how often each outcome came; it is the one command that may wait for other threads.
+/// `help` and `version` print fixed texts, and read nothing.
 ///
 /// TURNS has items that commas join: `N` is a step of thread N, `dN` lets its oldest store leave its buffer, `dN/I` the
-/// one with I older ones, and `*K` behind an item repeats it. START is the name of an exported function, with its
-/// arguments behind colons; ROUNDS is 1 to 10,000.
+/// one with I older ones, and `*K` after an item repeats it. START is the name of an exported function and its
+/// arguments, each after a colon; ROUNDS is 1 to 10,000.
 ///
 /// Each file is read to its limit and one byte more, in at most that many reads, and any failed read ends
 /// the program. The clauses speak of the words, by clap's model of the parse, of what `files` and `input` hold, where

@@ -1,10 +1,8 @@
 //! The command `run`: rounds of a module's threads, which run at the same time.
-ghost use Rattle.std.specs.Prelude.{◌≡◌, IfOk, MatchOption, string_bytes};
-ghost use Rattle.wm_check.specs.Run.{IsModuleOf};
-ghost use Rattle.wm_litmus.specs.Rounds.{AnswersRounds, CountsRound};
+ghost use Rattle.std.specs.Prelude.{IfOk, MatchOption, string_bytes};
+ghost use Rattle.wm_litmus.specs.Rounds.{AnswersRounds, CountsRound, RunsOver};
 
 use crate::answer::Answer;
-use crate::outcomes::outcome;
 use crate::own::check_own;
 use crate::table::Table;
 use std::alloc::AllocError;
@@ -15,46 +13,41 @@ use wm_run::{OpenGate, RunFault, run_round};
 use wm_valid::ValidModule;
 use wm_words::Rounds;
 
-/// Makes a round and counts its outcome; where that isn't allowed, or can't be made, the answer to the whole.
+/// Makes a round and counts its outcome; if that isn't allowed, or can't be made, the answer to the whole.
 fn count_round<R: AllocGlobal + Threads + Wait + Sync>(
     rt: &R,
     module: &ValidModule,
-    module_bytes: &[u8],
     rounds: &Rounds,
     table: &mut Table,
 ) -> Result<Option<Answer>, AllocError>
-    requires { IsModuleOf module_bytes.now «module».now }
     ensures { IfOk result (λ answer. MatchOption answer
-        (CountsRound module_bytes.now «module».now rounds.now.plan table.old.counts table.new.counts)
-        (λ a. AnswersRounds module_bytes.now rounds.now.plan rounds.now.count a.status (string_bytes a.text))) }
+        (CountsRound «module».now rounds.now.plan table.old.counts table.new.counts)
+        (RunsOver «module».now rounds.now)) }
 {
     let run = match run_round(rt, rt.alloc(), module, &rounds.plan, &OpenGate) {
         Ok(run) => run,
         Err(RunFault::OutOfMemory) => return Err(AllocError),
         Err(fault) => return Ok(Some(Answer::refused_run(rt.alloc(), fault)?)),
     };
-    let checked = check_own(rt, module_bytes, &run)?;
+    let checked = check_own(rt, module, &run)?;
     if let Verdict::Allowed(_) = checked.verdict {
-        table.add(outcome(rt.alloc(), &run)?)?;
+        table.count(rt.alloc(), &run)?;
         return Ok(None);
     }
     Ok(Some(Answer::of_verdict(rt.alloc(), &checked.verdict)?))
 }
 
-/// The answer to rounds of a module that these bytes spell.
+/// The answer to rounds of a module.
 fn make_rounds<R: AllocGlobal + Threads + Wait + Sync>(
     rt: &R,
     module: &ValidModule,
-    module_bytes: &[u8],
     rounds: &Rounds,
 ) -> Result<Answer, AllocError>
-    requires { IsModuleOf module_bytes.now «module».now }
-    ensures { IfOk result (λ answer.
-        AnswersRounds module_bytes.now rounds.now.plan rounds.now.count answer.status (string_bytes answer.text)) }
+    ensures { IfOk result (RunsOver «module».now rounds.now) }
 {
     let mut table = Table::new(rt.alloc());
     for _ in 0..rounds.count {
-        if let Some(answer) = count_round(rt, module, module_bytes, rounds, &mut table)? {
+        if let Some(answer) = count_round(rt, module, rounds, &mut table)? {
             return Ok(answer);
         }
     }
@@ -66,7 +59,7 @@ fn make_rounds<R: AllocGlobal + Threads + Wait + Sync>(
 ///
 /// # Errors
 ///
-/// Only where memory was refused.
+/// Only if memory was refused.
 pub(crate) fn rounds_answer<R: AllocGlobal + Threads + Wait + Sync>(
     rt: &R,
     module_bytes: &[u8],
@@ -76,7 +69,7 @@ pub(crate) fn rounds_answer<R: AllocGlobal + Threads + Wait + Sync>(
         AnswersRounds module_bytes.now rounds.now.plan rounds.now.count answer.status (string_bytes answer.text)) }
 {
     match read_module(rt.alloc(), module_bytes) {
-        Ok(module) => make_rounds(rt, &module, module_bytes, rounds),
+        Ok(module) => make_rounds(rt, &module, rounds),
         Err(Unread::Refused(refusal)) => Answer::of_verdict(rt.alloc(), &Verdict::Refused(refusal)),
         Err(Unread::OutOfMemory) => Err(AllocError),
     }

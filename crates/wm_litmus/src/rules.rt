@@ -1,6 +1,6 @@
 //! The command `rules`: a document is judged by the memory rules, over pages of zeros.
 ghost use Rattle.std.specs.Prelude.{◌≡◌, ◌≤◌, IfOk, string_bytes};
-ghost use Rattle.wm_litmus.specs.Answers.{AnswersRules, AnswersRun, run_over};
+ghost use Rattle.wm_litmus.specs.Replies.{AnswersRules, AnswersRun, run_over};
 
 use crate::INITIAL_PAGES;
 use crate::answer::Answer;
@@ -10,7 +10,7 @@ use wm_event::{Candidate, Initial, Log, Witness};
 use wm_logfile::read_document;
 use wm_rules::judge;
 
-/// The answer to a log with a witness, over so many pages of zeros.
+/// The answer to a log with a witness, over this number of pages of zeros.
 fn run_answer<R: AllocGlobal + Threads + Sync>(
     rt: &R,
     log: Log,
@@ -34,7 +34,7 @@ fn run_answer<R: AllocGlobal + Threads + Sync>(
 ///
 /// # Errors
 ///
-/// Only where memory was refused.
+/// Only if memory was refused.
 pub(crate) fn rules_answer<R: AllocGlobal + Threads + Sync>(
     rt: &R,
     bytes: &[u8],

@@ -4,7 +4,7 @@ ghost use Rattle.std.specs.BTreeMap.{get_by_text};
 ghost use Rattle.std.specs.Fmt.{decimal, format_spec, padded_integral};
 ghost use Rattle.std.specs.List.{flat_map};
 ghost use Rattle.wm_litmus.specs.Counts.{Counts, next_count, row_of};
-ghost use Rattle.wm_litmus.specs.Rounds.{outcomes};
+ghost use Rattle.wm_litmus.specs.Rounds.{CountsRun, outcomes};
 ghost use Rattle.wm_litmus.specs.Table.{IsTableText, row_text};
 
 use crate::outcomes::outcome;
@@ -48,7 +48,7 @@ impl Table {
     }
 
     /// One more of an outcome.
-    pub fn add(&mut self, outcome: String) -> Result<(), AllocError>
+    fn add(&mut self, outcome: String) -> Result<(), AllocError>
         ensures { OnOk result ((came : List (List ℕ)) → Counts came self.old.counts → length came + 1 < 2 ^ 64
             → Counts (came ++ string_bytes outcome ∷ []) self.new.counts) }
     {
@@ -57,8 +57,15 @@ impl Table {
         Ok(())
     }
 
-    /// A line for each outcome: the count in 8 places, two spaces, and the outcome.
-    pub fn text(&self, alloc: Global) -> Result<String, AllocError>
+    /// One more of the outcome of a run.
+    pub fn count(&mut self, alloc: Global, run: &Run) -> Result<(), AllocError>
+        ensures { OnOk result (CountsRun run.now self.old.counts self.new.counts) }
+    {
+        self.add(outcome(alloc, run)?)
+    }
+
+    /// A line for each entry: the count in 8 places, two spaces, and the outcome.
+    fn lines(&self, alloc: Global) -> Result<String, AllocError>
         ensures { IfOk result (λ text. string_bytes text ≡ flat_map row_text (map row_of self.now.counts.entries)) }
     {
         let mut text = String::new(alloc);
@@ -68,19 +75,26 @@ impl Table {
         }
         Ok(text)
     }
+
+    /// The table of the outcomes that came: a line for each, sorted by its bytes, with how often it came.
+    pub fn text(&self, alloc: Global) -> Result<String, AllocError>
+        ensures { IfOk result (λ text. (came : List (List ℕ)) → Counts came self.now.counts → IsTableText came (string_bytes text)) }
+    {
+        self.lines(alloc)
+    }
 }
 
 /// The table of the outcomes of runs: a line for each, sorted by its bytes, with how often it came.
 ///
 /// # Errors
 ///
-/// Only where memory was refused.
+/// Only if memory was refused.
 pub fn report(alloc: Global, runs: &[Run]) -> Result<String, AllocError>
     ensures { IfOk result (λ text. IsTableText (outcomes runs.now) (string_bytes text)) }
 {
     let mut table = Table::new(alloc);
     for run in runs {
-        table.add(outcome(alloc, run)?)?;
+        table.count(alloc, run)?;
     }
     table.text(alloc)
 }

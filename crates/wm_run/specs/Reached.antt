@@ -1,5 +1,5 @@
 -- Where a thread stands behind some of its steps.
-use Rattle.std.specs.Prelude.{◌≡◌, ℕ, List, ◌++◌, Bool, true, false, Result, Ok, Err, Option, Some, None}
+use Rattle.std.specs.Prelude.{◌≡◌, ◌+◌, ℕ, List, ◌++◌, Bool, true, false, Result, Ok, Err, Option, Some, None}
 use Rattle.wm_ast.specs.declared.module.Module.{Module}
 use Rattle.wm_event.specs.declared.event.Event.{Event}
 use Rattle.wm_event.specs.declared.log.End.{End}
@@ -9,6 +9,7 @@ use Rattle.wm_event.specs.declared.op.OpFields.{OpFields}
 use Rattle.wm_machine.specs.declared.fault.StartFault.{StartFault}
 use Rattle.wm_machine.specs.Run.{Ran, steps}
 use Rattle.wm_machine.specs.Start.{started}
+use Rattle.wm_machine.specs.State.{State, config_of}
 use Rattle.wm_machine.specs.Step.{access_of, step}
 use Rattle.wm_machine.specs.Term.{Config}
 use Rattle.wm_replay.specs.Replay.{reads_of}
@@ -44,6 +45,11 @@ stands_before_access m k t = ran_before_access m (ran_by m k t)
 abbrev pub LeadsTo : Module → ℕ → Config → List Event → ℕ → Config → Type 0
 LeadsTo m k first events n c =
     (behind : List ℕ) → steps m k first (reads_of events ++ behind) n ≡ Some (record { events = events; config = c; reads = behind })
+
+-- one more step of thread k, with the events so far, whichever steps led there
+abbrev pub LeadsOn : ℕ → State → List Event → State → List Event → Type 0
+LeadsOn k old events new more =
+    (first : Config) (n : ℕ) → LeadsTo old.module k first events n (config_of old) → LeadsTo old.module k first more (n + 1) (config_of new)
 
 -- the same from a start that is good
 abbrev pub HasRun : Module → ℕ → Start → List Event → ℕ → Config → Type 0

@@ -26,6 +26,10 @@ AreWorkOf is_open m starts steps results =
     (length results ≡ length starts)
     × ((i : ℕ) (d : Start) (e : Result ThreadEnd RunFault) → i < length starts → IsWorkOf is_open m i (slice_index_or starts i d) steps (slice_index_or results i e))
 
+-- those of the threads of a plan
+abbrev pub AreWorkOfPlan : Bool → Module → Plan → List (Result ThreadEnd RunFault) → Type 0
+AreWorkOfPlan is_open m plan results = AreWorkOf is_open m plan.starts plan.steps results
+
 -- each end is that of its thread and start
 abbrev pub AreEndsOf : Bool → Module → List Start → ℕ → List ThreadEnd → Type 0
 AreEndsOf is_open m starts steps ends =

@@ -1,7 +1,9 @@
 -- Why a worker stopped.
-use Rattle.std.specs.Prelude.{◌≡◌, Bool, true, false}
+use Rattle.std.specs.Prelude.{◌≡◌, Bool, List, true, false}
 use Rattle.wm_ast.specs.declared.module.Module.{Module}
+use Rattle.wm_event.specs.declared.event.Event.{Event}
 use Rattle.wm_machine.specs.Reach.{HasEnded}
+use Rattle.wm_machine.specs.State.{State, config_of}
 use Rattle.wm_machine.specs.Term.{Config}
 use Rattle.wm_run.specs.declared.ended.Stop.{Stop}
 use Rattle.wm_run.specs.declared.ended.Stop.TheVariants.{Own, Gate, Memory}
@@ -17,3 +19,7 @@ abbrev pub StopsFor : Bool → Module → Config → Stop → Type 0
 StopsFor is_open m c Own = HasEnded c
 StopsFor is_open m c Gate = (is_before_access m c ≡ true) × (is_open ≡ false)
 StopsFor is_open m c Memory = is_before_access m c ≡ true
+
+-- the thread stopped for this, as it was, with no further event
+abbrev pub StopsAs : Bool → State → List Event → State → List Event → Stop → Type 0
+StopsAs is_open old events new more stop = (more ≡ events) × (new ≡ old) × StopsFor is_open old.module (config_of old) stop

@@ -5,6 +5,7 @@ use Rattle.wm_event.specs.declared.log.End.TheVariants.{Cut}
 use Rattle.wm_event.specs.declared.log.Start.{Start}
 use Rattle.wm_logfile.specs.Document.{EndFits}
 use Rattle.wm_machine.specs.Start.{started}
+use Rattle.wm_run.specs.declared.ended.Stop.{Stop}
 use Rattle.wm_run.specs.declared.ended.Stop.TheVariants.{Own, Gate}
 use Rattle.wm_run.specs.declared.ended.ThreadEnd.{ThreadEnd}
 use Rattle.wm_run.specs.declared.fault.RunFault.{RunFault}
@@ -20,6 +21,10 @@ pub record IsEndOf (is_open : Bool) (m : Module) (thread : ℕ) (start : Start) 
   pub whole : e.stop ≡ Own → e.end ≡ Cut → e.steps ≡ steps
   pub held : e.stop ≡ Gate → is_open ≡ false
   pub fits : EndFits e.end
+
+-- what a worker has of its thread
+abbrev pub IsGiven : Module → ℕ → Start → ℕ → Stop → ThreadEnd → Type 0
+IsGiven m thread start steps stop e = (e.program.value ≡ m) × (e.thread ≡ thread) × (e.start ≡ start) × (e.steps ≡ steps) × (e.stop ≡ stop)
 
 -- the fault was met: the thread doesn't start so, or memory was refused
 abbrev pub IsWorkFault : Module → ℕ → Start → RunFault → Type 0

@@ -7,7 +7,7 @@ use crate::turn::Turn;
 use std::alloc::AllocError;
 use wm_recorder::Shared;
 
-/// The drainer's turn of that number, of so many threads.
+/// The drainer's turn of this number, among this number of threads.
 fn drainer_turn(threads: u32, number: u32) -> Turn
     requires { 1 ≤ threads }
     ensures { result ≡ drainer_turn threads number }
@@ -20,13 +20,13 @@ fn drainer_turn(threads: u32, number: u32) -> Turn
     }
 }
 
-/// Takes so many turns over the buffers of so many threads, one thread after the other: a drain of the oldest store once
-/// round, of the store behind it the next time round. It ends where the gate answers false, which is asked before each
+/// Takes `drains` turns over the buffers of `threads` threads, one thread after the other: a drain of the oldest store in
+/// one pass, of the store after it in the next pass. It ends when the gate answers false; the gate is asked before each
 /// turn while no lock is held.
 ///
 /// # Errors
 ///
-/// Only where memory was refused.
+/// Only if memory was refused.
 pub fn drainer<S: Shared, G: Gate>(
     shared: &S,
     threads: u32,

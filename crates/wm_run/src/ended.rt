@@ -18,7 +18,7 @@ pub enum Stop {
     Own,
     /// The gate held it back before an access.
     Gate,
-    /// The memory refused its access, for another cause than want of memory.
+    /// The memory refused its access, for another cause than a refused allocation.
     Memory,
 }
 

@@ -41,7 +41,7 @@ fn least_stray(ends: &[ThreadEnd], threads: usize) -> Option<usize>
     least
 }
 
-/// The least of so many threads that has no end or several; else the least other thread that has an end.
+/// The least thread below `threads` that has no end or several; else the least other thread that has an end.
 pub fn ends_fault(ends: &[ThreadEnd], threads: usize) -> Option<usize>
     ensures none { IfNone result (HasOneEach threads ends.now) }
     ensures some { IfSome result (IsEndsFault threads ends.now) }

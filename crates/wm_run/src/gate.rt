@@ -6,7 +6,7 @@ pub trait Gate {
     /// Whether the gate is open. An open gate always answers true.
     ghost is_open: { Self → Bool };
 
-    /// Whether a thread may make its access behind so many events; where not, the thread is cut there.
+    /// Whether a thread may make its access after this number of events; if not, the thread is cut there.
     fn before(&self, thread: u32, event_number: usize) -> bool
         ensures { is_open self.now ≡ true → result ≡ true };
 

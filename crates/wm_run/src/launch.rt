@@ -10,11 +10,11 @@ use wm_list::{List, Text};
 use wm_machine::{StartFault, Thread};
 use wm_valid::ValidModule;
 
-/// Starts each thread, in turn.
+/// Starts each thread, in order.
 ///
 /// # Errors
 ///
-/// `Start` with the first thread that doesn't start, `OutOfMemory` where memory was refused.
+/// `Start` with the first thread that doesn't start, `OutOfMemory` if memory was refused.
 pub fn launch<'m>(
     alloc: Global,
     module: &'m ValidModule,

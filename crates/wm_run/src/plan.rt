@@ -48,7 +48,7 @@ impl Plan {
     }
 }
 
-/// The least thread of all turns that isn't one of so many, None where each is.
+/// The least thread of all turns that is not below `threads`, None if each is.
 fn least_absent(turns: &[Turn], threads: usize) -> Option<u32>
     ensures none { IfNone result (AreTurnsOf threads turns.now) }
     ensures some { IfSome result (IsLeastAbsent threads turns.now) }

@@ -1,10 +1,9 @@
 //! A round: a worker for each thread, and a drainer, over one locked memory.
 ghost use Rattle.std.specs.Prelude.{◌≡◌, ◌≤◌, Ok, IfErr, IfOk, OnOk, length, map};
-ghost use Rattle.wm_event.specs.Limits.{max_steps};
 ghost use Rattle.wm_recorder.specs.Recorder.{IsRecording, RecordsValid};
 ghost use Rattle.wm_run.specs.Own.{IsWithinPlan};
 ghost use Rattle.wm_run.specs.Plan.{HasThreads};
-ghost use Rattle.wm_run.specs.Rounds.{AreWorkOf, IsRound, IsRoundFault, IsRoundPlan, IsRoundPlanFault};
+ghost use Rattle.wm_run.specs.Rounds.{AreWorkOfPlan, IsRound, IsRoundFault, IsRoundPlan, IsRoundPlanFault};
 ghost use Rattle.wm_run.specs.Worker.{IsWorkOf};
 
 use crate::MAX_TURNS;
@@ -63,8 +62,12 @@ fn start_one<'s, E: 's, S: Shared + Sync, G: Gate + Sync>(
     shared: &'s S,
     gate: &'s G,
 ) -> Result<PromisedHandle<Result<ThreadEnd, RunFault>, WorkPromise<G>>, AllocError>
-    requires { steps ≤ max_steps }
-    ensures { IfOk result (λ h. (h.promise.program.value ≡ «module».now) × (h.promise.thread ≡ thread) × (h.promise.start.value ≡ start.now) × (h.promise.steps ≡ steps) × (h.promise.gate.value ≡ gate.now)) }
+    requires { steps ≤ 1000000 }
+    ensures program { IfOk result (λ h. h.promise.program.value ≡ «module».now) }
+    ensures thread { IfOk result (λ h. h.promise.thread ≡ thread) }
+    ensures start { IfOk result (λ h. h.promise.start.value ≡ start.now) }
+    ensures steps { IfOk result (λ h. h.promise.steps ≡ steps) }
+    ensures gate { IfOk result (λ h. h.promise.gate.value ≡ gate.now) }
 {
     let promise = WorkPromise {
         program: Snapshot::of(module),
@@ -100,7 +103,7 @@ fn run_workers<'s, E: 's, R: Threads, S: Shared + Sync, G: Gate + Sync>(
     gate: &'s G,
 ) -> Result<Vec<Result<ThreadEnd, RunFault>>, AllocError>
     requires { IsRoundPlan plan.now }
-    ensures { IfOk result (λ v. AreWorkOf (G.is_open gate.now) «module».now plan.now.starts plan.now.steps v.items) }
+    ensures { IfOk result (λ v. AreWorkOfPlan (G.is_open gate.now) «module».now plan.now v.items) }
 {
     let starts = plan.starts.as_slice();
     let mut workers = Vec::with_capacity(alloc, starts.len())?;
@@ -136,7 +139,7 @@ fn run_in<'s, E: 's, R: Threads, S: Shared + Sync, G: Gate + Sync>(
     gate: &'s G,
 ) -> Result<Vec<Result<ThreadEnd, RunFault>>, AllocError>
     requires { IsRoundPlan plan.now }
-    ensures { IfOk result (λ v. AreWorkOf (G.is_open gate.now) «module».now plan.now.starts plan.now.steps v.items) }
+    ensures { IfOk result (λ v. AreWorkOfPlan (G.is_open gate.now) «module».now plan.now v.items) }
 {
     let threads = plan.starts.len() as u32;
     let drains = plan.drains;
@@ -158,19 +161,19 @@ fn run_shared<R: Threads + Wait + Sync, S: Shared + Sync, G: Gate + Sync>(
     gate: &G,
 ) -> Result<Vec<Result<ThreadEnd, RunFault>>, AllocError>
     requires { IsRoundPlan plan.now }
-    ensures { IfOk result (λ v. AreWorkOf (G.is_open gate.now) «module».now plan.now.starts plan.now.steps v.items) }
+    ensures { IfOk result (λ v. AreWorkOfPlan (G.is_open gate.now) «module».now plan.now v.items) }
 {
     thread::scope(
         thread::scope_env(),
         rt,
         |scope| -> Result<Vec<Result<ThreadEnd, RunFault>>, AllocError>
             requires { IsRoundPlan plan.now }
-            ensures { IfOk result (λ v. AreWorkOf (G.is_open gate.entry.now) «module».entry.now plan.entry.now.starts plan.entry.now.steps v.items) }
+            ensures { IfOk result (λ v. AreWorkOfPlan (G.is_open gate.entry.now) «module».entry.now plan.entry.now v.items) }
         { run_in(rt, scope, alloc, module, plan, shared, gate) },
     )
 }
 
-/// The ends of the threads. Each thread starts, so a worker's fault can only be want of memory.
+/// The ends of the threads. Each thread starts, so a worker's only fault can be `OutOfMemory`.
 fn all_ends(
     alloc: Global,
     results: Vec<Result<ThreadEnd, RunFault>>,

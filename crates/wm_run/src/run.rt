@@ -59,7 +59,7 @@ impl Run {
 ///
 /// # Errors
 ///
-/// Only where memory was refused.
+/// Only if memory was refused.
 pub fn write_run(alloc: Global, run: &Run) -> Result<String, AllocError>
     ensures text { IfOk result (λ s. string_bytes s ≡ compact_text (document_2 run.now.log run.now.witness)) }
 

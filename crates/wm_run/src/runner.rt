@@ -12,7 +12,7 @@ ghost use Rattle.wm_run.specs.Runner.{Advances, DrainsBy, IsSet, Moves, TakesTur
 use crate::turn::Turn;
 use std::alloc::AllocError;
 use wm_event::{End, Op};
-use wm_machine::{AdvanceFault, Need, Thread};
+use wm_machine::{AdvanceFault, Need, Stepped, Thread};
 use wm_recorder::{AccessFault, Recorder};
 use wm_valid::ValidModule;
 
@@ -77,17 +77,18 @@ fn advance(thread: &mut Thread, number: u32, recorder: &mut Recorder) -> Result<
     ensures moves { IfOk result (Advances number thread.old recorder.old thread.new recorder.new) }
     ensures same { thread.new.module ≡ thread.old.module }
 {
-    match thread.next() {
-        Need::Ended(_) => Ok(Moved::Rested),
-        Need::Local => match thread.advance(None) {
-            Ok(()) => Ok(Moved::Stepped),
-            Err(AdvanceFault::OutOfMemory) => Err(AllocError),
-        },
-        Need::Access(op) => access(thread, number, recorder, op),
+    let stepped = match thread.step() {
+        Ok(stepped) => stepped,
+        Err(AdvanceFault::OutOfMemory) => return Err(AllocError),
+    };
+    match stepped {
+        Stepped::Local => Ok(Moved::Stepped),
+        Stepped::Access(op) => access(thread, number, recorder, op),
+        Stepped::Ended(_) => Ok(Moved::Rested),
     }
 }
 
-/// A step of a thread that makes at most so many.
+/// A step of a thread that makes at most `limit`.
 fn step(
     runner: &mut Runner,
     number: u32,
@@ -119,7 +120,7 @@ fn drain(recorder: &mut Recorder, thread: u32) -> Result<(), AllocError>
     Ok(())
 }
 
-/// The store leaves a thread's buffer that has so many older ones before it, where there is one and it may.
+/// The store that has `index` older ones before it leaves a thread's buffer, if there is one and it may.
 fn drain_at(recorder: &mut Recorder, thread: u32, index: u32) -> Result<(), AllocError>
     ensures { OnOk result (DrainsBy (HistoryStep.DrainAt thread index) recorder.old recorder.new) }
 {

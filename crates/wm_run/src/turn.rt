@@ -9,7 +9,7 @@ pub enum Turn {
     Step(u32),
     /// The oldest store that waits in the thread's buffer leaves it.
     Drain(u32),
-    /// The store leaves the thread's buffer that has so many older ones before it.
+    /// The store that has this number of older ones before it leaves the thread's buffer.
     DrainAt(u32, u32),
 }
 

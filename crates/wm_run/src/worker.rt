@@ -4,10 +4,9 @@ ghost use Rattle.wm_event.specs.Limits.{max_steps};
 ghost use Rattle.wm_logfile.specs.Document.{EndFits};
 ghost use Rattle.wm_machine.specs.Run.{end_of as config_end};
 ghost use Rattle.wm_machine.specs.State.{config_of, need_of};
-ghost use Rattle.wm_machine.specs.Term.{Config};
-ghost use Rattle.wm_run.specs.Reached.{HasRun, LeadsTo, is_before_access};
-ghost use Rattle.wm_run.specs.Stops.{StopsFor, is_own};
-ghost use Rattle.wm_run.specs.Worker.{IsWorkOf};
+ghost use Rattle.wm_run.specs.Reached.{HasRun, LeadsOn, is_before_access};
+ghost use Rattle.wm_run.specs.Stops.{StopsAs, is_own};
+ghost use Rattle.wm_run.specs.Worker.{IsGiven, IsWorkOf};
 
 use crate::ended::{Stop, ThreadEnd};
 use crate::fault::RunFault;
@@ -18,11 +17,11 @@ use std::alloc::{AllocError, Global};
 use std::snapshot::Snapshot;
 use wm_event::{Event, EventKey, Op, Start};
 use wm_list::Growing;
-use wm_machine::{AdvanceFault, Need, StartFault, Thread};
+use wm_machine::{AdvanceFault, StartFault, Stepped, Thread};
 use wm_recorder::{AccessFault, Shared};
 use wm_valid::ValidModule;
 
-/// Makes one access of a thread, or says why it makes none. The gate is asked first.
+/// Makes one access of a thread, or tells why it makes none. The gate is asked first.
 fn access<S: Shared, G: Gate>(
     running: &mut Thread,
     events: &mut Growing<Event>,
@@ -35,10 +34,9 @@ fn access<S: Shared, G: Gate>(
     requires few { length events.old.items < 2 ^ 32 }
     ensures same { running.new.module ≡ running.old.module }
     ensures more { length events.new.items ≤ length events.old.items + 1 }
-    ensures made { result ≡ Ok None → (first : Config) (n : ℕ) → LeadsTo running.old.module thread first events.old.items n (config_of running.old)
-        → LeadsTo running.old.module thread first events.new.items (n + 1) (config_of running.new) }
-    ensures stopped { IfOk result (λ r. IfSome r (λ stop. (events.new.items ≡ events.old.items) × (running.new ≡ running.old)
-        × StopsFor (G.is_open gate.now) running.old.module (config_of running.old) stop)) }
+    ensures made { result ≡ Ok None → LeadsOn thread running.old events.old.items running.new events.new.items }
+    ensures stopped { IfOk result (λ r.
+        IfSome r (StopsAs (G.is_open gate.now) running.old events.old.items running.new events.new.items)) }
 {
     events.reserve(1)?;
     if !gate.before(thread, events.len()) {
@@ -61,7 +59,7 @@ fn access<S: Shared, G: Gate>(
     }
 }
 
-/// Makes the next step of a thread, or says why it makes none.
+/// Makes the next step of a thread, or tells why it makes none.
 fn step<S: Shared, G: Gate>(
     running: &mut Thread,
     events: &mut Growing<Event>,
@@ -72,22 +70,22 @@ fn step<S: Shared, G: Gate>(
     requires { length events.old.items < 2 ^ 32 }
     ensures same { running.new.module ≡ running.old.module }
     ensures more { length events.new.items ≤ length events.old.items + 1 }
-    ensures made { result ≡ Ok None → (first : Config) (n : ℕ) → LeadsTo running.old.module thread first events.old.items n (config_of running.old)
-        → LeadsTo running.old.module thread first events.new.items (n + 1) (config_of running.new) }
-    ensures stopped { IfOk result (λ r. IfSome r (λ stop. (events.new.items ≡ events.old.items) × (running.new ≡ running.old)
-        × StopsFor (G.is_open gate.now) running.old.module (config_of running.old) stop)) }
+    ensures made { result ≡ Ok None → LeadsOn thread running.old events.old.items running.new events.new.items }
+    ensures stopped { IfOk result (λ r.
+        IfSome r (StopsAs (G.is_open gate.now) running.old events.old.items running.new events.new.items)) }
 {
-    match running.next() {
-        Need::Ended(_) => Ok(Some(Stop::Own)),
-        Need::Access(op) => access(running, events, thread, op, shared, gate),
-        Need::Local => match running.advance(None) {
-            Ok(()) => Ok(None),
-            Err(AdvanceFault::OutOfMemory) => Err(AllocError),
-        },
+    let stepped = match running.step() {
+        Ok(stepped) => stepped,
+        Err(AdvanceFault::OutOfMemory) => return Err(AllocError),
+    };
+    match stepped {
+        Stepped::Local => Ok(None),
+        Stepped::Access(op) => access(running, events, thread, op, shared, gate),
+        Stepped::Ended(_) => Ok(Some(Stop::Own)),
     }
 }
 
-/// What a thread has come to behind so many steps.
+/// What a thread has come to after this number of steps.
 fn finished(
     module: &ValidModule,
     thread: u32,
@@ -100,7 +98,7 @@ fn finished(
     requires same { running.now.module ≡ «module».now }
     requires run { HasRun «module».now thread start events.items steps (config_of running.now) }
     requires stopped { (is_own stop || is_before_access «module».now (config_of running.now)) ≡ true }
-    ensures given { (result.program.value ≡ «module».now) × (result.thread ≡ thread) × (result.start ≡ start) × (result.steps ≡ steps) × (result.stop ≡ stop) }
+    ensures given { IsGiven «module».now thread start steps stop result }
     ensures end { result.end ≡ config_end (config_of running.now) }
     ensures fits { EndFits result.end }
 {
@@ -115,12 +113,12 @@ fn finished(
     }
 }
 
-/// Runs one thread of a module over a shared memory, until it ends, has made its steps, or is cut: where the gate answers
-/// false, or where the memory refuses its access. The gate is asked before each access, while no lock is held.
+/// Runs one thread of a module over a shared memory, until it ends, has made its steps, or is cut: if the gate answers
+/// false, or if the memory refuses its access. The gate is asked before each access, while no lock is held.
 ///
 /// # Errors
 ///
-/// `Start` where the thread doesn't start, `OutOfMemory` where memory was refused.
+/// `Start` if the thread doesn't start, `OutOfMemory` if memory was refused.
 pub fn work<S: Shared, G: Gate>(
     alloc: Global,
     module: &ValidModule,

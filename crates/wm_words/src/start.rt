@@ -34,12 +34,12 @@ fn start_with_args(alloc: Global, name: &str, args: List<u64>) -> Result<Start, 
     Ok(Start { name, args })
 }
 
-/// The start that a word spells: the name of an export up to the first colon, and an argument of 64 bits behind each
+/// The start that a word spells: the name of an export up to the first colon, and an argument of 64 bits after each
 /// colon.
 ///
 /// # Errors
 ///
-/// `Start` where it spells none; else want of memory.
+/// `Start` if it spells none; else `OutOfMemory`.
 pub fn read_start(alloc: Global, word: &str) -> Result<Start, WordFault>
     ensures spelled { IfOk result (λ start. start_of word.now ≡ Some start) }
     ensures fault { IfErr result (Misses WordFault.Start (start_of word.now)) }
@@ -57,7 +57,7 @@ pub fn read_start(alloc: Global, word: &str) -> Result<Start, WordFault>
 ///
 /// # Errors
 ///
-/// `Start` where one spells none; else want of memory.
+/// `Start` if one spells none; else `OutOfMemory`.
 pub fn read_starts(alloc: Global, words: &[&str]) -> Result<List<Start>, WordFault>
     ensures spelled { IfOk result (λ starts. starts_of (map (λ word. word.now) words.now) ≡ Some starts) }
     ensures fault { IfErr result (Misses WordFault.Start (starts_of (map (λ word. word.now) words.now))) }

@@ -11,7 +11,7 @@ use std::alloc::{AllocError, Global};
 use wm_list::List;
 use wm_run::{MAX_TURNS, Turn};
 
-/// The drain that a word behind a `d` spells.
+/// The drain that a word after a `d` spells.
 fn read_drain(word: &str) -> Option<Turn>
     ensures { result ≡ drain_of (pieces 47 word.now) }
 {
@@ -39,7 +39,7 @@ struct Item {
     times: u32,
 }
 
-/// The item that a word spells: a turn, or a turn with `*K` behind it, K at least 1.
+/// The item that a word spells: a turn, or a turn followed by `*K`, K at least 1.
 fn read_item(word: &str) -> Option<Item>
     ensures { MatchOption result (item_turns word.now ≡ None) (λ item.
         item_turns word.now ≡ Some (replicate item.times item.turn)) }
@@ -60,7 +60,7 @@ fn read_item(word: &str) -> Option<Item>
     }
 }
 
-/// Puts the turns of an item behind the others, up to one more than a script may have.
+/// Appends the turns of an item, up to one more than a script may have.
 fn push_item(turns: &mut Vec<Turn>, item: Item) -> Result<(), AllocError>
     requires { vec_len turns.old ≤ 1000001 }
     ensures { OnOk result (turns.new.items ≡ kept (turns.old.items ++ replicate item.times item.turn)) }
@@ -74,7 +74,7 @@ fn push_item(turns: &mut Vec<Turn>, item: Item) -> Result<(), AllocError>
 ///
 /// # Errors
 ///
-/// `Turns` where it spells none; else want of memory.
+/// `Turns` if it spells none; else `OutOfMemory`.
 pub fn read_turns(alloc: Global, word: &str) -> Result<List<Turn>, WordFault>
     ensures spelled { IfOk result (λ turns. option_map kept (turns_of word.now) ≡ Some turns) }
     ensures fault { IfErr result (Misses WordFault.Turns (turns_of word.now)) }

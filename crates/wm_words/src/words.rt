@@ -39,7 +39,7 @@ const MAX_ROUNDS: u32 = 10_000;
 ///
 /// # Errors
 ///
-/// `Turns` where the first spells no turns; else `Start` where one of the others spells no start; else want of memory.
+/// `Turns` if the first spells no turns; else `Start` if one of the others spells no start; else `OutOfMemory`.
 pub fn read_script(alloc: Global, turns: &str, starts: &[&str]) -> Result<Script, WordFault>
     ensures spelled { IfOk result (IsScriptOf turns.now (map (λ word. word.now) starts.now)) }
     ensures fault { IfErr result (SpellNoScript turns.now (map (λ word. word.now) starts.now)) }

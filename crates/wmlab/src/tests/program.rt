@@ -87,8 +87,8 @@ fn words_are_refused(rt: HostRuntime) {
         &["", "-"],
         &["-"],
         &["-", "-"],
-        &["help"],
         &["help", "rules"],
+        &["version", "-"],
         &["--help"],
         &["-h"],
         &["--version"],
@@ -104,6 +104,71 @@ fn words_are_refused(rt: HostRuntime) {
         says(&rt, words, &mut input, "refused command words\n", "", 2);
         same(&rt, input.reads, 0);
     }
+}
+
+/// What `help` prints.
+const HELP: &str = "\
+wmlab decides whether a WebAssembly module and its memory model allow a recorded execution.
+
+USAGE
+    wmlab COMMAND ARGUMENT..
+
+COMMANDS
+    check MODULE DOC              check a log against its module and the memory rules
+    explain MODULE DOC            check a log, and explain the answer in sentences
+    graph MODULE DOC              draw a log for Graphviz, with the first violation in red
+    rules DOC                     judge a log by the memory rules alone, over 16 pages of zeros
+    complete MODULE DOC           print a log with the steps and ends that its module gives it
+    migrate DOC                   print a log in version 2 of its format
+    drive MODULE TURNS START..    run threads by a script; print the outcome and the log
+    run MODULE ROUNDS START..     run threads in parallel; check each log and count the outcomes
+    help                          print this text
+    version                       print the versions of the program, the log format and the logic
+
+ARGUMENTS
+    MODULE    a file with a WebAssembly module in the binary format
+    DOC       a file with a log in JSON, or - for standard input
+    START     an exported function and its arguments, such as f:0:7, one for each thread
+    TURNS     items joined by commas: N is a step of thread N, dN publishes its oldest pending
+              store, dN/I the store with I older ones, and *K after an item repeats it K times
+    ROUNDS    how many rounds to run, from 1 to 10,000
+
+EXAMPLES
+    wmlab check store-buffering.wasm store-buffering.json
+    wmlab explain store-buffering.wasm store-buffering.json
+    wmlab graph store-buffering.wasm store-buffering.json | dot -Tsvg > store-buffering.svg
+    wmlab rules - < store-buffering.json
+    wmlab complete store-buffering.wasm recorded.json > completed.json
+    wmlab migrate version-1.json > version-2.json
+    wmlab drive store-buffering.wasm 0*3,d0,0*3,1*6 a b
+    wmlab run store-buffering.wasm 100 a b
+    wmlab help
+    wmlab version
+
+EXIT STATUS
+    0    the execution is allowed, or the requested text was printed
+    1    the execution is broken: the module does not perform it, or a memory rule forbids it
+    2    the command line, the module or the log is refused
+    3    out of memory, or a file could not be read or the answer not written (see stderr)
+
+DOCUMENTATION
+    README.md and docs/ in the repository of wmlab
+";
+
+/// What `version` prints.
+const VERSION: &str = "\
+wmlab 0.2.0
+reads log versions 1 and 2
+writes log version 2
+logic dac8208d650f15bf
+";
+
+#[test]
+fn help_and_version_have_their_texts(rt: HostRuntime) {
+    let mut input = fake_reader(b"[", NEVER);
+    says(&rt, &["help"], &mut input, HELP, "", 0);
+    says(&rt, &["version"], &mut input, VERSION, "", 0);
+    same(&rt, input.reads, 0);
 }
 
 #[test]

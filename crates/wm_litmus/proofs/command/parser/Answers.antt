@@ -1,7 +1,8 @@
 use Rattle.std.proofs.Common.{ap, true, ◌≡◌, ◌∙◌}
+use Rattle.std.specs.Prelude.{fold}
 use Rattle.std.proofs.lemmas.Result.{IfOk-weaker}
 use Rattle.clap.specs.Words.{App, app_of}
-use Rattle.wm_litmus.specs.Commands.{empty_app, with_checks, with_reasons, with_runs}
+use Rattle.wm_litmus.specs.Commands.{empty_app, forms, with_form}
 use Rattle.wm_litmus.proofs.command.parser.Goals as goal
 
 -- the settings of the program
@@ -13,6 +14,4 @@ unfolding with_settings
 returns c =
     let empty_is : app_of c.subcommand_required-parser.result ≡ empty_app =
     rw (c.subcommand_required-parser.ensures, c.disable_help_subcommand.ensures, c.no_binary_name.ensures, c.disable_version_flag.ensures, c.disable_help_flag.ensures) (ap with_settings c.new.ensures.app) in
-    let checks_is = c.in_ok-parser.ensures ∙ ap with_checks empty_is in
-    let runs_is = c.in_ok-parser-2.ensures ∙ ap with_runs checks_is in
-    IfOk-weaker c.with_reasons.result _ _ (λ parser more. more ∙ ap with_reasons runs_is) c.with_reasons.ensures
+    IfOk-weaker c.with_commands.result _ _ (λ parser more. more ∙ ap (λ app. fold with_form app forms) empty_is) c.with_commands.ensures

@@ -2,6 +2,9 @@ use Rattle.std.proofs.lemmas.Result.{IfOk-weaker}
 use Rattle.wm_litmus.specs.Drive.AnswersDrive.{no_module}
 use Rattle.wm_litmus.proofs.drive.drive_answer.Goals as goal
 
+pub returns-in-Ok : goal.returns-in-Ok
+returns-in-Ok g c = IfOk-weaker c.play.result _ _ (λ answer over. over c.args.module_bytes.now c.in-Ok.ensures.read) c.play.ensures
+
 pub returns-in-Err-Refused : goal.returns-in-Err-Refused
 returns-in-Err-Refused g c =
     let refused = rw c.in-Err-Refused.field-0-is at c.in-Err-Refused.ensures.refused in

@@ -12,10 +12,10 @@ returns g c =
     let outcome : c.as_str.result.now ≡ outcome_text run.log = c.as_str.ensures.value ∙ c.in_ok-outcome.ensures in
     let document : c.as_str-2.result.now ≡ run_text run = c.as_str-2.ensures.value ∙ c.in_ok-checked.ensures.document in
     IfOk-weaker c.driven.result _ _
-    (λ answer prints. record {
+    (λ answer prints module_bytes made. record {
       verdict = v;
-      says = c.in_ok-checked.ensures.says;
-      own = c.in_ok-checked.ensures.own;
+      says = c.in_ok-checked.ensures.says module_bytes made.modules;
+      own = c.in_ok-checked.ensures.own module_bytes made;
       prints = subst (λ d. PrintsRun (outcome_text run.log) v d answer) document (subst (λ o. PrintsRun o v c.as_str-2.result.now answer) outcome prints);
     })
     c.driven.ensures

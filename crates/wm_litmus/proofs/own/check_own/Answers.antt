@@ -1,28 +1,24 @@
 use Rattle.std.proofs.Common.{◌≡◌, ◌∙◌, subst}
-use Rattle.wm_check.specs.Verdicts.{Says}
+use Rattle.wm_check.specs.Reading.{SaysOver}
 use Rattle.wm_litmus.specs.Own.{run_text}
-use Rattle.wm_litmus.proofs.Answering.{says}
 use Rattle.wm_litmus.proofs.OwnVerdicts.{IsReadAgain, OwnLaws, own_verdict}
 use Rattle.wm_litmus.proofs.own.check_own.Goals as goal
 
 pub returns-clause-says : goal.returns-clause-says
 returns-clause-says g c =
     let bytes : c.as_bytes.result.now ≡ run_text c.args.run.now = c.as_bytes.ensures.value ∙ c.in_ok-document.ensures.text in
-    let v = c.in_ok-verdict.verdict in
-    subst (λ d. Says c.args.module_bytes.now d v) bytes
-    (says c.args.module_bytes.now c.as_bytes.result.now v c.in_ok-verdict.ensures.allowed c.in_ok-verdict.ensures.refused c.in_ok-verdict.ensures.broken)
+    subst (λ d. SaysOver c.args.module.now d c.in_ok-checked.checked.verdict) bytes c.in_ok-checked.ensures.verdict
 
 pub returns-clause-own : goal.returns-clause-own
-returns-clause-own g c =
+returns-clause-own g c = λ module_bytes made.
     let run = c.args.run.now in
     let bytes : c.as_bytes.result.now ≡ run_text run = c.as_bytes.ensures.value ∙ c.in_ok-document.ensures.text in
-    let v = c.in_ok-verdict.verdict in
-    let said = subst (λ d. Says c.args.module_bytes.now d v) bytes
-    (says c.args.module_bytes.now c.as_bytes.result.now v c.in_ok-verdict.ensures.allowed c.in_ok-verdict.ensures.refused c.in_ok-verdict.ensures.broken) in
+    let v = c.in_ok-checked.checked.verdict in
+    let said = subst (λ d. SaysOver c.args.module.now d v) bytes c.in_ok-checked.ensures.verdict in
     let laws : OwnLaws = record {
       allowed = c.own_runs_are_allowed.ensures;
       limits = c.own_runs_are_within_limits.ensures;
       alone = c.one_verdict.ensures.allowed;
       too_large = c.one_verdict.ensures.too_large;
     } in
-    own_verdict c.args.module_bytes.now run v laws c.requires.made (subst (λ text. IsReadAgain text run) c.in_ok-document.ensures.text c.in_ok-document.ensures.again) said
+    own_verdict module_bytes c.args.module.now run v laws made (subst (λ text. IsReadAgain text run) c.in_ok-document.ensures.text c.in_ok-document.ensures.again) (said module_bytes made.modules)

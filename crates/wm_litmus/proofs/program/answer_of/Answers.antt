@@ -3,8 +3,8 @@ use Rattle.std.proofs.lemmas.Result.{IfOk-weaker}
 use Rattle.wm_litmus.specs.Drive.{IsScriptAnswer}
 use Rattle.wm_litmus.specs.Explanation.{AnswersExplain, AnswersGraph}
 use Rattle.wm_litmus.specs.Rounds.{IsRoundsAnswer}
-use Rattle.wm_litmus.specs.Answers.{AnswersCheck, AnswersComplete, AnswersMigrate, AnswersRules}
-use Rattle.wm_litmus.specs.Answers.IsAnswer.{check_of, complete_of, drive_of, explain_of, graph_of, migrate_of, rules_of, run_of}
+use Rattle.wm_litmus.specs.Replies.{AnswersCheck, AnswersComplete, AnswersMigrate, AnswersRules}
+use Rattle.wm_litmus.specs.Replies.IsAnswer.{check_of, complete_of, drive_of, explain_of, graph_of, help_of, migrate_of, rules_of, run_of, version_of}
 use Rattle.wm_litmus.proofs.program.answer_of.Goals as goal
 
 pub returns-in_ok-rules_answer-in-Ok-Rules-clause-answers : goal.returns-in_ok-rules_answer-in-Ok-Rules-clause-answers
@@ -81,7 +81,7 @@ returns-in-Ok-Drive-clause-answers g c =
     let turns = c.in-Ok-Drive.turns in
     let file = g.F.Files.content_of c.args.files.now c.in-Ok-Drive.module.now in
     IfOk-weaker c.script_of.result _ _
-    (λ answer is. drive_of c.in-Ok-Drive.module turns read (subst (λ starts. IsScriptAnswer file turns.now starts answer.status (string_bytes answer.text)) c.starts_of.ensures is))
+    (λ answer is. drive_of c.in-Ok-Drive.module turns read (subst (λ starts. IsScriptAnswer file turns.now starts answer.status (string_bytes answer.text)) c.starts_of-starts.ensures is))
     c.script_of.ensures.answers
 
 pub returns-in-Ok-Run-clause-answers : goal.returns-in-Ok-Run-clause-answers
@@ -90,5 +90,15 @@ returns-in-Ok-Run-clause-answers g c =
     let rounds = c.in-Ok-Run.rounds in
     let file = g.F.Files.content_of c.args.files.now c.in-Ok-Run.module.now in
     IfOk-weaker c.rounds_of.result _ _
-    (λ answer is. run_of c.in-Ok-Run.module rounds read (subst (λ starts. IsRoundsAnswer file rounds.now starts answer.status (string_bytes answer.text)) c.starts_of-in-Ok-Run.ensures is))
+    (λ answer is. run_of c.in-Ok-Run.module rounds read (subst (λ starts. IsRoundsAnswer file rounds.now starts answer.status (string_bytes answer.text)) c.starts_of-starts.ensures is))
     c.rounds_of.ensures.answers
+
+pub returns-in_ok-help_answer-in-Ok-Help-clause-answers : goal.returns-in_ok-help_answer-in-Ok-Help-clause-answers
+returns-in_ok-help_answer-in-Ok-Help-clause-answers g c =
+    let prints = c.in_ok-help_answer-in-Ok-Help.ensures in
+    help_of (rw c.in-Ok-Help.field-0-is at c.in-Ok-Help.ensures.read) prints.status_is prints.text_is
+
+pub returns-in_ok-version_answer-in-Ok-Version-clause-answers : goal.returns-in_ok-version_answer-in-Ok-Version-clause-answers
+returns-in_ok-version_answer-in-Ok-Version-clause-answers g c =
+    let prints = c.in_ok-version_answer-in-Ok-Version.ensures in
+    version_of (rw c.in-Ok-Version.field-0-is at c.in-Ok-Version.ensures.read) prints.status_is prints.text_is

@@ -1,5 +1,5 @@
 use Rattle.std.proofs.Common.{string_bytes, subst}
-use Rattle.wm_litmus.specs.Answers.WritesFront.{front}
+use Rattle.wm_litmus.specs.Replies.WritesFront.{front}
 use Rattle.wm_litmus.specs.Output.{AppendsFront}
 use Rattle.wm_litmus.proofs.program.serve.Goals as goal
 

@@ -1,8 +1,7 @@
-use Rattle.std.proofs.Common.{[], ◌∷◌, ◌++◌, ◌∙◌, ap, rules, subst}
+use Rattle.std.proofs.Common.{◌∙◌, ap, rules, subst}
 use Rattle.std.specs.Prelude.{◌≢◌}
-use Rattle.wm_check.specs.Verdicts.{Says}
+use Rattle.wm_check.specs.Reading.{SaysOver}
 use Rattle.wm_run.specs.declared.fault.RunFault.TheVariants.{OutOfMemory}
-use Rattle.wm_litmus.specs.Counts.{Counts}
 use Rattle.wm_litmus.specs.Lines.{verdict_status, verdict_text}
 use Rattle.wm_litmus.specs.Own.{IsMadeOf, run_text}
 use Rattle.wm_litmus.specs.Prints.{ended}
@@ -11,10 +10,10 @@ use Rattle.wm_litmus.proofs.OwnVerdicts.{only_large}
 use Rattle.wm_litmus.proofs.rounds.count_round.Goals as goal
 
 pub returns-in-Err : goal.returns-in-Err
-returns-in-Err g c =
+returns-in-Err g c = λ module_bytes modules.
     let prints = c.in_ok-refused_run-in-Err.ensures in
     let other : c.in-Err.fault ≢ OutOfMemory = search rules in
-    refused c.args.module.now c.in-Err.fault c.requires other c.in-Err.ensures.refused prints.status_is prints.text_is
+    refused c.args.module.now c.in-Err.fault modules other c.in-Err.ensures.refused prints.status_is prints.text_is
 
 pub returns-in-Allowed : goal.returns-in-Allowed
 returns-in-Allowed g c =
@@ -25,21 +24,17 @@ returns-in-Allowed g c =
       allowed = record {
         round = c.in-Ok.ensures.round;
         certificate = certificate;
-        says = subst (λ v. Says c.args.module_bytes.now (run_text run) v) c.in-Allowed.is c.in_ok-checked.ensures.says;
+        says = subst (λ v. SaysOver c.args.module.now (run_text run) v) c.in-Allowed.is c.in_ok-checked.ensures.says;
       };
-      counted = λ came h small. subst (λ outcome. Counts (came ++ outcome ∷ []) c.add.new.self.counts) c.in_ok-outcome.ensures (c.in_ok-add.ensures came h small);
+      counted = c.in_ok-count.ensures;
     }
 
 pub returns : goal.returns
-returns g c =
+returns g c = λ module_bytes modules.
     let run = c.in-Ok.run' in
     let v = c.in_ok-checked.checked.verdict in
     let prints = c.in_ok-of_verdict.ensures in
-    let large = only_large run v c.in_default.not-Allowed c.in_ok-checked.ensures.own in
-    too_large c.args.module.now run c.requires c.in-Ok.ensures.round large.1
+    let made : IsMadeOf module_bytes c.args.module.now run = record { modules = modules; own = c.in-Ok.ensures.round.own; within = c.in-Ok.ensures.within } in
+    let large = only_large run v c.in_default.not-Allowed (c.in_ok-checked.ensures.own module_bytes made) in
+    too_large c.args.module.now run modules c.in-Ok.ensures.round large.1
     (prints.status_is ∙ ap verdict_status large.0) (prints.text_is ∙ ap (λ w. ended (verdict_text w)) large.0)
-
-pub check_own-requires-clause-made : goal.check_own-requires-clause-made
-check_own-requires-clause-made g c =
-    let made : IsMadeOf c.args.module_bytes.now c.in-Ok.run' = record { «module» = c.args.module.now; modules = c.requires; own = c.in-Ok.ensures.round.own; within = c.in-Ok.ensures.within } in
-    λ _ _. made

@@ -1,6 +1,6 @@
 use Rattle.std.proofs.lemmas.Result.{IfOk-weaker}
 use Rattle.wm_logfile.specs.DocumentBytes.{IsDocumentOf}
-use Rattle.wm_litmus.specs.Answers.AnswersRules.{read, refused}
+use Rattle.wm_litmus.specs.Replies.AnswersRules.{read, refused}
 use Rattle.wm_litmus.proofs.rules.rules_answer.Goals as goal
 
 pub returns-in-Ok : goal.returns-in-Ok

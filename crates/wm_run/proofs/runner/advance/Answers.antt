@@ -1,6 +1,6 @@
-use Rattle.std.proofs.Common.{◌<◌, [], refl, sym, arith}
+use Rattle.std.proofs.Common.{◌<◌, [], Ok, refl, sym, ap, ◌∙◌, arith}
 use Rattle.std.proofs.lemmas.List.{append-nil}
-use Rattle.wm_machine.specs.State.{config_of}
+use Rattle.wm_machine.specs.State.{config_of, need_of}
 use Rattle.wm_machine.specs.Step.{step}
 use Rattle.wm_replay.proofs.Needs.{ended_of_need, local_of_need, made_local}
 use Rattle.wm_run.specs.Script.{ended, local}
@@ -8,14 +8,21 @@ use Rattle.wm_run.proofs.runner.advance.Goals as goal
 
 pub returns-in-Ended-clause-moves : goal.returns-in-Ended-clause-moves
 returns-in-Ended-clause-moves c =
-    (refl, refl, λ made limit. ended c.in-Ended.field-0 (ended_of_need c.args.thread.now 0 c.in-Ended.field-0 (sym (c.in-Ended.ensures 0))))
+    let e = c.in-Ok.ensures.ended c.in-Ended.field-0 c.in-Ended.is in
+    (e.1, refl, λ made limit. ended c.in-Ended.field-0 (ended_of_need c.args.thread.now 0 c.in-Ended.field-0 (e.0 0)))
 
-pub returns-in-Ok-clause-moves : goal.returns-in-Ok-clause-moves
-returns-in-Ok-clause-moves c made limit below =
+pub returns-in-Local-clause-moves : goal.returns-in-Local-clause-moves
+returns-in-Local-clause-moves c made limit below =
     let thread = c.args.thread.now in
     record {
       items = [];
       steps = local (let lt : made < limit = omega (arith, below) in lt)
-          (made_local (step thread.module 0 (config_of thread)) (config_of c.advance.new.self) (local_of_need thread 0 (sym (c.in-Local.ensures 0))) c.in-Ok.ensures.ok);
+          (made_local (step thread.module 0 (config_of thread)) (config_of c.step.new.self)
+          (local_of_need thread 0 (c.in-Ok.ensures.needs_nothing (ap Ok c.in-Local.is) 0)) (c.in-Ok.ensures.local (ap Ok c.in-Local.is)));
       adds = record { history = sym (append-nil c.args.recorder.now.history); initial = refl; threads = refl };
     }
+
+pub access-requires-clause-needed : goal.access-requires-clause-needed
+access-requires-clause-needed c read =
+    let a = c.in-Ok.ensures.access c.in-Access.op c.in-Access.is in
+    sym (ap (need_of read) a.1 ∙ a.0 read)
