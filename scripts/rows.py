@@ -17,13 +17,15 @@ import shlex
 import subprocess
 import sys
 import tempfile
+import time
 
 from wmlabtools import TOP, harness
 
 PAGES = ("README.md", "examples/README.md", "docs/*.md")
 SECONDS = 120
-# `«TEXT»*N` is TEXT N times, joined by commas, with the number of the copy, from 0, for each `%`.
+# `«TEXT»*N` is TEXT N times, joined by commas, with the number of the copy, from 0, for each `%`, and more for `%+MORE`.
 REPEATED = re.compile(r"«([^«»]*)»\*(\d+)")
+NUMBER = re.compile(r"%(?:\+(\d+))?")
 COUNTS = re.compile(r"counts of (\d+): (.*)")
 MORE = "..."
 
@@ -49,7 +51,10 @@ def expanded(text):
     """The text with its repetitions written out."""
 
     def copies(found):
-        return ",".join(found[1].replace("%", str(number)) for number in range(int(found[2])))
+        return ",".join(numbered(found[1], number) for number in range(int(found[2])))
+
+    def numbered(text, number):
+        return NUMBER.sub(lambda plus: str(number + int(plus[1] or 0)), text)
 
     return REPEATED.sub(copies, text)
 
@@ -215,7 +220,8 @@ def write_files(row, folder):
 
 
 def run(row, program):
-    """The lines that came, in the form in which they are compared, or a sentence on why there are none."""
+    """The lines that came, in the form in which they are compared, or a sentence on why there are none; and the seconds."""
+    start = time.monotonic()
     with tempfile.TemporaryDirectory() as folder:
         os.symlink(f"{TOP}/examples", f"{folder}/examples")
         os.symlink(f"{TOP}/tests/files", f"{folder}/files")
@@ -226,10 +232,10 @@ def run(row, program):
         try:
             ran = subprocess.run(words, cwd=folder, stdin=subprocess.DEVNULL, capture_output=True, timeout=SECONDS, check=False)
         except subprocess.TimeoutExpired:
-            return [f"it did not end in {SECONDS} s"], None
+            return [f"it did not end in {SECONDS} s"], time.monotonic() - start
     out = lines_of(ran.stdout)
     err = [f"! {line}" for line in lines_of(ran.stderr)]
-    return out + err + ([f"[{ran.returncode}]"] if ran.returncode else []), ran
+    return out + err + ([f"[{ran.returncode}]"] if ran.returncode else []), time.monotonic() - start
 
 
 def lines_of(data):
@@ -323,17 +329,21 @@ def all_rows(words):
 def main():
     parser = harness.arguments(__doc__)
     parser.add_argument("--update", action="store_true", help="write what the program printed into the .rows files")
+    parser.add_argument("--without", action="append", default=[], metavar="WORD", help="leave out the rows with this word")
+    parser.add_argument("--times", type=int, default=0, metavar="N", help="print the N rows that took longest")
     parser.add_argument("--jobs", type=int, default=os.cpu_count(), help="rows that run side by side")
     parser.add_argument("words", nargs="*", metavar="WORD", help="run only the rows with one of these words in file or title")
     options = parser.parse_args()
     program = harness.program_of(options)
     rows, missing = all_rows(options.words)
+    rows = [row for row in rows if not any(word in row.name() for word in options.without)]
     tally = harness.Tally()
     for line in missing:
         tally.check(False, "docs/EXPLANATIONS.md has a text that no row of wm_explain's tests has", line)
-    changed = []
+    changed, times = [], []
     with concurrent.futures.ThreadPoolExecutor(options.jobs) as pool:
-        for row, (got, _) in zip(rows, pool.map(lambda row: run(row, program), rows)):
+        for row, (got, seconds) in zip(rows, pool.map(lambda row: run(row, program), rows)):
+            times.append((seconds, row))
             is_right = holds(row, got)
             tally.check(is_right, f"{row.name()}\n  $ {row.command}", "\n" + difference(row, got) if not is_right else "")
             if not is_right and options.update and can_be_updated(row):
@@ -341,6 +351,8 @@ def main():
     for row, got in sorted(changed, key=lambda each: -each[0].line):
         update(row, got)
         print(f"updated {row.name()}")
+    for seconds, row in sorted(times, key=lambda each: -each[0])[: options.times]:
+        print(f"{seconds:.2f} s {row.name()}")
     tally.end()
 
 
