@@ -1,0 +1,48 @@
+"""The format of the must-fail edits: lines `file: PATH`, `old: TEXT`, `new: TEXT`; each old text is in its file exactly once,
+after the changes before it."""
+import glob
+import os
+
+from . import TOP
+
+
+def all_edits(crates=()):
+    """The paths of all edits, or of those of some crates, from the top of the repository."""
+    found = glob.glob(f"{TOP}/edits/*/*.edit")
+    names = sorted(os.path.relpath(path, TOP) for path in found)
+    return [name for name in names if not crates or name.split("/")[1] in crates]
+
+
+def gate_edits():
+    """The edits that the gate tries, as `edits/gate.txt` lists them: CRATE/NAME.edit a line."""
+    with open(f"{TOP}/edits/gate.txt", encoding="utf-8") as file:
+        lines = [line.strip() for line in file]
+    return [f"edits/{line}" for line in lines if line and not line.startswith("#")]
+
+
+def text_of(path):
+    if not os.path.isfile(path):
+        return ""
+    with open(path, encoding="utf-8") as file:
+        return file.read()
+
+
+def changed_files(edit, top=TOP):
+    """The files that an edit changes, each with its new text; or a sentence that says why it cannot be applied."""
+    crate = os.path.join(top, "crates", edit.split("/")[1])
+    texts, path, old, changes = {}, "", "", 0
+    for line in text_of(os.path.join(top, edit)).split("\n"):
+        if line.startswith("file: "):
+            path = line.removeprefix("file: ").strip()
+            texts.setdefault(path, text_of(os.path.join(crate, path)))
+        elif line.startswith("old: "):
+            old = line.removeprefix("old: ")
+        elif line.startswith("new:"):
+            count = texts.get(path, "").count(old)
+            if not old or count != 1:
+                return f"its old text is in {path} {count} times, not once"
+            texts[path] = texts[path].replace(old, line.removeprefix("new:").removeprefix(" "))
+            changes += 1
+    if not changes:
+        return "it changes nothing"
+    return {os.path.join(crate, path): text for path, text in texts.items()}

@@ -1,0 +1,88 @@
+"""Binary modules, byte by byte."""
+
+HEADER = b"\0asm\1\0\0\0"
+MODULE_BYTES = 1_048_576
+# A function type without parameters and results, a shared memory of one page, and the export of function 0 as `a`.
+NO_PARAMETERS = b"\x60\0\0"
+ONE_PAGE = b"\3\1\1"
+EXPORT_A = b"\1a\0\0"
+
+
+def number(value):
+    """An unsigned integer in LEB128."""
+    out = b""
+    while value > 127:
+        out, value = out + bytes([value % 128 + 128]), value // 128
+    return out + bytes([value])
+
+
+def sized(data):
+    """The bytes after their length."""
+    return number(len(data)) + data
+
+
+def vector(items):
+    """The items after their count."""
+    return number(len(items)) + b"".join(items)
+
+
+def section(which, data):
+    """A section of this id and content."""
+    return bytes([which]) + sized(data)
+
+
+def parameters(count):
+    """A function type of this many i32 parameters and no result."""
+    return b"\x60" + number(count) + b"\x7f" * count + b"\0"
+
+
+def shared_memory(pages, most=None):
+    """The limits of a shared memory, in pages of 65,536 bytes."""
+    return b"\3" + number(pages) + number(max(pages, 16) if most is None else most)
+
+
+def body(code, local_count=0):
+    """A function body of this many i32 locals and this code, without its last `end`."""
+    local_entries = b"\1" + number(local_count) + b"\x7f" if local_count else b"\0"
+    return sized(local_entries + code + b"\x0b")
+
+
+def export(name, index):
+    """The export of a function."""
+    return sized(name) + b"\0" + number(index)
+
+
+def module_of(bodies, types=(NO_PARAMETERS,), kinds=None, memory=ONE_PAGE, global_entries=(), exports=(EXPORT_A,), data=()):
+    """A module of these bodies, each of the type whose index `kinds` has for it (0 if there are no `kinds`)."""
+    kinds = kinds or [0] * len(bodies)
+    parts = [
+        (1, types),
+        (3, [number(kind) for kind in kinds]),
+        (5, [memory]),
+        (6, global_entries),
+        (7, exports),
+        (10, bodies),
+        (11, data),
+    ]
+    return HEADER + b"".join(section(which, vector(list(items))) for which, items in parts if items)
+
+
+def sections_of(module):
+    """Where each section begins, with its id, and the length of the whole."""
+    at, found = len(HEADER), []
+    while at < len(module):
+        which, start, size, shift = module[at], at, 0, 0
+        at += 1
+        while True:
+            byte = module[at]
+            size, shift, at = size + ((byte & 127) << shift), shift + 7, at + 1
+            if byte < 128:
+                break
+        found.append((start, which))
+        at += size
+    return found, at
+
+
+def start_of(module, which):
+    """Where the section of this id begins."""
+    return next(start for start, found in sections_of(module)[0] if found == which)
