@@ -11,6 +11,8 @@ use Rattle.wm_check.specs.declared.verdict.Refusal.TheVariants as refusal
 use Rattle.wm_check.specs.declared.verdict.Verdict.TheVariants.{Allowed, Refused}
 use Rattle.wm_check.specs.Reading.{IsModuleRefusal, SaysOver}
 use Rattle.wm_check.specs.Run.{IsModuleOf}
+use Rattle.wm_decode.specs.Bounds.{max_module_bytes}
+use Rattle.wm_logfile.specs.Limits.{max_document_bytes}
 use Rattle.wm_logfile.specs.declared.fault.DocFault.TheVariants.{TooLarge}
 use Rattle.wm_run.specs.declared.fault.RunFault.{RunFault}
 use Rattle.wm_run.specs.declared.fault.RunFault.TheVariants.{OutOfMemory}
@@ -66,7 +68,7 @@ pub data AnswersRounds (module_bytes : List ℕ) (plan : Plan) (count : ℕ) (st
   refused : («module» : Module) (fault : RunFault) → IsModuleOf module_bytes «module» → fault ≢ OutOfMemory → IsRoundFault «module» plan fault
       → status ≡ 2 → text ≡ ended (run_fault_line_text fault) → AnswersRounds module_bytes plan count status text
   -- the document of a round is past the limit of bytes
-  too_large : («module» : Module) (run : Record) → IsModuleOf module_bytes «module» → IsRound true «module» plan run → 8388608 < length (run_text run)
+  too_large : («module» : Module) (run : Record) → IsModuleOf module_bytes «module» → IsRound true «module» plan run → max_document_bytes < length (run_text run)
       → status ≡ 2 → text ≡ ended (verdict_text (Refused (refusal.Document TooLarge))) → AnswersRounds module_bytes plan count status text
   -- so many rounds, each of them allowed, and the table of their outcomes
   made : («module» : Module) (runs : List Record) (table : List ℕ) → IsModuleOf module_bytes «module»
@@ -81,7 +83,7 @@ RunsOver «module» rounds answer =
 -- the status and the text that answer the words of rounds of the module of a file, whose bytes may be known: those of the rounds
 -- that a word of their number and the words of the starts spell, or a refusal of the first of them that spells nothing
 pub data IsRoundsAnswer (known : Option (List ℕ)) (count : List ℕ) (starts : List (List ℕ)) (status : ℕ) (text : List ℕ) : Type 0 where
-  ran : (rounds : Rounds) (module_bytes : List ℕ) → IsRoundsOf count starts rounds → IsReadOf known 1048576 module_bytes
+  ran : (rounds : Rounds) (module_bytes : List ℕ) → IsRoundsOf count starts rounds → IsReadOf known max_module_bytes module_bytes
       → AnswersRounds module_bytes rounds.plan rounds.count status text → IsRoundsAnswer known count starts status text
   no_rounds : (fault : WordFault) → fault ≢ word.OutOfMemory → SpellNoRounds count starts fault
       → status ≡ 2 → text ≡ ended (word_line_text fault) → IsRoundsAnswer known count starts status text

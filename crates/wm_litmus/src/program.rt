@@ -1,11 +1,13 @@
 //! The whole program.
 ghost use Rattle.std.specs.Prelude.{◌≡◌, ◌+◌, ◌^◌, ◌≤◌, ◌<◌, IfErr, IfOk, OnOk, List, ℕ, drop, map, string_bytes};
+ghost use Rattle.wm_decode.specs.Bounds.{max_module_bytes};
 ghost use Rattle.wm_litmus.specs.Replies.{IsAnswer, WritesAnswer, WritesFront, given};
 ghost use Rattle.wm_litmus.specs.Drive.{IsScriptAnswer};
 ghost use Rattle.wm_litmus.specs.Failures.{IsUnreadFile};
 ghost use Rattle.wm_litmus.specs.Input.{IsDocumentRead, IsReadOf};
 ghost use Rattle.wm_litmus.specs.Rounds.{IsRoundsAnswer};
 ghost use Rattle.wm_litmus.specs.declared.program.Failure.TheVariants.{OutOfMemory};
+ghost use Rattle.wm_logfile.specs.Limits.{max_document_bytes};
 
 use crate::answer::Answer;
 use crate::check::check_answer;
@@ -94,7 +96,7 @@ fn read_document_bytes<'a, R: AllocGlobal, F: Files, I: Read>(
 ) -> Result<Vec<u8>, Failure<'a>>
     requires { F.failures_of files.old + 1 < 2 ^ 64 }
     ensures known { IfOk result (λ bytes.
-        IsDocumentRead (F.content_of files.old) (I.remaining input.old) 8388608 name.now bytes.items) }
+        IsDocumentRead (F.content_of files.old) (I.remaining input.old) max_document_bytes name.now bytes.items) }
     ensures unread { IfErr result (λ stop. IsUnreadFile stop
         → F.failures_of files.old < F.failures_of files.new) }
 {
@@ -115,9 +117,9 @@ fn read_run<'a, R: AllocGlobal, F: Files, I: Read>(
 ) -> Result<(Vec<u8>, Vec<u8>), Failure<'a>>
     requires { F.failures_of files.old + 1 < 2 ^ 64 }
     ensures modules { IfOk result (λ read.
-        IsReadOf (F.content_of files.old «module».now) 1048576 read.0.items) }
+        IsReadOf (F.content_of files.old «module».now) max_module_bytes read.0.items) }
     ensures documents { IfOk result (λ read.
-        IsDocumentRead (F.content_of files.old) (I.remaining input.old) 8388608 document.now read.1.items) }
+        IsDocumentRead (F.content_of files.old) (I.remaining input.old) max_document_bytes document.now read.1.items) }
     ensures unread { IfErr result (λ stop. IsUnreadFile stop
         → F.failures_of files.old < F.failures_of files.new) }
 {

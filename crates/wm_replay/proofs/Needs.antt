@@ -10,7 +10,7 @@ use Rattle.wm_machine.specs.declared.thread.Need.{Need}
 use Rattle.wm_machine.specs.declared.thread.Need.TheVariants as need
 use Rattle.wm_machine.specs.Run.{end_of}
 use Rattle.wm_machine.specs.State.{State, as_need, config_from, config_of, need_in, need_of}
-use Rattle.wm_machine.specs.Step.{access_of, step, went}
+use Rattle.wm_machine.specs.Step.{access_of, step, next_config}
 use Rattle.wm_replay.specs.Following.{Accesses, MakesEvent, MakesNotEvent}
 use Rattle.wm_machine.specs.Term.{Config, Over, Step, Term, Vars, Went, NoStep}
 use Rattle.wm_machine.specs.Configuration.{left_of, under, waiting}
@@ -57,20 +57,20 @@ pub no_step_of_need : (s : State) (r : ℕ) (end : End) → need_of r s ≡ need
 no_step_of_need s r end e = ap (step s.module 0) (ended_of_need s r end e)
 
 -- a step that is made, by its access
-pub made_access : (s : Step) (op : OpFields) (c : Config) → access_of s ≡ Some op → went s ≡ Some c → s ≡ Went (Some op) c
+pub made_access : (s : Step) (op : OpFields) (c : Config) → access_of s ≡ Some op → next_config s ≡ Some c → s ≡ Went (Some op) c
 made_access NoStep op c is goes = absurd (none-some op is)
 made_access (Went made after) op c is goes = ap (λ o. Went o after) is ∙ ap (Went (Some op)) (same_Some after c goes)
 
-pub made_local : (s : Step) (c : Config) → access_of s ≡ None → went s ≡ Some c → s ≡ Went None c
+pub made_local : (s : Step) (c : Config) → access_of s ≡ None → next_config s ≡ Some c → s ≡ Went None c
 made_local NoStep c is goes = absurd (none-some c goes)
 made_local (Went made after) c is goes = ap (λ o. Went o after) is ∙ ap (Went None) (same_Some after c goes)
 
-pub no_step : (s : Step) → went s ≡ None → s ≡ NoStep
+pub no_step : (s : Step) → next_config s ≡ None → s ≡ NoStep
 no_step NoStep e = refl
 no_step (Went made after) e = absurd (none-some after (sym e))
 
 -- a step that makes an access is one
-pub access_goes : (s : Step) (op : OpFields) → access_of s ≡ Some op → went s ≡ None → ⊥
+pub access_goes : (s : Step) (op : OpFields) → access_of s ≡ Some op → next_config s ≡ None → ⊥
 access_goes NoStep op is e = none-some op is
 access_goes (Went made after) op is e = none-some after (sym e)
 
@@ -100,7 +100,7 @@ other_at op es n d other e is = subst (MakesNotEvent op) (get_or_from_slice_get 
 
 -- the step makes the access that is the event of this number
 pub access_at : (m : Module) (old new : Config) (op : OpFields) (es : List Event) (n : ℕ) (d : Event) → n < length es → MakesEvent op (get_or es n d)
-    → ((r : ℕ) → access_of (step m r old) ≡ Some op) → went (step m (get_or es n d).read old) ≡ Some new → Accesses m old new es n
+    → ((r : ℕ) → access_of (step m r old) ≡ Some op) → next_config (step m (get_or es n d).read old) ≡ Some new → Accesses m old new es n
 access_at m old new op es n d lt made asks goes = record {
   op = op;
   event = get_or es n d;

@@ -30,7 +30,7 @@ pub record IsLongestRun (m : Module) (k : ℕ) (t completed : ThreadLog) : Type 
 -- the log of thread k completed, or why no number of steps makes its events
 abbrev pub CompletesThread : Module → ℕ → ThreadLog → Result ThreadLog ReplayAnswer → Type 0
 CompletesThread m k t (Ok completed) = IsLongestRun m k t completed
-CompletesThread m k t (Err answer) = ((n : ℕ) → n ≤ 1000000 → ¬ MakesEvents m k t n) × IsOther m k (ending t 1000000 t.end) answer
+CompletesThread m k t (Err answer) = ((n : ℕ) → n ≤ max_steps → ¬ MakesEvents m k t n) × IsOther m k (ending t max_steps t.end) answer
 
 -- each thread of the log is completed
 pub record IsCompletion (m : Module) (log completed : List ThreadLog) : Type 0 where

@@ -1,5 +1,6 @@
 //! A round: a worker for each thread, and a drainer, over one locked memory.
 ghost use Rattle.std.specs.Prelude.{◌≡◌, ◌≤◌, Ok, IfErr, IfOk, OnOk, length, map};
+ghost use Rattle.wm_event.specs.Limits.{max_steps};
 ghost use Rattle.wm_recorder.specs.Recorder.{IsRecording, RecordsValid};
 ghost use Rattle.wm_run.specs.Own.{IsWithinPlan};
 ghost use Rattle.wm_run.specs.Plan.{HasThreads};
@@ -62,7 +63,7 @@ fn start_one<'s, E: 's, S: Shared + Sync, G: Gate + Sync>(
     shared: &'s S,
     gate: &'s G,
 ) -> Result<PromisedHandle<Result<ThreadEnd, RunFault>, WorkPromise<G>>, AllocError>
-    requires { steps ≤ 1000000 }
+    requires { steps ≤ max_steps }
     ensures program { IfOk result (λ h. h.promise.program.value ≡ «module».now) }
     ensures thread { IfOk result (λ h. h.promise.thread ≡ thread) }
     ensures start { IfOk result (λ h. h.promise.start.value ≡ start.now) }
