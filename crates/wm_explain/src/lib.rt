@@ -7,7 +7,6 @@ mod document_part;
 mod document_refusal;
 mod expected;
 mod feature;
-mod instr;
 mod json_text;
 mod module_count;
 mod module_refusal;

@@ -1,16 +1,15 @@
 //! Instructions in the words of the text format, and their numbers in their functions.
-use crate::instr::InstrPhrase;
 use crate::position::{BlockPosition, opcode_number};
 use std::process::Abort;
 use std::test::Fail;
 use wm_access::RmwOperator;
-use wm_ast::{AccessKind, Block, Else, Instr, MemArg, Narrow, Storage, ValType};
+use wm_ast::{AccessKind, Block, Else, Instr, InstrText, MemArg, Narrow, Storage, ValType};
 use wm_list::List;
 use wm_num::{BinaryOperator, Comparison, Conversion, UnaryOperator, Width};
 
 /// Compares what is written of an instruction.
 fn same<R: Abort + AllocGlobal>(rt: &R, instr: &Instr, text: &str) -> Result<(), Fail> {
-    let got = format!(in rt.alloc(); "{}", InstrPhrase(instr))?;
+    let got = format!(in rt.alloc(); "{}", InstrText(instr))?;
     assert_eq!(rt; got.as_str(), text);
     Ok(())
 }

@@ -1,8 +1,8 @@
-//! Instructions as the text format writes them (Core 1.0, section 6.5, and the threads proposal).
+//! Instructions in the text format (Core 1.0, section 6.5, and the threads proposal).
 
+use crate::{AccessKind, BlockType, Instr, MemArg, Storage, ValType};
 use std::fmt;
 use wm_access::RmwOperator;
-use wm_ast::{AccessKind, BlockType, Instr, MemArg, Narrow, Storage, ValType};
 use wm_num::{BinaryOperator, Comparison, Conversion, UnaryOperator, Width};
 
 /// The name of a type.
@@ -21,7 +21,7 @@ fn width_word(width: Width) -> &'static str {
     }
 }
 
-/// How many bits are in memory, where that is fewer than the type has.
+/// How many bits are in memory, if that is fewer than the type has.
 fn bits_word(storage: Storage) -> &'static str {
     match storage {
         Storage::I32 | Storage::I64 => "",
@@ -31,7 +31,7 @@ fn bits_word(storage: Storage) -> &'static str {
     }
 }
 
-/// What stands behind a load or an update whose upper bits are 0.
+/// The suffix of a load or an update that extends with zeros.
 fn zeros_word(storage: Storage) -> &'static str {
     match storage {
         Storage::I32 | Storage::I64 => "",
@@ -110,7 +110,7 @@ fn conversion_word(conversion: Conversion) -> &'static str {
     }
 }
 
-/// The result that a block gives, behind its word.
+/// The result type of a block, after its word.
 #[derive(Clone, Copy)]
 struct ResultPhrase(BlockType);
 
@@ -148,7 +148,7 @@ impl fmt::Display for AccessName {
     }
 }
 
-/// The offset where it isn't 0, and the alignment where it isn't the width.
+/// The offset if it is not 0, and the alignment if it is not the width.
 #[derive(Clone, Copy)]
 struct MemArgPhrase(AccessKind, MemArg);
 
@@ -171,11 +171,12 @@ impl fmt::Display for MemArgPhrase {
     }
 }
 
-/// An instruction with its immediates, and without the instructions of its blocks.
+/// An instruction with its immediates as the text format writes it, without the instructions of its blocks. It prints as
+/// `i64.atomic.rmw8.add_u offset=8` or `br_table 0 1 2`; an alignment is printed if it is not the width.
 #[derive(Clone, Copy)]
-pub(crate) struct InstrPhrase<'a>(pub &'a Instr);
+pub struct InstrText<'a>(pub &'a Instr);
 
-impl InstrPhrase<'_> {
+impl InstrText<'_> {
     /// Writes an instruction that computes.
     fn write_numeric<W: fmt::Write>(&self, f: &mut fmt::Formatter<W>) -> fmt::Result {
         match self.0 {
@@ -221,7 +222,7 @@ impl InstrPhrase<'_> {
     }
 }
 
-impl fmt::Display for InstrPhrase<'_> {
+impl fmt::Display for InstrText<'_> {
     fn fmt<W: fmt::Write>(&self, f: &mut fmt::Formatter<W>) -> fmt::Result {
         match self.0 {
             Instr::Unreachable => f.write_str("unreachable"),
@@ -231,7 +232,7 @@ impl fmt::Display for InstrPhrase<'_> {
             Instr::If { result, .. } => write!(f, "if{}", ResultPhrase(*result)),
             Instr::Br(label) => write!(f, "br {label}"),
             Instr::BrIf(label) => write!(f, "br_if {label}"),
-            Instr::BrTable(labels, last) => InstrPhrase::write_table(f, labels.as_slice(), *last),
+            Instr::BrTable(labels, last) => InstrText::write_table(f, labels.as_slice(), *last),
             Instr::Return => f.write_str("return"),
             Instr::Call(function) => write!(f, "call {function}"),
             _ => self.write_numeric(f),
