@@ -1,6 +1,7 @@
 -- A thread's log beside its run.
 use Rattle.std.specs.Prelude.{◌≡◌, ℕ, List, Option, Some, None, slice_get}
 use Rattle.wm_ast.specs.declared.module.Module.{Module}
+use Rattle.wm_event.specs.Limits.{max_steps}
 use Rattle.wm_event.specs.declared.event.Event.{Event}
 use Rattle.wm_event.specs.declared.log.ThreadLog.{ThreadLog}
 use Rattle.wm_machine.specs.declared.thread.Need.{Need}
@@ -26,7 +27,7 @@ next_by_module (need.Ended end) = next.Ended end
 -- event, and the module what the thread needs for its next step
 pub record IsCompared (m : Module) (k : ℕ) (t : ThreadLog) (compared : Compared) : Type 0 where
   pub thread : State
-  pub runs : RunsByLog m k t 1000000 (config_of thread) compared.steps compared.events
+  pub runs : RunsByLog m k t max_steps (config_of thread) compared.steps compared.events
   pub logged : compared.logged ≡ next_by_log (slice_get t.events compared.events)
   pub made : (read : ℕ) → compared.made ≡ next_by_module (need_of read thread)
   pub position : compared.position ≡ position_of thread
