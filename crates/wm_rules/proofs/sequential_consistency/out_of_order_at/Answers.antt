@@ -14,7 +14,7 @@ none_some (Some w) v e f = absurd (cc)
 
 pub returns-then-not-may_overtake : goal.returns-then-not-may_overtake
 returns-then-not-may_overtake c = λ v at p.
-    both_ways c.may_overtake.result (search rules) (c.may_overtake.ensures v (key_of c.args.event.now) c.args.event.now at c.requires.end p.overtakes)
+    both_ways c.may_overtake.result (search rules) (c.may_overtake.ensures v at (key_of c.args.event.now) c.requires.end c.args.event.now p.overtakes)
 
 pub returns-in_default : goal.returns-in_default
 returns-in_default c = λ v at p.
