@@ -1,3 +1,4 @@
+;; CoRR
 ;; Coherence of two reads: one thread stores, the other loads twice, and gives both values as digits.
 (module
   (memory 1 1 shared)

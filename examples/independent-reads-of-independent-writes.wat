@@ -1,3 +1,4 @@
+;; IRIW
 ;; Independent reads of independent writes: two threads store to a place each, two load both, in opposite order.
 (module
   (memory 1 1 shared)

@@ -1,3 +1,4 @@
+;; LB
 ;; Load buffering: each thread loads, and then stores what the other loads.
 (module
   (memory 1 1 shared)

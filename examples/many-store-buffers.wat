@@ -1,3 +1,4 @@
+;; SB, many rounds of it
 ;; 16 times store buffering in a row with plain accesses, each time in two cache lines of its own. Bit i of a result is what
 ;; was loaded at time i, so that time i was weak where it is 0 in both results.
 (module

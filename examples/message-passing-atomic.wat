@@ -1,3 +1,4 @@
+;; MP+sc
 ;; One thread writes data and then a atomic flag; the other loads the flag and then the data.
 (module
   (memory 1 1 shared)

@@ -1,3 +1,4 @@
+;; R
 ;; The R shape: a thread stores to two places, another stores to the second and loads the first; a third loads the second.
 (module
   (memory 1 1 shared)

@@ -1,3 +1,4 @@
+;; S
 ;; The S shape: a thread stores to two places, another loads the second and stores to the first; a third loads the first.
 (module
   (memory 1 1 shared)

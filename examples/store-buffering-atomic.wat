@@ -1,3 +1,4 @@
+;; SB+sc
 ;; Two threads store to one place each, and then load the other's (atomic accesses).
 (module
   (memory 1 1 shared)

@@ -1,3 +1,4 @@
+;; SB
 ;; Two threads store to one place each, and then load the other's (plain accesses).
 (module
   (memory 1 1 shared)

@@ -1,3 +1,4 @@
+;; 2+2W
 ;; Two plus two writes: each thread stores to both places, in opposite order; a third loads both.
 (module
   (memory 1 1 shared)

@@ -1,3 +1,4 @@
+;; WRC
 ;; Write to read causality: a store is seen, and then another made, which a third thread sees.
 (module
   (memory 1 1 shared)
