@@ -1,5 +1,6 @@
 #!/usr/bin/env python3
-"""Lints the scripts: Python with pyflakes and at most 120 columns, shell with shellcheck. The last line is `N passed, N failed`.
+"""Lints the scripts: Python with pyflakes and at most 120 columns, shell with shellcheck. The last line is `N passed,
+N failed`.
 
     scripts/lint.py        it needs Debian's python3-pyflakes and shellcheck; what is missing is named and not counted
 """
@@ -23,6 +24,8 @@ def language_of(name):
     """`python`, `sh` or nothing, by the ending or the first line."""
     if name.endswith(".py"):
         return "python"
+    if name.endswith(".sh"):
+        return "sh"
     if "." in os.path.basename(name).lstrip("."):
         return None
     with open(f"{TOP}/{name}", "rb") as file:
@@ -44,15 +47,17 @@ def main():
         language = language_of(name)
         if language:
             by_language[language].append(name)
-    tools = {"python": "pyflakes3", "sh": "shellcheck"}
+    tools = {"python": ["pyflakes3"], "sh": ["shellcheck", "-x"]}
     for language, names in by_language.items():
         tool = tools[language]
-        if not shutil.which(tool):
-            print(f"{tool} is not there: {len(names)} files are not looked at by it")
+        if not shutil.which(tool[0]):
+            print(f"{tool[0]} is not there: {len(names)} files are not looked at by it")
             continue
         for name in names:
-            ran = subprocess.run([tool, name], cwd=TOP, stdout=subprocess.PIPE, stderr=subprocess.STDOUT, text=True, check=False)
-            tally.check(ran.returncode == 0, f"{tool} {name}", ran.stdout)
+            ran = subprocess.run(
+                [*tool, name], cwd=TOP, stdout=subprocess.PIPE, stderr=subprocess.STDOUT, text=True, check=False
+            )
+            tally.check(ran.returncode == 0, f"{tool[0]} {name}", ran.stdout)
     for name in by_language["python"] + by_language["sh"]:
         wide = long_lines(name)
         tally.check(not wide, f"{name} has lines of more than {COLUMNS} columns", wide)

@@ -6,7 +6,8 @@ seconds_of_parts=()
 last_lines=$(mktemp)
 trap 'rm -f "$last_lines"' EXIT
 
-# Runs a part of this name, and adds the numbers of its last line. A part that ends otherwise, or that tried nothing, has failed.
+# Runs a part of this name, and adds the numbers of its last line. A part that ends otherwise, or that tried nothing,
+# has failed.
 part() {
     local name=$1 start=$SECONDS status line
     shift

@@ -23,8 +23,8 @@ def need(*tools):
 
 
 def without_layout(data):
-    """Bytes are compared as they are; Rattle files without white space and without a comma before a closing bracket, since
-    `rt fmt` lays them out."""
+    """Bytes are compared as they are; Rattle files without white space and without a comma before a closing bracket,
+    since `rt fmt` lays them out."""
     return re.sub(r",([\])}])", r"\1", re.sub(r"\s+", "", data.decode()))
 
 
@@ -38,7 +38,8 @@ def is_current(path, data):
 
 
 def write_or_check(files, is_check):
-    """Writes the files, whose paths are those from the top of the repository, or compares them and ends with a count."""
+    """Writes the files, whose paths are those from the top of the repository, or compares them and ends with a
+    count."""
     tally = harness.Tally()
     for name, data in files.items():
         path, data = os.path.join(TOP, name), data.encode() if isinstance(data, str) else data
