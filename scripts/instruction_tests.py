@@ -288,8 +288,8 @@ CONTROL = [
         [
             f(
                 "i32 -> i32",
-                "loop local.get 1 local.get 0 i32.add local.set 1 local.get 0 i32.const 1 i32.sub local.tee 0 br_if 0 end "
-                "local.get 1",
+                "loop local.get 1 local.get 0 i32.add local.set 1 local.get 0 i32.const 1 i32.sub local.tee 0 "
+                "br_if 0 end local.get 1",
                 5,
                 local="i32",
                 steps=53,

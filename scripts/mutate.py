@@ -6,8 +6,8 @@
 Each command is tried. Each run has to end with a status below 3, with nothing on standard error, and with the lines
 that its command has: one; or of `explain` the line of `check` and more after it; of `graph` a picture or the line of
 `check`, if that is a refusal; of `drive` an outcome, a verdict and a document, or the line of a refusal; of `run` a
-table and how many rounds there were, or that line. What `drive` and `run` log is allowed, whatever the module. The last line is
-`N passed, N failed`.
+table and how many rounds there were, or that line. What `drive` and `run` log is allowed, whatever the module. The
+last line is `N passed, N failed`.
 """
 import concurrent.futures
 import glob
