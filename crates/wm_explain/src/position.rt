@@ -1,10 +1,9 @@
 //! Where a thread is in the text of its module.
 
-use crate::instr::InstrPhrase;
 use crate::json_text::JsonText;
 use std::alloc::{AllocError, Global};
 use std::fmt;
-use wm_ast::{Block, Else, ExportKind, Instr, Module};
+use wm_ast::{Block, Else, ExportKind, Instr, InstrText, Module};
 use wm_decode::MAX_MODULE_BYTES;
 use wm_machine::CodePosition;
 
@@ -135,7 +134,7 @@ struct InstrHere<'a> {
 impl fmt::Display for InstrHere<'_> {
     fn fmt<W: fmt::Write>(&self, f: &mut fmt::Formatter<W>) -> fmt::Result {
         match self.instr {
-            Some(instr) => write!(f, "{}", InstrPhrase(instr)),
+            Some(instr) => write!(f, "{}", InstrText(instr)),
             None if self.block == 0 => f.write_str("the end of the body"),
             None => f.write_str("the end of a block"),
         }
