@@ -79,3 +79,7 @@ pub record RunsByLog (m : Module) (k : ℕ) (t : ThreadLog) (limit : ℕ) (c : C
 abbrev pub FollowsLog : Module → ℕ → ThreadLog → ℕ → Result Followed StartFault → Type 0
 FollowsLog m k t limit (Ok f) = RunsByLog m k t limit (config_of f.thread) f.steps f.events × (f.thread.module ≡ m)
 FollowsLog m k t limit (Err fault) = (start_of m t ≡ Err fault) × (fault ≢ OutOfMemory)
+
+-- the thread has run by its log for at most the steps that the log states
+abbrev pub RunsAsStated : ℕ → ThreadLog → Followed → Type 0
+RunsAsStated k t f = RunsByLog f.thread.module k t t.steps (config_of f.thread) f.steps f.events
