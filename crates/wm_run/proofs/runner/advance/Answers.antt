@@ -1,8 +1,10 @@
-use Rattle.std.proofs.Common.{◌<◌, [], Ok, refl, sym, ap, ◌∙◌, arith}
+use Rattle.std.proofs.Common.{◌<◌, [], Ok, refl, sym, ap, subst, ◌∙◌, arith}
+use Rattle.std.specs.Prelude.{IfOk}
 use Rattle.std.proofs.lemmas.List.{append-nil}
-use Rattle.wm_machine.specs.State.{config_of, need_of}
+use Rattle.wm_machine.specs.State.{State, config_of, need_of}
 use Rattle.wm_machine.specs.Step.{step}
 use Rattle.wm_replay.proofs.Needs.{ended_of_need, local_of_need, made_local}
+use Rattle.wm_run.specs.Runner.{Advances}
 use Rattle.wm_run.specs.Script.{ended, local}
 use Rattle.wm_run.proofs.runner.advance.Goals as goal
 
@@ -26,3 +28,8 @@ pub access-requires-clause-needed : goal.access-requires-clause-needed
 access-requires-clause-needed c read =
     let a = c.in-Ok.ensures.access c.in-Access.op c.in-Access.is in
     sym (ap (need_of read) a.1 ∙ a.0 read)
+
+pub returns-in-Access-clause-moves : goal.returns-in-Access-clause-moves
+returns-in-Access-clause-moves c =
+    let a = c.in-Ok.ensures.access c.in-Access.op c.in-Access.is in
+    subst (λ (old : State). IfOk c.access.result (Advances c.args.number old c.args.recorder.now c.access.new.thread c.access.new.recorder)) a.1 c.access.ensures.moves
