@@ -1,6 +1,6 @@
 #!/usr/bin/env python3
-"""Plants bugs that no contract sees and asks that rows see them: each edit of tests/planted/CRATE/ is applied to a copy,
-which is built without proof, and at least one row has to fail on it. The last line is `N passed, N failed`.
+"""Plants bugs that no contract sees and asks that rows see them: each edit of tests/planted/CRATE/ is applied to a
+copy, which is built without proof, and at least one row has to fail on it. The last line is `N passed, N failed`.
 
     scripts/planted_rows.py [NAME..]        those whose name has one of these words in it, or all; minutes for each
     scripts/planted_rows.py --check         asks only whether each can still be applied
