@@ -27,11 +27,12 @@ def text_of(path):
         return file.read()
 
 
-def changed_files(edit, top=TOP):
-    """The files that an edit changes, each with its new text; or a sentence that says why it cannot be applied."""
-    crate = os.path.join(top, "crates", edit.split("/")[1])
+def changed_files(edit, top=TOP, path_of_edit=None):
+    """The files that an edit changes, each with its new text; or a sentence that says why it cannot be applied. `top`
+    is the repository that is changed."""
+    crate = os.path.join(top, "crates", os.path.basename(os.path.dirname(edit)))
     texts, path, old, changes = {}, "", "", 0
-    for line in text_of(os.path.join(top, edit)).split("\n"):
+    for line in text_of(path_of_edit or os.path.join(top, edit)).split("\n"):
         if line.startswith("file: "):
             path = line.removeprefix("file: ").strip()
             texts.setdefault(path, text_of(os.path.join(crate, path)))
