@@ -4,7 +4,7 @@ use crate::feature::UnsupportedSentence;
 use crate::module_count::{number_at, parameters_and_locals};
 use std::alloc::{AllocError, Global};
 use std::fmt;
-use wm_decode::{DecodeFault, FaultKind, Limit};
+use wm_decode::{DecodeFault, FaultKind, Limit, MAX_MODULE_BYTES};
 use wm_valid::{FaultKind as ValidKind, Location, ValidFault};
 
 /// How many bytes are shown before a faulty one, and how many from it on.
@@ -36,7 +36,7 @@ impl fmt::Display for LimitSentence {
         match self.limit {
             Limit::ModuleBytes => write!(
                 f,
-                "The module has more than 1048576 bytes, the most that are read."
+                "The module has more than {MAX_MODULE_BYTES} bytes, the most that are read."
             ),
             Limit::Pages => write!(
                 f,
@@ -117,7 +117,7 @@ fn found_at(kind: FaultKind, bytes: &[u8], offset: usize) -> Option<u64> {
     }
 }
 
-/// What stands before the bytes round an offset, with how many bytes there are.
+/// The words before the bytes around an offset, with how many bytes there are.
 #[derive(Clone, Copy)]
 struct Heading(usize, usize);
 

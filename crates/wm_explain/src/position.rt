@@ -1,13 +1,11 @@
-//! Where a thread stands in the text of its module.
+//! Where a thread is in the text of its module.
 
 use crate::json_text::JsonText;
 use std::alloc::{AllocError, Global};
 use std::fmt;
 use wm_ast::{Block, Else, ExportKind, Instr, InstrText, Module};
+use wm_decode::MAX_MODULE_BYTES;
 use wm_machine::CodePosition;
-
-/// How many opcodes a body has at most, since each takes a byte of the module.
-const MAX_OPCODES: usize = 1_048_576;
 
 /// An instruction of a block, or the block's end.
 #[derive(Clone, Copy, PartialEq, Eq)]
@@ -47,12 +45,13 @@ fn open(blocks: &mut Vec<BlockPosition>, instr: &Instr) -> Result<(), AllocError
     Ok(())
 }
 
-/// The number of an instruction of a block, or of the `else` or `end` behind it, among the opcodes of its function in the
-/// order of the text, from 0; None where the text doesn't come by it.
+/// The number of an instruction of a block, or of the `else` or `end` after it, among the opcodes of its function in the
+/// order of the text, from 0; None if it isn't one of them. Each opcode takes a byte of
+/// the module, so there are at most [`MAX_MODULE_BYTES`].
 ///
 /// # Errors
 ///
-/// Only where memory was refused.
+/// Only if an allocation fails.
 pub(crate) fn opcode_number(
     alloc: Global,
     blocks: &[Block],
@@ -60,7 +59,7 @@ pub(crate) fn opcode_number(
 ) -> Result<Option<usize>, AllocError> {
     let mut open_blocks = Vec::new(alloc);
     open_blocks.push(BlockPosition { block: 0, at: 0 })?;
-    for number in 0..MAX_OPCODES {
+    for number in 0..MAX_MODULE_BYTES {
         let Some(here) = open_blocks.pop() else {
             return Ok(None);
         };
@@ -125,7 +124,7 @@ impl fmt::Display for FunctionName<'_> {
     }
 }
 
-/// The instruction that stands there, or the end of its block.
+/// The instruction there, or the end of its block.
 #[derive(Clone, Copy)]
 struct InstrHere<'a> {
     instr: Option<&'a Instr>,
@@ -142,11 +141,11 @@ impl fmt::Display for InstrHere<'_> {
     }
 }
 
-/// Where a thread stands that starts with the export `start`: the instruction, its number and its function.
+/// Where a thread is that starts with the export `start`: the instruction, its number and its function.
 ///
 /// # Errors
 ///
-/// Only where memory was refused.
+/// Only if an allocation fails.
 pub(crate) fn position_phrase(
     alloc: Global,
     module: &Module,

@@ -3,7 +3,7 @@
 use crate::columns::{Column, Node};
 use crate::edges::{Edge, EdgeKind, ReadsFrom};
 use crate::label::{FAULT_COLOUR, NodeLabel, NodeName};
-use crate::picture::{Picture, picture};
+use crate::picture::{Picture, picture_of};
 use std::alloc::{AllocError, Global};
 use std::fmt;
 use wm_check::Verdict;
@@ -152,6 +152,6 @@ fn print(alloc: Global, picture: &Picture) -> Result<String, AllocError> {
 ///
 /// Only if an allocation fails.
 pub fn draw(alloc: Global, verdict: &Verdict, candidate: &Candidate) -> Result<String, AllocError> {
-    let picture = picture(alloc, verdict, candidate)?;
+    let picture = picture_of(alloc, verdict, candidate)?;
     print(alloc, &picture)
 }

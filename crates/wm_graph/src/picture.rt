@@ -33,7 +33,7 @@ fn rule_fault(verdict: &Verdict) -> Option<&RuleFault> {
 /// # Errors
 ///
 /// Only if an allocation fails.
-pub(crate) fn picture(
+pub(crate) fn picture_of(
     alloc: Global,
     verdict: &Verdict,
     candidate: &Candidate,

@@ -1,11 +1,12 @@
 -- How a thread that was run by its log, and stopped, compares with it.
 use Rattle.std.proofs.Common.{◌≡◌, ℕ, ◌<◌, ◌≤◌, inl, inr, length, Some, None, sym, ap, subst, ◌∙◌, arith}
-use Rattle.std.specs.Prelude.{◌≢◌}
+use Rattle.std.specs.Prelude.{◌⊎◌}
 use Rattle.std.proofs.lemmas.Option.{none-some}
 use Rattle.wm_ast.specs.declared.module.Module.{Module}
 use Rattle.wm_event.specs.declared.log.End.{End}
 use Rattle.wm_event.specs.declared.log.ThreadLog.{ThreadLog}
 use Rattle.wm_event.specs.declared.op.OpFields.{OpFields}
+use Rattle.wm_machine.specs.declared.thread.Need.{Need}
 use Rattle.wm_machine.specs.declared.thread.Need.TheVariants as need
 use Rattle.wm_machine.specs.Run.{end_of}
 use Rattle.wm_machine.specs.State.{State, config_of, need_of}
@@ -58,8 +59,10 @@ module _ (s : State) (k : ℕ) (t : ThreadLog) (start : Config) (j n : ℕ) (f :
           let within : j ≤ t.steps = omega (arith, lt) in
           end (reaches s.module k t start (config_of s) j (length t.events) (subst (Follows s.module k t start (config_of s) j) at f) within) (inr (lt, none))
 
-pub no_access_of_end : (s : State) (e : End) → need_of 0 s ≡ need.Ended e → access_of (step s.module 0 (config_of s)) ≡ None
-no_access_of_end s e is = ap access_of (no_step_of_need s 0 e is)
+-- a thread that needs no access makes none
+pub no_access : (s : State) (n : Need) → (n ≡ need.Local) ⊎ ((e : End) × (n ≡ need.Ended e)) → need_of 0 s ≡ n → access_of (step s.module 0 (config_of s)) ≡ None
+no_access s n (inl e) is = local_of_need s 0 (is ∙ e)
+no_access s n (inr e) is = ap access_of (no_step_of_need s 0 e.0 (is ∙ e.1))
 
 -- it stops no later than at the limit
 pub stops_within : (m : Module) (c : Config) (t : ThreadLog) (limit j n : ℕ) → Stops m c t.events limit j n → j ≤ limit

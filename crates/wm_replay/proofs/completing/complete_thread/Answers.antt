@@ -2,17 +2,19 @@ use Rattle.std.proofs.Common.{◌≡◌, ◌<◌, ◌≤◌, ◌∙◌, ap, refl
 use Rattle.wm_machine.specs.Run.{end_of as config_end}
 use Rattle.wm_machine.specs.State.{config_of}
 use Rattle.wm_replay.specs.Complete.{IsLongestRun, ending}
+use Rattle.wm_replay.specs.Following.{FollowsLog}
 use Rattle.wm_replay.proofs.Longest.{is_longest, no_steps, stop_at_differs}
 use Rattle.wm_replay.proofs.completing.complete_thread.Goals as goal
 
-pub returns-then-events-len : goal.returns-then-events-len
-returns-then-events-len c =
+pub returns-then-followed-len : goal.returns-then-followed-len
+returns-then-followed-len c =
     let m = c.args.module.now in
     let t = c.args.stated.now in
     let f = c.in-Ok-Ok.followed in
     let at = config_of f.thread in
-    let left = subst (λ n. f.events < n) c.len.ensures c.if-events-len.true in
-    let runs = c.in-Ok-Ok.ensures.0 in (
+    let left = subst (λ n. f.events < n) c.len.ensures c.if-followed-len.true in
+    let followed = subst (FollowsLog m c.args.number t 1000000) c.in-Ok-Ok.field-0-is c.in-Ok-Ok.ensures in
+    let runs = followed.0 in (
       no_steps m c.args.number t at f.steps f.events c.requires runs left,
       (refl, stop_at_differs m c.args.number t at f.steps f.events c.requires runs left),
     )
@@ -23,8 +25,9 @@ returns c =
     let t = c.args.stated.now in
     let f = c.in-Ok-Ok.followed in
     let at = config_of f.thread in
-    let all = subst (λ n. n ≤ f.events) c.len.ensures c.if-events-len.false in
-    let runs = c.in-Ok-Ok.ensures.0 in
+    let all = subst (λ n. n ≤ f.events) c.len.ensures c.if-followed-len.false in
+    let followed = subst (FollowsLog m c.args.number t 1000000) c.in-Ok-Ok.field-0-is c.in-Ok-Ok.ensures in
+    let runs = followed.0 in
     let same : c.in_ok-completed.completed ≡ ending t f.steps (config_end at) =
     c.in_ok-completed.ensures ∙ ap (ending t f.steps) c.end_of.ensures in
     subst (IsLongestRun m c.args.number t) (sym same) (is_longest m c.args.number t at f.steps f.events c.requires runs all)
