@@ -1,4 +1,7 @@
-"""Writes logs that are hard for the scans of the memory rules into a folder: adversarial.py FOLDER [EVENTS..]
+#!/usr/bin/env python3
+"""Writes logs that are hard for the scans of the memory rules into a folder:
+
+    bench/adversarial.py FOLDER [EVENTS..]        1,024, 4,096 and 16,384 events if none are given
 
 Each is valid, so that every rule is judged to its end.
   old          a thread reads again and again the first of another's many writes
@@ -11,47 +14,15 @@ Each is valid, so that every rule is judged to its end.
   one_thread, sixteen  so many threads on one address
   atomic       two threads, all of whose accesses are atomic on one address
 """
-import json, os, random, sys
+import argparse
+import os
+import random
 
-
-class Run:
-    """A log that is put together in the order of its events."""
-
-    def __init__(self, threads):
-        self.events = [[] for _ in range(threads)]
-        self.writers = [[] for _ in range(threads)]
-        self.order = []
-        self.written = {}
-
-    def add(self, thread, event, writers):
-        key = [thread, len(self.events[thread])]
-        self.events[thread].append(event)
-        self.writers[thread].append(writers)
-        self.order.append(key)
-        return key
-
-    def write(self, thread, order, address, width, value):
-        key = self.add(thread, ["w", order, address, width, value], [])
-        self.written[tuple(key)] = (address, value)
-        return key
-
-    def read(self, thread, order, address, width, writers):
-        value = 0
-        for byte, writer in enumerate(writers):
-            if writer:
-                start, written = self.written[tuple(writer)]
-                value |= (written >> 8 * (address + byte - start) & 255) << 8 * byte
-        self.add(thread, ["r", order, address, width, value], writers)
-
-    def save(self, folder, name):
-        threads = [["t", [], ["cut"], 0, events] for events in self.events]
-        document = ["wasm-litmus-log", 1, threads, [self.writers, self.order]]
-        with open(os.path.join(folder, name + ".json"), "w") as file:
-            json.dump(document, file, separators=(",", ":"))
+from bench_path import log
 
 
 def old(n):
-    run = Run(2)
+    run = log.Execution(2)
     first = run.write(0, "un", 0, 8, 1)
     for value in range(n // 2 - 1):
         run.write(0, "un", 0, 8, value)
@@ -61,7 +32,7 @@ def old(n):
 
 
 def bytes_of_eight(n):
-    run = Run(10)
+    run = log.Execution(10)
     firsts = [run.write(byte, "sc", byte, 1, byte) for byte in range(8)]
     for value in range(n // 2 - 8):
         run.write(8, "un", 0, 8, value)
@@ -71,7 +42,7 @@ def bytes_of_eight(n):
 
 
 def own(n):
-    run = Run(9)
+    run = log.Execution(9)
     others = [run.write(byte, "un", byte, 1, byte) for byte in range(8)]
     for value in range(n // 2 - 8):
         run.write(8, "un", 0, 8, value)
@@ -81,7 +52,7 @@ def own(n):
 
 
 def widths(n):
-    run, r = Run(16), random.Random(2)
+    run, r = log.Execution(16), random.Random(2)
     firsts = [run.write(byte, "un", byte, 1, byte) for byte in range(8)]
     for index in range(n // 2 - 8):
         width = r.choice([1, 2, 4, 8])
@@ -92,7 +63,7 @@ def widths(n):
 
 
 def plain_past(n):
-    run = Run(9)
+    run = log.Execution(9)
     firsts = [run.write(byte, "sc", byte, 1, byte) for byte in range(8)]
     for value in range(n // 2 - 16):
         run.write(8, "un", 0, 8, value)
@@ -104,7 +75,7 @@ def plain_past(n):
 
 
 def late(n):
-    run = Run(3)
+    run = log.Execution(3)
     first = run.write(0, "sc", 0, 8, 7)
     for value in range(n // 2 - 1):
         run.write(1, "un", 0, 8, value)
@@ -114,7 +85,7 @@ def late(n):
 
 
 def atomic_past(n):
-    run = Run(10)
+    run = log.Execution(10)
     firsts = [run.write(byte, "sc", byte, 1, byte) for byte in range(8)]
     for value in range(n // 2 - 16):
         run.write(8, "sc", 0, 8, value)
@@ -126,7 +97,7 @@ def atomic_past(n):
 
 
 def mixed(n, threads, order):
-    run, r, memory = Run(threads), random.Random(3), [[]] * 8
+    run, r, memory = log.Execution(threads), random.Random(3), [[]] * 8
     for index in range(n):
         thread = r.randrange(threads)
         if r.random() < 0.5:
@@ -149,9 +120,17 @@ LOGS = {
     "atomic": lambda n: mixed(n, 2, "sc"),
 }
 
+
+def main():
+    parser = argparse.ArgumentParser(description=__doc__, formatter_class=argparse.RawDescriptionHelpFormatter)
+    parser.add_argument("folder", metavar="FOLDER")
+    parser.add_argument("events", type=int, nargs="*", default=[1_024, 4_096, 16_384], metavar="EVENTS")
+    options = parser.parse_args()
+    os.makedirs(options.folder, exist_ok=True)
+    for events in options.events:
+        for name, make in LOGS.items():
+            make(events).save(options.folder, f"{name}_{events}")
+
+
 if __name__ == "__main__":
-    folder = sys.argv[1]
-    os.makedirs(folder, exist_ok=True)
-    for events in [int(word) for word in sys.argv[2:]] or [1024, 4096, 16384]:
-        for name, log in LOGS.items():
-            log(events).save(folder, f"{name}_{events}")
+    main()

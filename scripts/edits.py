@@ -1,7 +1,7 @@
 #!/usr/bin/env python3
 """The must-fail edits: wrong bodies, each of which the prover must refuse. edits/README.md describes them.
 
-    scripts/edits.py [CRATE..]       tries those that the gate does not try, of these crates or of all; takes hours for all
+    scripts/edits.py [CRATE..]       tries those that the gate leaves out, of these crates or of all (hours)
     scripts/edits.py --all CRATE..   tries the gate's too
     scripts/edits.py --check         asks whether each can still be applied, and whether the gate's copies are current
     scripts/edits.py --sync          copies those that edits/gate.txt lists to crates/CRATE/must-fail/
@@ -60,7 +60,9 @@ def linked(source, target):
 
 def tried(room, crate):
     """What `rt must-fail` prints of a crate in the copy."""
-    ran = subprocess.run(["rt", "must-fail", crate], cwd=room, stdout=subprocess.PIPE, stderr=subprocess.STDOUT, text=True, check=False)
+    ran = subprocess.run(
+        ["rt", "must-fail", crate], cwd=room, stdout=subprocess.PIPE, stderr=subprocess.STDOUT, text=True, check=False
+    )
     print(ran.stdout, end="", flush=True)
     return ran.stdout.count(": refused, as it must be")
 
@@ -70,7 +72,9 @@ def try_all(tally, crates, jobs, with_gate):
     with tempfile.TemporaryDirectory() as room:
         for name in ("crates.txt", "HANDLES"):
             shutil.copy(f"{TOP}/{name}", room)
-        shutil.copytree(f"{TOP}/crates", f"{room}/crates", copy_function=linked, ignore=shutil.ignore_patterns("must-fail"))
+        shutil.copytree(
+            f"{TOP}/crates", f"{room}/crates", copy_function=linked, ignore=shutil.ignore_patterns("must-fail")
+        )
         by_crate = {}
         for edit in listed:
             by_crate.setdefault(edit.split("/")[1], []).append(edit)
@@ -85,7 +89,9 @@ def try_all(tally, crates, jobs, with_gate):
 
 def main():
     parser = argparse.ArgumentParser(description=__doc__, formatter_class=argparse.RawDescriptionHelpFormatter)
-    parser.add_argument("--check", action="store_true", help="only ask whether each can be applied and the copies are current")
+    parser.add_argument(
+        "--check", action="store_true", help="only ask whether each can be applied and the copies are current"
+    )
     parser.add_argument("--sync", action="store_true", help="only copy those of edits/gate.txt into the crates")
     parser.add_argument("--all", action="store_true", help="try the gate's edits too")
     parser.add_argument("--jobs", type=int, default=os.cpu_count(), help="crates that are tried side by side")

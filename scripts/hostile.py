@@ -1,9 +1,10 @@
 #!/usr/bin/env python3
-"""Hostile input through the built program, each with its exact line and status: modules and logs cut at each length, each
-limit at its value and one past it, values and addresses changed, inputs that never end or come byte by byte, and devices,
-streams and files that fail. What has to be answered stands here, from README.md and docs/, and not from the program.
+"""Hostile input through the built program, each with its exact line and status: modules and logs cut at each length,
+each limit at its value and one past it, values and addresses changed, inputs that never end or come byte by byte, and
+devices, streams and files that fail. What has to be answered stands here, from README.md and docs/, and not from the
+program.
 
-    scripts/hostile.py [WMLAB]        WMLAB: the built program; crates/wmlab/out/wmlab if it isn't given
+    scripts/hostile.py [--wmlab PATH]
 
 The last line is `N passed, N failed`.
 """
@@ -12,31 +13,25 @@ import glob
 import json
 import os
 import subprocess
-import sys
 import tempfile
 import time
 
-TOP = os.path.dirname(os.path.dirname(os.path.abspath(__file__)))
-WMLAB = os.path.abspath(sys.argv[1] if len(sys.argv) > 1 else f"{TOP}/crates/wmlab/out/wmlab")
-STATUS = {"allowed": 0, "broken": 1, "refused": 2}
+from wmlabtools import TOP, harness, wasm
+from wmlabtools.harness import STATUS
+from wmlabtools.log import compact, document, one_thread
+from wmlabtools.wasm import body, export, section
+
+OPTIONS = harness.arguments(__doc__).parse_args()
+WMLAB = harness.program_of(OPTIONS)
 WORK = tempfile.TemporaryDirectory()
-passed = failed = 0
-
-
-def check(holds, shows, got):
-    global passed, failed
-    passed, failed = passed + holds, failed + (not holds)
-    if not holds:
-        print(f"FAILED {shows}: {str(got)[:400]}")
+TALLY = harness.Tally()
+check = TALLY.check
 
 
 def run(words, data=b"", **streams):
     if "stdin" not in streams:
         streams["input"] = data
-    for name in ("stdout", "stderr"):
-        streams.setdefault(name, subprocess.PIPE)
-    ran = subprocess.run([WMLAB, *words], cwd=TOP, timeout=120, **streams)
-    return (ran.stdout or b"").decode(), (ran.stderr or b"").decode(), ran.returncode
+    return harness.run(WMLAB, words, **streams)
 
 
 def wanted(text, error="", status=None):
@@ -79,83 +74,15 @@ def example(name):
         return file.read()
 
 
-# ---- modules, byte by byte
+# ---- modules and documents
 
 
-def number(value):
-    """An unsigned number as the binary format has it."""
-    out = b""
-    while value > 127:
-        out, value = out + bytes([value % 128 + 128]), value // 128
-    return out + bytes([value])
-
-
-def sized(data):
-    return number(len(data)) + data
-
-
-def section(which, data):
-    return bytes([which]) + sized(data)
-
-
-def vector(items):
-    return number(len(items)) + b"".join(items)
-
-
-HEADER = b"\0asm\1\0\0\0"
-
-
-def module_of(bodies, pages=1, parameters=0, exports=(b"a",)):
+def module_of(bodies, pages=1, parameters=0):
     """Functions without a result, each of some locals and code, all of one type, over a shared memory."""
-    kind = b"\x60" + number(parameters) + b"\x7f" * parameters + b"\0"
-    code = [sized((b"\1" + number(count) + b"\x7f" if count else b"\0") + body + b"\x0b") for count, body in bodies]
-    memory = b"\3" + number(pages) + number(max(pages, 16))
-    return (
-        HEADER
-        + section(1, vector([kind]))
-        + section(3, vector([b"\0"] * len(bodies)))
-        + section(5, vector([memory]))
-        + section(7, vector([sized(name) + b"\0" + number(index) for index, name in enumerate(exports)]))
-        + section(10, vector(code))
+    code = [body(text, count) for count, text in bodies]
+    return wasm.module_of(
+        code, types=[wasm.parameters(parameters)], memory=wasm.shared_memory(pages), exports=[export(b"a", 0)]
     )
-
-
-def sections_of(module):
-    """Where each section begins, with its number, and the length at the end."""
-    at, found = 8, []
-    while at < len(module):
-        which, start, size, shift = module[at], at, 0, 0
-        at += 1
-        while True:
-            byte = module[at]
-            size, shift, at = size + ((byte & 127) << shift), shift + 7, at + 1
-            if byte < 128:
-                break
-        found.append((start, which))
-        at += size
-    return found, at
-
-
-# ---- documents
-
-
-def document(threads, order, version=2):
-    """The text of a log. A thread is its start, end, steps and events; an event of a read has its writers behind it."""
-    if version == 2:
-        value = ["wasm-litmus-log", 2, threads, order]
-    else:
-        plain, writers = [], []
-        for name, arguments, end, steps, events in threads:
-            with_writers = [event if event[0] == "w" else event[:-1] for event in events]
-            plain.append([name, arguments, end, steps, with_writers])
-            writers.append([[] if event[0] == "w" else event[-1] for event in events])
-        value = ["wasm-litmus-log", 1, plain, [writers, order]]
-    return json.dumps(value, separators=(",", ":")).encode()
-
-
-def one_thread(events, steps=0, end=("cut",), version=2, name="a", arguments=()):
-    order = [[0, index] for index in range(len(events))]
-    return document([[name, list(arguments), list(end), steps, events]], order, version)
 
 
 def stores(count):
@@ -167,7 +94,11 @@ MODULE = "examples/store-buffering.wasm"
 LOG = "examples/store-buffering.json"
 ALLOWED = "allowed threads=2 events=4"
 # Each command that reads a document, with that on standard input.
-OVER_DOCUMENTS = [["rules", "-"], ["migrate", "-"], *([command, MODULE, "-"] for command in ("check", "complete", "explain", "graph"))]
+OVER_DOCUMENTS = [
+    ["rules", "-"],
+    ["migrate", "-"],
+    *([command, MODULE, "-"] for command in ("check", "complete", "explain", "graph")),
+]
 
 
 # ---- what is cut
@@ -186,9 +117,10 @@ def cut_documents():
 
 
 def line_of_cut(sections, end, length):
-    """The line of `check` on a module of a type section, functions, code and more that is cut. Bytes that are missing are
-    missed where the first one would stand; a section that is absent is missed at the end, where counts have to agree. What is
-    left behind a whole section may be a module: without a memory it has no place for the log's first event."""
+    """The line of `check` on a module of a type section, functions, code and more that is cut. Bytes that are missing
+    are missed where the first one would stand; a section that is absent is missed at the end, where counts have to
+    agree. What is left behind a whole section may be a module: without a memory it has no place for the log's first
+    event."""
     starts = [8] + [start for start, _ in sections] + [end]
     if length not in starts:
         return f"refused decode Truncated at {length}"
@@ -205,7 +137,7 @@ def cut_modules():
         if name in ("floats.wasm", "misaligned.wasm", "too-many-locals.wasm"):
             continue
         module = example(name)
-        sections, end = sections_of(module)
+        sections, end = wasm.sections_of(module)
         for length in range(len(module)):
             line = line_of_cut(sections, end, length)
             if line:
@@ -227,7 +159,10 @@ def document_limits():
         most = one_thread(stores(16_384), version=version)
         answers(f"16,384 events, {says}", ["rules", "-"], "allowed", most)
         more = one_thread(stores(16_385), version=version)
-        for words in (["rules", "-"], *([command, storing, "-"] for command in ("check", "complete", "explain", "graph"))):
+        for words in (
+            ["rules", "-"],
+            *([command, storing, "-"] for command in ("check", "complete", "explain", "graph")),
+        ):
             answers(f"16,385 events, {words[0]}, {says}", words, "refused shape TooManyEvents", more)
         # The loop, two constants and the store for the first event; then the branch before each of the four again. The
         # thread is cut behind the branch, the loop and the two constants.
@@ -235,15 +170,42 @@ def document_limits():
         completed = one_thread(stores(16_384), steps=steps)
         answers(f"16,384 events, complete, {says}", ["complete", storing, "-"], completed.decode(), most)
         for command in ("check", "explain"):
-            answers(f"16,384 events, {command}, {says}", [command, storing, "-"], "allowed threads=1 events=16384", one_thread(stores(16_384), steps=steps, version=version))
+            answers(
+                f"16,384 events, {command}, {says}",
+                [command, storing, "-"],
+                "allowed threads=1 events=16384",
+                one_thread(stores(16_384), steps=steps, version=version),
+            )
         cut = ["a", [], ["cut"], 0, []]
         for command in ("check", "explain"):
-            answers(f"16 threads, {command}, {says}", [command, MODULE, "-"], "allowed threads=16 events=0", document([cut] * 16, [], version))
-            answers(f"1,000,000 steps, {command}, {says}", [command, looping, "-"], "allowed threads=1 events=0", one_thread([], steps=1_000_000, version=version))
+            answers(
+                f"16 threads, {command}, {says}",
+                [command, MODULE, "-"],
+                "allowed threads=16 events=0",
+                document([cut] * 16, [], version),
+            )
+            answers(
+                f"1,000,000 steps, {command}, {says}",
+                [command, looping, "-"],
+                "allowed threads=1 events=0",
+                one_thread([], steps=1_000_000, version=version),
+            )
         for words in OVER_DOCUMENTS:
-            answers(f"17 threads, {words[0]}, {says}", words, "refused document TooLarge", document([cut] * 17, [], version))
-            answers(f"1,000,001 steps, {words[0]}, {says}", words, "refused document NumberRange at /2/0/3", one_thread([], steps=1_000_001, version=version))
-        answers(f"a loop is completed to the limit, {says}", ["complete", looping, "-"], one_thread([], steps=1_000_000).decode(), one_thread([], version=version))
+            answers(
+                f"17 threads, {words[0]}, {says}", words, "refused document TooLarge", document([cut] * 17, [], version)
+            )
+            answers(
+                f"1,000,001 steps, {words[0]}, {says}",
+                words,
+                "refused document NumberRange at /2/0/3",
+                one_thread([], steps=1_000_001, version=version),
+            )
+        answers(
+            f"a loop is completed to the limit, {says}",
+            ["complete", looping, "-"],
+            one_thread([], steps=1_000_000).decode(),
+            one_thread([], version=version),
+        )
         text = document(STORE_BUFFERING[2], STORE_BUFFERING[3], version)
         printed = document(STORE_BUFFERING[2], STORE_BUFFERING[3]).decode()
         for size in (8_388_608, 8_388_609):
@@ -268,14 +230,51 @@ def numbers_at_their_limits():
             (2**64, ["w", "un", 0, 8, 2**64], "/2/0/4/0/4"),
             (3, ["w", "un", 0, 3, 0], "/2/0/4/0/3"),
         ):
-            answers(f"the number {value}, version {version}", ["rules", "-"], f"refused document NumberRange at {place}", one_thread([event], version=version))
-        answers("the largest value", ["rules", "-"], "allowed", one_thread([["w", "un", 0, 8, 2**64 - 1]], version=version))
-        answers("the largest address", ["rules", "-"], "refused shape RangeOutOfMemory at 0.0", one_thread([["w", "un", 2**32 - 1, 1, 0]], version=version))
-        answers("the last byte", ["rules", "-"], "allowed", one_thread([["w", "un", 16 * 65_536 - 1, 1, 0]], version=version))
-        answers("past the last byte", ["rules", "-"], "refused shape RangeOutOfMemory at 0.0", one_thread([["w", "un", 16 * 65_536, 1, 0]], version=version))
-        answers("the largest argument", ["rules", "-"], "allowed", one_thread([], arguments=[2**64 - 1], version=version))
-        answers("a larger argument", ["rules", "-"], "refused document NumberRange at /2/0/1/0", one_thread([], arguments=[2**64], version=version))
-        answers("a value that is too wide", ["rules", "-"], "refused shape ValueTooWide at 0.0", one_thread([["w", "un", 0, 4, 2**32]], version=version))
+            answers(
+                f"the number {value}, version {version}",
+                ["rules", "-"],
+                f"refused document NumberRange at {place}",
+                one_thread([event], version=version),
+            )
+        answers(
+            "the largest value",
+            ["rules", "-"],
+            "allowed",
+            one_thread([["w", "un", 0, 8, 2**64 - 1]], version=version),
+        )
+        answers(
+            "the largest address",
+            ["rules", "-"],
+            "refused shape RangeOutOfMemory at 0.0",
+            one_thread([["w", "un", 2**32 - 1, 1, 0]], version=version),
+        )
+        answers(
+            "the last byte",
+            ["rules", "-"],
+            "allowed",
+            one_thread([["w", "un", 16 * 65_536 - 1, 1, 0]], version=version),
+        )
+        answers(
+            "past the last byte",
+            ["rules", "-"],
+            "refused shape RangeOutOfMemory at 0.0",
+            one_thread([["w", "un", 16 * 65_536, 1, 0]], version=version),
+        )
+        answers(
+            "the largest argument", ["rules", "-"], "allowed", one_thread([], arguments=[2**64 - 1], version=version)
+        )
+        answers(
+            "a larger argument",
+            ["rules", "-"],
+            "refused document NumberRange at /2/0/1/0",
+            one_thread([], arguments=[2**64], version=version),
+        )
+        answers(
+            "a value that is too wide",
+            ["rules", "-"],
+            "refused shape ValueTooWide at 0.0",
+            one_thread([["w", "un", 0, 4, 2**32]], version=version),
+        )
     order = document([["a", [], ["cut"], 0, stores(1)]], [[0, 2**32]])
     answers("an event's number past 2^32", ["rules", "-"], "refused document NumberRange at /3/0/1", order)
 
@@ -291,7 +290,9 @@ def module_limits():
         assert len(plain + padding) == size
         line = allowed if size == 1_048_576 else "refused decode Limit ModuleBytes at 1048576"
         for command in ("check", "explain"):
-            answers(f"a module of {size} bytes, {command}", [command, file_of(plain + padding, "long.wasm"), "-"], line, cut)
+            answers(
+                f"a module of {size} bytes, {command}", [command, file_of(plain + padding, "long.wasm"), "-"], line, cut
+            )
 
     def judged(shows, module, line, log=cut):
         for command in ("check", "explain"):
@@ -300,27 +301,28 @@ def module_limits():
     judged("16 pages", module_of([(0, b"")], pages=16), allowed)
     pages = module_of([(0, b"")], pages=17)
     # The memory's section: its number, its size, a count, the flag, and then the pages.
-    place = [start for start, which in sections_of(pages)[0] if which == 5][0] + 4
+    place = wasm.start_of(pages, 5) + 4
     judged("17 pages", pages, f"refused decode Limit Pages at {place}")
     judged("1,000 functions", module_of([(0, b"")] * 1_000), allowed)
     functions = module_of([(0, b"")] * 1_001)
-    place = [start for start, which in sections_of(functions)[0] if which == 3][0] + 3
+    place = wasm.start_of(functions, 3) + 3
     judged("1,001 functions", functions, f"refused decode Limit Functions at {place}")
     judged("1,000 locals", module_of([(1_000, b"")]), allowed)
     locals_ = module_of([(1_001, b"")])
     # The code's section: its number, its size, a count, the body's size and its count of entries; then the entry.
-    place = [start for start, which in sections_of(locals_)[0] if which == 10][0] + 5
+    place = wasm.start_of(locals_, 10) + 5
     judged("1,001 locals", locals_, f"refused decode Limit Locals at {place}")
     both = module_of([(400, b"")], parameters=600)
     arguments = one_thread([], arguments=[0] * 600)
     judged("600 parameters and 400 locals", both, allowed, arguments)
     both = module_of([(401, b"")], parameters=600)
-    place = [start for start, which in sections_of(both)[0] if which == 10][0] + 5
+    place = wasm.start_of(both, 10) + 5
     judged("600 parameters and 401 locals", both, f"refused decode Limit Locals at {place}", arguments)
     judged("64 blocks in one another", module_of([(0, b"\x02\x40" * 64 + b"\x0b" * 64)]), allowed)
     nested = module_of([(0, b"\x02\x40" * 65 + b"\x0b" * 65)])
-    # The code's section: its number, its two bytes of size, a count, the body's two bytes of size, a count of no locals.
-    place = [start for start, which in sections_of(nested)[0] if which == 10][0] + 7 + 2 * 64
+    # The code's section: its number, its two bytes of size, a count, the body's two bytes of size, a count of no
+    # locals.
+    place = wasm.start_of(nested, 10) + 7 + 2 * 64
     judged("65 blocks in one another", nested, f"refused decode Limit Nesting at {place}")
 
 
@@ -329,11 +331,20 @@ def script_limits():
     answers("17 starts", ["drive", MODULE, "0", *["a"] * 17], "refused plan Threads")
     answers("17 starts of a round", ["run", MODULE, "1", *["a"] * 17], "refused plan Threads")
     alone = one_thread(STORE_BUFFERING[2][0][4], steps=6, end=["done", [0]]).decode()
-    answers("1,000,000 turns", ["drive", MODULE, "0*1000000", "a"], f"outcome 0\nallowed threads=1 events=2\n{alone}", status=0)
+    answers(
+        "1,000,000 turns",
+        ["drive", MODULE, "0*1000000", "a"],
+        f"outcome 0\nallowed threads=1 events=2\n{alone}",
+        status=0,
+    )
     sixteen = ",".join(f"{thread}*6" for thread in range(16))
     text, error, status = run(["drive", MODULE, sixteen, *["a"] * 16])
     lines = text.split("\n")
-    check((lines[:2], status, error) == (["outcome" + " 0" * 16, "allowed threads=16 events=32"], 0, ""), "16 starts", (text[:200], error, status))
+    check(
+        (lines[:2], status, error) == (["outcome" + " 0" * 16, "allowed threads=16 events=32"], 0, ""),
+        "16 starts",
+        (text[:200], error, status),
+    )
     answers("1,000,001 turns", ["drive", MODULE, "0*1000001", "a"], "refused plan Turns")
     answers("a turn of a thread that isn't there", ["drive", MODULE, "16", *["a"] * 16], "refused plan Turn 16")
     answers("no rounds", ["run", MODULE, "0", "a", "b"], "refused command rounds")
@@ -344,8 +355,8 @@ def script_limits():
 
 
 def changed_logs():
-    """Each value and each address of the first log changed, under `check` and under `rules`. Each thread stores 1 and then
-    loads 0 from the initial memory, which is its result."""
+    """Each value and each address of the first log changed, under `check` and under `rules`. Each thread stores 1 and
+    then loads 0 from the initial memory, which is its result."""
     for thread in (0, 1):
         for event, changes in ((0, ((4, 2), (2, 8))), (1, ((4, 1), (2, 8)))):
             for place, value in changes:
@@ -358,7 +369,12 @@ def changed_logs():
                 shows = f"thread {thread} event {event}, item {place} is {value}"
                 answers(f"{shows}, check", ["check", MODULE, "-"], replay, text)
                 answers(f"{shows}, explain", ["explain", MODULE, "-"], replay, text)
-                answers(f"{shows}, complete", ["complete", MODULE, "-"], replay if not is_read_value else json.dumps(with_result(log, thread, 1), separators=(",", ":")), text)
+                answers(
+                    f"{shows}, complete",
+                    ["complete", MODULE, "-"],
+                    replay if not is_read_value else compact(with_result(log, thread, 1)),
+                    text,
+                )
                 answers(f"{shows}, rules", ["rules", "-"], rules, text)
 
 
@@ -391,7 +407,9 @@ def endless_inputs():
 
 def one_byte_a_read():
     for words, line in ((["rules", "-"], "allowed"), (["check", MODULE, "-"], ALLOWED)):
-        slow = subprocess.Popen([WMLAB, *words], cwd=TOP, stdin=subprocess.PIPE, stdout=subprocess.PIPE, stderr=subprocess.PIPE, bufsize=0)
+        slow = subprocess.Popen(
+            [WMLAB, *words], cwd=TOP, stdin=subprocess.PIPE, stdout=subprocess.PIPE, stderr=subprocess.PIPE, bufsize=0
+        )
         for byte in example("store-buffering.json"):
             slow.stdin.write(bytes([byte]))
             time.sleep(0.001)
@@ -436,7 +454,12 @@ def devices_and_streams():
         ["drive", "NAME", "0", "a"],
         ["run", "NAME", "1", "a"],
     ):
-        for name, shows in (("examples/nothing", "a missing file"), ("examples", "a folder"), (f"{LOG}/below", "a file below a file"), ("", "no name")):
+        for name, shows in (
+            ("examples/nothing", "a missing file"),
+            ("examples", "a folder"),
+            (f"{LOG}/below", "a file below a file"),
+            ("", "no name"),
+        ):
             given = [name if word == "NAME" else word for word in words]
             answers(f"{shows}, {words[0]}", given, "", error=f"cannot read {name}", status=3)
     folder = os.open(f"{TOP}/examples", os.O_RDONLY)
@@ -450,26 +473,39 @@ def devices_and_streams():
         *((words, ">&-", "", "cannot write\n", 3) for words in COMMANDS),
         *((words, ">&- 2>&-", "", "", 3) for words in COMMANDS),
     ):
-        ran = subprocess.run(["sh", "-c", f'exec "$0" "$@" {tail}', WMLAB, *given], cwd=TOP, stdin=subprocess.DEVNULL, capture_output=True, timeout=60)
+        ran = subprocess.run(
+            ["sh", "-c", f'exec "$0" "$@" {tail}', WMLAB, *given],
+            cwd=TOP,
+            stdin=subprocess.DEVNULL,
+            capture_output=True,
+            timeout=60,
+        )
         got = ran.stdout.decode(), ran.stderr.decode(), ran.returncode
         check(got == (text, error, status), f"closed streams, {given} {tail}", got)
 
 
-if __name__ == "__main__":
-    for part in (
-        cut_documents,
-        cut_modules,
-        document_limits,
-        numbers_at_their_limits,
-        module_limits,
-        script_limits,
-        changed_logs,
-        endless_inputs,
-        one_byte_a_read,
-        devices_and_streams,
-    ):
+PARTS = (
+    cut_documents,
+    cut_modules,
+    document_limits,
+    numbers_at_their_limits,
+    module_limits,
+    script_limits,
+    changed_logs,
+    endless_inputs,
+    one_byte_a_read,
+    devices_and_streams,
+)
+
+
+def main():
+    for part in PARTS:
         start = time.monotonic()
         part()
-        print(f"{part.__name__}: {passed} passed, {failed} failed so far, {time.monotonic() - start:.1f} s", flush=True)
-    print(f"{passed} passed, {failed} failed")
-    sys.exit(1 if failed or not passed else 0)
+        so_far = f"{TALLY.passed} passed, {TALLY.failed} failed so far"
+        print(f"{part.__name__}: {so_far}, {time.monotonic() - start:.1f} s", flush=True)
+    TALLY.end()
+
+
+if __name__ == "__main__":
+    main()

@@ -2,21 +2,28 @@
 """Writes the tests of the machine's instructions, numeric_instructions.rt and other_instructions.rt of wmlab: modules
 with a function for each instruction, and a log of one call of each.
 
-The functions stand below as WebAssembly text. wabt's wat2wasm assembles them, and node's WebAssembly runs each call in an
-instance of its own: results, traps, and the bytes read and written come from there, and nothing from this repository.
-The steps are counted here: one for each instruction, and one for leaving the function.
-    cd crates/wmlab/src/tests
-    ../../../../scripts/instruction_tests.py
-It needs wat2wasm (Debian's wabt) and node 20.
+The functions stand below as WebAssembly text. wabt's wat2wasm assembles them, and node's WebAssembly runs each call
+in an instance of its own: results, traps, and the bytes read and written come from there, and nothing from this
+repository. The steps are counted here: one for each instruction, and one for leaving the function. It writes their
+rows too, tests/rows/instructions.rows, with the modules in tests/files.
+
+    scripts/instruction_tests.py [--check]        it needs wat2wasm (Debian's wabt) and node 20
 """
-import json, re, subprocess, tempfile, textwrap
+import json
+import re
+import subprocess
+import tempfile
+import textwrap
+
+from wmlabtools import generated
 
 # ---- the functions: what they take and give, their text, and the arguments of the call
 
 
 def f(signature, text, *arguments, local="", steps=None, trap=None):
-    """A function and a call of it. `steps` stands where its code isn't a straight line. `trap` stands where two rules of a
-    trap apply, an atomic access that is unaligned and past the memory: node names the other one, and logs name this."""
+    """A function and a call of it. `steps` stands where its code isn't a straight line. `trap` stands where two rules
+    of a trap apply, an atomic access that is unaligned and past the memory: node names the other one, and logs name
+    this."""
     return signature, text, arguments, local, steps, trap
 
 
@@ -26,215 +33,303 @@ def helper(signature, text):
 
 
 NUMERIC = [
-    ("the operators on two operands of 32 bits", [
-        f("i32 i32 -> i32", "local.get 0 local.get 1 i32.add", 2147483649, 4294967294),
-        f("i32 i32 -> i32", "local.get 0 local.get 1 i32.sub", 4294967294, 305419896),
-        f("i32 i32 -> i32", "local.get 0 local.get 1 i32.mul", 305419896, 7),
-        f("i32 i32 -> i32", "local.get 0 local.get 1 i32.div_s", 7, 2147483648),
-        f("i32 i32 -> i32", "local.get 0 local.get 1 i32.div_u", 2147483649, 33),
-        f("i32 i32 -> i32", "local.get 0 local.get 1 i32.rem_s", 4294967294, 2147483649),
-        f("i32 i32 -> i32", "local.get 0 local.get 1 i32.rem_u", 305419896, 4294967294),
-        f("i32 i32 -> i32", "local.get 0 local.get 1 i32.and", 7, 305419896),
-        f("i32 i32 -> i32", "local.get 0 local.get 1 i32.or", 2147483649, 7),
-        f("i32 i32 -> i32", "local.get 0 local.get 1 i32.xor", 4294967294, 2147483648),
-        f("i32 i32 -> i32", "local.get 0 local.get 1 i32.shl", 305419896, 33),
-        f("i32 i32 -> i32", "local.get 0 local.get 1 i32.shr_s", 7, 2147483649),
-        f("i32 i32 -> i32", "local.get 0 local.get 1 i32.shr_u", 2147483649, 4294967294),
-        f("i32 i32 -> i32", "local.get 0 local.get 1 i32.rotl", 4294967294, 305419896),
-        f("i32 i32 -> i32", "local.get 0 local.get 1 i32.rotr", 305419896, 7),
-    ]),
-    ("the comparisons and the counts of 32 bits", [
-        f("i32 i32 -> i32", "local.get 0 local.get 1 i32.eq", 2147483649, 305419896),
-        f("i32 i32 -> i32", "local.get 0 local.get 1 i32.ne", 4294967294, 4294967294),
-        f("i32 i32 -> i32", "local.get 0 local.get 1 i32.lt_s", 305419896, 2147483649),
-        f("i32 i32 -> i32", "local.get 0 local.get 1 i32.lt_u", 7, 33),
-        f("i32 i32 -> i32", "local.get 0 local.get 1 i32.gt_s", 2147483648, 2147483648),
-        f("i32 i32 -> i32", "local.get 0 local.get 1 i32.gt_u", 33, 7),
-        f("i32 i32 -> i32", "local.get 0 local.get 1 i32.le_s", 2147483649, 305419896),
-        f("i32 i32 -> i32", "local.get 0 local.get 1 i32.le_u", 4294967294, 4294967294),
-        f("i32 i32 -> i32", "local.get 0 local.get 1 i32.ge_s", 305419896, 2147483649),
-        f("i32 i32 -> i32", "local.get 0 local.get 1 i32.ge_u", 7, 33),
-        f("i32 -> i32", "local.get 0 i32.eqz", 0),
-        f("i32 -> i32", "local.get 0 i32.clz", 9544371),
-        f("i32 -> i32", "local.get 0 i32.ctz", 591751040),
-        f("i32 -> i32", "local.get 0 i32.popcnt", 4294967294),
-    ]),
-    ("the operators on two operands of 64 bits", [
-        f("i64 i64 -> i64", "local.get 0 local.get 1 i64.add", 9223372036854775809, 18446744073709551614),
-        f("i64 i64 -> i64", "local.get 0 local.get 1 i64.sub", 18446744073709551614, 1311768467463790320),
-        f("i64 i64 -> i64", "local.get 0 local.get 1 i64.mul", 1311768467463790320, 7),
-        f("i64 i64 -> i64", "local.get 0 local.get 1 i64.div_s", 7, 65),
-        f("i64 i64 -> i64", "local.get 0 local.get 1 i64.div_u", 9223372036854775809, 9223372036854775808),
-        f("i64 i64 -> i64", "local.get 0 local.get 1 i64.rem_s", 18446744073709551614, 9223372036854775809),
-        f("i64 i64 -> i64", "local.get 0 local.get 1 i64.rem_u", 1311768467463790320, 18446744073709551614),
-        f("i64 i64 -> i64", "local.get 0 local.get 1 i64.and", 7, 1311768467463790320),
-        f("i64 i64 -> i64", "local.get 0 local.get 1 i64.or", 9223372036854775809, 7),
-        f("i64 i64 -> i64", "local.get 0 local.get 1 i64.xor", 18446744073709551614, 65),
-        f("i64 i64 -> i64", "local.get 0 local.get 1 i64.shl", 1311768467463790320, 9223372036854775808),
-        f("i64 i64 -> i64", "local.get 0 local.get 1 i64.shr_s", 7, 9223372036854775809),
-        f("i64 i64 -> i64", "local.get 0 local.get 1 i64.shr_u", 9223372036854775809, 18446744073709551614),
-        f("i64 i64 -> i64", "local.get 0 local.get 1 i64.rotl", 18446744073709551614, 1311768467463790320),
-        f("i64 i64 -> i64", "local.get 0 local.get 1 i64.rotr", 1311768467463790320, 7),
-    ]),
-    ("the comparisons and the counts of 64 bits", [
-        f("i64 i64 -> i32", "local.get 0 local.get 1 i64.eq", 9223372036854775809, 1311768467463790320),
-        f("i64 i64 -> i32", "local.get 0 local.get 1 i64.ne", 18446744073709551614, 18446744073709551614),
-        f("i64 i64 -> i32", "local.get 0 local.get 1 i64.lt_s", 1311768467463790320, 9223372036854775809),
-        f("i64 i64 -> i32", "local.get 0 local.get 1 i64.lt_u", 7, 9223372036854775808),
-        f("i64 i64 -> i32", "local.get 0 local.get 1 i64.gt_s", 65, 65),
-        f("i64 i64 -> i32", "local.get 0 local.get 1 i64.gt_u", 9223372036854775808, 7),
-        f("i64 i64 -> i32", "local.get 0 local.get 1 i64.le_s", 9223372036854775809, 1311768467463790320),
-        f("i64 i64 -> i32", "local.get 0 local.get 1 i64.le_u", 18446744073709551614, 18446744073709551614),
-        f("i64 i64 -> i32", "local.get 0 local.get 1 i64.ge_s", 1311768467463790320, 9223372036854775809),
-        f("i64 i64 -> i32", "local.get 0 local.get 1 i64.ge_u", 7, 9223372036854775808),
-        f("i64 -> i32", "local.get 0 i64.eqz", 0),
-        f("i64 -> i64", "local.get 0 i64.clz", 40992764608243447),
-        f("i64 -> i64", "local.get 0 i64.ctz", 2541551405711093504),
-        f("i64 -> i64", "local.get 0 i64.popcnt", 18446744073709551614),
-    ]),
-    ("the conversions, and the traps of divisions", [
-        f("i64 -> i32", "local.get 0 i32.wrap_i64", 1311768467463790320),
-        f("i32 -> i64", "local.get 0 i64.extend_i32_s", 2147483648),
-        f("i32 -> i64", "local.get 0 i64.extend_i32_u", 2147483648),
-        f("i32 i32 -> i32", "local.get 0 local.get 1 i32.div_s", 5, 0),
-        f("i32 i32 -> i32", "local.get 0 local.get 1 i32.div_u", 5, 0),
-        f("i32 i32 -> i32", "local.get 0 local.get 1 i32.rem_s", 5, 0),
-        f("i32 i32 -> i32", "local.get 0 local.get 1 i32.rem_u", 5, 0),
-        f("i32 i32 -> i32", "local.get 0 local.get 1 i32.div_s", 2147483648, 4294967295),
-        f("i32 i32 -> i32", "local.get 0 local.get 1 i32.rem_s", 2147483648, 4294967295),
-        f("i64 i64 -> i64", "local.get 0 local.get 1 i64.div_s", 5, 0),
-        f("i64 i64 -> i64", "local.get 0 local.get 1 i64.div_u", 5, 0),
-        f("i64 i64 -> i64", "local.get 0 local.get 1 i64.rem_s", 5, 0),
-        f("i64 i64 -> i64", "local.get 0 local.get 1 i64.rem_u", 5, 0),
-        f("i64 i64 -> i64", "local.get 0 local.get 1 i64.div_s", 9223372036854775808, 18446744073709551615),
-        f("i64 i64 -> i64", "local.get 0 local.get 1 i64.rem_s", 9223372036854775808, 18446744073709551615),
-    ]),
+    (
+        "the operators on two operands of 32 bits",
+        [
+            f("i32 i32 -> i32", "local.get 0 local.get 1 i32.add", 2147483649, 4294967294),
+            f("i32 i32 -> i32", "local.get 0 local.get 1 i32.sub", 4294967294, 305419896),
+            f("i32 i32 -> i32", "local.get 0 local.get 1 i32.mul", 305419896, 7),
+            f("i32 i32 -> i32", "local.get 0 local.get 1 i32.div_s", 7, 2147483648),
+            f("i32 i32 -> i32", "local.get 0 local.get 1 i32.div_u", 2147483649, 33),
+            f("i32 i32 -> i32", "local.get 0 local.get 1 i32.rem_s", 4294967294, 2147483649),
+            f("i32 i32 -> i32", "local.get 0 local.get 1 i32.rem_u", 305419896, 4294967294),
+            f("i32 i32 -> i32", "local.get 0 local.get 1 i32.and", 7, 305419896),
+            f("i32 i32 -> i32", "local.get 0 local.get 1 i32.or", 2147483649, 7),
+            f("i32 i32 -> i32", "local.get 0 local.get 1 i32.xor", 4294967294, 2147483648),
+            f("i32 i32 -> i32", "local.get 0 local.get 1 i32.shl", 305419896, 33),
+            f("i32 i32 -> i32", "local.get 0 local.get 1 i32.shr_s", 7, 2147483649),
+            f("i32 i32 -> i32", "local.get 0 local.get 1 i32.shr_u", 2147483649, 4294967294),
+            f("i32 i32 -> i32", "local.get 0 local.get 1 i32.rotl", 4294967294, 305419896),
+            f("i32 i32 -> i32", "local.get 0 local.get 1 i32.rotr", 305419896, 7),
+        ],
+    ),
+    (
+        "the comparisons and the counts of 32 bits",
+        [
+            f("i32 i32 -> i32", "local.get 0 local.get 1 i32.eq", 2147483649, 305419896),
+            f("i32 i32 -> i32", "local.get 0 local.get 1 i32.ne", 4294967294, 4294967294),
+            f("i32 i32 -> i32", "local.get 0 local.get 1 i32.lt_s", 305419896, 2147483649),
+            f("i32 i32 -> i32", "local.get 0 local.get 1 i32.lt_u", 7, 33),
+            f("i32 i32 -> i32", "local.get 0 local.get 1 i32.gt_s", 2147483648, 2147483648),
+            f("i32 i32 -> i32", "local.get 0 local.get 1 i32.gt_u", 33, 7),
+            f("i32 i32 -> i32", "local.get 0 local.get 1 i32.le_s", 2147483649, 305419896),
+            f("i32 i32 -> i32", "local.get 0 local.get 1 i32.le_u", 4294967294, 4294967294),
+            f("i32 i32 -> i32", "local.get 0 local.get 1 i32.ge_s", 305419896, 2147483649),
+            f("i32 i32 -> i32", "local.get 0 local.get 1 i32.ge_u", 7, 33),
+            f("i32 -> i32", "local.get 0 i32.eqz", 0),
+            f("i32 -> i32", "local.get 0 i32.clz", 9544371),
+            f("i32 -> i32", "local.get 0 i32.ctz", 591751040),
+            f("i32 -> i32", "local.get 0 i32.popcnt", 4294967294),
+        ],
+    ),
+    (
+        "the operators on two operands of 64 bits",
+        [
+            f("i64 i64 -> i64", "local.get 0 local.get 1 i64.add", 9223372036854775809, 18446744073709551614),
+            f("i64 i64 -> i64", "local.get 0 local.get 1 i64.sub", 18446744073709551614, 1311768467463790320),
+            f("i64 i64 -> i64", "local.get 0 local.get 1 i64.mul", 1311768467463790320, 7),
+            f("i64 i64 -> i64", "local.get 0 local.get 1 i64.div_s", 7, 65),
+            f("i64 i64 -> i64", "local.get 0 local.get 1 i64.div_u", 9223372036854775809, 9223372036854775808),
+            f("i64 i64 -> i64", "local.get 0 local.get 1 i64.rem_s", 18446744073709551614, 9223372036854775809),
+            f("i64 i64 -> i64", "local.get 0 local.get 1 i64.rem_u", 1311768467463790320, 18446744073709551614),
+            f("i64 i64 -> i64", "local.get 0 local.get 1 i64.and", 7, 1311768467463790320),
+            f("i64 i64 -> i64", "local.get 0 local.get 1 i64.or", 9223372036854775809, 7),
+            f("i64 i64 -> i64", "local.get 0 local.get 1 i64.xor", 18446744073709551614, 65),
+            f("i64 i64 -> i64", "local.get 0 local.get 1 i64.shl", 1311768467463790320, 9223372036854775808),
+            f("i64 i64 -> i64", "local.get 0 local.get 1 i64.shr_s", 7, 9223372036854775809),
+            f("i64 i64 -> i64", "local.get 0 local.get 1 i64.shr_u", 9223372036854775809, 18446744073709551614),
+            f("i64 i64 -> i64", "local.get 0 local.get 1 i64.rotl", 18446744073709551614, 1311768467463790320),
+            f("i64 i64 -> i64", "local.get 0 local.get 1 i64.rotr", 1311768467463790320, 7),
+        ],
+    ),
+    (
+        "the comparisons and the counts of 64 bits",
+        [
+            f("i64 i64 -> i32", "local.get 0 local.get 1 i64.eq", 9223372036854775809, 1311768467463790320),
+            f("i64 i64 -> i32", "local.get 0 local.get 1 i64.ne", 18446744073709551614, 18446744073709551614),
+            f("i64 i64 -> i32", "local.get 0 local.get 1 i64.lt_s", 1311768467463790320, 9223372036854775809),
+            f("i64 i64 -> i32", "local.get 0 local.get 1 i64.lt_u", 7, 9223372036854775808),
+            f("i64 i64 -> i32", "local.get 0 local.get 1 i64.gt_s", 65, 65),
+            f("i64 i64 -> i32", "local.get 0 local.get 1 i64.gt_u", 9223372036854775808, 7),
+            f("i64 i64 -> i32", "local.get 0 local.get 1 i64.le_s", 9223372036854775809, 1311768467463790320),
+            f("i64 i64 -> i32", "local.get 0 local.get 1 i64.le_u", 18446744073709551614, 18446744073709551614),
+            f("i64 i64 -> i32", "local.get 0 local.get 1 i64.ge_s", 1311768467463790320, 9223372036854775809),
+            f("i64 i64 -> i32", "local.get 0 local.get 1 i64.ge_u", 7, 9223372036854775808),
+            f("i64 -> i32", "local.get 0 i64.eqz", 0),
+            f("i64 -> i64", "local.get 0 i64.clz", 40992764608243447),
+            f("i64 -> i64", "local.get 0 i64.ctz", 2541551405711093504),
+            f("i64 -> i64", "local.get 0 i64.popcnt", 18446744073709551614),
+        ],
+    ),
+    (
+        "the conversions, and the traps of divisions",
+        [
+            f("i64 -> i32", "local.get 0 i32.wrap_i64", 1311768467463790320),
+            f("i32 -> i64", "local.get 0 i64.extend_i32_s", 2147483648),
+            f("i32 -> i64", "local.get 0 i64.extend_i32_u", 2147483648),
+            f("i32 i32 -> i32", "local.get 0 local.get 1 i32.div_s", 5, 0),
+            f("i32 i32 -> i32", "local.get 0 local.get 1 i32.div_u", 5, 0),
+            f("i32 i32 -> i32", "local.get 0 local.get 1 i32.rem_s", 5, 0),
+            f("i32 i32 -> i32", "local.get 0 local.get 1 i32.rem_u", 5, 0),
+            f("i32 i32 -> i32", "local.get 0 local.get 1 i32.div_s", 2147483648, 4294967295),
+            f("i32 i32 -> i32", "local.get 0 local.get 1 i32.rem_s", 2147483648, 4294967295),
+            f("i64 i64 -> i64", "local.get 0 local.get 1 i64.div_s", 5, 0),
+            f("i64 i64 -> i64", "local.get 0 local.get 1 i64.div_u", 5, 0),
+            f("i64 i64 -> i64", "local.get 0 local.get 1 i64.rem_s", 5, 0),
+            f("i64 i64 -> i64", "local.get 0 local.get 1 i64.rem_u", 5, 0),
+            f("i64 i64 -> i64", "local.get 0 local.get 1 i64.div_s", 9223372036854775808, 18446744073709551615),
+            f("i64 i64 -> i64", "local.get 0 local.get 1 i64.rem_s", 9223372036854775808, 18446744073709551615),
+        ],
+    ),
 ]
 
 MEMORY = [
-    ("the loads", [
-        f("i32 -> i32", "local.get 0 i32.load offset=3 align=1", 0),
-        f("i32 -> i64", "local.get 0 i64.load offset=3 align=1", 16),
-        f("i32 -> i32", "local.get 0 i32.load8_s offset=3", 32),
-        f("i32 -> i32", "local.get 0 i32.load8_u offset=3", 48),
-        f("i32 -> i32", "local.get 0 i32.load16_s offset=3 align=1", 64),
-        f("i32 -> i32", "local.get 0 i32.load16_u offset=3 align=1", 80),
-        f("i32 -> i64", "local.get 0 i64.load8_s offset=3", 96),
-        f("i32 -> i64", "local.get 0 i64.load8_u offset=3", 112),
-        f("i32 -> i64", "local.get 0 i64.load16_s offset=3 align=1", 128),
-        f("i32 -> i64", "local.get 0 i64.load16_u offset=3 align=1", 144),
-        f("i32 -> i64", "local.get 0 i64.load32_s offset=3 align=1", 160),
-        f("i32 -> i64", "local.get 0 i64.load32_u offset=3 align=1", 176),
-    ]),
-    ("the stores, and memory.size", [
-        f("i32 i32 ->", "local.get 0 local.get 1 i32.store offset=5 align=1", 0, 2452903544),
-        f("i32 i64 ->", "local.get 0 local.get 1 i64.store offset=5 align=1", 16, 10535140504318566128),
-        f("i32 i32 ->", "local.get 0 local.get 1 i32.store8 offset=5", 32, 2452903544),
-        f("i32 i32 ->", "local.get 0 local.get 1 i32.store16 offset=5 align=1", 48, 2452903544),
-        f("i32 i64 ->", "local.get 0 local.get 1 i64.store8 offset=5", 64, 10535140504318566128),
-        f("i32 i64 ->", "local.get 0 local.get 1 i64.store16 offset=5 align=1", 80, 10535140504318566128),
-        f("i32 i64 ->", "local.get 0 local.get 1 i64.store32 offset=5 align=1", 96, 10535140504318566128),
-        f("-> i32", "memory.size"),
-    ]),
-    ("the atomic loads and stores", [
-        f("i32 -> i32", "local.get 0 i32.atomic.load offset=8", 0),
-        f("i32 -> i64", "local.get 0 i64.atomic.load offset=8", 16),
-        f("i32 -> i32", "local.get 0 i32.atomic.load8_u offset=8", 32),
-        f("i32 -> i32", "local.get 0 i32.atomic.load16_u offset=8", 48),
-        f("i32 -> i64", "local.get 0 i64.atomic.load8_u offset=8", 64),
-        f("i32 -> i64", "local.get 0 i64.atomic.load16_u offset=8", 80),
-        f("i32 -> i64", "local.get 0 i64.atomic.load32_u offset=8", 96),
-        f("i32 i32 ->", "local.get 0 local.get 1 i32.atomic.store offset=8", 112, 4294967294),
-        f("i32 i64 ->", "local.get 0 local.get 1 i64.atomic.store offset=8", 128, 18446744073709551614),
-        f("i32 i32 ->", "local.get 0 local.get 1 i32.atomic.store8 offset=8", 144, 4294967294),
-        f("i32 i32 ->", "local.get 0 local.get 1 i32.atomic.store16 offset=8", 160, 4294967294),
-        f("i32 i64 ->", "local.get 0 local.get 1 i64.atomic.store8 offset=8", 176, 18446744073709551614),
-        f("i32 i64 ->", "local.get 0 local.get 1 i64.atomic.store16 offset=8", 192, 18446744073709551614),
-        f("i32 i64 ->", "local.get 0 local.get 1 i64.atomic.store32 offset=8", 208, 18446744073709551614),
-    ]),
-    ("the atomic updates add and sub", [
-        f("i32 i32 -> i32", "local.get 0 local.get 1 i32.atomic.rmw.add", 0, 4294967294),
-        f("i32 i64 -> i64", "local.get 0 local.get 1 i64.atomic.rmw.add", 16, 18446744073709551614),
-        f("i32 i32 -> i32", "local.get 0 local.get 1 i32.atomic.rmw8.add_u", 32, 4294967294),
-        f("i32 i32 -> i32", "local.get 0 local.get 1 i32.atomic.rmw16.add_u", 48, 4294967294),
-        f("i32 i64 -> i64", "local.get 0 local.get 1 i64.atomic.rmw8.add_u", 64, 18446744073709551614),
-        f("i32 i64 -> i64", "local.get 0 local.get 1 i64.atomic.rmw16.add_u", 80, 18446744073709551614),
-        f("i32 i64 -> i64", "local.get 0 local.get 1 i64.atomic.rmw32.add_u", 96, 18446744073709551614),
-        f("i32 i32 -> i32", "local.get 0 local.get 1 i32.atomic.rmw.sub", 112, 4294967294),
-        f("i32 i64 -> i64", "local.get 0 local.get 1 i64.atomic.rmw.sub", 128, 18446744073709551614),
-        f("i32 i32 -> i32", "local.get 0 local.get 1 i32.atomic.rmw8.sub_u", 144, 4294967294),
-        f("i32 i32 -> i32", "local.get 0 local.get 1 i32.atomic.rmw16.sub_u", 160, 4294967294),
-        f("i32 i64 -> i64", "local.get 0 local.get 1 i64.atomic.rmw8.sub_u", 176, 18446744073709551614),
-        f("i32 i64 -> i64", "local.get 0 local.get 1 i64.atomic.rmw16.sub_u", 192, 18446744073709551614),
-        f("i32 i64 -> i64", "local.get 0 local.get 1 i64.atomic.rmw32.sub_u", 208, 18446744073709551614),
-    ]),
-    ("the atomic updates and and or", [
-        f("i32 i32 -> i32", "local.get 0 local.get 1 i32.atomic.rmw.and", 0, 4294967294),
-        f("i32 i64 -> i64", "local.get 0 local.get 1 i64.atomic.rmw.and", 16, 18446744073709551614),
-        f("i32 i32 -> i32", "local.get 0 local.get 1 i32.atomic.rmw8.and_u", 32, 4294967294),
-        f("i32 i32 -> i32", "local.get 0 local.get 1 i32.atomic.rmw16.and_u", 48, 4294967294),
-        f("i32 i64 -> i64", "local.get 0 local.get 1 i64.atomic.rmw8.and_u", 64, 18446744073709551614),
-        f("i32 i64 -> i64", "local.get 0 local.get 1 i64.atomic.rmw16.and_u", 80, 18446744073709551614),
-        f("i32 i64 -> i64", "local.get 0 local.get 1 i64.atomic.rmw32.and_u", 96, 18446744073709551614),
-        f("i32 i32 -> i32", "local.get 0 local.get 1 i32.atomic.rmw.or", 112, 4294967294),
-        f("i32 i64 -> i64", "local.get 0 local.get 1 i64.atomic.rmw.or", 128, 18446744073709551614),
-        f("i32 i32 -> i32", "local.get 0 local.get 1 i32.atomic.rmw8.or_u", 144, 4294967294),
-        f("i32 i32 -> i32", "local.get 0 local.get 1 i32.atomic.rmw16.or_u", 160, 4294967294),
-        f("i32 i64 -> i64", "local.get 0 local.get 1 i64.atomic.rmw8.or_u", 176, 18446744073709551614),
-        f("i32 i64 -> i64", "local.get 0 local.get 1 i64.atomic.rmw16.or_u", 192, 18446744073709551614),
-        f("i32 i64 -> i64", "local.get 0 local.get 1 i64.atomic.rmw32.or_u", 208, 18446744073709551614),
-    ]),
-    ("the atomic updates xor and xchg", [
-        f("i32 i32 -> i32", "local.get 0 local.get 1 i32.atomic.rmw.xor", 0, 4294967294),
-        f("i32 i64 -> i64", "local.get 0 local.get 1 i64.atomic.rmw.xor", 16, 18446744073709551614),
-        f("i32 i32 -> i32", "local.get 0 local.get 1 i32.atomic.rmw8.xor_u", 32, 4294967294),
-        f("i32 i32 -> i32", "local.get 0 local.get 1 i32.atomic.rmw16.xor_u", 48, 4294967294),
-        f("i32 i64 -> i64", "local.get 0 local.get 1 i64.atomic.rmw8.xor_u", 64, 18446744073709551614),
-        f("i32 i64 -> i64", "local.get 0 local.get 1 i64.atomic.rmw16.xor_u", 80, 18446744073709551614),
-        f("i32 i64 -> i64", "local.get 0 local.get 1 i64.atomic.rmw32.xor_u", 96, 18446744073709551614),
-        f("i32 i32 -> i32", "local.get 0 local.get 1 i32.atomic.rmw.xchg", 112, 4294967294),
-        f("i32 i64 -> i64", "local.get 0 local.get 1 i64.atomic.rmw.xchg", 128, 18446744073709551614),
-        f("i32 i32 -> i32", "local.get 0 local.get 1 i32.atomic.rmw8.xchg_u", 144, 4294967294),
-        f("i32 i32 -> i32", "local.get 0 local.get 1 i32.atomic.rmw16.xchg_u", 160, 4294967294),
-        f("i32 i64 -> i64", "local.get 0 local.get 1 i64.atomic.rmw8.xchg_u", 176, 18446744073709551614),
-        f("i32 i64 -> i64", "local.get 0 local.get 1 i64.atomic.rmw16.xchg_u", 192, 18446744073709551614),
-        f("i32 i64 -> i64", "local.get 0 local.get 1 i64.atomic.rmw32.xchg_u", 208, 18446744073709551614),
-    ]),
-    ("compare-exchanges, and the traps of accesses", [
-        f("i32 i32 i32 -> i32", "local.get 0 local.get 1 local.get 2 i32.atomic.rmw.cmpxchg", 0, 4039878273, 305419896),
-        f("i32 i32 i32 -> i32", "local.get 0 local.get 1 local.get 2 i32.atomic.rmw.cmpxchg", 16, 1075574480, 305419896),
-        f("i32 i64 i64 -> i64", "local.get 0 local.get 1 local.get 2 i64.atomic.rmw.cmpxchg", 32, 2666089977773508129, 1311768467463790320),
-        f("i32 i64 i64 -> i64", "local.get 0 local.get 1 local.get 2 i64.atomic.rmw.cmpxchg", 48, 8380963636293375600, 1311768467463790320),
-        f("i32 ->", "local.get 0 i32.atomic.load drop", 2),
-        f("i32 ->", "local.get 0 i32.atomic.load offset=2 drop", 65533, trap="unaligned"),
-        f("i32 ->", "local.get 0 i32.load align=1 drop", 65533),
-        f("i32 ->", "local.get 0 i64.atomic.load drop", 65532, trap="unaligned"),
-        f("i32 ->", "local.get 0 i64.const 1 i64.store align=1", 65529),
-        f("i32 ->", "local.get 0 i32.load offset=4294967295 align=1 drop", 4294967295),
-        f("->", "unreachable"),
-    ]),
+    (
+        "the loads",
+        [
+            f("i32 -> i32", "local.get 0 i32.load offset=3 align=1", 0),
+            f("i32 -> i64", "local.get 0 i64.load offset=3 align=1", 16),
+            f("i32 -> i32", "local.get 0 i32.load8_s offset=3", 32),
+            f("i32 -> i32", "local.get 0 i32.load8_u offset=3", 48),
+            f("i32 -> i32", "local.get 0 i32.load16_s offset=3 align=1", 64),
+            f("i32 -> i32", "local.get 0 i32.load16_u offset=3 align=1", 80),
+            f("i32 -> i64", "local.get 0 i64.load8_s offset=3", 96),
+            f("i32 -> i64", "local.get 0 i64.load8_u offset=3", 112),
+            f("i32 -> i64", "local.get 0 i64.load16_s offset=3 align=1", 128),
+            f("i32 -> i64", "local.get 0 i64.load16_u offset=3 align=1", 144),
+            f("i32 -> i64", "local.get 0 i64.load32_s offset=3 align=1", 160),
+            f("i32 -> i64", "local.get 0 i64.load32_u offset=3 align=1", 176),
+        ],
+    ),
+    (
+        "the stores, and memory.size",
+        [
+            f("i32 i32 ->", "local.get 0 local.get 1 i32.store offset=5 align=1", 0, 2452903544),
+            f("i32 i64 ->", "local.get 0 local.get 1 i64.store offset=5 align=1", 16, 10535140504318566128),
+            f("i32 i32 ->", "local.get 0 local.get 1 i32.store8 offset=5", 32, 2452903544),
+            f("i32 i32 ->", "local.get 0 local.get 1 i32.store16 offset=5 align=1", 48, 2452903544),
+            f("i32 i64 ->", "local.get 0 local.get 1 i64.store8 offset=5", 64, 10535140504318566128),
+            f("i32 i64 ->", "local.get 0 local.get 1 i64.store16 offset=5 align=1", 80, 10535140504318566128),
+            f("i32 i64 ->", "local.get 0 local.get 1 i64.store32 offset=5 align=1", 96, 10535140504318566128),
+            f("-> i32", "memory.size"),
+        ],
+    ),
+    (
+        "the atomic loads and stores",
+        [
+            f("i32 -> i32", "local.get 0 i32.atomic.load offset=8", 0),
+            f("i32 -> i64", "local.get 0 i64.atomic.load offset=8", 16),
+            f("i32 -> i32", "local.get 0 i32.atomic.load8_u offset=8", 32),
+            f("i32 -> i32", "local.get 0 i32.atomic.load16_u offset=8", 48),
+            f("i32 -> i64", "local.get 0 i64.atomic.load8_u offset=8", 64),
+            f("i32 -> i64", "local.get 0 i64.atomic.load16_u offset=8", 80),
+            f("i32 -> i64", "local.get 0 i64.atomic.load32_u offset=8", 96),
+            f("i32 i32 ->", "local.get 0 local.get 1 i32.atomic.store offset=8", 112, 4294967294),
+            f("i32 i64 ->", "local.get 0 local.get 1 i64.atomic.store offset=8", 128, 18446744073709551614),
+            f("i32 i32 ->", "local.get 0 local.get 1 i32.atomic.store8 offset=8", 144, 4294967294),
+            f("i32 i32 ->", "local.get 0 local.get 1 i32.atomic.store16 offset=8", 160, 4294967294),
+            f("i32 i64 ->", "local.get 0 local.get 1 i64.atomic.store8 offset=8", 176, 18446744073709551614),
+            f("i32 i64 ->", "local.get 0 local.get 1 i64.atomic.store16 offset=8", 192, 18446744073709551614),
+            f("i32 i64 ->", "local.get 0 local.get 1 i64.atomic.store32 offset=8", 208, 18446744073709551614),
+        ],
+    ),
+    (
+        "the atomic updates add and sub",
+        [
+            f("i32 i32 -> i32", "local.get 0 local.get 1 i32.atomic.rmw.add", 0, 4294967294),
+            f("i32 i64 -> i64", "local.get 0 local.get 1 i64.atomic.rmw.add", 16, 18446744073709551614),
+            f("i32 i32 -> i32", "local.get 0 local.get 1 i32.atomic.rmw8.add_u", 32, 4294967294),
+            f("i32 i32 -> i32", "local.get 0 local.get 1 i32.atomic.rmw16.add_u", 48, 4294967294),
+            f("i32 i64 -> i64", "local.get 0 local.get 1 i64.atomic.rmw8.add_u", 64, 18446744073709551614),
+            f("i32 i64 -> i64", "local.get 0 local.get 1 i64.atomic.rmw16.add_u", 80, 18446744073709551614),
+            f("i32 i64 -> i64", "local.get 0 local.get 1 i64.atomic.rmw32.add_u", 96, 18446744073709551614),
+            f("i32 i32 -> i32", "local.get 0 local.get 1 i32.atomic.rmw.sub", 112, 4294967294),
+            f("i32 i64 -> i64", "local.get 0 local.get 1 i64.atomic.rmw.sub", 128, 18446744073709551614),
+            f("i32 i32 -> i32", "local.get 0 local.get 1 i32.atomic.rmw8.sub_u", 144, 4294967294),
+            f("i32 i32 -> i32", "local.get 0 local.get 1 i32.atomic.rmw16.sub_u", 160, 4294967294),
+            f("i32 i64 -> i64", "local.get 0 local.get 1 i64.atomic.rmw8.sub_u", 176, 18446744073709551614),
+            f("i32 i64 -> i64", "local.get 0 local.get 1 i64.atomic.rmw16.sub_u", 192, 18446744073709551614),
+            f("i32 i64 -> i64", "local.get 0 local.get 1 i64.atomic.rmw32.sub_u", 208, 18446744073709551614),
+        ],
+    ),
+    (
+        "the atomic updates and and or",
+        [
+            f("i32 i32 -> i32", "local.get 0 local.get 1 i32.atomic.rmw.and", 0, 4294967294),
+            f("i32 i64 -> i64", "local.get 0 local.get 1 i64.atomic.rmw.and", 16, 18446744073709551614),
+            f("i32 i32 -> i32", "local.get 0 local.get 1 i32.atomic.rmw8.and_u", 32, 4294967294),
+            f("i32 i32 -> i32", "local.get 0 local.get 1 i32.atomic.rmw16.and_u", 48, 4294967294),
+            f("i32 i64 -> i64", "local.get 0 local.get 1 i64.atomic.rmw8.and_u", 64, 18446744073709551614),
+            f("i32 i64 -> i64", "local.get 0 local.get 1 i64.atomic.rmw16.and_u", 80, 18446744073709551614),
+            f("i32 i64 -> i64", "local.get 0 local.get 1 i64.atomic.rmw32.and_u", 96, 18446744073709551614),
+            f("i32 i32 -> i32", "local.get 0 local.get 1 i32.atomic.rmw.or", 112, 4294967294),
+            f("i32 i64 -> i64", "local.get 0 local.get 1 i64.atomic.rmw.or", 128, 18446744073709551614),
+            f("i32 i32 -> i32", "local.get 0 local.get 1 i32.atomic.rmw8.or_u", 144, 4294967294),
+            f("i32 i32 -> i32", "local.get 0 local.get 1 i32.atomic.rmw16.or_u", 160, 4294967294),
+            f("i32 i64 -> i64", "local.get 0 local.get 1 i64.atomic.rmw8.or_u", 176, 18446744073709551614),
+            f("i32 i64 -> i64", "local.get 0 local.get 1 i64.atomic.rmw16.or_u", 192, 18446744073709551614),
+            f("i32 i64 -> i64", "local.get 0 local.get 1 i64.atomic.rmw32.or_u", 208, 18446744073709551614),
+        ],
+    ),
+    (
+        "the atomic updates xor and xchg",
+        [
+            f("i32 i32 -> i32", "local.get 0 local.get 1 i32.atomic.rmw.xor", 0, 4294967294),
+            f("i32 i64 -> i64", "local.get 0 local.get 1 i64.atomic.rmw.xor", 16, 18446744073709551614),
+            f("i32 i32 -> i32", "local.get 0 local.get 1 i32.atomic.rmw8.xor_u", 32, 4294967294),
+            f("i32 i32 -> i32", "local.get 0 local.get 1 i32.atomic.rmw16.xor_u", 48, 4294967294),
+            f("i32 i64 -> i64", "local.get 0 local.get 1 i64.atomic.rmw8.xor_u", 64, 18446744073709551614),
+            f("i32 i64 -> i64", "local.get 0 local.get 1 i64.atomic.rmw16.xor_u", 80, 18446744073709551614),
+            f("i32 i64 -> i64", "local.get 0 local.get 1 i64.atomic.rmw32.xor_u", 96, 18446744073709551614),
+            f("i32 i32 -> i32", "local.get 0 local.get 1 i32.atomic.rmw.xchg", 112, 4294967294),
+            f("i32 i64 -> i64", "local.get 0 local.get 1 i64.atomic.rmw.xchg", 128, 18446744073709551614),
+            f("i32 i32 -> i32", "local.get 0 local.get 1 i32.atomic.rmw8.xchg_u", 144, 4294967294),
+            f("i32 i32 -> i32", "local.get 0 local.get 1 i32.atomic.rmw16.xchg_u", 160, 4294967294),
+            f("i32 i64 -> i64", "local.get 0 local.get 1 i64.atomic.rmw8.xchg_u", 176, 18446744073709551614),
+            f("i32 i64 -> i64", "local.get 0 local.get 1 i64.atomic.rmw16.xchg_u", 192, 18446744073709551614),
+            f("i32 i64 -> i64", "local.get 0 local.get 1 i64.atomic.rmw32.xchg_u", 208, 18446744073709551614),
+        ],
+    ),
+    (
+        "compare-exchanges, and the traps of accesses",
+        [
+            f(
+                "i32 i32 i32 -> i32",
+                "local.get 0 local.get 1 local.get 2 i32.atomic.rmw.cmpxchg",
+                0,
+                4039878273,
+                305419896,
+            ),
+            f(
+                "i32 i32 i32 -> i32",
+                "local.get 0 local.get 1 local.get 2 i32.atomic.rmw.cmpxchg",
+                16,
+                1075574480,
+                305419896,
+            ),
+            f(
+                "i32 i64 i64 -> i64",
+                "local.get 0 local.get 1 local.get 2 i64.atomic.rmw.cmpxchg",
+                32,
+                2666089977773508129,
+                1311768467463790320,
+            ),
+            f(
+                "i32 i64 i64 -> i64",
+                "local.get 0 local.get 1 local.get 2 i64.atomic.rmw.cmpxchg",
+                48,
+                8380963636293375600,
+                1311768467463790320,
+            ),
+            f("i32 ->", "local.get 0 i32.atomic.load drop", 2),
+            f("i32 ->", "local.get 0 i32.atomic.load offset=2 drop", 65533, trap="unaligned"),
+            f("i32 ->", "local.get 0 i32.load align=1 drop", 65533),
+            f("i32 ->", "local.get 0 i64.atomic.load drop", 65532, trap="unaligned"),
+            f("i32 ->", "local.get 0 i64.const 1 i64.store align=1", 65529),
+            f("i32 ->", "local.get 0 i32.load offset=4294967295 align=1 drop", 4294967295),
+            f("->", "unreachable"),
+        ],
+    ),
 ]
 
 CONTROL = [
-    ("control instructions and variables", [
-        f("i32 -> i32", "loop local.get 1 local.get 0 i32.add local.set 1 local.get 0 i32.const 1 i32.sub local.tee 0 br_if 0 end local.get 1", 5, local="i32", steps=53),
-        f("i32 -> i32", "block (result i32) block block local.get 0 br_table 0 1 0 1 end i32.const 10 br 1 end i32.const 20 end", 0, steps=8),
-        f("i32 -> i32", "block (result i32) block block local.get 0 br_table 0 1 0 1 end i32.const 10 br 1 end i32.const 20 end", 1, steps=8),
-        f("i32 -> i32", "block (result i32) block block local.get 0 br_table 0 1 0 1 end i32.const 10 br 1 end i32.const 20 end", 9, steps=8),
-        f("i32 -> i64", "local.get 0 if (result i64) i64.const 1 else i64.const 2 end", 0, steps=5),
-        f("i32 -> i64", "local.get 0 if (result i64) i64.const 1 else i64.const 2 end", 3, steps=5),
-        f("i32 -> i32", "i32.const 1 local.get 0 if nop end", 0, steps=5),
-        f("i32 -> i32", "i32.const 1 local.get 0 if nop end", 1, steps=6),
-        f("i32 -> i32", "i32.const 7 i32.const 8 local.get 0 select", 0, steps=5),
-        f("i32 -> i32", "i32.const 7 i32.const 8 local.get 0 select", 2, steps=5),
-        f("i32 i32 -> i32", "local.get 1 local.get 0 call 16", 3, 40, steps=8),
-        f("-> i64", "global.get 0 i64.const 1 i64.add global.set 0 global.get 0", steps=6),
-        f("i32 -> i32", "local.get 0 if i32.const 5 i32.const 6 return end i32.const 9", 1, steps=5),
-        f("i32 -> i32", "block (result i32) i32.const 1 i32.const 2 local.get 0 br_if 0 drop end", 0, steps=8),
-        f("i32 -> i32", "block (result i32) i32.const 1 i32.const 2 local.get 0 br_if 0 drop end", 1, steps=6),
-        f("i32 -> i32", "i32.const 3 i32.const 4 local.get 0 br 0", 5, steps=4),
-        helper("i32 i32 -> i32", "local.get 0 local.get 1 i32.sub"),
-    ]),
+    (
+        "control instructions and variables",
+        [
+            f(
+                "i32 -> i32",
+                "loop local.get 1 local.get 0 i32.add local.set 1 local.get 0 i32.const 1 i32.sub local.tee 0 "
+                "br_if 0 end local.get 1",
+                5,
+                local="i32",
+                steps=53,
+            ),
+            f(
+                "i32 -> i32",
+                "block (result i32) block block local.get 0 br_table 0 1 0 1 end i32.const 10 br 1 end "
+                "i32.const 20 end",
+                0,
+                steps=8,
+            ),
+            f(
+                "i32 -> i32",
+                "block (result i32) block block local.get 0 br_table 0 1 0 1 end i32.const 10 br 1 end "
+                "i32.const 20 end",
+                1,
+                steps=8,
+            ),
+            f(
+                "i32 -> i32",
+                "block (result i32) block block local.get 0 br_table 0 1 0 1 end i32.const 10 br 1 end "
+                "i32.const 20 end",
+                9,
+                steps=8,
+            ),
+            f("i32 -> i64", "local.get 0 if (result i64) i64.const 1 else i64.const 2 end", 0, steps=5),
+            f("i32 -> i64", "local.get 0 if (result i64) i64.const 1 else i64.const 2 end", 3, steps=5),
+            f("i32 -> i32", "i32.const 1 local.get 0 if nop end", 0, steps=5),
+            f("i32 -> i32", "i32.const 1 local.get 0 if nop end", 1, steps=6),
+            f("i32 -> i32", "i32.const 7 i32.const 8 local.get 0 select", 0, steps=5),
+            f("i32 -> i32", "i32.const 7 i32.const 8 local.get 0 select", 2, steps=5),
+            f("i32 i32 -> i32", "local.get 1 local.get 0 call 16", 3, 40, steps=8),
+            f("-> i64", "global.get 0 i64.const 1 i64.add global.set 0 global.get 0", steps=6),
+            f("i32 -> i32", "local.get 0 if i32.const 5 i32.const 6 return end i32.const 9", 1, steps=5),
+            f("i32 -> i32", "block (result i32) i32.const 1 i32.const 2 local.get 0 br_if 0 drop end", 0, steps=8),
+            f("i32 -> i32", "block (result i32) i32.const 1 i32.const 2 local.get 0 br_if 0 drop end", 1, steps=6),
+            f("i32 -> i32", "i32.const 3 i32.const 4 local.get 0 br 0", 5, steps=4),
+            helper("i32 i32 -> i32", "local.get 0 local.get 1 i32.sub"),
+        ],
+    ),
 ]
 
 # ---- modules
@@ -279,9 +374,7 @@ def assembled(text):
     with tempfile.TemporaryDirectory() as folder:
         with open(f"{folder}/text.wat", "w") as file:
             file.write(text)
-        subprocess.run(
-            ["wat2wasm", "--enable-threads", f"{folder}/text.wat", "-o", f"{folder}/it.wasm"], check=True
-        )
+        subprocess.run(["wat2wasm", "--enable-threads", f"{folder}/text.wat", "-o", f"{folder}/it.wasm"], check=True)
         with open(f"{folder}/it.wasm", "rb") as file:
             return file.read()
 
@@ -392,7 +485,7 @@ def row(shows, functions, data, has_global, indent):
     pad = " " * indent
     return (
         f'{pad}shows: "{shows}",\n{textwrap.indent(text, pad + "// ")}\n'
-        f'{pad}module: &[\n{array(assembled(text), indent + 4)}{pad}],\n'
+        f"{pad}module: &[\n{array(assembled(text), indent + 4)}{pad}],\n"
         f'{pad}document: r#"{document}"#,\n{pad}line: "{line}",\n'
     )
 
@@ -402,21 +495,58 @@ def rows(name, table, data):
     return f"pub(super) const {name}: [Row; {len(table)}] = [\n{each}];\n"
 
 
-def write(name, text):
-    with open(name, "w") as file:
-        file.write(text)
+HEAD = "//! @generated by scripts/instruction_tests.py; do not edit.\n//!\n//! "
+OUTSIDE = "The values were computed outside this project.\n\nuse super::runs::Row;\n\n"
 
 
-write(
-    "numeric_instructions.rt",
-    "//! Modules and logs with each numeric instruction. The values were computed outside this project.\n\n"
-    "use super::runs::Row;\n\n/// Each numeric instruction, in a function of its own.\n" + rows("NUMERIC", NUMERIC, b""),
-)
-write(
-    "other_instructions.rt",
-    "//! Modules and logs with each memory instruction, and with control instructions and variables. The values were "
-    "computed outside this project.\n\nuse super::runs::Row;\n\n"
-    "/// Each memory instruction, in a function of its own.\n" + rows("MEMORY", MEMORY, DATA)
-    + "\n/// Control instructions and variables, each in a function of its own.\npub(super) const CONTROL: [Row; 1] = [Row {\n"
-    + row(*CONTROL[0], b"", True, 4) + "}];\n",
-)
+def numeric_file():
+    head = f"{HEAD}Modules and logs with each numeric instruction. {OUTSIDE}"
+    return f"{head}/// Each numeric instruction, in a function of its own.\n" + rows("NUMERIC", NUMERIC, b"")
+
+
+def other_file():
+    head = (
+        f"{HEAD}Modules and logs with each memory instruction, and with control instructions and variables. {OUTSIDE}"
+    )
+    control = row(*CONTROL[0], b"", True, 4)
+    return (
+        f"{head}/// Each memory instruction, in a function of its own.\n"
+        + rows("MEMORY", MEMORY, DATA)
+        + "\n/// Control instructions and variables, each in a function of its own.\n"
+        "pub(super) const CONTROL: [Row; 1] = [Row {\n"
+        + control
+        + "}];\n"
+    )
+
+
+def files_of_rows():
+    """tests/rows/instructions.rows, and its modules."""
+    head = "# @generated by scripts/instruction_tests.py; do not edit.\n"
+    shows = "# Each instruction in a function of its own, with the result, the trap or the bytes that node gives.\n"
+    text, files = head + shows, {}
+    tables = (
+        [(each, b"", False) for each in NUMERIC] + [(each, DATA, False) for each in MEMORY] + [(CONTROL[0], b"", True)]
+    )
+    for (title, functions), data, has_global in tables:
+        name = "instructions-" + re.sub(r"\W+", "-", title)
+        document, line = document_of(functions, data, has_global)
+        files[f"tests/files/{name}.wasm"] = assembled(module_text(functions, data, has_global, False))
+        line = line.removesuffix("\\n")
+        text += f"\n{title}\n  log.json = {document}\n  $ wmlab check files/{name}.wasm log.json\n  {line}\n"
+    return {"tests/rows/instructions.rows": text, **files}
+
+
+def main():
+    options = generated.words_of(__doc__)
+    generated.need("wat2wasm", "node")
+    tests = "crates/wmlab/src/tests"
+    files = {
+        f"{tests}/numeric_instructions.rt": numeric_file(),
+        f"{tests}/other_instructions.rt": other_file(),
+        **files_of_rows(),
+    }
+    generated.write_or_check(files, options.check)
+
+
+if __name__ == "__main__":
+    main()

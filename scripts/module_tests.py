@@ -1,11 +1,17 @@
 #!/usr/bin/env python3
-"""Writes the modules of the tests of wm_tests and wmlab, from WebAssembly text.
+"""Writes the modules of the tests of wm_tests and wmlab and those of tests/files, from WebAssembly text.
 
-wabt's wat2wasm assembles the texts, without a check, since some are not valid. A module that no text gives, as one that is
-cut or has a padded number, is another one with some bytes changed; its row says which.
-    scripts/module_tests.py        at the top of the repository; it needs wat2wasm (Debian's wabt)
+wabt's wat2wasm assembles the texts, without a check, since some are not valid. A module that no text gives, as one
+that is cut or has a non-minimal number, is another one with some bytes changed; its row says which.
+
+    scripts/module_tests.py [--check]        it needs wat2wasm (Debian's wabt)
 """
-import subprocess, tempfile, textwrap
+import glob
+import subprocess
+import tempfile
+import textwrap
+
+from wmlabtools import TOP, generated
 
 
 def assembled(text):
@@ -133,9 +139,17 @@ DECODED = [
 # ---- those of wm_litmus: what they show, their names, texts and changes
 
 RUN = [
-    ("Two threads, each of which stores and then loads what the other stores; plain.", "STORE_BUFFERING", STORE_BUFFERING),
+    (
+        "Two threads, each of which stores and then loads what the other stores; plain.",
+        "STORE_BUFFERING",
+        STORE_BUFFERING,
+    ),
     ("The same with atomic accesses.", "STORE_BUFFERING_ATOMIC", STORE_BUFFERING_ATOMIC),
-    ("A thread that stores data and then, atomically, a flag; and one that loads both.", "MESSAGE_PASSING_ATOMIC", MESSAGE_PASSING_ATOMIC),
+    (
+        "A thread that stores data and then, atomically, a flag; and one that loads both.",
+        "MESSAGE_PASSING_ATOMIC",
+        MESSAGE_PASSING_ATOMIC,
+    ),
     ("Three functions: an unaligned atomic load, a load past the memory, and one that is both.", "TRAPS", TRAPS),
     ("A store of eight bytes, and a load of four in its middle.", "OVERLAPPING_LOAD", OVERLAPPING_LOAD),
     ("A function that stores 7 at its argument and loads it.", "ARGUMENT", ARGUMENT),
@@ -150,15 +164,26 @@ RUN = [
     ("Store buffering, cut to 42 bytes.", "CUT_SHORT", STORE_BUFFERING, cut(42)),
     ("Store buffering, cut before its code.", "FUNCTIONS_WITHOUT_CODE", STORE_BUFFERING, cut(37)),
     ("A body with `memory.grow`.", "MEMORY_GROW", body("i32.const 1 memory.grow drop")),
-    ("A body with a narrow compare-exchange.", "NARROW_CMPXCHG",
-        body("i32.const 0 i32.const 0 i32.const 0 i32.atomic.rmw8.cmpxchg_u drop")),
+    (
+        "A body with a narrow compare-exchange.",
+        "NARROW_CMPXCHG",
+        body("i32.const 0 i32.const 0 i32.const 0 i32.atomic.rmw8.cmpxchg_u drop"),
+    ),
     ("A body with a constant that is a float.", "FLOAT_CONSTANT", body("f32.const 0 drop")),
     ("A body with a fence.", "FENCE", body("atomic.fence")),
     # The constant -1 in five bytes, the last of which has bits that are not used.
-    ("A constant whose unused bits don't repeat the sign.", "STRAY_BITS", body("i32.const -1 drop"),
-        changed("070105" "00417f1a0b", "0b0109" "0041ffffffff0f1a0b")),
-    ("The constant -1.", "MINUS_ONE", body("i32.const -1 drop"),
-        changed("070105" "00417f1a0b", "0b0109" "0041ffffffff7f1a0b")),
+    (
+        "A constant whose unused bits don't repeat the sign.",
+        "STRAY_BITS",
+        body("i32.const -1 drop"),
+        changed("070105" "00417f1a0b", "0b0109" "0041ffffffff0f1a0b"),
+    ),
+    (
+        "The constant -1.",
+        "MINUS_ONE",
+        body("i32.const -1 drop"),
+        changed("070105" "00417f1a0b", "0b0109" "0041ffffffff7f1a0b"),
+    ),
     ("One data segment, where the data count says two.", "DATA_COUNT_OF_TWO", DATA, data_count(2)),
     ("Two exports of one name.", "EXPORTS_OF_ONE_NAME", STORE_BUFFERING, changed("016200", "016100")),
     ("`i32.eqz` without an operand.", "EQZ_OF_NOTHING", body("i32.eqz")),
@@ -166,14 +191,62 @@ RUN = [
     ("A branch out of more blocks than there are.", "MISSING_LABEL", body("br 1")),
     ("A load in a module without a memory.", "LOAD_WITHOUT_MEMORY", body("i32.const 0 i32.load drop", memory="")),
     ("A memory of two pages at first and one at most.", "MAXIMUM_BELOW_MINIMUM", body("", "(memory 2 1 shared)")),
-    ("A data segment of two bytes at the last byte of the memory.", "SEGMENT_PAST_MEMORY",
-        body("", more='(data (i32.const 65535) "\\01\\02")')),
+    (
+        "A data segment of two bytes at the last byte of the memory.",
+        "SEGMENT_PAST_MEMORY",
+        body("", more='(data (i32.const 65535) "\\01\\02")'),
+    ),
     ("A data segment of one byte there.", "SEGMENT_AT_THE_END", body("", more='(data (i32.const 65535) "\\01")')),
-    ("`drop; select; drop` behind a branch, where any operands may stand.", "CODE_BEHIND_A_BRANCH",
-        body("br 0 drop select drop")),
-    ("The sum of an i32 and an i64 behind a branch.", "MIXED_ADDITION", body("br 0 i32.const 0 i64.const 0 i32.add drop")),
+    (
+        "`drop; select; drop` behind a branch, where any operands may stand.",
+        "CODE_BEHIND_A_BRANCH",
+        body("br 0 drop select drop"),
+    ),
+    (
+        "The sum of an i32 and an i64 behind a branch.",
+        "MIXED_ADDITION",
+        body("br 0 i32.const 0 i64.const 0 i32.add drop"),
+    ),
     ("A loop that reads until it finds something else than 0.", "SPINS", SPINS),
 ]
+
+# ---- those that only rows have
+
+FOR_ROWS = {
+    "two-pending-stores": """
+(module
+  (memory 1 1 shared)
+  (func (export "a") (result i32)
+    (i32.store (i32.const 0) (i32.const 1))
+    (i32.store (i32.const 4) (i32.const 1))
+    (i32.const 0))
+  (func (export "b") (result i32)
+    (i32.add (i32.mul (i32.load (i32.const 4)) (i32.const 10)) (i32.load (i32.const 0)))))
+""",
+    "many-stores": """
+(module
+  (memory 1 1 shared)
+  (func (export "stores") (param i32) (local i32)
+    (loop
+      (i32.store8 (local.get 1) (i32.const 1))
+      (br_if 0 (i32.lt_u (local.tee 1 (i32.add (local.get 1) (i32.const 1))) (local.get 0)))))
+  (func (export "stores_and_loads") (param i32) (result i32) (local i32)
+    (loop
+      (i32.store8 (local.get 1) (i32.const 1))
+      (br_if 0 (i32.lt_u (local.tee 1 (i32.add (local.get 1) (i32.const 1))) (local.get 0))))
+    (i32.atomic.load (i32.const 8)))
+  (func (export "reads") (result i32)
+    (i32.add (i32.mul (i32.load8_u (i32.const 0)) (i32.const 10)) (i32.load8_u (i32.const 1)))))
+""",
+    "spins-beside-nothing": """
+(module
+  (memory 1 1 shared)
+  (func (export "a")
+    (loop
+      (br_if 0 (i32.eqz (i32.atomic.load (i32.const 0))))))
+  (func (export "b")))
+""",
+}
 
 # ---- files
 
@@ -204,14 +277,37 @@ def run(shows, name, text, *changes):
     return f"\n{comment}\n/// {shows}\npub(super) const {name}: [u8; {len(wasm)}] = {array(wasm)};\n"
 
 
-def write(name, head, items):
-    with open(name, "w") as file:
-        file.write(head + "".join(items))
+def examples():
+    """The bytes of the examples, which rows name in place of a module of the same bytes."""
+    found = set()
+    for path in glob.glob(f"{TOP}/examples/*.wasm"):
+        with open(path, "rb") as file:
+            found.add(file.read())
+    return found
 
 
-write(
-    "crates/wm_tests/src/tests/decoding/modules.rt",
-    "//! Modules in hexadecimal digits, each behind its text, as `scripts/module_tests.py` assembles them.\n",
-    [decoded(*each) for each in DECODED],
-)
-write("crates/wmlab/src/tests/modules.rt", "//! Modules, each behind its text, as `scripts/module_tests.py` assembles them.\n", [run(*each) for each in RUN])
+def files_of_rows():
+    """The modules of tests/files."""
+    known = examples()
+    modules = {name.lower().replace("_", "-"): module_of(text, changes) for _, name, text, *changes in RUN}
+    modules.update((name, assembled(text)) for name, text in FOR_ROWS.items())
+    return {f"tests/files/{name}.wasm": wasm for name, wasm in modules.items() if wasm not in known}
+
+
+def main():
+    options = generated.words_of(__doc__)
+    generated.need("wat2wasm")
+    head = "//! @generated by scripts/module_tests.py; do not edit.\n//!\n"
+    digits = "//! Modules in hexadecimal digits, each behind its text.\n"
+    files = {
+        "crates/wm_tests/src/tests/decoding/modules.rt": head + digits + "".join(decoded(*each) for each in DECODED),
+        "crates/wmlab/src/tests/modules.rt": head
+        + "//! Modules, each behind its text.\n"
+        + "".join(run(*each) for each in RUN),
+        **files_of_rows(),
+    }
+    generated.write_or_check(files, options.check)
+
+
+if __name__ == "__main__":
+    main()

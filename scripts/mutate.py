@@ -1,30 +1,30 @@
 #!/usr/bin/env python3
 """Runs the built program on mutated examples: bytes flipped, cut out, doubled, or spliced from another example.
 
-    scripts/mutate.py [WMLAB [COUNT [SEED]]]        crates/wmlab/out/wmlab, 20,000 mutations, seed 1
+    scripts/mutate.py [--wmlab PATH] [--count N] [--seed N]        20,000 mutations, seed 1
 
-Each command is tried. Each run has to end with a status below 3, with nothing on standard error, and with the lines that its
-command has: one; or of `explain` the line of `check` and more behind it; of `graph` a picture or the line of `check`, where
-that is a refusal; of `drive` an outcome, a verdict and a document, or the line of a refusal; of `run` a table and how many
-rounds there were, or that line. What `drive` and `run` log is allowed, whatever the module. The last line is
-`N passed, N failed`.
+Each command is tried. Each run has to end with a status below 3, with nothing on standard error, and with the lines
+that its command has: one; or of `explain` the line of `check` and more after it; of `graph` a picture or the line of
+`check`, if that is a refusal; of `drive` an outcome, a verdict and a document, or the line of a refusal; of `run` a
+table and how many rounds there were, or that line. What `drive` and `run` log is allowed, whatever the module. The
+last line is `N passed, N failed`.
 """
 import concurrent.futures
 import glob
 import os
 import random
 import subprocess
-import sys
 import tempfile
 
-TOP = os.path.dirname(os.path.dirname(os.path.abspath(__file__)))
-WMLAB = os.path.abspath(sys.argv[1] if len(sys.argv) > 1 else f"{TOP}/crates/wmlab/out/wmlab")
-COUNT = int(sys.argv[2]) if len(sys.argv) > 2 else 20_000
-SEED = int(sys.argv[3]) if len(sys.argv) > 3 else 1
+from wmlabtools import TOP, harness
 
 
 def read(pattern):
-    return [open(name, "rb").read() for name in sorted(glob.glob(f"{TOP}/examples/{pattern}"))]
+    contents = []
+    for name in sorted(glob.glob(f"{TOP}/examples/{pattern}")):
+        with open(name, "rb") as file:
+            contents.append(file.read())
+    return contents
 
 
 MODULES, DOCUMENTS = read("*.wasm"), read("*.json")
@@ -58,7 +58,8 @@ def is_line(text, words=b""):
 
 
 def is_answer(command, ran, checked):
-    """Whether a run of the command ended with the status and the lines that it has; `checked` is the run of `check` on the same."""
+    """Whether a run of the command ended with the status and the lines that it has; `checked` is the run of `check`
+    on the same."""
     if not 0 <= ran.returncode < 3 or ran.stderr:
         return False
     first, _, behind = ran.stdout.partition(b"\n")
@@ -67,7 +68,9 @@ def is_answer(command, ran, checked):
         return first + b"\n" == checked.stdout and ran.returncode == checked.returncode and behind.endswith(b"\n")
     if command == "graph":
         drawn = first == b"digraph execution {" and behind.endswith(b"}\n")
-        return ran.returncode == checked.returncode and (ran.stdout == checked.stdout if checked.returncode == 2 else drawn)
+        return ran.returncode == checked.returncode and (
+            ran.stdout == checked.stdout if checked.returncode == 2 else drawn
+        )
     if command == "drive":
         lines = ran.stdout.splitlines()
         played = len(lines) == 3 and lines[0].startswith(b"outcome ") and lines[1].startswith(b"allowed threads=2 ")
@@ -89,9 +92,9 @@ def words_of(command, module):
     return [command, "-"] if command in ("rules", "migrate") else [command, module, "-"]
 
 
-def case(number):
+def case(program, seed, number):
     """Whether one mutation is answered as it must be, and what was given and got where it isn't."""
-    chance = random.Random(SEED * 1_000_003 + number)
+    chance = random.Random(seed * 1_000_003 + number)
     module, document = chance.choice(MODULES), chance.choice(DOCUMENTS)
     command = chance.choice(COMMANDS)
     if command in ("drive", "run") or command not in ("rules", "migrate") and chance.randrange(2):
@@ -103,18 +106,26 @@ def case(number):
         file.flush()
 
         def run(command):
-            return subprocess.run([WMLAB, *words_of(command, file.name)], input=document, capture_output=True, timeout=60)
+            return subprocess.run(
+                [program, *words_of(command, file.name)], input=document, capture_output=True, timeout=60
+            )
 
         ran = run(command)
         checked = run("check") if command in ("explain", "graph") else None
     return None if is_answer(command, ran, checked) else (number, command, module.hex(), document, ran)
 
 
-passed = failed = 0
-with concurrent.futures.ThreadPoolExecutor(os.cpu_count()) as pool:
-    for wrong in pool.map(case, range(COUNT)):
-        passed, failed = passed + (wrong is None), failed + (wrong is not None)
-        if wrong:
-            print("FAILED", *wrong)
-print(f"{passed} passed, {failed} failed")
-sys.exit(1 if failed or not passed else 0)
+def main():
+    parser = harness.arguments(__doc__)
+    parser.add_argument("--count", type=int, default=20_000, help="mutations")
+    parser.add_argument("--seed", type=int, default=1)
+    options = parser.parse_args()
+    program, tally = harness.program_of(options), harness.Tally()
+    with concurrent.futures.ThreadPoolExecutor(os.cpu_count()) as pool:
+        for wrong in pool.map(lambda number: case(program, options.seed, number), range(options.count)):
+            tally.check(wrong is None, "a mutation", wrong)
+    tally.end()
+
+
+if __name__ == "__main__":
+    main()

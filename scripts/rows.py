@@ -1,12 +1,12 @@
 #!/usr/bin/env python3
 """Runs each row: a command line with its files, and what it prints, writes to standard error and ends with.
 
-Rows are in tests/rows/*.rows (tests/README.md has their format), in the blocks `$ ./wmlab ..` of the pages, and in the tables of
-examples/README.md. A row that differs is shown as a diff. The last line is `N passed, N failed`.
+Rows are in tests/rows/*.rows (tests/README.md has their format), in the blocks `$ ./wmlab ..` of the pages, and in
+the tables of examples/README.md. A row that differs is shown as a diff. The last line is `N passed, N failed`.
 
     scripts/rows.py                      all rows
-    scripts/rows.py check "two writers"  the rows whose file or title has one of these words in it
-    scripts/rows.py --update             writes what the program printed into the .rows files: read the diff before you commit it
+    scripts/rows.py check "two writers"  the rows with one of these words in file or title
+    scripts/rows.py --update             writes what the program printed into the .rows files
 """
 import concurrent.futures
 import difflib
@@ -23,7 +23,8 @@ from wmlabtools import TOP, harness
 
 PAGES = ("README.md", "examples/README.md", "docs/*.md")
 SECONDS = 120
-# `«TEXT»*N` is TEXT N times, joined by commas, with the number of the copy, from 0, for each `%`, and more for `%+MORE`.
+# `«TEXT»*N` is TEXT N times, joined by commas, with the number of the copy, from 0, for each `%`, and more for
+# `%+MORE`.
 REPEATED = re.compile(r"«([^«»]*)»\*(\d+)")
 NUMBER = re.compile(r"%(?:\+(\d+))?")
 COUNTS = re.compile(r"counts of (\d+): (.*)")
@@ -44,7 +45,11 @@ class Row:
 
     def wanted(self):
         """The wanted lines, in the form in which they are compared and shown."""
-        return [expanded(line) for line in self.out] + [f"! {line}" for line in self.err] + ([f"[{self.status}]"] if self.status else [])
+        return (
+            [expanded(line) for line in self.out]
+            + [f"! {line}" for line in self.err]
+            + ([f"[{self.status}]"] if self.status else [])
+        )
 
 
 def expanded(text):
@@ -131,7 +136,8 @@ def rows_of_page(path):
 
 
 def cells_of_page(path):
-    """Each row of the tables of a page: the heading above it, the number of its line, and what is between backticks in each cell."""
+    """Each row of the tables of a page: the heading above it, the number of its line, and what is between backticks
+    in each cell."""
     heading = ""
     with open(path, encoding="utf-8") as file:
         for number, line in enumerate(file, 1):
@@ -179,8 +185,8 @@ EXPLAINED = re.compile(
 
 
 def rows_of_explanations():
-    """What `explain` writes, as the tests of wm_explain and docs/EXPLANATIONS.md have it: each text of the page is that of a
-    row whose line is the same; and each row with a module is run."""
+    """What `explain` writes, as the tests of wm_explain and docs/EXPLANATIONS.md have it: each text of the page is
+    that of a row whose line is the same; and each row with a module is run."""
     source = "crates/wm_explain/src/tests/rows.rt"
     page = "docs/EXPLANATIONS.md"
     with open(f"{TOP}/{source}", encoding="utf-8") as file:
@@ -190,7 +196,9 @@ def rows_of_explanations():
     blocks = [re.sub(r"(?m)^    ", "", block).rstrip("\n").split("\n") for block in blocks]
     lines = {"\n".join(block[1:]): block[0] for block in blocks}
     found = list(EXPLAINED.finditer(text))
-    if len(found) != len(re.findall(r"\b(?:CheckRow|RuleRow) \{", text)) - len(re.findall(r"struct (?:CheckRow|RuleRow) \{", text)):
+    if len(found) != len(re.findall(r"\b(?:CheckRow|RuleRow) \{", text)) - len(
+        re.findall(r"struct (?:CheckRow|RuleRow) \{", text)
+    ):
         raise SystemExit(f"{source}: a row is not read")
     rows, said = [], set()
     for each in found:
@@ -220,7 +228,8 @@ def write_files(row, folder):
 
 
 def run(row, program):
-    """The lines that came, in the form in which they are compared, or a sentence on why there are none; and the seconds."""
+    """The lines that came, in the form in which they are compared, or a sentence on why there are none; and the
+    seconds."""
     start = time.monotonic()
     with tempfile.TemporaryDirectory() as folder:
         os.symlink(f"{TOP}/examples", f"{folder}/examples")
@@ -228,9 +237,11 @@ def run(row, program):
         os.symlink(f"{TOP}/scripts", f"{folder}/scripts")
         write_files(row, folder)
         # The words are the shell's, but for `*` and `?`: scripts of turns have a `*`.
-        words = ["sh", "-f", "-c", f"wmlab() {{ {shlex.quote(program)} \"$@\"; }}\n{row.command}"]
+        words = ["sh", "-f", "-c", f'wmlab() {{ {shlex.quote(program)} "$@"; }}\n{row.command}']
         try:
-            ran = subprocess.run(words, cwd=folder, stdin=subprocess.DEVNULL, capture_output=True, timeout=SECONDS, check=False)
+            ran = subprocess.run(
+                words, cwd=folder, stdin=subprocess.DEVNULL, capture_output=True, timeout=SECONDS, check=False
+            )
         except subprocess.TimeoutExpired:
             return [f"it did not end in {SECONDS} s"], time.monotonic() - start
     out = lines_of(ran.stdout)
@@ -247,8 +258,9 @@ def lines_of(data):
 
 
 def fits(wanted, got):
-    """Whether the lines are those that are wanted. `...` alone stands for one or more lines, at the end of a line for the rest of
-    it, and a line `counts of N: A, B` for a table of outcomes among these, sorted, whose counts add up to N."""
+    """Whether the lines are those that are wanted. `...` alone stands for one or more lines, at the end of a line for
+    the rest of it, and a line `counts of N: A, B` for a table of outcomes among these, sorted, whose counts add up to
+    N."""
     if not wanted:
         return not got
     first, rest = wanted[0], wanted[1:]
@@ -273,7 +285,8 @@ def fits(wanted, got):
 
 
 def holds(row, got):
-    """Whether what came is what is wanted. Where a row has no status, that of the verdict in its first line is wanted."""
+    """Whether what came is what is wanted. Where a row has no status, that of the verdict in its first line is
+    wanted."""
     if row.status is None:
         row.status = status_of(got[:1])
     return fits(row.wanted(), got)
@@ -329,10 +342,14 @@ def all_rows(words):
 def main():
     parser = harness.arguments(__doc__)
     parser.add_argument("--update", action="store_true", help="write what the program printed into the .rows files")
-    parser.add_argument("--without", action="append", default=[], metavar="WORD", help="leave out the rows with this word")
+    parser.add_argument(
+        "--without", action="append", default=[], metavar="WORD", help="leave out the rows with this word"
+    )
     parser.add_argument("--times", type=int, default=0, metavar="N", help="print the N rows that took longest")
     parser.add_argument("--jobs", type=int, default=os.cpu_count(), help="rows that run side by side")
-    parser.add_argument("words", nargs="*", metavar="WORD", help="run only the rows with one of these words in file or title")
+    parser.add_argument(
+        "words", nargs="*", metavar="WORD", help="run only the rows with one of these words in file or title"
+    )
     options = parser.parse_args()
     program = harness.program_of(options)
     rows, missing = all_rows(options.words)
@@ -345,7 +362,9 @@ def main():
         for row, (got, seconds) in zip(rows, pool.map(lambda row: run(row, program), rows)):
             times.append((seconds, row))
             is_right = holds(row, got)
-            tally.check(is_right, f"{row.name()}\n  $ {row.command}", "\n" + difference(row, got) if not is_right else "")
+            tally.check(
+                is_right, f"{row.name()}\n  $ {row.command}", "\n" + difference(row, got) if not is_right else ""
+            )
             if not is_right and options.update and can_be_updated(row):
                 changed.append((row, got))
     for row, got in sorted(changed, key=lambda each: -each[0].line):

@@ -8,16 +8,16 @@ here=$(cd "$(dirname "${BASH_SOURCE[0]}")" && pwd)
 build() {
     local source=$1 out=$2 folder
     folder=$(mktemp -d)
-    # Compiled and linked in two commands: `clang` alone would run wasm-opt where that is there, which drops the fences of a
-    # memory that isn't shared yet.
+    # Compiled and linked in two commands: `clang` alone would run wasm-opt if that is there, which drops the fences of
+    # a memory that isn't shared yet.
     clang --target=wasm32 -mcpu=mvp -matomics -mthread-model posix -O2 -ffreestanding -c "$source" -o "$folder/object.o"
     # The stack that the linker makes otherwise takes 16 pages alone.
     wasm-ld --no-entry -z stack-size=4096 "$folder/object.o" -o "$folder/unshared.wasm"
-    # The linker's own --shared-memory brings passive segments, memory.init and a start function. So the memory is said to be
+    # The linker's own --shared-memory brings passive segments, memory.init and a start function. So the memory is made
     # shared here, and a table that nothing uses is dropped.
     wasm2wat --enable-threads "$folder/unshared.wasm" |
-        sed -E -e 's/\(memory \(;0;\) ([0-9]+)\)/(memory (;0;) \1 \1 shared)/' -e '/^  \(table \(;0;\) 1 1 funcref\)$/d' \
-            >"$folder/shared.wat"
+        sed -E -e 's/\(memory \(;0;\) ([0-9]+)\)/(memory (;0;) \1 \1 shared)/' \
+            -e '/^  \(table \(;0;\) 1 1 funcref\)$/d' >"$folder/shared.wat"
     wat2wasm --enable-threads "$folder/shared.wat" -o "$out"
     rm -r "$folder"
 }

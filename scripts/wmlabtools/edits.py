@@ -1,5 +1,5 @@
-"""The format of the must-fail edits: lines `file: PATH`, `old: TEXT`, `new: TEXT`; each old text is in its file exactly once,
-after the changes before it."""
+"""The format of the must-fail edits: lines `file: PATH`, `old: TEXT`, `new: TEXT`; each old text is in its file
+exactly once, after the changes before it."""
 import glob
 import os
 

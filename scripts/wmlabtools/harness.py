@@ -30,7 +30,8 @@ def files_below(parts):
 
 
 def find_program():
-    """The program as the launcher finds it: `./wmlab --which` prints its path, and builds a quick one if there is none."""
+    """The program as the launcher finds it: `./wmlab --which` prints its path, and builds a quick one if there is
+    none."""
     ran = subprocess.run([os.path.join(TOP, "wmlab"), "--which"], stdout=subprocess.PIPE, text=True, check=False)
     if ran.returncode:
         sys.exit("the program is not built, and a quick build failed; name one with --wmlab PATH")
@@ -40,7 +41,9 @@ def find_program():
 def arguments(description):
     """A parser of the words of a script that runs the program."""
     parser = argparse.ArgumentParser(description=description, formatter_class=argparse.RawDescriptionHelpFormatter)
-    parser.add_argument("--wmlab", metavar="PATH", help="the built program (if it is not given, the one that ./wmlab runs)")
+    parser.add_argument(
+        "--wmlab", metavar="PATH", help="the built program (if it is not given, the one that ./wmlab runs)"
+    )
     return parser
 
 
@@ -53,7 +56,8 @@ def program_of(options):
 
 
 def run(program, words, **streams):
-    """A run of the program at the top of the repository: what it prints, what it writes to standard error, and its status."""
+    """A run of the program at the top of the repository: what it prints, what it writes to standard error, and its
+    status."""
     if "input" not in streams:
         streams.setdefault("stdin", subprocess.DEVNULL)
     for name in ("stdout", "stderr"):

@@ -12,8 +12,8 @@ def compact(value):
 
 
 def document(threads, order, version=2):
-    """The bytes of a log. A thread is its name, arguments, end, steps and events; the last item of a read or an update is the
-    list of its writers, as in version 2."""
+    """The bytes of a log. A thread is its name, arguments, end, steps and events; the last item of a read or an
+    update is the list of its writers, as in version 2."""
     if version == 2:
         return compact(["wasm-litmus-log", 2, threads, order]).encode()
     plain, writers = [], []

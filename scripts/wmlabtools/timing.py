@@ -5,7 +5,8 @@ import time
 
 
 class Measured:
-    """The best of some runs: seconds of wall time, seconds of processor time, bytes of memory at most, and the first line."""
+    """The best of some runs: seconds of wall time, seconds of processor time, bytes of memory at most, and the first
+    line."""
 
     def __init__(self, wall, processor, peak, line):
         self.wall, self.processor, self.peak, self.line = wall, processor, peak, line
@@ -16,8 +17,8 @@ class Measured:
 
 
 def measure(words, runs=5, stdin=None, cwd=None):
-    """The least wall time and the least processor time of some runs, and the most memory. `stdin` is the path of a file.
-    Standard error is taken with what is printed. A process that is ended by a signal has that as its line."""
+    """The least wall time and the least processor time of some runs, and the most memory. `stdin` is the path of a
+    file. Standard error is taken with what is printed. A process that is ended by a signal has that as its line."""
     walls, processors, peak, line = [], [], 0, ""
     for _ in range(runs):
         with open(stdin or os.devnull, "rb") as given:
@@ -37,8 +38,8 @@ def measure(words, runs=5, stdin=None, cwd=None):
 
 
 def made_by_a_child(make, path):
-    """Writes what `make` gives to a file, in a child, so that this process stays small: the peak memory of a process that it
-    starts is at least its own."""
+    """Writes what `make` gives to a file, in a child, so that this process stays small: the peak memory of a process
+    that it starts is at least its own."""
     child = os.fork()
     if child == 0:
         made = make()

@@ -52,7 +52,9 @@ def export(name, index):
     return sized(name) + b"\0" + number(index)
 
 
-def module_of(bodies, types=(NO_PARAMETERS,), kinds=None, memory=ONE_PAGE, global_entries=(), exports=(EXPORT_A,), data=()):
+def module_of(
+    bodies, types=(NO_PARAMETERS,), kinds=None, memory=ONE_PAGE, global_entries=(), exports=(EXPORT_A,), data=()
+):
     """A module of these bodies, each of the type whose index `kinds` has for it (0 if there are no `kinds`)."""
     kinds = kinds or [0] * len(bodies)
     parts = [

@@ -1,8 +1,8 @@
 -- What reading instructions adds to the blocks.
-use Rattle.std.specs.Prelude.{◌≡◌, ℕ, List, ◌∷◌, ◌++◌, length, Result, Ok, Err}
+use Rattle.std.specs.Prelude.{◌≡◌, ℕ, ◌+◌, List, ◌∷◌, ◌++◌, length, Result, Ok, Err}
 use Rattle.wm_ast.specs.declared.instr.Instr.{Instr}
 use Rattle.wm_decode.specs.declared.fault.ItemFault.{ItemFault}
-use Rattle.wm_decode.specs.ReadingInstructions.{Body, One}
+use Rattle.wm_decode.specs.ReadingInstructions.{Body, One, closed_in, instr_in, instrs_in}
 use Rattle.wm_decode.specs.Stop.{Stop}
 use Rattle.wm_decode.specs.Implements.{Fails}
 
@@ -26,3 +26,16 @@ module _ {X : Type 0} (old new : List (List Instr)) where
   abbrev pub InstrRead : (X → Instr × List ℕ) → Result X ItemFault → Result One Stop → Type 0
   InstrRead view (Ok x) read = (nested : List (List Instr)) × (new ≡ old ++ nested) × (read ≡ Ok (record { instr = (view x).0; nested = nested; rest = (view x).1 }))
   InstrRead view (Err e) read = Fails e read
+
+  -- what the code read is what the reading gives at this nesting depth, from the next number of a block on
+  abbrev pub ReadsInstrs : ℕ → (X → List Instr × ℕ × List ℕ) → Result X ItemFault → List ℕ → Type 0
+  ReadsInstrs depth view result bytes = InstrsRead view result (instrs_in depth (length old) bytes)
+
+  abbrev pub ReadsBlock : ℕ → (X → ℕ × ℕ × List ℕ) → Result X ItemFault → List ℕ → Type 0
+  ReadsBlock depth view result bytes = BlockRead view result (instrs_in depth (length old + 1) bytes)
+
+  abbrev pub ReadsClosed : ℕ → (X → ℕ × List ℕ) → Result X ItemFault → List ℕ → Type 0
+  ReadsClosed depth view result bytes = ClosedRead view result (closed_in depth (length old + 1) bytes)
+
+  abbrev pub ReadsInstr : ℕ → ℕ → (X → Instr × List ℕ) → Result X ItemFault → List ℕ → Type 0
+  ReadsInstr depth op view result bytes = InstrRead view result (instr_in depth (length old) op bytes)

@@ -1,10 +1,10 @@
 //! Instructions and their blocks (Core 1.0, section 5.4; threads proposal, "Atomic Memory Instructions").
-ghost use Rattle.std.specs.Prelude.{◌≡◌, ◌+◌, ◌<◌, length, OnOk};
+ghost use Rattle.std.specs.Prelude.{◌≡◌, ◌<◌, OnOk};
 ghost use Rattle.wm_decode.specs.Stop.{bad};
 ghost use Rattle.wm_decode.specs.Implements.{Implements, stop_of};
 ghost use Rattle.wm_decode.specs.Instructions.{indexed_instr};
-ghost use Rattle.wm_decode.specs.ReadingInstructions.{block_type_at, opened_at, access_at, access_of, immediates_at, plain_at, instrs_in, instr_in, closed_in, blocks_at};
-ghost use Rattle.wm_decode.specs.InstructionsRead.{InstrsRead, BlockRead, ClosedRead, InstrRead};
+ghost use Rattle.wm_decode.specs.ReadingInstructions.{block_type_at, opened_at, access_at, immediates_at, plain_at, blocks_at};
+ghost use Rattle.wm_decode.specs.InstructionsRead.{ReadsBlock, ReadsClosed, ReadsInstr, ReadsInstrs};
 
 use crate::fault::{FaultKind, Feature, ItemFault, Limit};
 use crate::number::{signed_32, signed_64, unsigned_32};
@@ -177,7 +177,7 @@ fn instrs<'a>(
     blocks: &mut Blocks,
     bytes: &'a [u8],
 ) -> Result<(Block, u8, &'a [u8]), ItemFault>
-    ensures { InstrsRead blocks.old.items blocks.new.items (λ x. (x.0, x.1, x.2.now)) result (instrs_in depth_left (length blocks.old.items) bytes.now) }
+    ensures { ReadsInstrs blocks.old.items blocks.new.items depth_left (λ x. (x.0, x.1, x.2.now)) result bytes.now }
 {
     let mut found = List::new(alloc);
     let mut rest = bytes;
@@ -201,7 +201,7 @@ fn nested<'a>(
     blocks: &mut Blocks,
     bytes: &'a [u8],
 ) -> Result<(usize, u8, &'a [u8]), ItemFault>
-    ensures { BlockRead blocks.old.items blocks.new.items (λ x. (x.0, x.1, x.2.now)) result (instrs_in depth_left (length blocks.old.items + 1) bytes.now) }
+    ensures { ReadsBlock blocks.old.items blocks.new.items depth_left (λ x. (x.0, x.1, x.2.now)) result bytes.now }
 {
     let number = blocks.len();
     blocks.push(List::new(alloc))?;
@@ -219,7 +219,7 @@ fn closed<'a>(
     blocks: &mut Blocks,
     bytes: &'a [u8],
 ) -> Result<(usize, &'a [u8]), ItemFault>
-    ensures { ClosedRead blocks.old.items blocks.new.items (λ x. (x.0, x.1.now)) result (closed_in depth_left (length blocks.old.items + 1) bytes.now) }
+    ensures { ReadsClosed blocks.old.items blocks.new.items depth_left (λ x. (x.0, x.1.now)) result bytes.now }
 {
     let (number, closer, rest) = nested(alloc, depth_left, blocks, bytes)?;
     if closer == END {
@@ -256,7 +256,7 @@ fn instr<'a>(
     op: u8,
     bytes: &'a [u8],
 ) -> Result<(Instr, &'a [u8]), ItemFault>
-    ensures { InstrRead blocks.old.items blocks.new.items (λ x. (x.0, x.1.now)) result (instr_in depth_left (length blocks.old.items) op bytes.now) }
+    ensures { ReadsInstr blocks.old.items blocks.new.items depth_left op (λ x. (x.0, x.1.now)) result bytes.now }
 {
     match op {
         0x02 => {

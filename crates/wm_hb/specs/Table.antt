@@ -1,11 +1,13 @@
 -- How each event is reached from a first one, by its place in the order.
 use Rattle.std.specs.Prelude.{◌≡◌, ℕ, ◌+◌, ◌≤◌, List, Option, None, Some, slice_get, length, IsSomeAnd, IfSome, option_and_then, unwrap_or}
 use Rattle.wm_event.specs.declared.event.EventKey.{EventKey}
+use Rattle.wm_event.specs.declared.event.EventId.{EventId}
 use Rattle.wm_event.specs.declared.event.EventId.TheVariants.{At}
-use Rattle.wm_event.specs.HappensBefore.{SequencedBefore}
+use Rattle.wm_event.specs.HappensBefore.{SequencedBefore, SynchronizesWith}
 use Rattle.wm_event.specs.LoggedRun.{LoggedRun, execution}
 use Rattle.wm_hb.specs.Chain.{IsEdge, Leads}
 use Rattle.wm_hb.specs.declared.chain.Link.{Link}
+use Rattle.wm_hb.specs.declared.chain.LinkKind.{LinkKind}
 use Rattle.wm_hb.specs.declared.chain.LinkKind.TheVariants.{Sequenced}
 use Rattle.wm_hb.specs.declared.table.Reach.{Reach}
 use Rattle.wm_hb.specs.declared.table.Reach.TheVariants.{Never, First, By}
@@ -79,3 +81,16 @@ IsTable x a table = (n : ℕ) (b : EventKey) (row : Row) → StandsAt x n b → 
 -- by how many links the event at a place is reached
 abbrev pub links_at : List Row → ℕ → ℕ
 links_at table n = unwrap_or (option_and_then (λ row. links_of row.reach) (slice_get table n)) 0
+
+-- the last link of a kind from the event at a place
+abbrev pub IsHopFrom : List Row → LinkKind → ℕ → Option Hop → Type 0
+IsHopFrom table kind previous o = (x : LoggedRun) (p b : EventKey) → StandsAt x previous p → IsEdge (execution x) kind (At p) b → IfSome o (λ hop. IsHop x table b hop)
+
+-- no chain through the event at a place has fewer links
+abbrev pub BoundsThroughPlace : List Row → ℕ → Option Hop → Type 0
+BoundsThroughPlace table previous o = (x : LoggedRun) (a p : EventKey) → IsTable x a table → StandsAt x previous p → BoundsThrough x a p (hop_links o)
+
+-- no chain through the writer, if it synchronizes with the reader, has fewer links
+abbrev pub BoundsThroughWriter : LoggedRun → List Row → EventId → EventKey → Option Hop → Type 0
+BoundsThroughWriter x table writer reader o =
+    (a p : EventKey) → IsTable x a table → writer ≡ At p → SynchronizesWith (execution x) p reader → BoundsThrough x a p (hop_links o)

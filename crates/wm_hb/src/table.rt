@@ -1,12 +1,11 @@
 //! How each event is reached from a first one by the fewest links of happens-before.
-ghost use Rattle.std.specs.Prelude.{◌≡◌, ◌<◌, ◌≤◌, ◌+◌, ◌⊎◌, ℕ, length, IfOk, IfSome, MatchOption};
+ghost use Rattle.std.specs.Prelude.{◌≡◌, ◌<◌, ◌+◌, ◌⊎◌, ℕ, length, IfOk, IfSome, MatchOption};
 ghost use Rattle.wm_event.specs.declared.event.EventKey.{EventKey};
 ghost use Rattle.wm_event.specs.declared.event.EventId.TheVariants.{At};
 ghost use Rattle.wm_event.specs.HappensBefore.{SequencedBefore, SynchronizesWith};
-ghost use Rattle.wm_event.specs.LoggedRun.{LoggedRun, execution};
+ghost use Rattle.wm_event.specs.LoggedRun.{execution};
 ghost use Rattle.wm_event.specs.Rules.{KeepsOrder};
-ghost use Rattle.wm_hb.specs.Chain.{IsEdge};
-ghost use Rattle.wm_hb.specs.Table.{BoundsThrough, IsBestOfThread, IsHop, IsRow, IsSmall, IsTable, IsWithin, StandsAt, hop_links};
+ghost use Rattle.wm_hb.specs.Table.{BoundsThrough, BoundsThroughPlace, BoundsThroughWriter, IsBestOfThread, IsHop, IsHopFrom, IsRow, IsSmall, IsTable, IsWithin, StandsAt, hop_links};
 
 use crate::chain::LinkKind;
 use crate::writers::synchronizes;
@@ -64,9 +63,9 @@ fn shorter(first: Option<Hop>, second: Option<Hop>) -> Option<Hop>
 fn hop_from(table: &[Row], kind: LinkKind, previous: usize) -> Option<Hop>
     requires there { previous < length table.now }
     requires small { IsSmall table.now }
-    ensures hop { (x : LoggedRun) (p b : EventKey) → StandsAt x previous p → IsEdge (execution x) kind (At p) b → IfSome result (λ hop. IsHop x table.now b hop) }
+    ensures hop { IsHopFrom table.now kind previous result }
     ensures kind { IfSome result (λ hop. hop.kind ≡ kind) }
-    ensures least { (x : LoggedRun) (a p : EventKey) → IsTable x a table.now → StandsAt x previous p → BoundsThrough x a p (hop_links result) }
+    ensures least { BoundsThroughPlace table.now previous result }
 {
     let row = table[previous];
     match row.reach {
@@ -123,8 +122,7 @@ fn from_writer(
     requires stands { StandsAt candidate.now (length table.now) reader }
     requires small { IsSmall table.now }
     ensures hop { IfSome result (λ hop. IsHop candidate.now table.now reader hop) }
-    ensures least { (a p : EventKey) → IsTable candidate.now a table.now → writer ≡ At p → SynchronizesWith (execution candidate.now) p reader
-        → BoundsThrough candidate.now a p (hop_links result) }
+    ensures least { BoundsThroughWriter candidate.now table.now writer reader result }
 {
     let EventId::At(key) = writer else {
         return None;

@@ -6,7 +6,7 @@ use Rattle.std.proofs.lemmas.Option.{slice_get-get_or, slice_get_past}
 use Rattle.std.proofs.lemmas.List.{length-append}
 use Rattle.std.specs.List.{AllClonesOf}
 use Rattle.wm_ast.specs.declared.types.ValType.{ValType}
-use Rattle.wm_machine.specs.declared.late.Kept.{Kept}
+use Rattle.wm_machine.specs.declared.sparse_locals.Kept.{Kept}
 use Rattle.wm_machine.specs.declared.value.TypedValue.{TypedValue}
 use Rattle.wm_machine.specs.Values.{zero_of}
 use Rattle.wm_machine.specs.SparseLocals.{found, value_of, locals_from, Sets}
@@ -42,94 +42,94 @@ get_before (x ∷ xs) ys zero h = refl
 get_before (x ∷ xs) ys (suc j) h = get_before xs ys j (omega arith)
 
 -- what is beyond all that is held before one is held behind it, and is of another then
-value_behind : (held : List Kept) (index other place : ℕ) (ty : ValType) (value : TypedValue) → other ≢ index → length held ≤ place → value_of other ty (slice_get (held ++ record { index = index; value = value } ∷ []) place) ≡ zero_of ty
+value_behind : (held : List Kept) (index other slot : ℕ) (ty : ValType) (value : TypedValue) → other ≢ index → length held ≤ slot → value_of other ty (slice_get (held ++ record { index = index; value = value } ∷ []) slot) ≡ zero_of ty
 value_behind [] index other zero ty value n h = value_not other ty (record { index = index; value = value }) (λ e. n (sym e))
-value_behind [] index other (suc place) ty value n h = refl
+value_behind [] index other (suc slot) ty value n h = refl
 value_behind (k ∷ held) index other zero ty value n h = absurd (omega arith)
-value_behind (k ∷ held) index other (suc place) ty value n h = value_behind held index other place ty value n (omega arith)
+value_behind (k ∷ held) index other (suc slot) ty value n h = value_behind held index other slot ty value n (omega arith)
 
--- at any place: one that is held for another local changes nothing
-value_push : (held : List Kept) (index other place : ℕ) (ty : ValType) (value : TypedValue) → other ≢ index → value_of other ty (slice_get (held ++ record { index = index; value = value } ∷ []) place) ≡ value_of other ty (slice_get held place)
-value_push held index other place ty value n =
+-- at any slot: one that is held for another local changes nothing
+value_push : (held : List Kept) (index other slot : ℕ) (ty : ValType) (value : TypedValue) → other ≢ index → value_of other ty (slice_get (held ++ record { index = index; value = value } ∷ []) slot) ≡ value_of other ty (slice_get held slot)
+value_push held index other slot ty value n =
     ⊎_elim
-    (λ (h : place < length held). ap (value_of other ty) (get_before held _ place h))
-    (λ (h : length held ≤ place). value_behind held index other place ty value n h ∙ sym (ap (value_of other ty) (slice_get_past held place h)))
-    (cases_lt place (length held))
+    (λ (h : slot < length held). ap (value_of other ty) (get_before held _ slot h))
+    (λ (h : length held ≤ slot). value_behind held index other slot ty value n h ∙ sym (ap (value_of other ty) (slice_get_past held slot h)))
+    (cases_lt slot (length held))
 
 value_push_at : (held : List Kept) (index other : ℕ) (o : Option ℕ) (ty : ValType) (value : TypedValue) → other ≢ index → value_of other ty (option_and_then (slice_get (held ++ record { index = index; value = value } ∷ [])) o) ≡ value_of other ty (option_and_then (slice_get held) o)
 value_push_at held index other None ty value n = refl
-value_push_at held index other (Some place) ty value n = value_push held index other place ty value n
+value_push_at held index other (Some slot) ty value n = value_push held index other slot ty value n
 
 -- a value that is held is written
-value_write : (held : List Kept) (index other place q : ℕ) (d : Kept) (ty : ValType) (value : TypedValue) → other ≢ index → place < length held → (get_or held place d).index ≡ index → value_of other ty (slice_get (set held place (record { index = index; value = value })) q) ≡ value_of other ty (slice_get held q)
-value_write held index other place q d ty value n h k =
+value_write : (held : List Kept) (index other slot q : ℕ) (d : Kept) (ty : ValType) (value : TypedValue) → other ≢ index → slot < length held → (get_or held slot d).index ≡ index → value_of other ty (slice_get (set held slot (record { index = index; value = value })) q) ≡ value_of other ty (slice_get held q)
+value_write held index other slot q d ty value n h k =
     ⊎_elim
-    (λ (e : q ≡ place).
-    subst (λ (p : ℕ). value_of other ty (slice_get (set held place (record { index = index; value = value })) p) ≡ value_of other ty (slice_get held p)) (sym e)
-    (ap (value_of other ty) (get_same held place _ h) ∙ value_not other ty (record { index = index; value = value }) (λ f. n (sym f))
-    ∙ sym (ap (value_of other ty) (slice_get-get_or held place d h) ∙ value_not other ty (get_or held place d) (λ f. n (sym f ∙ k)))))
-    (λ (e : q ≢ place). ap (value_of other ty) (get_other held place q _ e))
-    (cases_eq q place)
+    (λ (e : q ≡ slot).
+    subst (λ (p : ℕ). value_of other ty (slice_get (set held slot (record { index = index; value = value })) p) ≡ value_of other ty (slice_get held p)) (sym e)
+    (ap (value_of other ty) (get_same held slot _ h) ∙ value_not other ty (record { index = index; value = value }) (λ f. n (sym f))
+    ∙ sym (ap (value_of other ty) (slice_get-get_or held slot d h) ∙ value_not other ty (get_or held slot d) (λ f. n (sym f ∙ k)))))
+    (λ (e : q ≢ slot). ap (value_of other ty) (get_other held slot q _ e))
+    (cases_eq q slot)
 
-value_write_at : (held : List Kept) (index other place : ℕ) (o : Option ℕ) (d : Kept) (ty : ValType) (value : TypedValue) → other ≢ index → place < length held → (get_or held place d).index ≡ index → value_of other ty (option_and_then (slice_get (set held place (record { index = index; value = value }))) o) ≡ value_of other ty (option_and_then (slice_get held) o)
-value_write_at held index other place None d ty value n h k = refl
-value_write_at held index other place (Some q) d ty value n h k = value_write held index other place q d ty value n h k
+value_write_at : (held : List Kept) (index other slot : ℕ) (o : Option ℕ) (d : Kept) (ty : ValType) (value : TypedValue) → other ≢ index → slot < length held → (get_or held slot d).index ≡ index → value_of other ty (option_and_then (slice_get (set held slot (record { index = index; value = value }))) o) ≡ value_of other ty (option_and_then (slice_get held) o)
+value_write_at held index other slot None d ty value n h k = refl
+value_write_at held index other slot (Some q) d ty value n h k = value_write held index other slot q d ty value n h k
 
 -- one that is held is set
-pub sets_held : (places : List ℕ) (held : List Kept) (index place : ℕ) (d : Kept) (value : TypedValue) → slice_get places index ≡ Some place → place < length held → (get_or held place d).index ≡ index → Sets places held index value places (set held place (record { index = index; value = value }))
-sets_held places held index place d value p h k = record {
-  set = λ ty. ap (λ o. value_of index ty (option_and_then (slice_get (set held place (record { index = index; value = value }))) o)) p ∙ (ap (value_of index ty) (get_same held place _ h) ∙ value_is index ty (record { index = index; value = value }) refl);
-  others = λ other ty n. value_write_at held index other place (slice_get places other) d ty value n h k;
+pub sets_held : (slots : List ℕ) (held : List Kept) (index slot : ℕ) (d : Kept) (value : TypedValue) → slice_get slots index ≡ Some slot → slot < length held → (get_or held slot d).index ≡ index → Sets slots held index value slots (set held slot (record { index = index; value = value }))
+sets_held slots held index slot d value p h k = record {
+  set = λ ty. ap (λ o. value_of index ty (option_and_then (slice_get (set held slot (record { index = index; value = value }))) o)) p ∙ (ap (value_of index ty) (get_same held slot _ h) ∙ value_is index ty (record { index = index; value = value }) refl);
+  others = λ other ty n. value_write_at held index other slot (slice_get slots other) d ty value n h k;
 }
 
--- places that lead where they led, or behind all that is held
-pub record Leads (places : List ℕ) (index count : ℕ) (now : List ℕ) : Type 0 where
+-- slots that lead where they led, or behind all that is held
+pub record Leads (slots : List ℕ) (index count : ℕ) (now : List ℕ) : Type 0 where
   pub at : slice_get now index ≡ Some count
-  pub others : (other : ℕ) → other ≢ index → (slice_get now other ≡ slice_get places other) ⊎ ((slice_get places other ≡ None) × (slice_get now other ≡ Some count))
+  pub others : (other : ℕ) → other ≢ index → (slice_get now other ≡ slice_get slots other) ⊎ ((slice_get slots other ≡ None) × (slice_get now other ≡ Some count))
 
 -- one that wasn't held is set
-pub sets_new : (places now : List ℕ) (held : List Kept) (index : ℕ) (value : TypedValue) → Leads places index (length held) now → Sets places held index value now (held ++ record { index = index; value = value } ∷ [])
-sets_new places now held index value l = record {
+pub sets_new : (slots now : List ℕ) (held : List Kept) (index : ℕ) (value : TypedValue) → Leads slots index (length held) now → Sets slots held index value now (held ++ record { index = index; value = value } ∷ [])
+sets_new slots now held index value l = record {
   set = λ ty. ap (λ o. value_of index ty (option_and_then (slice_get (held ++ record { index = index; value = value } ∷ [])) o)) l.at ∙ (ap (value_of index ty) (get_last held _) ∙ value_is index ty (record { index = index; value = value }) refl);
   others = λ other ty n. value_push_at held index other (slice_get now other) ty value n
       ∙ ⊎_elim
-      (λ (e : slice_get now other ≡ slice_get places other). ap (λ o. value_of other ty (option_and_then (slice_get held) o)) e)
-      (λ (e : (slice_get places other ≡ None) × (slice_get now other ≡ Some (length held))).
+      (λ (e : slice_get now other ≡ slice_get slots other). ap (λ o. value_of other ty (option_and_then (slice_get held) o)) e)
+      (λ (e : (slice_get slots other ≡ None) × (slice_get now other ≡ Some (length held))).
       ap (λ o. value_of other ty (option_and_then (slice_get held) o)) e.1 ∙ (ap (value_of other ty) (slice_get_past held (length held) (omega arith)) ∙ sym (ap (λ o. value_of other ty (option_and_then (slice_get held) o)) e.0)))
       (l.others other n);
 }
 
--- a place is written
-pub leads_set : (places : List ℕ) (index count : ℕ) → index < length places → Leads places index count (set places index count)
-leads_set places index count h = record {
-  at = get_same places index count h;
-  others = λ other n. inl (get_other places index other count n);
+-- a slot is written
+pub leads_set : (slots : List ℕ) (index count : ℕ) → index < length slots → Leads slots index count (set slots index count)
+leads_set slots index count h = record {
+  at = get_same slots index count h;
+  others = λ other n. inl (get_other slots index other count n);
 }
 
--- the same place for more locals, the last of which is the one that is set
+-- the same slot for more locals, the last of which is the one that is set
 filled : (count : ℕ) (ys : List ℕ) (j : ℕ) → AllClonesOf (λ x y. y ≡ x) count ys → j < length ys → slice_get ys j ≡ Some count
 filled count [] j a h = absurd (omega arith)
 filled count (y ∷ ys) zero a h = ap Some (⊎_elim (λ (e : y ≡ count). e) (λ (e : y ≡ count). e) a.0)
 filled count (y ∷ ys) (suc j) a h = filled count ys j a.1 (omega arith)
 
-get_behind : (places ys : List ℕ) (count j : ℕ) → AllClonesOf (λ x y. y ≡ x) count ys → length places ≤ j → j < length places + length ys → slice_get (places ++ ys) j ≡ Some count
+get_behind : (slots ys : List ℕ) (count j : ℕ) → AllClonesOf (λ x y. y ≡ x) count ys → length slots ≤ j → j < length slots + length ys → slice_get (slots ++ ys) j ≡ Some count
 get_behind [] ys count j a l h = filled count ys j a (omega arith)
-get_behind (p ∷ places) ys count zero a l h = absurd (omega arith)
-get_behind (p ∷ places) ys count (suc j) a l h = get_behind places ys count j a (omega arith) (omega arith)
+get_behind (p ∷ slots) ys count zero a l h = absurd (omega arith)
+get_behind (p ∷ slots) ys count (suc j) a l h = get_behind slots ys count j a (omega arith) (omega arith)
 
-get_past : (places ys : List ℕ) (j : ℕ) → length places + length ys ≤ j → (slice_get (places ++ ys) j ≡ None) × (slice_get places j ≡ None)
-get_past places ys j l = (slice_get_past (places ++ ys) j (omega (arith, length-append places ys)), slice_get_past places j (omega arith))
+get_past : (slots ys : List ℕ) (j : ℕ) → length slots + length ys ≤ j → (slice_get (slots ++ ys) j ≡ None) × (slice_get slots j ≡ None)
+get_past slots ys j l = (slice_get_past (slots ++ ys) j (omega (arith, length-append slots ys)), slice_get_past slots j (omega arith))
 
-pub leads_more : (places ys : List ℕ) (index count : ℕ) → AllClonesOf (λ x y. y ≡ x) count ys → length places ≤ index → index + 1 ≡ length places + length ys → Leads places index count (places ++ ys)
-leads_more places ys index count a l h = record {
-  at = get_behind places ys count index a l (omega arith);
+pub leads_more : (slots ys : List ℕ) (index count : ℕ) → AllClonesOf (λ x y. y ≡ x) count ys → length slots ≤ index → index + 1 ≡ length slots + length ys → Leads slots index count (slots ++ ys)
+leads_more slots ys index count a l h = record {
+  at = get_behind slots ys count index a l (omega arith);
   others = λ other n. ⊎_elim
-      (λ (b : other < length places). inl (get_before places ys other b))
-      (λ (b : length places ≤ other). ⊎_elim
-      (λ (c : other < length places + length ys). inr (slice_get_past places other b, get_behind places ys count other a b c))
-      (λ (c : length places + length ys ≤ other). let g = get_past places ys other c in inl (g.0 ∙ sym g.1))
-      (cases_lt other (length places + length ys)))
-      (cases_lt other (length places));
+      (λ (b : other < length slots). inl (get_before slots ys other b))
+      (λ (b : length slots ≤ other). ⊎_elim
+      (λ (c : other < length slots + length ys). inr (slice_get_past slots other b, get_behind slots ys count other a b c))
+      (λ (c : length slots + length ys ≤ other). let g = get_past slots ys other c in inl (g.0 ∙ sym g.1))
+      (cases_lt other (length slots + length ys)))
+      (cases_lt other (length slots));
 }
 
 nothing : (index : ℕ) (ty : ValType) (o : Option ℕ) → value_of index ty (option_and_then (slice_get []) o) ≡ zero_of ty
@@ -137,49 +137,49 @@ nothing index ty None = refl
 nothing index ty (Some q) = refl
 
 -- the locals, where nothing is held
-pub none_held : (places : List ℕ) (index : ℕ) (types : List ValType) → locals_from places [] index types ≡ map zero_of types
-none_held places index [] = refl
-none_held places index (ty ∷ types) = ap (λ v. v ∷ locals_from places [] (suc index) types) (nothing index ty (slice_get places index)) ∙ ap (λ vs. zero_of ty ∷ vs) (none_held places (suc index) types)
+pub none_held : (slots : List ℕ) (index : ℕ) (types : List ValType) → locals_from slots [] index types ≡ map zero_of types
+none_held slots index [] = refl
+none_held slots index (ty ∷ types) = ap (λ v. v ∷ locals_from slots [] (suc index) types) (nothing index ty (slice_get slots index)) ∙ ap (λ vs. zero_of ty ∷ vs) (none_held slots (suc index) types)
 
 -- how many they are, and each of them
-pub length_locals : (places : List ℕ) (held : List Kept) (index : ℕ) (types : List ValType) → length (locals_from places held index types) ≡ length types
-length_locals places held index [] = refl
-length_locals places held index (ty ∷ types) = ap suc (length_locals places held (suc index) types)
+pub length_locals : (slots : List ℕ) (held : List Kept) (index : ℕ) (types : List ValType) → length (locals_from slots held index types) ≡ length types
+length_locals slots held index [] = refl
+length_locals slots held index (ty ∷ types) = ap suc (length_locals slots held (suc index) types)
 
-get_local : (places : List ℕ) (held : List Kept) (from index at : ℕ) (types : List ValType) → at ≡ from + index → slice_get (locals_from places held from types) index ≡ option_map (λ ty. value_of at ty (found places held at)) (slice_get types index)
-get_local places held from index at [] e = refl
-get_local places held from zero at (ty ∷ types) e = ap (λ i. Some (value_of i ty (found places held i))) (let f : from ≡ at = omega arith in f)
-get_local places held from (suc index) at (ty ∷ types) e = get_local places held (suc from) index at types (omega arith)
+get_local : (slots : List ℕ) (held : List Kept) (from index at : ℕ) (types : List ValType) → at ≡ from + index → slice_get (locals_from slots held from types) index ≡ option_map (λ ty. value_of at ty (found slots held at)) (slice_get types index)
+get_local slots held from index at [] e = refl
+get_local slots held from zero at (ty ∷ types) e = ap (λ i. Some (value_of i ty (found slots held i))) (let f : from ≡ at = omega arith in f)
+get_local slots held from (suc index) at (ty ∷ types) e = get_local slots held (suc from) index at types (omega arith)
 
-pub get_first : (places : List ℕ) (held : List Kept) (index : ℕ) (types : List ValType) → slice_get (locals_from places held 0 types) index ≡ option_map (λ ty. value_of index ty (found places held index)) (slice_get types index)
-get_first places held index types = get_local places held 0 index index types (omega arith)
+pub get_first : (slots : List ℕ) (held : List Kept) (index : ℕ) (types : List ValType) → slice_get (locals_from slots held 0 types) index ≡ option_map (λ ty. value_of index ty (found slots held index)) (slice_get types index)
+get_first slots held index types = get_local slots held 0 index index types (omega arith)
 
 -- one past them, one that is held, and one that isn't
-pub get_none : (places : List ℕ) (held : List Kept) (index : ℕ) (types : List ValType) → length types ≤ index → None ≡ slice_get (locals_from places held 0 types) index
-get_none places held index types h = sym (slice_get_past (locals_from places held 0 types) index (omega (arith, length_locals places held 0 types)))
+pub get_none : (slots : List ℕ) (held : List Kept) (index : ℕ) (types : List ValType) → length types ≤ index → None ≡ slice_get (locals_from slots held 0 types) index
+get_none slots held index types h = sym (slice_get_past (locals_from slots held 0 types) index (omega (arith, length_locals slots held 0 types)))
 
-pub get_held : (places : List ℕ) (held : List Kept) (index place : ℕ) (types : List ValType) (ty : ValType) (kept : Kept) → slice_get types index ≡ Some ty → slice_get places index ≡ Some place → place < length held → kept ≡ get_or held place kept → kept.index ≡ index → Some kept.value ≡ slice_get (locals_from places held 0 types) index
-get_held places held index place types ty kept t p h k e = sym (get_first places held index types ∙ (ap (option_map (λ (y : ValType). value_of index y (found places held index))) t
-    ∙ ap Some (ap (λ o. value_of index ty (option_and_then (slice_get held) o)) p ∙ (ap (value_of index ty) (slice_get-get_or held place kept h ∙ ap Some (sym k)) ∙ value_is index ty kept e))))
+pub get_held : (slots : List ℕ) (held : List Kept) (index slot : ℕ) (types : List ValType) (ty : ValType) (kept : Kept) → slice_get types index ≡ Some ty → slice_get slots index ≡ Some slot → slot < length held → kept ≡ get_or held slot kept → kept.index ≡ index → Some kept.value ≡ slice_get (locals_from slots held 0 types) index
+get_held slots held index slot types ty kept t p h k e = sym (get_first slots held index types ∙ (ap (option_map (λ (y : ValType). value_of index y (found slots held index))) t
+    ∙ ap Some (ap (λ o. value_of index ty (option_and_then (slice_get held) o)) p ∙ (ap (value_of index ty) (slice_get-get_or held slot kept h ∙ ap Some (sym k)) ∙ value_is index ty kept e))))
 
-pub get_zero : (places : List ℕ) (held : List Kept) (index : ℕ) (types : List ValType) (ty : ValType) → slice_get types index ≡ Some ty → value_of index ty (found places held index) ≡ zero_of ty → Some (zero_of ty) ≡ slice_get (locals_from places held 0 types) index
-get_zero places held index types ty t z = sym (get_first places held index types ∙ (ap (option_map (λ (y : ValType). value_of index y (found places held index))) t ∙ ap Some z))
+pub get_zero : (slots : List ℕ) (held : List Kept) (index : ℕ) (types : List ValType) (ty : ValType) → slice_get types index ≡ Some ty → value_of index ty (found slots held index) ≡ zero_of ty → Some (zero_of ty) ≡ slice_get (locals_from slots held 0 types) index
+get_zero slots held index types ty t z = sym (get_first slots held index types ∙ (ap (option_map (λ (y : ValType). value_of index y (found slots held index))) t ∙ ap Some z))
 
 -- one of them is set
-keeps_locals : (places now : List ℕ) (held held_now : List Kept) (index from : ℕ) (value : TypedValue) (types : List ValType) → Sets places held index value now held_now → index < from → locals_from now held_now from types ≡ locals_from places held from types
-keeps_locals places now held held_now index from value [] s h = refl
-keeps_locals places now held held_now index from value (ty ∷ types) s h =
+keeps_locals : (slots now : List ℕ) (held held_now : List Kept) (index from : ℕ) (value : TypedValue) (types : List ValType) → Sets slots held index value now held_now → index < from → locals_from now held_now from types ≡ locals_from slots held from types
+keeps_locals slots now held held_now index from value [] s h = refl
+keeps_locals slots now held held_now index from value (ty ∷ types) s h =
     ap (λ v. v ∷ locals_from now held_now (suc from) types) (s.others from ty (omega arith))
-    ∙ ap (λ vs. value_of from ty (found places held from) ∷ vs) (keeps_locals places now held held_now index (suc from) value types s (omega arith))
+    ∙ ap (λ vs. value_of from ty (found slots held from) ∷ vs) (keeps_locals slots now held held_now index (suc from) value types s (omega arith))
 
-set_local : (places now : List ℕ) (held held_now : List Kept) (index from at : ℕ) (value : TypedValue) (types : List ValType) → Sets places held index value now held_now → index ≡ from + at → at < length types → locals_from now held_now from types ≡ set (locals_from places held from types) at value
-set_local places now held held_now index from at value [] s e h = absurd (omega arith)
-set_local places now held held_now index from zero value (ty ∷ types) s e h =
+set_local : (slots now : List ℕ) (held held_now : List Kept) (index from at : ℕ) (value : TypedValue) (types : List ValType) → Sets slots held index value now held_now → index ≡ from + at → at < length types → locals_from now held_now from types ≡ set (locals_from slots held from types) at value
+set_local slots now held held_now index from at value [] s e h = absurd (omega arith)
+set_local slots now held held_now index from zero value (ty ∷ types) s e h =
     ap (λ v. v ∷ locals_from now held_now (suc from) types) (subst (λ (i : ℕ). value_of i ty (found now held_now i) ≡ value) (let f : index ≡ from = omega arith in f) (s.set ty))
-    ∙ ap (λ vs. value ∷ vs) (keeps_locals places now held held_now index (suc from) value types s (omega arith))
-set_local places now held held_now index from (suc at) value (ty ∷ types) s e h =
+    ∙ ap (λ vs. value ∷ vs) (keeps_locals slots now held held_now index (suc from) value types s (omega arith))
+set_local slots now held held_now index from (suc at) value (ty ∷ types) s e h =
     ap (λ v. v ∷ locals_from now held_now (suc from) types) (s.others from ty (omega arith))
-    ∙ ap (λ vs. value_of from ty (found places held from) ∷ vs) (set_local places now held held_now index (suc from) at value types s (omega arith) (omega arith))
+    ∙ ap (λ vs. value_of from ty (found slots held from) ∷ vs) (set_local slots now held held_now index (suc from) at value types s (omega arith) (omega arith))
 
-pub set_first : (places now : List ℕ) (held held_now : List Kept) (index : ℕ) (value : TypedValue) (types : List ValType) → Sets places held index value now held_now → index < length (locals_from places held 0 types) → locals_from now held_now 0 types ≡ set (locals_from places held 0 types) index value
-set_first places now held held_now index value types s h = set_local places now held held_now index 0 index value types s (omega arith) (omega (arith, length_locals places held 0 types))
+pub set_first : (slots now : List ℕ) (held held_now : List Kept) (index : ℕ) (value : TypedValue) (types : List ValType) → Sets slots held index value now held_now → index < length (locals_from slots held 0 types) → locals_from now held_now 0 types ≡ set (locals_from slots held 0 types) index value
+set_first slots now held held_now index value types s h = set_local slots now held held_now index 0 index value types s (omega arith) (omega (arith, length_locals slots held 0 types))

@@ -5,9 +5,9 @@ use Rattle.wm_machine.specs.declared.sparse_locals.Kept.{Kept}
 use Rattle.wm_machine.specs.declared.value.TypedValue.{TypedValue}
 use Rattle.wm_machine.specs.Values.{zero_of}
 
--- what is held where a local has its place
+-- what is held where a local has its slot
 abbrev pub found : List ℕ → List Kept → ℕ → Option Kept
-found places held index = option_and_then (slice_get held) (slice_get places index)
+found slots held index = option_and_then (slice_get held) (slice_get slots index)
 
 -- the value of a local: what was found, where that is of this local, else zero
 abbrev pub value_of : ℕ → ValType → Option Kept → TypedValue
@@ -16,10 +16,10 @@ value_of index ty (Some kept) = if kept.index == index then kept.value else zero
 
 -- the locals from this index on
 abbrev pub locals_from : List ℕ → List Kept → ℕ → List ValType → List TypedValue
-locals_from places held index [] = []
-locals_from places held index (ty ∷ types) = value_of index ty (found places held index) ∷ locals_from places held (suc index) types
+locals_from slots held index [] = []
+locals_from slots held index (ty ∷ types) = value_of index ty (found slots held index) ∷ locals_from slots held (suc index) types
 
 -- one local has this value now, and the others are as they were
-pub record Sets (places : List ℕ) (held : List Kept) (index : ℕ) (value : TypedValue) (places_now : List ℕ) (held_now : List Kept) : Type 0 where
+pub record Sets (slots : List ℕ) (held : List Kept) (index : ℕ) (value : TypedValue) (places_now : List ℕ) (held_now : List Kept) : Type 0 where
   pub set : (ty : ValType) → value_of index ty (found places_now held_now index) ≡ value
-  pub others : (other : ℕ) → (ty : ValType) → other ≢ index → value_of other ty (found places_now held_now other) ≡ value_of other ty (found places held other)
+  pub others : (other : ℕ) → (ty : ValType) → other ≢ index → value_of other ty (found places_now held_now other) ≡ value_of other ty (found slots held other)

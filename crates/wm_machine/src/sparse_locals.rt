@@ -17,12 +17,12 @@ struct Kept {
     value: TypedValue,
 }
 
-/// Locals of which those that were set are held, one behind the other as they came, so that the others cost nothing. A place
-/// holds a local only where what is held there says so: places that were used before need no clearing.
+/// Locals of which those that were set are held, one behind the other as they came, so that the others cost nothing. A slot
+/// holds a local only where what is held there says so: slots that were used before need no clearing.
 #[derive(Drop)]
 pub struct SparseLocals<'m> {
     types: &'m [ValType],
-    places: Vec<usize>,
+    slots: Vec<usize>,
     held: Vec<Kept>,
 }
 
@@ -33,7 +33,7 @@ impl<'m> Model for SparseLocals<'m> {
 
     ghost Value = { List TypedValue };
 
-    ghost view = { λ l. locals_from l.places.items l.held.items 0 l.types.now };
+    ghost view = { λ l. locals_from l.slots.items l.held.items 0 l.types.now };
 }
 
 impl<'m> SparseLocals<'m> {
@@ -43,7 +43,7 @@ impl<'m> SparseLocals<'m> {
     {
         SparseLocals {
             types: &[],
-            places: Vec::new(alloc),
+            slots: Vec::new(alloc),
             held: Vec::new(alloc),
         }
     }
@@ -71,8 +71,8 @@ impl<'m> SparseLocals<'m> {
     {
         match self.types.get(index) {
             None => None,
-            Some(ty) => match find(&self.places, &self.held, index) {
-                Some(place) => Some(self.held[place].value),
+            Some(ty) => match find(&self.slots, &self.held, index) {
+                Some(slot) => Some(self.held[slot].value),
                 None => Some(TypedValue::zero(*ty)),
             },
         }
@@ -84,27 +84,27 @@ impl<'m> SparseLocals<'m> {
         ensures ok { OnOk result (self.new ≡ slice_set self.old index value) }
         ensures err { OnErr result (self.new ≡ self.old) }
     {
-        match find(&self.places, &self.held, index) {
-            Some(place) => {
-                self.held[place] = Kept { index, value };
+        match find(&self.slots, &self.held, index) {
+            Some(slot) => {
+                self.held[slot] = Kept { index, value };
                 Ok(())
             }
-            None => add(&mut self.places, &mut self.held, index, value),
+            None => add(&mut self.slots, &mut self.held, index, value),
         }
     }
 }
 
 /// Where a local is held, if it was set.
-fn find(places: &[usize], held: &[Kept], index: usize) -> Option<usize>
-    ensures place { IfSome result (λ place. (slice_get places.now index ≡ Some place) × (place < length held.now)) }
-    ensures some { IfSome result (λ place. (d : KeptAt) → (slice_index_or held.now place d).index ≡ index) }
-    ensures none { result ≡ None → (ty : ValTypeOf) → value_of index ty (found places.now held.now index) ≡ zero_of ty }
+fn find(slots: &[usize], held: &[Kept], index: usize) -> Option<usize>
+    ensures slot { IfSome result (λ slot. (slice_get slots.now index ≡ Some slot) × (slot < length held.now)) }
+    ensures some { IfSome result (λ slot. (d : KeptAt) → (slice_index_or held.now slot d).index ≡ index) }
+    ensures none { result ≡ None → (ty : ValTypeOf) → value_of index ty (found slots.now held.now index) ≡ zero_of ty }
 {
-    match places.get(index) {
+    match slots.get(index) {
         None => None,
-        Some(place) => {
-            if *place < held.len() && held[*place].index == index {
-                Some(*place)
+        Some(slot) => {
+            if *slot < held.len() && held[*slot].index == index {
+                Some(*slot)
             } else {
                 None
             }
@@ -114,21 +114,21 @@ fn find(places: &[usize], held: &[Kept], index: usize) -> Option<usize>
 
 /// Holds a local that wasn't set before. An `Err` changes no local.
 fn add(
-    places: &mut Vec<usize>,
+    slots: &mut Vec<usize>,
     held: &mut Vec<Kept>,
     index: usize,
     value: TypedValue,
 ) -> Result<(), AllocError>
     requires { index + 1 < 2 ^ 64 }
-    ensures ok { OnOk result (Sets places.old.items held.old.items index value places.new.items held.new.items) }
-    ensures err { OnErr result ((places.new.items ≡ places.old.items) × (held.new.items ≡ held.old.items)) }
+    ensures ok { OnOk result (Sets slots.old.items held.old.items index value slots.new.items held.new.items) }
+    ensures err { OnErr result ((slots.new.items ≡ slots.old.items) × (held.new.items ≡ held.old.items)) }
 {
     held.reserve(1)?;
-    let place = held.len();
-    if index < places.len() {
-        places[index] = place;
+    let slot = held.len();
+    if index < slots.len() {
+        slots[index] = slot;
     } else {
-        places.resize(index + 1, place)?;
+        slots.resize(index + 1, slot)?;
     }
     match held.push(Kept { index, value }) {
         Ok(()) => Ok(()),

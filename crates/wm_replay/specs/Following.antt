@@ -75,11 +75,11 @@ pub record RunsByLog (m : Module) (k : ℕ) (t : ThreadLog) (limit : ℕ) (c : C
   pub ran_so : steps m k start (reads_of t.events) j ≡ Some record { events = take n t.events; config = c; reads = reads_of (drop n t.events) }
   pub stops : Stops m c t.events limit j n
 
--- this is how thread k of its module has run by its log
-abbrev pub HasRunByLog : ℕ → ThreadLog → ℕ → Followed → Type 0
-HasRunByLog k t limit f = RunsByLog f.thread.module k t limit (config_of f.thread) f.steps f.events
-
 -- thread k has run by its log for at most this number of steps, or doesn't start
 abbrev pub FollowsLog : Module → ℕ → ThreadLog → ℕ → Result Followed StartFault → Type 0
 FollowsLog m k t limit (Ok f) = RunsByLog m k t limit (config_of f.thread) f.steps f.events × (f.thread.module ≡ m)
 FollowsLog m k t limit (Err fault) = (start_of m t ≡ Err fault) × (fault ≢ OutOfMemory)
+
+-- the thread has run by its log for at most the steps that the log states
+abbrev pub RunsAsStated : ℕ → ThreadLog → Followed → Type 0
+RunsAsStated k t f = RunsByLog f.thread.module k t t.steps (config_of f.thread) f.steps f.events

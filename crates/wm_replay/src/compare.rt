@@ -1,7 +1,7 @@
 //! The replay of a log.
 ghost use Rattle.std.specs.Prelude.{IfOk};
 ghost use Rattle.wm_replay.specs.Comparison.{ComparesThread, IsDifference, Replays};
-ghost use Rattle.wm_replay.specs.Following.{HasPlaces, HasRunByLog};
+ghost use Rattle.wm_replay.specs.Following.{HasPlaces, RunsAsStated};
 
 use crate::answer::{Place, ReplayAnswer};
 use crate::by_log::{Followed, end_of, follow};
@@ -15,7 +15,7 @@ use wm_valid::ValidModule;
 /// Where a thread that was run by its log for at most its stated steps differs from that, None if it doesn't.
 fn differing_place(followed: &Followed, stated: &ThreadLog, number: usize) -> Option<Place>
     requires places { HasPlaces number stated.now.events }
-    requires runs { HasRunByLog number stated.now stated.now.steps followed.now }
+    requires runs { RunsAsStated number stated.now followed.now }
     ensures { IsDifference followed.now.thread.module number stated.now result }
 {
     if followed.events < stated.events.len() {

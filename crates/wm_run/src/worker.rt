@@ -4,6 +4,7 @@ ghost use Rattle.wm_event.specs.Limits.{max_steps};
 ghost use Rattle.wm_logfile.specs.Document.{EndFits};
 ghost use Rattle.wm_machine.specs.Run.{end_of as config_end};
 ghost use Rattle.wm_machine.specs.State.{config_of, need_of};
+ghost use Rattle.wm_machine.specs.declared.thread.Need.TheVariants as Need;
 ghost use Rattle.wm_run.specs.Reached.{HasRun, LeadsOn, is_before_access};
 ghost use Rattle.wm_run.specs.Stops.{StopsAs, is_own};
 ghost use Rattle.wm_run.specs.Worker.{IsGiven, IsWorkOf};

@@ -1,0 +1,68 @@
+#!/usr/bin/env python3
+"""Lints the scripts: Python with pyflakes and at most 120 columns, shell with shellcheck. The last line is `N passed,
+N failed`.
+
+    scripts/lint.py        it needs Debian's python3-pyflakes and shellcheck; what is missing is named and not counted
+"""
+import os
+import shutil
+import subprocess
+
+from wmlabtools import TOP, harness
+
+COLUMNS = 120
+
+
+def tracked():
+    """The files of the repository, also those that are not committed yet."""
+    words = ["git", "ls-files", "-z", "--cached", "--others", "--exclude-standard"]
+    ran = subprocess.run(words, cwd=TOP, capture_output=True, text=True, check=True)
+    return sorted(name for name in ran.stdout.split("\0") if name and os.path.isfile(f"{TOP}/{name}"))
+
+
+def language_of(name):
+    """`python`, `sh` or nothing, by the ending or the first line."""
+    if name.endswith(".py"):
+        return "python"
+    if name.endswith(".sh"):
+        return "sh"
+    if "." in os.path.basename(name).lstrip("."):
+        return None
+    with open(f"{TOP}/{name}", "rb") as file:
+        first = file.readline(80)
+    if not first.startswith(b"#!"):
+        return None
+    return "python" if b"python" in first else "sh" if b"sh" in first else None
+
+
+def long_lines(name):
+    with open(f"{TOP}/{name}", encoding="utf-8") as file:
+        return [number for number, line in enumerate(file, 1) if len(line.rstrip("\n")) > COLUMNS]
+
+
+def main():
+    tally = harness.Tally()
+    by_language = {"python": [], "sh": []}
+    for name in tracked():
+        language = language_of(name)
+        if language:
+            by_language[language].append(name)
+    tools = {"python": ["pyflakes3"], "sh": ["shellcheck", "-x"]}
+    for language, names in by_language.items():
+        tool = tools[language]
+        if not shutil.which(tool[0]):
+            print(f"{tool[0]} is not there: {len(names)} files are not looked at by it")
+            continue
+        for name in names:
+            ran = subprocess.run(
+                [*tool, name], cwd=TOP, stdout=subprocess.PIPE, stderr=subprocess.STDOUT, text=True, check=False
+            )
+            tally.check(ran.returncode == 0, f"{tool[0]} {name}", ran.stdout)
+    for name in by_language["python"] + by_language["sh"]:
+        wide = long_lines(name)
+        tally.check(not wide, f"{name} has lines of more than {COLUMNS} columns", wide)
+    tally.end()
+
+
+if __name__ == "__main__":
+    main()
