@@ -7,9 +7,9 @@ ghost use Rattle.wm_replay.specs.Following.{HasPlaces};
 use crate::phrase::{EndPhrase, EventPhrase, OpPhrase};
 use std::alloc::{AllocError, Global};
 use std::fmt;
-use wm_event::{End, Event, OpFields, ThreadLog};
+use wm_event::{End, Event, MAX_STEPS, OpFields, ThreadLog};
 use wm_machine::{CodePosition, Need, Thread};
-use wm_replay::{MAX_STEPS, follow};
+use wm_replay::follow;
 use wm_valid::ValidModule;
 
 /// What comes next in a thread, by its log or by its module.

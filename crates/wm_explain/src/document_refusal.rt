@@ -6,7 +6,8 @@ use crate::expected::ExpectedPhrase;
 use serde_json::{Category, Error, Value};
 use std::alloc::{AllocError, Global};
 use std::fmt;
-use wm_logfile::{DocFault, MAX_DOCUMENT_BYTES, MAX_THREADS};
+use wm_event::MAX_THREADS;
+use wm_logfile::{DocFault, MAX_DOCUMENT_BYTES};
 
 /// What a document has at a path, and what it has to have there.
 #[derive(Clone, Copy)]

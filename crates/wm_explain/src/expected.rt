@@ -2,8 +2,7 @@
 
 use crate::document_part::value_at;
 use std::fmt;
-use wm_event::TrapKind;
-use wm_replay::MAX_STEPS;
+use wm_event::{MAX_STEPS, TrapKind};
 
 /// The names of the traps.
 const TRAPS: [TrapKind; 6] = [

@@ -8,8 +8,8 @@ use crate::start_refusal::start_reason;
 use std::alloc::{AllocError, Global};
 use std::cmp::Ordering;
 use std::thread::Threads;
-use wm_event::{Candidate, EventKey, Judgement, OpKind, Rule, RuleFault, ThreadLog};
-use wm_replay::{MAX_STEPS, Place, ReplayAnswer};
+use wm_event::{Candidate, EventKey, Judgement, MAX_STEPS, OpKind, Rule, RuleFault, ThreadLog};
+use wm_replay::{Place, ReplayAnswer};
 use wm_rules::judge;
 use wm_valid::ValidModule;
 

@@ -6,12 +6,9 @@ ghost use Rattle.wm_replay.specs.Following.{HasPlaces};
 use crate::answer::{Place, ReplayAnswer};
 use crate::by_log::{end_of, follow};
 use std::alloc::{AllocError, Global};
-use wm_event::{End, Log, Start, ThreadLog};
+use wm_event::{End, Log, MAX_STEPS, Start, ThreadLog};
 use wm_list::{Growing, List, Text};
 use wm_valid::ValidModule;
-
-/// How many steps a thread is run for at most.
-pub const MAX_STEPS: u32 = 1_000_000;
 
 /// A log with the steps and the ends of its runs, or why there is none.
 #[derive(Drop)]

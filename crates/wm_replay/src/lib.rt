@@ -11,4 +11,4 @@ mod parallel;
 pub use answer::{Place, ReplayAnswer};
 pub use by_log::{Followed, follow};
 pub use compare::replay;
-pub use completing::{Completion, MAX_STEPS, complete};
+pub use completing::{Completion, complete};
