@@ -10,9 +10,9 @@ use wm_machine::StartFault;
 /// What of a plan or of its script is past a limit or missing.
 #[derive(Clone, Copy, Debug, PartialEq, Eq, Error)]
 pub enum PlanFault {
-    /// It starts no thread, or more than [`crate::MAX_THREADS`].
+    /// It starts no thread, or more than [`wm_event::MAX_THREADS`].
     Threads,
-    /// It lets a thread make more than [`crate::MAX_STEPS`] steps.
+    /// It lets a thread make more than [`wm_event::MAX_STEPS`] steps.
     Steps,
     /// There are more than [`crate::MAX_TURNS`] turns.
     Turns,

@@ -30,11 +30,5 @@ pub use script::{drive, one_scripted_run};
 pub use turn::Turn;
 pub use worker::work;
 
-/// How many threads a run has at most.
-pub const MAX_THREADS: usize = 16;
-
-/// How many steps each thread of a run makes at most.
-pub const MAX_STEPS: u32 = 1_000_000;
-
 /// How many turns a script has at most, and the drainer of a round.
 pub const MAX_TURNS: usize = 1_000_000;

@@ -2,10 +2,10 @@
 ghost use Rattle.std.specs.Prelude.{◌≡◌, ◌≤◌, ◌⊎◌, length, IfErr, IfNone, IfSome, OnOk, Some};
 ghost use Rattle.wm_run.specs.Plan.{AreTurnsOf, HasThreads, IsLeastAbsent, IsPlan, IsPlanFault};
 
+use crate::MAX_TURNS;
 use crate::fault::PlanFault;
 use crate::turn::Turn;
-use crate::{MAX_STEPS, MAX_THREADS, MAX_TURNS};
-use wm_event::Start;
+use wm_event::{MAX_STEPS, MAX_THREADS, Start};
 use wm_list::List;
 
 /// What a run starts, and how far it goes.

@@ -9,7 +9,7 @@ use crate::start::read_starts;
 use crate::turns::read_turns;
 use std::alloc::Global;
 use wm_list::List;
-use wm_run::{MAX_STEPS, Plan, Turn};
+use wm_run::{Plan, Turn};
 
 /// A script: what its threads start with, and the turns that they take.
 #[derive(Drop)]
