@@ -8,6 +8,7 @@ use crate::number::small_decimal;
 use crate::start::read_starts;
 use crate::turns::read_turns;
 use std::alloc::Global;
+use wm_event::MAX_STEPS;
 use wm_list::List;
 use wm_run::{Plan, Turn};
 
