@@ -8,7 +8,7 @@ use crate::start_refusal::start_reason;
 use std::alloc::{AllocError, Global};
 use std::cmp::Ordering;
 use std::thread::Threads;
-use wm_event::{Candidate, EventKey, Judgement, MAX_STEPS, OpKind, Rule, RuleFault, ThreadLog};
+use wm_event::{Candidate, Judgement, MAX_STEPS, OpKind, Rule, RuleFault, ThreadLog};
 use wm_replay::{Place, ReplayAnswer};
 use wm_rules::judge;
 use wm_valid::ValidModule;
@@ -89,13 +89,10 @@ fn add_unended(
     let steps = Count(u64::from(thread.log.steps), "step");
     match place {
         Place::Event(number) => {
-            let key = EventKey {
-                thread: thread.number as u32,
-                number: number as u32,
-            };
+            let of = thread.number;
             writeln!(
                 text,
-                "The log has too few steps: after {steps} the module has not made event {key} yet."
+                "The log has too few steps: after {steps} the module has not made event {of}.{number} yet."
             )?;
         }
         Place::End => writeln!(text, "The run has not ended after {steps}.")?,

@@ -2,7 +2,7 @@ use Rattle.wm_replay.proofs.Logs.{item_at, places_in}
 use Rattle.wm_explain.proofs.replay.differing_reason.Goals as goal
 
 pub compare-requires : goal.compare-requires
-compare-requires c =
+compare-requires g c =
     let items = c.threads-threads.result.now in
     let stated = c.index-threads-number.result in
     places_in _ c.args.number stated c.threads-threads.ensures.keys

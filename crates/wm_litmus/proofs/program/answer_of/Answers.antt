@@ -4,7 +4,7 @@ use Rattle.wm_litmus.specs.Drive.{IsScriptAnswer}
 use Rattle.wm_litmus.specs.Explanation.{AnswersExplain, AnswersGraph}
 use Rattle.wm_litmus.specs.Rounds.{IsRoundsAnswer}
 use Rattle.wm_litmus.specs.Replies.{AnswersCheck, AnswersComplete, AnswersMigrate, AnswersRules}
-use Rattle.wm_litmus.specs.Replies.IsAnswer.{check_of, complete_of, drive_of, explain_of, graph_of, help_of, migrate_of, rules_of, run_of, version_of}
+use Rattle.wm_litmus.specs.Replies.IsAnswer.{check_of, complete_of, drive_of, explain_of, graph_of, help_of, migrate_of, no_command, rules_of, run_of, version_of}
 use Rattle.wm_litmus.proofs.program.answer_of.Goals as goal
 
 pub returns-in_ok-rules_answer-in-Ok-Rules-clause-answers : goal.returns-in_ok-rules_answer-in-Ok-Rules-clause-answers
@@ -102,3 +102,10 @@ pub returns-in_ok-version_answer-in-Ok-Version-clause-answers : goal.returns-in_
 returns-in_ok-version_answer-in-Ok-Version-clause-answers g c =
     let prints = c.in_ok-version_answer-in-Ok-Version.ensures in
     version_of (rw c.in-Ok-Version.field-0-is at c.in-Ok-Version.ensures.read) prints.status_is prints.text_is
+
+pub returns-in_ok-refused_words-in-Err-Words-clause-answers :
+    goal.returns-in_ok-refused_words-in-Err-Words-clause-answers
+returns-in_ok-refused_words-in-Err-Words-clause-answers g c =
+    let prints = c.in_ok-refused_words-in-Err-Words.ensures in
+    let refused = c.in-Err-Words.ensures.refused in
+    no_command (refused (cc c.in-Err-Words.field-0-is)) prints.status_is prints.text_is
