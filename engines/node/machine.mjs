@@ -2,8 +2,8 @@
  * A machine with one memory and a store buffer for each thread, over events whose values are known, with undo for a search.
  *
  * Plain stores wait in the buffer of their thread and leave it in order; an atomic access waits until the buffer is empty.
- * A plain access of 8 bytes, or one that is not aligned, is made in parts: the aligned pieces of at most 4 bytes of its range,
- * in any order. Everything else is made at once.
+ * A plain access may tear if it has 8 bytes or is not aligned: it is made in parts, in any order. The parts are the halves of
+ * aligned 8 bytes, and else the single bytes. Everything else is made at once.
  *
  * Some moves are made as soon as they can be, since no later move can depend on it: a store that enters its buffer, a part of
  * a read that finds its value, a store to bytes that no other thread accesses. What is left to choose is which thread
@@ -15,14 +15,8 @@ const bytesOf = (value, width) => Uint8Array.from({ length: width }, (_, k) => N
 /** The parts of an access in which it is made, each as [first, end) within its range. */
 export function partsOf(address, width, isAtomic) {
   if (isAtomic || (width <= 4 && address % width === 0)) return [[0, width]];
-  const parts = [];
-  for (let at = 0; at < width;) {
-    let size = 4;
-    while ((address + at) % size || at + size > width) size /= 2;
-    parts.push([at, at + size]);
-    at += size;
-  }
-  return parts;
+  const size = address % width === 0 ? 4 : 1;
+  return Array.from({ length: width / size }, (_, k) => [k * size, (k + 1) * size]);
 }
 
 /** An event in the form of the machine. With `weak` an atomic load or store is made as a plain one. */

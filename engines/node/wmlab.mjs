@@ -2,6 +2,7 @@
 
 import { spawn, spawnSync } from 'node:child_process';
 import { accessSync, constants, statSync } from 'node:fs';
+import { resolve } from 'node:path';
 import { fileURLToPath } from 'node:url';
 import { endsOf, json } from './document.mjs';
 import { UserError } from './errors.mjs';
@@ -27,7 +28,7 @@ function isProgram(path) {
 export function findProgram(given) {
   if (given !== undefined) {
     if (!isProgram(given)) throw new UserError(`--wmlab ${given}: no program is there`);
-    return given.includes('/') ? given : `./${given}`;
+    return resolve(given);
   }
   if (isProgram(place(LAUNCHER)) && BUILT.map(place).some(isProgram)) {
     // A program that is older than its sources is built again here, as for any other command.
