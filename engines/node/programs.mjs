@@ -19,6 +19,7 @@ const STARTS = {
   'data-segment.wasm': ['a', 'a'],
   'mixed-widths.wasm': ['a', 'a'],
   'c/spin.wasm': ['work:2', 'work:2'],
+  'c/mailbox.wasm': ['put:7', 'get:20'],
   'c/ring.wasm': ['produce:3', 'consume:3'],
   'c/stack.wasm': ['own_stack:0:2', 'own_stack:1:2'],
 };
