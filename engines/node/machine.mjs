@@ -5,9 +5,9 @@
  * A plain access may tear if it has 8 bytes or is not aligned: it is made in parts, in any order. The parts are the halves of
  * aligned 8 bytes, and else the single bytes. Everything else is made at once.
  *
- * Some moves are made as soon as they can be, since no later move can depend on it: a store that enters its buffer, a part of
- * a read that finds its value, a store to bytes that no other thread accesses. What is left to choose is which thread
- * publishes a store next (`moves`).
+ * Some moves are made as soon as they can be, since a run in which they come later is also a run with them now: a store that
+ * enters its buffer, a part of a read that finds its value, and the publication of bytes that no other thread writes any more,
+ * if no other thread still has to read what is there. What is left to choose is which thread publishes a store next (`moves`).
  */
 
 const bytesOf = (value, width) => Uint8Array.from({ length: width }, (_, k) => Number((value >> BigInt(8 * k)) & 255n));
@@ -45,7 +45,8 @@ const valueKey = (at, byte) => at * 256 + byte;
 class Overview {
   constructor(threads) {
     this.accesses = threads.map(() => new Map()); // thread: byte address to event numbers, ascending
-    this.lastWrite = threads.map(() => new Map()); // thread: byte address and value to its last event that writes it
+    this.lastValue = threads.map(() => new Map()); // thread: byte address and value to its last event that writes it
+    this.lastWrite = threads.map(() => new Map()); // thread: byte address to its last event that writes it
     this.users = new Map(); // byte address to the thread that alone accesses it, or -1
     threads.forEach((events, thread) => events.forEach((event, number) => this.add(thread, number, event)));
   }
@@ -56,7 +57,10 @@ class Overview {
       const numbers = this.accesses[thread].get(at);
       if (numbers) numbers.push(number);
       else this.accesses[thread].set(at, [number]);
-      if (written) this.lastWrite[thread].set(valueKey(at, written[k]), number);
+      if (written) {
+        this.lastValue[thread].set(valueKey(at, written[k]), number);
+        this.lastWrite[thread].set(at, number);
+      }
       this.users.set(at, (this.users.get(at) ?? thread) === thread ? thread : -1);
     }
   }
@@ -262,11 +266,20 @@ export class Machine {
   }
 
   settle() {
-    this.threads.forEach((_, thread) => this.settleThread(thread));
+    for (let move = null; ; this.apply(move)) {
+      this.threads.forEach((_, thread) => this.settleThread(thread));
+      move = this.candidates().find((candidate) => this.isFree(candidate));
+      if (!move) return;
+    }
   }
 
-  /** The moves to choose from, each as a thread and the part of its oldest store, or the part -1 for an atomic write. */
+  /** The moves to choose from: those after which each thread may still find what it reads. */
   moves() {
+    return this.candidates().filter((move) => !this.isFatal(move));
+  }
+
+  /** What can be published, each as a thread and the part of its oldest store, or the part -1 for an atomic write. */
+  candidates() {
     return this.threads.flatMap((events, thread) => {
       if (this.waits(thread)) {
         const free = this.oldest(thread).parts.map((_, part) => part).filter((part) => !(this.published[thread] & (1 << part)));
@@ -283,10 +296,14 @@ export class Machine {
   }
 
   /** Makes a move, and all that can then be made at once. */
-  make({ thread, part }) {
+  make(move) {
+    this.apply(move);
+    this.settle();
+  }
+
+  apply({ thread, part }) {
     if (part >= 0) this.publish(thread, 1 << part);
     else this.writeAtOnce(thread);
-    this.settle();
   }
 
   writeAtOnce(thread) {
@@ -301,26 +318,78 @@ export class Machine {
     while (this.journal.length > mark) this.journal.pop()();
   }
 
-  /** How good a move looks: less for bytes that another thread reads next, more for bytes that it still reads as they are. */
-  cost({ thread, part }) {
-    const event = part < 0 ? this.threads[thread][this.next[thread]] : this.oldest(thread);
-    const [from, end] = event.parts[Math.max(part, 0)];
-    let cost = 0;
-    for (let k = from; k < end; k++) {
-      this.threads.forEach((_, other) => {
-        if (other !== thread) cost += this.costFor(other, event.address + k, event.written[k]);
-      });
-    }
-    return cost;
+  /** The event that a move publishes. */
+  eventOf({ thread, part }) {
+    return part < 0 ? this.next[thread] : this.stores[thread][this.left[thread]];
   }
 
-  costFor(thread, at, byte) {
-    const number = this.overview.nextAccess(thread, at, this.next[thread]);
+  /** Whether something holds for a byte that a move publishes, and another thread: `test(other, address, byte)`. */
+  someByte(move, test) {
+    const { address, written, parts } = this.threads[move.thread][this.eventOf(move)];
+    const [from, end] = parts[Math.max(move.part, 0)];
+    for (let k = from; k < end; k++) {
+      for (let other = 0; other < this.threads.length; other++) {
+        if (other !== move.thread && test(other, address + k, written[k])) return true;
+      }
+    }
+    return false;
+  }
+
+  /** The number of the first access of a byte that a thread has not yet made; undefined if there is none. */
+  nextAccess(thread, at) {
+    const next = this.next[thread];
+    const number = this.overview.nextAccess(thread, at, next);
+    if (number !== next || !this.taken[thread]) return number;
+    const { address, parts } = this.threads[thread][next];
+    const part = parts.findIndex(([from, end]) => at >= address + from && at < address + end);
+    return this.taken[thread] & (1 << part) ? this.overview.nextAccess(thread, at, next + 1) : number;
+  }
+
+  /** The byte that a thread reads next at an address; -1 if it writes there first, or accesses it no more. */
+  wantedAt(thread, at) {
+    const number = this.nextAccess(thread, at);
     const event = number === undefined ? null : this.threads[thread][number];
-    if (!event?.read) return 0;
-    const wanted = event.read[at - event.address];
-    if (wanted === byte) return number === this.next[thread] ? -4 : -1;
-    return wanted === this.bytes[at] ? 8 : 0;
+    return event?.read ? event.read[at - event.address] : -1;
+  }
+
+  /** Whether a write of this number was not made or not published. */
+  isAhead(thread, number) {
+    if (number === undefined) return false;
+    if (number >= this.next[thread]) return true;
+    return this.waits(thread) && !this.threads[thread][number].isAtomic && number >= this.stores[thread][this.left[thread]];
+  }
+
+  /** Whether no other run is lost if a move is made now. */
+  isFree(move) {
+    return !this.someByte(move, (other, at, byte) => {
+      if (this.isAhead(other, this.overview.lastWrite[other].get(at))) return true;
+      return byte !== this.bytes[at] && this.wantedAt(other, at) === this.bytes[at];
+    });
+  }
+
+  /** Whether a move takes away a byte that another thread still has to read, and that nobody writes any more. */
+  isFatal(move) {
+    return this.someByte(move, (other, at, byte) => {
+      const here = this.bytes[at];
+      if (byte === here || this.wantedAt(other, at) !== here || this.waitingAt(other, at) >= 0) return false;
+      return !this.threads.some((_, writer) => {
+        if (writer === other) return false;
+        const number = this.overview.lastValue[writer].get(valueKey(at, here));
+        return writer === move.thread ? number > this.eventOf(move) : this.isAhead(writer, number);
+      });
+    });
+  }
+
+  /** How good a move looks: less for bytes that another thread reads next, more for bytes that it still reads as they are. */
+  cost(move) {
+    let cost = 0;
+    this.someByte(move, (other, at, byte) => {
+      const wanted = this.wantedAt(other, at);
+      if (wanted === byte) cost -= this.nextAccess(other, at) === this.next[other] ? 4 : 1;
+      else if (wanted === this.bytes[at]) cost += 8;
+      return false;
+    });
+    return cost;
   }
 
   /** Whether a thread waits for a byte that nobody can write any more. */
@@ -337,12 +406,7 @@ export class Machine {
 
   canCome(thread, at, byte) {
     if (this.look(thread, at)[0] === byte || this.bytes[at] === byte) return true;
-    return this.threads.some((events, other) => {
-      const number = other === thread ? undefined : this.overview.lastWrite[other].get(valueKey(at, byte));
-      if (number === undefined) return false;
-      if (number >= this.next[other]) return true;
-      // What was made and not published waits: it is at or after the oldest waiting store.
-      return this.waits(other) && !events[number].isAtomic && number >= this.stores[other][this.left[other]];
-    });
+    return this.threads.some((_, other) => (
+      other !== thread && this.isAhead(other, this.overview.lastValue[other].get(valueKey(at, byte)))));
   }
 }

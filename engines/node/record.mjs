@@ -33,6 +33,9 @@ function preparePlaces({ keep, out }) {
   });
 }
 
+// A reader of the tables that ends early, as `head` does.
+const onClosedOutput = () => process.exit(3);
+
 /** What is kept of a round whose log is not allowed. */
 function keptText(line, keep) {
   if (!line.startsWith(GAVE_UP) && line !== NONE_EXISTS) return `its log is kept in ${keep}`;
@@ -70,6 +73,7 @@ async function main(args) {
 }
 
 if (process.argv[1] && realpathSync(process.argv[1]) === fileURLToPath(import.meta.url)) {
+  process.stdout.on('error', onClosedOutput);
   try {
     process.exitCode = await main(process.argv.slice(2));
   } catch (error) {

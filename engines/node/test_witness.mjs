@@ -45,6 +45,13 @@ function tornWords(count, address) {
   ];
 }
 
+/** Three threads store 1 and 2 in turns, and a fourth loads both in turns, and at last a 3. */
+function contended(count) {
+  const numbers = Array.from({ length: count }, (_, k) => 1 + (k % 2));
+  const writer = numbers.map((value) => store(0, value));
+  return [writer, writer, writer, [...numbers.map((value) => load(0, value)), load(0, 3)]];
+}
+
 /** Loads of 0 beside stores of few values: every value is written again and again. */
 function longRun(count) {
   const numbers = Array.from({ length: count / 2 }, (_, k) => k);
@@ -61,15 +68,87 @@ const LATE = [
   [load(8, 0, 'sc'), load(8, 1, 'sc')],
 ];
 
+/** Numbers below `n` that look random, the same ones for the same seed. */
+function randomFrom(seed) {
+  let state = seed;
+  return (n) => {
+    state = (Math.imul(state, 1_664_525) + 1_013_904_223) >>> 0;
+    return Math.floor((state / 2 ** 32) * n);
+  };
+}
+
+/** A run of a machine with store buffers and torn accesses over 24 bytes, with random moves; values are 0, 1 or 257. */
+class RandomRun {
+  constructor(seed, threads, length) {
+    this.random = randomFrom(seed);
+    this.memory = new Uint8Array(24);
+    this.buffers = Array.from({ length: threads }, () => []);
+    this.threads = this.buffers.map(() => []);
+    while (this.threads.some((events) => events.length < length)) {
+      const thread = this.random(threads);
+      if (this.random(3) === 0 || this.threads[thread].length === length) this.publishPart(thread);
+      else this.access(thread);
+    }
+  }
+
+  publishPart(thread) {
+    const store = this.buffers[thread][0];
+    if (!store) return;
+    const [[from, end]] = store.parts.splice(this.random(store.parts.length), 1);
+    for (let k = from; k < end; k++) this.memory[store.address + k] = store.bytes[k];
+    if (!store.parts.length) this.buffers[thread].shift();
+  }
+
+  look(thread, at) {
+    const isAt = ({ address, parts }) => parts.some(([from, end]) => at >= address + from && at < address + end);
+    const store = this.buffers[thread].findLast(isAt);
+    return store ? store.bytes[at - store.address] : this.memory[at];
+  }
+
+  access(thread) {
+    const { random } = this;
+    const width = [1, 2, 4, 8][random(4)], isAtomic = random(5) === 0;
+    const address = isAtomic ? width * random(16 / width) : random(16);
+    if (isAtomic) while (this.buffers[thread].length) this.publishPart(thread);
+    const parts = partsOf(address, width, isAtomic), order = isAtomic ? 'sc' : 'un';
+    const written = BigInt([0, 1, width > 1 ? 257 : 1][random(3)]);
+    const bytes = Array.from({ length: width }, (_, k) => Number((written >> BigInt(8 * k)) & 255n));
+    if (random(2)) {
+      this.threads[thread].push(['w', order, address, width, written]);
+      this.buffers[thread].push({ address, bytes, parts });
+      if (isAtomic) this.publishPart(thread);
+      return;
+    }
+    const read = Array(width).fill(0);
+    for (const [from, end] of parts) {
+      if (!isAtomic) this.publishPart(random(this.threads.length));
+      for (let k = from; k < end; k++) read[k] = this.look(thread, address + k);
+    }
+    this.threads[thread].push(['r', order, address, width, read.reduceRight((value, byte) => value * 256n + BigInt(byte), 0n)]);
+  }
+}
+
+/** Runs of such machines, each of which has to be explained, by a witness that the rules allow. */
+async function testRandomRuns({ note, wmlab }) {
+  const runs = Array.from({ length: 100 }, (_, k) => new RandomRun(k + 1, 2 + (k % 2), 6).threads);
+  let explained = 0, allowed = 0;
+  for (const threads of runs) {
+    const witness = await first(threads);
+    if (witness) explained++;
+    if (witness && explained <= 20 && (await rulesOn(wmlab, threads, witness)).startsWith('allowed')) allowed++;
+  }
+  note(explained === 100 && allowed === 20, `random runs with torn accesses: ${explained} of 100 explained, ${allowed} of 20 allowed`);
+}
+
 export async function testWitness({ note, wmlab }) {
   const weak = [[store(0, 1), load(4, 0)], [store(4, 1), load(0, 0)]];
   note((await rulesOn(wmlab, weak, await first(weak))).startsWith('allowed'), 'a witness of weak store buffering is found and allowed');
 
   const none = await search(LOAD_BUFFERING);
   note(none.list.length === 0 && none.end.gaveUp === null, 'it is certain that store buffers do not give load buffering');
-  const limited = await search([[store(0, 1)], [load(0, 1)]], { steps: 0 });
+  const limited = await search([[store(0, 1)], [store(0, 2)], [1, 2, 1].map((value) => load(0, value))], { steps: 0 });
   note(limited.list.length === 0 && limited.end.gaveUp === '0 steps', 'a search that ends at its limit of steps gives up');
-  const late = await search(tornWords(600, 60), { seconds: -1 });
+  const late = await search(contended(60), { seconds: 0.01 });
   note(late.list.length === 0 && / seconds$/.test(late.end.gaveUp ?? ''), 'a search that ends at its limit of time gives up');
 
   note((await first(longRun(16_384)))?.order.length === 16_384, '16,384 events are explained');
@@ -83,6 +162,7 @@ export async function testWitness({ note, wmlab }) {
   note(JSON.stringify([partsOf(64, 8), partsOf(62, 4), partsOf(64, 4), partsOf(64, 8, true)])
     === '[[[0,4],[4,8]],[[0,1],[1,2],[2,3],[3,4]],[[0,4]],[[0,8]]]', 'the parts of accesses');
 
+  await testRandomRuns({ note, wmlab });
   const { list } = await search(LATE);
   const lines = await Promise.all(list.map((witness) => rulesOn(wmlab, LATE, witness)));
   note(/^broken V/.test(lines[0]) && lines.some((line) => line.startsWith('allowed')), `after a witness that a rule refuses comes one that is allowed (${lines.length} witnesses)`);
