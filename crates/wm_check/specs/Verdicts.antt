@@ -4,7 +4,7 @@ use Rattle.wm_ast.specs.declared.module.Module.{Module}
 use Rattle.wm_decode.specs.declared.fault.DecodeFault.{DecodeFault}
 use Rattle.wm_decode.specs.declared.fault.DecodeFault.TheVariants as decode
 use Rattle.wm_decode.specs.declared.fault.Limit.{Limit}
-use Rattle.wm_decode.specs.Answers.{Decodes, RefusedBy}
+use Rattle.wm_decode.specs.Implements.{Decodes, RefusedBy}
 use Rattle.wm_decode.specs.Module.{IsPast, SpellsWithin, spells}
 use Rattle.wm_decode.specs.ReadingModule.{whole_at}
 use Rattle.wm_event.specs.declared.rule.Judgement.TheVariants as judgement

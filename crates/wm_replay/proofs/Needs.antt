@@ -15,7 +15,7 @@ use Rattle.wm_replay.specs.Following.{Accesses, MakesEvent, MakesNotEvent}
 use Rattle.wm_machine.specs.Term.{Config, Over, Step, Term, Vars, Went, NoStep}
 use Rattle.wm_machine.specs.Configuration.{left_of, under, waiting}
 use Rattle.wm_machine.specs.Inside.{vars_of}
-use Rattle.wm_machine.specs.declared.activation.Activation.{Activation}
+use Rattle.wm_machine.specs.declared.call_frame.CallFrame.{CallFrame}
 use Rattle.wm_ast.specs.declared.module.Module.{Module}
 
 as_access : (o : Option OpFields) (op : OpFields) → as_need o ≡ need.Access op → o ≡ Some op
@@ -75,12 +75,12 @@ access_goes NoStep op is e = none-some op is
 access_goes (Went made after) op is e = none-some after (sym e)
 
 -- calls under their callers haven't ended
-under_goes : (m : Module) (cs : List Activation) (func : ℕ) (vars : Vars) (t : Term) → end_of (under m cs func vars t) ≡ Cut
+under_goes : (m : Module) (cs : List CallFrame) (func : ℕ) (vars : Vars) (t : Term) → end_of (under m cs func vars t) ≡ Cut
 under_goes m [] func vars t = refl
 under_goes m (c ∷ cs) func vars t = under_goes m cs c.func (record vars { locals = c.locals }) (waiting m c func vars.locals t)
 
 going_in : (o : Option End) (s : State) (r : ℕ) (n : Need) → need_in o r s ≡ n → ((end : End) → n ≢ need.Ended end) → end_of (config_from o s) ≡ Cut
-going_in None s r n is none = under_goes s.module s.callers s.running.func (vars_of s.running s.globals) (left_of s.module s.running.func s.running.levels)
+going_in None s r n is none = under_goes s.module s.call_stack s.running.func (vars_of s.running s.globals) (left_of s.module s.running.func s.running.control_stack)
 going_in (Some end) s r n is none = absurd (none end (sym is))
 
 -- a thread that needs something hasn't ended

@@ -1,6 +1,6 @@
 use Rattle.std.proofs.Common.{◌≡◌, ℕ, ◌+◌, ◌<◌, ◌≤◌, Some, length, refl, sym, ap, subst, ◌∙◌, arith}
 use Rattle.wm_access.specs.AccessWidth.{bytes_of}
-use Rattle.wm_machine.specs.State.{Answers, config_of, value_or_zero}
+use Rattle.wm_machine.specs.State.{RepliesTo, config_of, value_or_zero}
 use Rattle.wm_machine.specs.Step.{step, next_config}
 use Rattle.wm_ast.specs.Module.{memory_size}
 use Rattle.wm_memory.specs.Memory.{drains_first, ready}
@@ -16,7 +16,7 @@ use Rattle.wm_run.proofs.Recordings.{is_full, not_full}
 use Rattle.wm_run.proofs.runner.access.Goals as goal
 
 pub advance-requires : goal.advance-requires
-advance-requires c = subst (λ need. Answers need (Some c.in-Ok.reply)) (c.requires.needed 0) c.in-Ok.ensures.answers
+advance-requires c = subst (λ need. RepliesTo need (Some c.in-Ok.reply)) (c.requires.needed 0) c.in-Ok.ensures.answers
 
 pub returns-in-Ok-advance-clause-moves : goal.returns-in-Ok-advance-clause-moves
 returns-in-Ok-advance-clause-moves c made limit below =
