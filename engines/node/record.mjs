@@ -75,7 +75,10 @@ async function main(args) {
 if (process.argv[1] && realpathSync(process.argv[1]) === fileURLToPath(import.meta.url)) {
   process.stdout.on('error', onClosedOutput);
   try {
-    process.exitCode = await main(process.argv.slice(2));
+    const status = await main(process.argv.slice(2));
+    // A search that was stopped would go on otherwise.
+    if (status === 130) process.exit(status);
+    process.exitCode = status;
   } catch (error) {
     const isExpected = error instanceof UserError || error instanceof Stopped;
     console.error(isExpected ? `record.mjs: ${error.message}` : error);

@@ -8,11 +8,13 @@ import { UserError } from './errors.mjs';
 import { GAVE_UP, NONE_EXISTS } from './verdict.mjs';
 import { witnessesOf } from './witness.mjs';
 
-/** A start in the form `name` or `name:argument:argument`, each argument a decimal integer or 0x and hexadecimal digits. */
+/** A start in the form `name` or `name:argument:argument`; an argument is a decimal integer, or 0x and hexadecimal digits. */
 export function parseStart(word) {
   const [name, ...args] = word.split(':');
   const wrong = args.find((arg) => !/^(-?\d+|0x[0-9a-f]+)$/i.test(arg));
-  if (wrong !== undefined) throw new UserError(`start ${word}: the argument "${wrong}" is not an integer; write one as in work:7 or work:-1`);
+  if (wrong !== undefined) {
+    throw new UserError(`start ${word}: the argument "${wrong}" is not an integer; write one as in work:7 or work:-1`);
+  }
   return { name, args: args.map(BigInt) };
 }
 
@@ -135,10 +137,14 @@ export class Recorder {
 /** A start of an exported function, with its arguments as unsigned integers, as a log has them. */
 function unsignedStart({ name, args }, functions) {
   const parameters = functions.get(name);
-  if (!parameters) throw new UserError(`start ${name}: no function is exported under this name; exported are ${[...functions.keys()].join(', ') || 'none'}`);
+  if (!parameters) {
+    const known = [...functions.keys()].join(', ') || 'none';
+    throw new UserError(`start ${name}: no function is exported under this name; exported are ${known}`);
+  }
   const usage = [name, ...parameters.map((type) => type.toUpperCase())].join(':');
   if (parameters.length !== args.length) {
-    throw new UserError(`start ${[name, ...args].join(':')}: ${name} takes ${parameters.length} arguments, and ${args.length} are given; write ${usage}`);
+    const counts = `${name} takes ${parameters.length} arguments, and ${args.length} are given`;
+    throw new UserError(`start ${[name, ...args].join(':')}: ${counts}; write ${usage}`);
   }
   return { name, args: args.map((value, k) => unsigned(value, parameters[k], name)) };
 }
@@ -147,7 +153,9 @@ function unsignedStart({ name, args }, functions) {
 function unsigned(value, type, name) {
   const bits = type === 'i64' ? 64 : 32;
   const least = -(1n << BigInt(bits - 1)), most = (1n << BigInt(bits)) - 1n;
-  if (value < least || value > most) throw new UserError(`start ${name}: the argument ${value} is no ${type}; write an integer from ${least} to ${most}`);
+  if (value < least || value > most) {
+    throw new UserError(`start ${name}: the argument ${value} is no ${type}; write an integer from ${least} to ${most}`);
+  }
   return BigInt.asUintN(bits, value);
 }
 

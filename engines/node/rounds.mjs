@@ -1,5 +1,6 @@
 /** Records rounds, has each log judged, and counts outcomes and verdicts. */
 
+import { setTimeout } from 'node:timers/promises';
 import { Recorder } from './recorder.mjs';
 import { GAVE_UP, verdictOf } from './verdict.mjs';
 import { Stopped } from './wmlab.mjs';
@@ -23,8 +24,11 @@ export class Table {
   }
 }
 
-/** The outcome of a run in one string: what each thread returned, or how else it ended. */
-const outcomeOf = (ends) => ends.map(([kind, what]) => (kind === 'done' ? `${what[0] ?? '-'}` : [kind, what].flat().filter(Boolean).join(':'))).join(' ');
+/** The end of a thread in one string: what it returned, or how else it ended. */
+const endText = ([kind, what]) => (kind === 'done' ? `${what[0] ?? '-'}` : [kind, what].flat().filter(Boolean).join(':'));
+
+/** The outcome of a run in one string. */
+const outcomeOf = (ends) => ends.map(endText).join(' ');
 
 /** A verdict without the number of events, which differs from run to run. */
 const kindOf = (line) => line.replace(/ events=\d+$/, '');
@@ -84,7 +88,8 @@ export async function recordWith(recorder, { program, module, rounds, seed = 1, 
     asked.add(question);
     if (asked.size >= AT_ONCE) await Promise.race(asked);
   }
-  await Promise.all(asked);
+  // A search that is under way when the user stops is not waited for.
+  while (asked.size && !stop.requested) await Promise.race([...asked, setTimeout(200)]);
   if (failure) throw failure;
   return results;
 }

@@ -150,6 +150,18 @@ case $log in *broken*) echo 'broken V5 case 3 at 0.1'; exit 1 ;; *) echo 'allowe
   note(open.bad?.number === 1 && open.bad.document === 'the events', 'its events are what is kept; a certain answer comes before a search that gave up');
 }
 
+/** A search that is under way when the user stops is not waited for. */
+async function testStop({ note }) {
+  const never = { next: () => new Promise(() => {}) };
+  const recorder = { round: async () => ({ ends: [['cut']], logs: never }) };
+  const stop = { requested: false };
+  const ended = recordWith(recorder, { program: '', module: '', rounds: 1, stop });
+  await setTimeout(50);
+  stop.requested = true;
+  const first = await Promise.race([ended, setTimeout(5_000)]);
+  note(first?.checked === 0, 'a stop does not wait for a search');
+}
+
 /** Ctrl-C: the tables so far, and the status 130. */
 async function testInterrupt({ note, wmlab, folder }) {
   const args = [join(HERE, 'record.mjs'), '--wmlab', wmlab, '--rounds', '100000', '--out', 'stopped', BUFFERS, 'a', 'b'];
@@ -184,6 +196,7 @@ export async function testCommand({ note, wmlab }) {
     testPlaces(context);
     await testStarts(context);
     await testJudgement(context);
+    await testStop(context);
     await testInterrupt(context);
     testProgress(context);
   } finally {
