@@ -157,6 +157,11 @@ export async function testWitness({ note, wmlab }) {
     const witness = await first(torn);
     note(witness && (await rulesOn(wmlab, torn, witness)).startsWith('allowed'), `torn accesses of 8 bytes at ${address} are explained and allowed`);
   }
+  const delayed = [
+    [[store(0, 1)], [load(8, 1), load(0, 0)], [store(8, 1)]],
+    [[store(0, 1)], [store(0, 2)], [load(0, 2), load(0, 1)]],
+  ];
+  for (const threads of delayed) note(await first(threads), 'a store that another thread still needs unpublished waits');
   const whole = [[store(0, 0x11112222)], [load(0, 0x2222)]];
   note(!(await first(whole)), 'an aligned access of 4 bytes does not tear');
   note(JSON.stringify([partsOf(64, 8), partsOf(62, 4), partsOf(64, 4), partsOf(64, 8, true)])
