@@ -3,6 +3,15 @@
  * Bytes are plain arrays of numbers where they are made, and `Uint8Array`s where they are read.
  */
 
+import { UserError } from './errors.mjs';
+
+/** A part of a module that can't be rewritten. */
+export class NotRecorded extends UserError {
+  constructor(what) {
+    super(`${what} isn't recorded`);
+  }
+}
+
 /** Reads a part of a module from left to right. */
 export class Reader {
   constructor(bytes, at = 0, end = bytes.length) {
@@ -117,5 +126,5 @@ export function skipImmediates(reader, op) {
   else if (op >= OP.localGet && op <= OP.globalSet) reader.u32();
   else if (op === 0x3f || op === 0x40) reader.byte();
   else if (op === OP.i32Const || op === OP.i64Const) reader.skipNumber();
-  else if (op > 0xc4 || op === 0x11 || op === 0x43 || op === 0x44) throw Error(`opcode ${op.toString(16)} isn't recorded`);
+  else if (op > 0xc4 || op === 0x11 || op === 0x43 || op === 0x44) throw new NotRecorded(`opcode ${op.toString(16)}`);
 }

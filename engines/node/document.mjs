@@ -22,5 +22,15 @@ export function documentOf(threads, order) {
   return json(['wasm-litmus-log', 2, rows, order]);
 }
 
+/**
+ * The events of a round for which no witness is known, in the form of a log that wmlab refuses: the writers of each read are
+ * `[]`, and so is the order. The ends are those that the engine gave; steps are open, 0.
+ */
+export function eventsAlone(threads, ends) {
+  const events = (thread) => thread.events.map((event) => (event[0] === 'w' ? event : [...event, []]));
+  const rows = threads.map((thread, t) => [thread.start.name, thread.start.args, ends[t], 0, events(thread)]);
+  return json(['wasm-litmus-log', 2, rows, []]);
+}
+
 /** The ends of a document's threads, as texts. */
 export const endsOf = (text) => parse(text)[2].map((thread) => json(thread[2]));

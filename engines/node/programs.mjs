@@ -5,7 +5,9 @@
 
 import { readFileSync, readdirSync } from 'node:fs';
 import { join } from 'node:path';
+import { UserError } from './errors.mjs';
 import { rewrite } from './rewrite.mjs';
+import { examine } from './wmlab.mjs';
 
 const STARTS = {
   'spin-lock.wasm': ['work:2', 'work:2'],
@@ -13,32 +15,43 @@ const STARTS = {
   'peterson.wasm': ['work:0', 'work:1'],
   'peterson-plain.wasm': ['work:0', 'work:1'],
   'lock-free-stack.wasm': ['push2:10', 'push2:20', 'pop2'],
+  'own-store.wasm': ['f:0', 'f:4'],
+  'data-segment.wasm': ['a', 'a'],
+  'mixed-widths.wasm': ['a', 'a'],
   'c/spin.wasm': ['work:2', 'work:2'],
+  'c/mailbox.wasm': ['put:7', 'get:20'],
   'c/ring.wasm': ['produce:3', 'consume:3'],
   'c/stack.wasm': ['own_stack:0:2', 'own_stack:1:2'],
 };
 
-/** Valid modules that pass a limit of wmlab. */
-const PAST_A_LIMIT = new Set(['too-many-locals.wasm']);
+/** Programs whose logs have no events. */
+export const WITHOUT_EVENTS = new Set(['every-trap.wasm']);
 
 function startsOf(program, bytes) {
-  if (STARTS[program]) return STARTS[program];
   const { parameters } = rewrite(bytes, 'hooked');
-  return [...parameters].filter(([, types]) => types.length === 0).map(([name]) => name);
+  const starts = STARTS[program] ?? [...parameters].filter(([, types]) => types.length === 0).map(([name]) => name);
+  if (!starts.length) throw new UserError(`${program}: each exported function takes arguments; list its starts in programs.mjs`);
+  return starts;
 }
 
-/** The modules below a folder that wmlab takes, each with the words of its starts; those that can't be rewritten are left out. */
-export function programsOf(folder) {
+/** Whether the program reads a module. */
+async function isRead(program, path) {
+  try {
+    await examine(program, path);
+    return true;
+  } catch (error) {
+    if (error instanceof UserError && /: refused (decode|valid) /.test(error.message)) return false;
+    throw error;
+  }
+}
+
+/** The modules below a folder that wmlab reads, each with the words of its starts. */
+export async function programsOf(folder, wmlab) {
   const names = readdirSync(folder, { recursive: true }).filter((name) => name.endsWith('.wasm')).sort();
-  return names.filter((name) => !PAST_A_LIMIT.has(name)).flatMap((name) => {
+  const found = [];
+  for (const name of names) {
     const path = join(folder, name);
-    const bytes = readFileSync(path);
-    if (!WebAssembly.validate(bytes)) return [];
-    try {
-      return [{ name, path, starts: startsOf(name, bytes) }];
-    } catch (error) {
-      if (/isn't recorded/.test(error.message)) return [];
-      throw error;
-    }
-  });
+    if (await isRead(wmlab, path)) found.push({ name, path, starts: startsOf(name, readFileSync(path)) });
+  }
+  return found;
 }

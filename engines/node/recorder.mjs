@@ -3,33 +3,37 @@
 import { Worker } from 'node:worker_threads';
 import { nativeAccesses, rewrite } from './rewrite.mjs';
 import { again, endOf, writerOf } from './modes.mjs';
-import { documentOf } from './document.mjs';
-import { searchWitness, searchWrongWitness } from './witness.mjs';
+import { documentOf, eventsAlone } from './document.mjs';
+import { UserError } from './errors.mjs';
+import { GAVE_UP, NONE_EXISTS } from './verdict.mjs';
+import { witnessesOf } from './witness.mjs';
 
-/** A start in the form `name` or `name:argument:argument`. */
+/** A start in the form `name` or `name:argument:argument`; an argument is a decimal integer, or 0x and hexadecimal digits. */
 export function parseStart(word) {
   const [name, ...args] = word.split(':');
+  const wrong = args.find((arg) => !/^(-?\d+|0x[0-9a-f]+)$/i.test(arg));
+  if (wrong !== undefined) {
+    throw new UserError(`start ${word}: the argument "${wrong}" is not an integer; write one as in work:7 or work:-1`);
+  }
   return { name, args: args.map(BigInt) };
 }
 
 export const MODES = ['locked', 'buffered', 'free'];
 
-/** How a round can fail to have a log. */
-export class NoLog extends Error {}
-
-export const DEFAULTS = { mode: 'locked', events: 128, spread: 60, wrong: false };
+export const DEFAULTS = { mode: 'locked', events: 128, spread: 60, seconds: 20, wrong: false };
 
 export class Recorder {
   /**
    * `mode` is `locked`, `buffered` or `free`; `events` the most events of a round; `spread` how long a thread waits at most
-   * before an access (locked, buffered); with `wrong` the engine makes atomic loads and stores as plain ones.
+   * before an access (locked, buffered); `seconds` the longest search for a witness (free); with `wrong` the engine makes
+   * atomic loads and stores as plain ones.
    */
   constructor(moduleBytes, starts, options = {}) {
     this.options = { ...DEFAULTS, ...options };
-    this.starts = starts;
     const { mode, wrong } = this.options;
-    if (!MODES.includes(mode)) throw Error(`the modes are ${MODES.join(', ')}`);
-    if (wrong && mode === 'locked') throw Error('a wrong engine is played in the modes buffered and free');
+    if (!MODES.includes(mode)) throw new UserError(`mode ${mode}: the modes are ${MODES.join(', ')}`);
+    if (wrong && mode === 'locked') throw new UserError('--wrong needs --mode buffered or --mode free');
+    if (!starts.length) throw new UserError('no start is given, so that no thread would run');
     const made = rewrite(moduleBytes, mode === 'free' ? 'noted' : 'hooked', { wrong: wrong && mode === 'free' });
     this.importedAs = made.memory;
     this.memory = new WebAssembly.Memory({ initial: made.memory.initial, maximum: made.memory.maximum, shared: true });
@@ -37,7 +41,8 @@ export class Recorder {
     this.control = new Int32Array(new SharedArrayBuffer(64));
     this.shadow = new Int32Array(new SharedArrayBuffer(4 * this.bytes.length));
     this.hooked = new WebAssembly.Module(rewrite(moduleBytes, 'hooked').bytes);
-    this.args = starts.map((start) => argumentsOf(start, made.parameters.get(start.name)));
+    this.starts = starts.map((start) => unsignedStart(start, made.parameters));
+    this.args = this.starts.map((start) => argumentsOf(start, made.parameters.get(start.name)));
     // An instance puts the data segments into the memory, which was zeros: that is the initial memory of each round.
     this.instance(again({ values: [], events: [], size: 0 }).hooks);
     this.initial = this.bytes.slice();
@@ -61,16 +66,45 @@ export class Recorder {
     return new WebAssembly.Instance(this.hooked, imports);
   }
 
-  /** Runs all threads once. Answers the document and the ends that were seen; throws `NoLog` where there is no log. */
+  /**
+   * Runs all threads once. Answers the ends that were seen, and `logs`, which yields the documents of the round for
+   * `verdictOf`: one, but in the mode free one for each witness that is found.
+   */
   async round(seed) {
     this.bytes.set(this.initial);
     this.shadow.fill(0);
     this.control.fill(0);
     this.control[2] = this.options.events;
     const answers = await Promise.all(this.workers.map((worker, thread) => this.ask(worker, thread, seed)));
-    const { threads, order } = this.options.mode === 'free' ? this.derive(answers) : ordered(answers);
-    const started = threads.map((events, thread) => ({ start: this.starts[thread], events }));
-    return { document: documentOf(started, order), ends: answers.map((answer) => answer.end) };
+    const ends = answers.map((answer) => answer.end);
+    // A free round is run again at once, for its events, since that uses the memory.
+    const events = this.options.mode === 'free' ? answers.map((answer, thread) => this.eventsOf(answer, thread)) : null;
+    return { ends, logs: events ? this.explained(events, ends) : this.ordered(answers) };
+  }
+
+  /** The document of a round as the locked and the buffered mode noted it. */
+  async *ordered(answers) {
+    const { threads, order } = ordered(answers);
+    yield documentOf(this.started(threads), order);
+    return null;
+  }
+
+  /** A document for each witness of a free round's events; at the end the events alone, and why there is no further one. */
+  async *explained(events, ends) {
+    const witnesses = witnessesOf(events, this.initial, { seconds: this.options.seconds });
+    for (;;) {
+      const { value, done } = await witnesses.next();
+      if (done) {
+        const line = value.gaveUp ? `${GAVE_UP}: gave up after ${value.gaveUp}` : NONE_EXISTS;
+        return { document: eventsAlone(this.started(events), ends), line };
+      }
+      const threads = events.map((list, t) => list.map((event, i) => ({ event, writers: value.writers[t][i] })));
+      yield documentOf(this.started(threads), value.order);
+    }
+  }
+
+  started(threads) {
+    return threads.map((events, thread) => ({ start: this.starts[thread], events }));
   }
 
   ask(worker, thread, seed) {
@@ -83,15 +117,7 @@ export class Recorder {
     });
   }
 
-  /** The events of a free round, by running each thread again on the values that it read, and a witness that was searched. */
-  derive(answers) {
-    const events = answers.map((answer, thread) => this.eventsOf(answer, thread));
-    const found = searchWitness(events, this.initial) ?? searchWrongWitness(events, this.initial);
-    if (!found) throw new NoLog('no witness was found');
-    const threads = events.map((list, t) => list.map((event, i) => ({ event, writers: found.writers[t][i] })));
-    return { threads, order: found.order };
-  }
-
+  /** The events of a free round's thread, by running it again on the values that it read. */
   eventsOf(answer, thread) {
     const events = [];
     const wasCut = answer.end[0] === 'cut';
@@ -108,12 +134,34 @@ export class Recorder {
   }
 }
 
-/** The arguments of a start in the form that JavaScript hands to WebAssembly. */
-function argumentsOf(start, parameters) {
-  if (!parameters) throw Error(`no function is exported as ${start.name}`);
-  if (parameters.length !== start.args.length) throw Error(`${start.name} takes ${parameters.length} arguments`);
-  return start.args.map((value, k) => (parameters[k] === 'i64' ? BigInt.asIntN(64, value) : Number(BigInt.asIntN(32, value))));
+/** A start of an exported function, with its arguments as unsigned integers, as a log has them. */
+function unsignedStart({ name, args }, functions) {
+  const parameters = functions.get(name);
+  if (!parameters) {
+    const known = [...functions.keys()].join(', ') || 'none';
+    throw new UserError(`start ${name}: no function is exported under this name; exported are ${known}`);
+  }
+  const usage = [name, ...parameters.map((type) => type.toUpperCase())].join(':');
+  if (parameters.length !== args.length) {
+    const counts = `${name} takes ${parameters.length} arguments, and ${args.length} are given`;
+    throw new UserError(`start ${[name, ...args].join(':')}: ${counts}; write ${usage}`);
+  }
+  return { name, args: args.map((value, k) => unsigned(value, parameters[k], name)) };
 }
+
+/** An argument without a sign: a negative one wraps. */
+function unsigned(value, type, name) {
+  const bits = type === 'i64' ? 64 : 32;
+  const least = -(1n << BigInt(bits - 1)), most = (1n << BigInt(bits)) - 1n;
+  if (value < least || value > most) {
+    throw new UserError(`start ${name}: the argument ${value} is no ${type}; write an integer from ${least} to ${most}`);
+  }
+  return BigInt.asUintN(bits, value);
+}
+
+/** The arguments of a start in the form that JavaScript hands to WebAssembly. */
+const argumentsOf = (start, parameters) => start.args.map((value, k) => (
+  parameters[k] === 'i64' ? BigInt.asIntN(64, value) : Number(BigInt.asIntN(32, value))));
 
 /** The threads' events with their writers, and the order, as the locked and the buffered mode noted them. */
 function ordered(answers) {

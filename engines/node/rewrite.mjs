@@ -8,7 +8,7 @@
  * loops and functions without an end (`recorder.exhausted`, `recorder.tired`).
  */
 
-import { HEADER, OP, Reader, SECTION, name, s32, section, sectionsOf, skipImmediates, u32, vector } from './binary.mjs';
+import { HEADER, NotRecorded, OP, Reader, SECTION, name, s32, section, sectionsOf, skipImmediates, u32, vector } from './binary.mjs';
 import { ACCESSES, accessOf, opcode, operandsOf, plainOf, reads, resultsOf } from './accesses.mjs';
 
 const VALUE_TYPE = { i32: 0x7f, i64: 0x7e };
@@ -40,7 +40,7 @@ function outside(sections) {
     if (kind === FUNCTION) { imports.u32(); found.functions++; }
     else if (kind === GLOBAL) { imports.take(2); found.globals++; }
     else if (kind === MEMORY) { found.memory = { module, name: item, ...limitsOf(imports) }; found.isImported = true; }
-    else throw Error('an import that is neither function, memory nor global');
+    else throw new NotRecorded('an import that is neither function, memory nor global');
   }
   const own = sections.get(SECTION.memories)?.();
   if (own && own.u32() > 0) found.memory = { module: 'recorder', name: 'memory', ...limitsOf(own) };
@@ -119,7 +119,7 @@ class CodeRewriter {
     const code = first === OP.atomic ? 0xfe00 + reader.u32() : first;
     const access = accessOf(code);
     if (access) return this.access(access, reader.u32(), reader.u32());
-    if (first === OP.atomic) throw Error(`opcode fe ${(code & 0xff).toString(16)} isn't recorded`);
+    if (first === OP.atomic) throw new NotRecorded(`opcode fe ${(code & 0xff).toString(16)}`);
     if (first === OP.call) return this.call(reader.u32());
     skipImmediates(reader, first);
     const same = [...reader.bytes.subarray(at, reader.at)];

@@ -1,108 +1,152 @@
 /**
- * A search for a witness of events whose values are known: an interleaving of a machine with a store buffer for each thread
- * that gives each read its value. It is quick where written values differ.
+ * A search for a witness of events whose values are known: a run of the machine of machine.mjs that gives each read its
+ * value. It iterates over the choices that the machine leaves, and tries first what another thread waits for.
  */
 
-const bytesOf = (value, width) => Array.from({ length: width }, (_, k) => Number((value >> BigInt(8 * k)) & 255n));
+import { setImmediate } from 'node:timers/promises';
+import { Machine } from './machine.mjs';
 
+/** The most choices of one search, and how long one slice of it keeps all else waiting, in milliseconds. */
+const STEPS = 2_000_000;
+const SLICE = 50;
+
+/** Numbers in [0, 1) that look random, the same ones for the same seed; for the seed 0 always 0. */
+function jitterFrom(seed) {
+  let state = seed * 0x9e3779b1;
+  return () => {
+    if (!seed) return 0;
+    state = Math.imul(state ^ (state >>> 15), 0x2c1b3c6d) + 0x9e3779b9;
+    return ((state ^ (state >>> 12)) >>> 0) / 2 ** 32;
+  };
+}
+
+/** What all searches of a round may use together. */
+class Budget {
+  constructor({ steps = STEPS, seconds = 20 } = {}) {
+    Object.assign(this, { steps, seconds });
+    this.milliseconds = 1000 * seconds;
+  }
+
+  /** The limit that was reached, as a phrase; null if none was. */
+  get reached() {
+    if (this.milliseconds <= 0) return `${this.seconds} seconds`;
+    return null;
+  }
+}
+
+/** One search. `run` answers `found`, `none` or the limit at which it gave up. */
 class Search {
-  constructor(threads, initial, steps) {
-    this.threads = threads;
-    this.initial = initial;
-    this.left = steps;
+  constructor(threads, initial, { weak = false, seed = 0, budget }) {
+    this.machine = new Machine(threads, initial, { weak });
+    this.jitter = jitterFrom(seed);
+    this.weight = seed ? 8 : 0;
+    this.budget = budget;
+    this.steps = 0;
     this.seen = new Set();
-    this.memory = new Map(); // from an address to its byte and who wrote it, where that isn't the initial memory
-    this.next = threads.map(() => 0);
-    this.buffers = threads.map(() => []);
-    this.order = [];
-    this.writers = threads.map(() => []);
+    this.frames = [];
+    this.machine.settle();
+    this.open();
   }
 
-  /** What decides how the search goes on from here. */
-  state() {
-    const memory = [...this.memory].sort(([a], [b]) => a - b).map(([at, [byte, writer]]) => `${at}=${byte}.${writer}`);
-    return `${this.next}|${this.buffers.map((buffer) => buffer.length)}|${memory}`;
+  /** Opens the choices of a state, if it is new and can lead on. */
+  open() {
+    const { machine, frames, seen } = this;
+    if (machine.isDead()) return;
+    const state = machine.state();
+    if (seen.has(state)) return;
+    seen.add(state);
+    const costs = new Map(machine.moves().map((move) => [move, machine.cost(move) + this.weight * this.jitter()]));
+    const moves = [...costs.keys()].sort((a, b) => costs.get(a) - costs.get(b));
+    frames.push({ mark: machine.journal.length, moves, at: 0 });
   }
 
-  look(buffer, at) {
-    const store = buffer.findLast(({ address, bytes }) => at >= address && at < address + bytes.length);
-    if (store) return [store.bytes[at - store.address], store.writer];
-    return this.memory.get(at) ?? [this.initial[at], []];
-  }
-
-  /** Publishes a store, and says how to take that back. */
-  publish({ address, bytes, writer }) {
-    const before = bytes.map((byte, k) => {
-      const old = this.memory.get(address + k);
-      this.memory.set(address + k, [byte, writer]);
-      return old;
-    });
-    return () => before.forEach((old, k) => (old ? this.memory.set(address + k, old) : this.memory.delete(address + k)));
-  }
-
-  /** The writers of the bytes that an event reads here, or null where it reads other values. */
-  writersOf(event, buffer) {
-    const [kind, , address, width, value] = event;
-    if (kind === 'w') return [];
-    const seen = bytesOf(value, width).map((byte, k) => [byte, this.look(buffer, address + k)]);
-    return seen.every(([byte, [there]]) => byte === there) ? seen.map(([, [, writer]]) => writer) : null;
-  }
-
-  /** Goes on with a thread's next event. */
-  access(thread) {
-    const event = this.threads[thread][this.next[thread]];
-    const buffer = this.buffers[thread];
-    if (!event || (event[1] === 'sc' && buffer.length)) return false;
-    const writers = this.writersOf(event, buffer);
-    if (!writers) return false;
-    const key = [thread, this.next[thread]];
-    let undo = () => {};
-    if (event[0] !== 'r') {
-      const store = { address: event[2], bytes: bytesOf(event.at(-1), event[3]), writer: key };
-      if (event[1] === 'sc') undo = this.publish(store);
-      else { buffer.push(store); undo = () => buffer.pop(); }
+  /** Goes on until an answer or the end of a slice of time; then it answers null. */
+  slice() {
+    const { machine, frames, budget } = this;
+    const start = performance.now();
+    while (!machine.isFinished) {
+      const frame = frames.at(-1);
+      if (!frame) return 'none';
+      machine.undoTo(frame.mark);
+      if (frame.at === frame.moves.length) { frames.pop(); continue; }
+      if (this.steps === budget.steps) return `${budget.steps} steps`;
+      if (++this.steps % 64 === 0 && performance.now() - start > SLICE) break;
+      machine.make(frame.moves[frame.at++]);
+      if (!machine.isFinished) this.open();
     }
-    this.order.push(key);
-    this.writers[thread].push(writers);
-    this.next[thread]++;
-    if (this.run()) return true;
-    this.next[thread]--;
-    this.writers[thread].pop();
-    this.order.pop();
-    undo();
-    return false;
+    budget.milliseconds -= performance.now() - start;
+    return machine.isFinished ? 'found' : budget.reached;
   }
 
-  /** Goes on with a thread's oldest waiting store. */
-  drain(thread) {
-    const buffer = this.buffers[thread];
-    if (!buffer.length) return false;
-    const store = buffer.shift();
-    const undo = this.publish(store);
-    if (this.run()) return true;
-    undo();
-    buffer.unshift(store);
-    return false;
+  async run() {
+    for (;;) {
+      const answer = this.slice();
+      if (answer) return answer;
+      await setImmediate();
+    }
   }
 
-  run() {
-    if (this.left-- <= 0) return false;
-    if (this.next.every((next, thread) => next === this.threads[thread].length)) return true;
-    const state = this.state();
-    if (this.seen.has(state)) return false;
-    this.seen.add(state);
-    return this.threads.some((_, thread) => this.access(thread) || this.drain(thread));
+  /** The events in the order in which they were accessed. */
+  accessOrder() {
+    return this.machine.trail.filter(([, , isPublication]) => !isPublication).map(([thread, number]) => [thread, number]);
+  }
+
+  /** The same with each store as late as its thread allows: where it was published, or right before the thread's next event. */
+  publicationOrder() {
+    const order = [];
+    const held = new Map();
+    const release = (thread) => {
+      if (held.has(thread)) order.push([thread, held.get(thread)]);
+      held.delete(thread);
+    };
+    for (const [thread, number, isPublication] of this.machine.trail) {
+      if (isPublication) {
+        if (held.get(thread) === number) release(thread);
+        continue;
+      }
+      release(thread);
+      const { isAtomic, written } = this.machine.threads[thread][number];
+      if (written && !isAtomic) held.set(thread, number);
+      else order.push([thread, number]);
+    }
+    [...held.keys()].forEach(release);
+    return order;
   }
 }
 
-/** The writers and the order of a good interleaving; null where there is none or none was found in so many steps. */
-export function searchWitness(threads, initial, steps = 60_000) {
-  const search = new Search(threads, initial, steps);
-  return search.run() ? { writers: search.writers, order: search.order } : null;
-}
+/** How many further searches, each with other choices, look for a witness that no rule refuses. */
+const OTHER_SEARCHES = 6;
 
-/** The same with atomic loads and stores that wait as plain ones do: what an engine does that makes them so. */
-export function searchWrongWitness(threads, initial) {
-  const weak = ([kind, order, ...rest]) => [kind, kind === 'x' ? order : 'un', ...rest];
-  return searchWitness(threads.map((events) => events.map(weak)), initial);
+/**
+ * Yields different witnesses of a round's events, each with `writers` and `order`, until the caller is content: those of a
+ * machine on which atomic accesses are made at once, and if it gives none, those of a machine on which atomic loads and
+ * stores are made as plain ones, which is what a wrong engine does.
+ *
+ * At its end it answers `{ gaveUp }`: null if the searches were exhaustive, else the limit at which the first machine's
+ * search ended, or the second one's if nothing was found. `steps` is the most choices of a search; `seconds` how long all
+ * searches of the round take together.
+ */
+export async function* witnessesOf(threads, initial, limits = {}) {
+  const budget = new Budget(limits);
+  const yielded = new Set();
+  let gaveUp = null;
+  for (const weak of [false, true]) {
+    for (let seed = 0; seed <= OTHER_SEARCHES; seed++) {
+      const search = new Search(threads, initial, { weak, seed, budget });
+      const answer = await search.run();
+      if (answer !== 'found') {
+        // That a search with other choices gave up is no news where the first one found a witness.
+        if (answer !== 'none' && seed === 0) gaveUp ??= answer;
+        break;
+      }
+      for (const order of [search.accessOrder(), search.publicationOrder()]) {
+        const witness = { writers: search.machine.writers, order };
+        const text = JSON.stringify(witness);
+        if (!yielded.has(text)) yield witness;
+        yielded.add(text);
+      }
+    }
+    if (yielded.size) break;
+  }
+  return { gaveUp };
 }

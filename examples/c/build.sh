@@ -2,30 +2,55 @@
 # Makes modules that wmlab reads of C programs, with Debian's clang, lld and wabt.
 #   examples/c/build.sh                         each program here
 #   examples/c/build.sh SOURCE.c OUT.wasm       one program
+# The status is 2 if the compiler made the atomic accesses of a program plain ones; then there is no module.
 set -euo pipefail
 here=$(cd "$(dirname "${BASH_SOURCE[0]}")" && pwd)
+room=$(mktemp -d)
+trap 'rm -rf "$room"' EXIT
+
+# Compiled and linked in two commands: `clang` alone would run wasm-opt if that is there, which drops fences.
+compile() {
+    clang --target=wasm32 -mcpu=mvp -matomics -mthread-model posix -O2 -ffreestanding -c "$1" -o "$2"
+}
+
+# Refuses an object whose atomic accesses are plain ones. The compiler marks it: it was not made for a shared memory.
+# The linker would refuse it too, but only with --shared-memory, which is not used here.
+refuse_stripped() {
+    local source=$1 features
+    features=$(wasm-objdump -x "$2" | sed -n '/name: "target_features"/,$p')
+    if grep -qE '\[-\] (shared-mem|atomics)' <<<"$features"; then
+        echo "build.sh: $source: the compiler made all its atomic accesses plain ones (its object is marked -shared-mem or -atomics)" >&2
+        echo "build.sh: the likely cause is a thread-local variable (_Thread_local, __thread): give each thread an index instead" >&2
+        exit 2
+    fi
+    if ! grep -qF '[+] atomics' <<<"$features"; then
+        echo "build.sh: $source: its object does not state that atomic accesses are kept (no +atomics in target_features)" >&2
+        exit 2
+    fi
+}
 
 build() {
-    local source=$1 out=$2 folder
-    folder=$(mktemp -d)
-    # Compiled and linked in two commands: `clang` alone would run wasm-opt if that is there, which drops the fences of
-    # a memory that isn't shared yet.
-    clang --target=wasm32 -mcpu=mvp -matomics -mthread-model posix -O2 -ffreestanding -c "$source" -o "$folder/object.o"
+    local source=$1 out=$2
+    compile "$source" "$room/object.o"
+    refuse_stripped "$source" "$room/object.o"
+    compile "$here/mem.c" "$room/mem.o"
     # The stack that the linker makes otherwise takes 16 pages alone.
-    wasm-ld --no-entry -z stack-size=4096 "$folder/object.o" -o "$folder/unshared.wasm"
+    wasm-ld --no-entry -z stack-size=4096 "$room/object.o" "$room/mem.o" -o "$room/unshared.wasm"
     # The linker's own --shared-memory brings passive segments, memory.init and a start function. So the memory is made
     # shared here, and a table that nothing uses is dropped.
-    wasm2wat --enable-threads "$folder/unshared.wasm" |
+    wasm2wat --enable-threads "$room/unshared.wasm" |
         sed -E -e 's/\(memory \(;0;\) ([0-9]+)\)/(memory (;0;) \1 \1 shared)/' \
-            -e '/^  \(table \(;0;\) 1 1 funcref\)$/d' >"$folder/shared.wat"
-    wat2wasm --enable-threads "$folder/shared.wat" -o "$out"
-    rm -r "$folder"
+            -e '/^  \(table \(;0;\) 1 1 funcref\)$/d' >"$room/shared.wat"
+    wat2wasm --enable-threads "$room/shared.wat" -o "$out"
 }
 
 if [ $# -eq 2 ]; then
     build "$1" "$2"
-else
+elif [ $# -eq 0 ]; then
     for source in "$here"/*.c; do
-        build "$source" "${source%.c}.wasm"
+        [ "$source" = "$here/mem.c" ] || build "$source" "${source%.c}.wasm"
     done
+else
+    echo "usage: examples/c/build.sh [SOURCE.c OUT.wasm]" >&2
+    exit 2
 fi

@@ -1,0 +1,205 @@
+/** Tests of record.mjs as a command, and of how it counts and keeps what it finds. */
+
+import { spawn, spawnSync } from 'node:child_process';
+import { chmodSync, cpSync, existsSync, mkdirSync, mkdtempSync, readFileSync, readdirSync, rmSync, symlinkSync, writeFileSync } from 'node:fs';
+import { tmpdir } from 'node:os';
+import { join } from 'node:path';
+import { setTimeout } from 'node:timers/promises';
+import { fileURLToPath } from 'node:url';
+import { programsOf } from './programs.mjs';
+import { progress } from './record.mjs';
+import { recordWith } from './rounds.mjs';
+import { GAVE_UP, NONE_EXISTS } from './verdict.mjs';
+
+const HERE = fileURLToPath(new URL('.', import.meta.url));
+const example = (name) => fileURLToPath(new URL(`../../examples/${name}.wasm`, import.meta.url));
+const BUFFERS = example('store-buffering');
+
+/** Runs the command in a folder; answers its status and what it printed. */
+function run(folder, args, command = join(HERE, 'record.mjs')) {
+  const { status, stdout, stderr } = spawnSync(process.execPath, [command, ...args], { cwd: folder, encoding: 'utf8' });
+  return { status, out: stdout, err: stderr };
+}
+
+/** A program in a folder, made of a shell script. */
+function script(folder, name, text) {
+  const path = join(folder, name);
+  writeFileSync(path, `#!/bin/sh\n${text}\n`);
+  chmodSync(path, 0o755);
+  return path;
+}
+
+/** What is refused: the words, and what the one line on standard error has to say. */
+const MISTAKES = [
+  [['--rounds', 'abc', BUFFERS, 'a', 'b'], /--rounds abc: expected an integer from 1/],
+  [['--rounds', '0', BUFFERS, 'a', 'b'], /--rounds 0: expected/],
+  [['--rounds', '1.5', BUFFERS, 'a', 'b'], /--rounds 1\.5: expected/],
+  [['--rounds', '-1', BUFFERS, 'a', 'b'], /--rounds/],
+  [['--rounds', '', BUFFERS, 'a', 'b'], /--rounds : expected/],
+  [['--events', 'abc', BUFFERS, 'a', 'b'], /--events abc: expected an integer from 1 to 16384/],
+  [['--events', '16385', BUFFERS, 'a', 'b'], /--events 16385: expected/],
+  [['--seconds', '0', BUFFERS, 'a', 'b'], /--seconds 0: expected/],
+  [['--seed', 'x', BUFFERS, 'a', 'b'], /--seed x: expected/],
+  [['--spread', '1e3', BUFFERS, 'a', 'b'], /--spread 1e3: expected/],
+  [[], /no module is given/],
+  [[BUFFERS], /no start is given/],
+  [['--speed', '1', BUFFERS, 'a', 'b'], /'--speed'/],
+  [['--mode', 'fast', BUFFERS, 'a', 'b'], /--mode fast: the modes are locked, buffered, free/],
+  [['--wrong', BUFFERS, 'a', 'b'], /--wrong needs --mode buffered or --mode free/],
+  [[BUFFERS, 'a', 'c'], /start c: no function is exported under this name; exported are a, b/],
+  [[BUFFERS, 'a:1', 'b'], /start a:1: a takes 0 arguments, and 1 are given; write a$/],
+  [[example('peterson'), 'work:x', 'work:1'], /start work:x: the argument "x" is not an integer/],
+  [[example('peterson'), 'work:', 'work:1'], /start work:: the argument "" is not an integer/],
+  [[example('peterson'), 'work:4294967296', 'work:1'], /the argument 4294967296 is no i32; write an integer from -2147483648 to 4294967295/],
+  [[example('peterson'), 'work:-2147483649', 'work:1'], /the argument -2147483649 is no i32/],
+  [[BUFFERS, ...Array(17).fill('a')], /17 starts: a log has at most 16 threads/],
+  [['nothing.wasm', 'a'], /cannot read nothing\.wasm: no such file/],
+  [['.', 'a'], /cannot read \.: it is a folder/],
+  [['text.wasm', 'a'], /text\.wasm: refused decode Magic at 0/],
+  [[example('floats'), 'a'], /floats\.wasm: refused decode Unsupported Floats at 29/],
+  [['--wmlab', '/bin/true', BUFFERS, 'a', 'b'], /--wmlab \/bin\/true: this is not wmlab/],
+  [['--wmlab', '/bin/cat', BUFFERS, 'a', 'b'], /--wmlab \/bin\/cat: this is not wmlab/],
+  [['--wmlab', 'nothing', BUFFERS, 'a', 'b'], /--wmlab nothing: no program is there/],
+  [['--out', '/dev/full', BUFFERS, 'a', 'b'], /cannot write to the folder \/dev\/full/],
+  [['--keep', 'nowhere/log.json', BUFFERS, 'a', 'b'], /cannot write nowhere\/log\.json: no such file or folder/],
+  [['--keep', '.', BUFFERS, 'a', 'b'], /cannot write \.: it is a folder/],
+];
+
+function testMistakes({ note, wmlab, folder }) {
+  writeFileSync(join(folder, 'text.wasm'), 'no module\n');
+  for (const [args, pattern] of MISTAKES) {
+    const words = args.includes('--wmlab') ? args : ['--wmlab', wmlab, ...args];
+    const { status, out, err } = run(folder, words);
+    const isLine = /^record\.mjs: [^\n]+\n$/.test(err) && pattern.test(err.trim());
+    const shown = args.map((word) => word.replace(/^.*\//, '')).join(' ');
+    note(status === 2 && out === '' && isLine, `refused in one line: ${shown}${isLine ? '' : `: status ${status}, ${err}`}`);
+  }
+  const help = run(folder, ['--help']);
+  note(help.status === 0 && help.out.includes('USAGE') && help.err === '', '--help prints the usage');
+}
+
+function testSuccess({ note, wmlab, folder }) {
+  const one = run(folder, ['--wmlab', wmlab, '--rounds', '2', '--out', 'logs', BUFFERS, 'a', 'b']);
+  note(one.status === 0 && /2 {2}allowed threads=2\n$/.test(one.out) && readdirSync(join(folder, 'logs')).length === 2, 'two rounds are recorded and kept');
+  const negative = run(folder, ['--wmlab', wmlab, '--rounds', '1', '--out', 'negative', example('own-store'), 'f:-65536', 'f:0x4']);
+  const log = readFileSync(join(folder, 'negative/0.json'), 'utf8');
+  note(negative.status === 0 && log.includes('["f",[4294901760],') && log.includes('["f",[4],'), 'negative arguments wrap');
+  symlinkSync(join(HERE, 'record.mjs'), join(folder, 'link.mjs'));
+  const linked = run(folder, ['--rounds', '0', BUFFERS, 'a'], join(folder, 'link.mjs'));
+  note(linked.status === 2, 'a link to the command is the command');
+}
+
+/** The recorder looks for the program where the launcher finds it, and where it is installed. */
+function testPlaces({ note, wmlab, folder }) {
+  const top = join(folder, 'share/wmlab');
+  mkdirSync(join(top, 'engines'), { recursive: true });
+  cpSync(HERE, join(top, 'engines/node'), { recursive: true });
+  const copy = (...options) => run(folder, [...options, '--rounds', '1', BUFFERS, 'a', 'b'], join(top, 'engines/node/record.mjs'));
+  const none = copy();
+  note(none.status === 2 && /^record\.mjs: there is no program wmlab yet: run \.\/wmlab --which[^\n]*\n$/.test(none.err), 'without a program one line says what to run');
+  mkdirSync(join(folder, 'bin'));
+  script(join(folder, 'bin'), 'wmlab', `exec '${wmlab}' "$@"`);
+  note(copy().status === 0, 'the installed program is found');
+  rmSync(join(folder, 'bin'), { recursive: true });
+  script(top, 'wmlab', `[ "$*" = --which ] && echo '${wmlab}'`);
+  note(copy().status === 2, 'a launcher without a program builds none for the recorder');
+  mkdirSync(join(top, '.built'));
+  script(join(top, '.built'), 'quick', 'exit 3');
+  note(copy().status === 0, 'the program that the launcher names is found');
+}
+
+/** A folder of programs has to have starts for each. */
+async function testStarts({ note, wmlab, folder }) {
+  mkdirSync(join(folder, 'programs'));
+  cpSync(example('own-store'), join(folder, 'programs/other.wasm'));
+  const refusal = await programsOf(join(folder, 'programs'), wmlab).then(() => '', (error) => error.message);
+  note(/^other\.wasm: each exported function takes arguments/.test(refusal), 'a program without starts is an error');
+}
+
+const logNamed = (name) => `["wasm-litmus-log",2,[["${name}",[],["cut"],0,[]]],[]]`;
+
+/** A recorder whose rounds have these logs; an item that isn't a string is answered at the end. */
+function played(rounds) {
+  async function* logs(items) {
+    for (const item of items) {
+      if (typeof item !== 'string') return item;
+      yield logNamed(item);
+    }
+    return null;
+  }
+  return { round: async (seed) => ({ ends: [['cut']], logs: logs(rounds[seed]) }) };
+}
+
+/** How rounds are judged, by a program that answers as the logs' names ask it to. */
+async function testJudgement({ note, folder }) {
+  const program = script(folder, 'played', `log=$(cat)
+[ "$1" = complete ] && { printf '%s' "$log"; exit; }
+case $log in *slow*) sleep 0.3 ;; esac
+case $log in *broken*) echo 'broken V5 case 3 at 0.1'; exit 1 ;; *) echo 'allowed threads=1 events=0' ;; esac`);
+  const judged = (rounds) => recordWith(played(rounds), { program, module: 'm.wasm', rounds: rounds.length, seed: 0 });
+  const order = await judged([['good'], ['slow broken'], ['broken']]);
+  note(order.bad?.number === 1, 'the first log that is not allowed is the first by round');
+  const other = await judged([['broken 1', 'broken 2', 'good']]);
+  note(!other.bad, 'a witness that is allowed counts, and not the refused ones before it');
+  const all = await judged([['broken 1', 'broken 2']]);
+  note(all.bad?.document === logNamed('broken 1'), 'a log is broken if each witness is refused');
+  const end = (line) => ({ document: 'the events', line });
+  const open = await judged([['broken 1', end(`${GAVE_UP}: gave up after 1 steps`)], [end(NONE_EXISTS)]]);
+  note(open.verdicts.counts.get(`${GAVE_UP}: gave up after 1 steps`) === 1 && open.verdicts.counts.get(NONE_EXISTS) === 1, 'a search that gave up and a certain answer are counted apart');
+  note(open.outcomes.counts.get('cut') === 2, 'the outcome of a round without a witness is counted');
+  note(open.bad?.number === 1 && open.bad.document === 'the events', 'its events are what is kept; a certain answer comes before a search that gave up');
+}
+
+/** A search that is under way when the user stops is not waited for. */
+async function testStop({ note }) {
+  const never = { next: () => new Promise(() => {}) };
+  const recorder = { round: async () => ({ ends: [['cut']], logs: never }) };
+  const stop = { requested: false };
+  const ended = recordWith(recorder, { program: '', module: '', rounds: 1, stop });
+  await setTimeout(50);
+  stop.requested = true;
+  const first = await Promise.race([ended, setTimeout(5_000)]);
+  note(first?.checked === 0, 'a stop does not wait for a search');
+}
+
+/** Ctrl-C: the tables so far, and the status 130. */
+async function testInterrupt({ note, wmlab, folder }) {
+  const args = [join(HERE, 'record.mjs'), '--wmlab', wmlab, '--rounds', '100000', '--out', 'stopped', BUFFERS, 'a', 'b'];
+  const child = spawn(process.execPath, args, { cwd: folder });
+  const printed = [];
+  child.stdout.on('data', (bytes) => printed.push(bytes));
+  const ended = new Promise((resolve) => { child.on('close', resolve); });
+  const logs = join(folder, 'stopped');
+  for (let tries = 0; tries < 300 && !(existsSync(logs) && readdirSync(logs).length > 2); tries++) await setTimeout(100);
+  child.kill('SIGINT');
+  const status = await ended;
+  const text = Buffer.concat(printed).toString();
+  note(status === 130 && /^outcomes\n[^]*\nverdicts\n *\d+ {2}allowed threads=2\nstopped after \d+ of 100000 rounds\n$/.test(text), 'Ctrl-C prints the tables so far');
+}
+
+function testProgress({ note }) {
+  const shownOn = (isTTY, rounds) => {
+    let text = '';
+    const show = progress(rounds, { isTTY, write: (more) => { text += more; } });
+    for (let k = 0; k < rounds; k++) show();
+    return text;
+  };
+  note(shownOn(true, 2) === '\r1 of 2 rounds\r2 of 2 rounds\n' && shownOn(false, 999) === '', 'progress is shown on a terminal');
+}
+
+export async function testCommand({ note, wmlab }) {
+  const folder = mkdtempSync(join(tmpdir(), 'record-'));
+  try {
+    const context = { note, wmlab, folder };
+    testMistakes(context);
+    testSuccess(context);
+    testPlaces(context);
+    await testStarts(context);
+    await testJudgement(context);
+    await testStop(context);
+    await testInterrupt(context);
+    testProgress(context);
+  } finally {
+    rmSync(folder, { recursive: true });
+  }
+}
