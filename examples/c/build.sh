@@ -19,12 +19,15 @@ refuse_stripped() {
     local source=$1 features
     features=$(wasm-objdump -x "$2" | sed -n '/name: "target_features"/,$p')
     if grep -qE '\[-\] (shared-mem|atomics)' <<<"$features"; then
-        echo "build.sh: $source: the compiler made all its atomic accesses plain ones (its object is marked -shared-mem or -atomics)" >&2
-        echo "build.sh: the likely cause is a thread-local variable (_Thread_local, __thread): give each thread an index instead" >&2
+        echo "build.sh: $source: the compiler made all its atomic accesses plain ones" \
+            "(its object is marked -shared-mem or -atomics)" >&2
+        echo "build.sh: the likely cause is a thread-local variable (_Thread_local, __thread):" \
+            "give each thread an index instead" >&2
         exit 2
     fi
     if ! grep -qF '[+] atomics' <<<"$features"; then
-        echo "build.sh: $source: its object does not state that atomic accesses are kept (no +atomics in target_features)" >&2
+        echo "build.sh: $source: its object does not state that atomic accesses are kept" \
+            "(no +atomics in target_features)" >&2
         exit 2
     fi
 }
