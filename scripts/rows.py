@@ -2,7 +2,8 @@
 """Runs each row: a command line with its files, and what it prints, writes to standard error and ends with.
 
 Rows are in tests/rows/*.rows (tests/README.md has their format), in the blocks `$ ./wmlab ..` of the pages, and in
-the tables of examples/README.md. A row that differs is shown as a diff. The last line is `N passed, N failed`.
+the tables of examples/README.md. A log of a row with a verdict is also migrated, and completed if it is allowed. A row
+that differs is shown as a diff. The last line is `N passed, N failed`.
 
     scripts/rows.py                      all rows
     scripts/rows.py check "two writers"  the rows with one of these words in file or title
@@ -38,7 +39,7 @@ class Row:
         self.source, self.line, self.title = source, line, title
         self.files, self.command, self.last_line = {}, None, line
         self.out, self.err, self.status = [], [], 0
-        self.has_status = False
+        self.has_status, self.is_written = False, True
 
     def name(self):
         return f"{self.source}:{self.line}: {self.title}"
@@ -217,6 +218,32 @@ def rows_of_explanations():
     return rows, [line for line in missing if line.split(" ")[0] in harness.STATUS]
 
 
+# `check` and `rules` of one log, whose answer other ways to the same log keep.
+JUDGED = re.compile(r"wmlab (check \S+|rules) (\S+)")
+
+
+def rows_by_another_way(rows):
+    """For each row with a verdict: the log migrated has the same one, and is migrated to itself; an allowed log
+    completed from its module is allowed too, and is completed to itself."""
+    again = []
+    for row in rows:
+        found = JUDGED.fullmatch(row.command)
+        verdict = row.out[0].split(" ")[0] if row.out else ""
+        if not found or verdict not in ("allowed", "broken"):
+            continue
+        judge, log = found.groups()
+        ways = ["migrate"]
+        if verdict == "allowed" and judge != "rules":
+            ways.append(f"complete {judge.split(' ')[1]}")
+        for way in ways:
+            command = f"wmlab {way} {log} >1.json; wmlab {way} 1.json | cmp - 1.json; wmlab {judge} 1.json"
+            other = Row(row.source, row.line, f"{row.title}, by {way.split(' ')[0]}")
+            other.files, other.command, other.out, other.status = row.files, command, row.out, row.status
+            other.is_written = False
+            again.append(other)
+    return again
+
+
 # ---- running
 
 
@@ -320,7 +347,7 @@ def update(row, got):
 
 def can_be_updated(row):
     plain = not any(line.endswith(MORE) or COUNTS.fullmatch(line) or REPEATED.search(line) for line in row.out)
-    return row.source.endswith(".rows") and plain
+    return row.is_written and row.source.endswith(".rows") and plain
 
 
 # ---- all
@@ -329,7 +356,8 @@ def can_be_updated(row):
 def all_rows(words):
     rows, missing = rows_of_explanations()
     for path in sorted(glob.glob(f"{TOP}/tests/rows/*.rows")):
-        rows += rows_of_file(path)
+        found = rows_of_file(path)
+        rows += found + ([] if path.endswith("long.rows") else rows_by_another_way(found))
     for pattern in PAGES:
         for path in sorted(glob.glob(f"{TOP}/{pattern}")):
             rows += rows_of_page(path)

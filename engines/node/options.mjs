@@ -1,10 +1,13 @@
 /** The command line of record.mjs. */
 
 import { parseArgs } from 'node:util';
-import { UserError } from './errors.mjs';
-import { MODES, parseStart } from './recorder.mjs';
+import { UserError } from '../shared/errors.mjs';
+import { conditionsOf } from '../shared/outcomes.mjs';
+import { campaignName } from '../shared/report.mjs';
+import { MODES, WRONG } from '../shared/recorder.mjs';
+import { parseStart } from '../shared/starts.mjs';
 
-export const USAGE = `Records runs of node's WebAssembly, and checks each with wmlab.
+export const USAGE = `Records runs of an engine's WebAssembly, and checks each with wmlab.
 
 USAGE
     engines/node/record.mjs [OPTIONS] MODULE.wasm START..
@@ -12,31 +15,42 @@ USAGE
     START is an exported function with its arguments, such as work:0:-7, one for each thread.
 
 OPTIONS
+    --engine ENGINE   node, chromium or firefox, the last two headless (node)
     --mode MODE       how accesses are recorded: locked, buffered or free (locked)
     --rounds N        the number of runs (100)
     --events N        the most events of a run, up to 16384 (128)
-    --spread N        the longest random wait before an access, in turns of a loop; locked and buffered (60)
-    --seed N          the start of the random waits (1)
-    --seconds N       the longest search for a witness of one run, in the mode free (20)
-    --wrong           make atomic loads and stores plain: an engine that is wrong on purpose; buffered and free
+    --turn N          the most accesses that a thread makes in one turn; locked and buffered (4)
+    --seed N          what the turns are chosen by: the first run has the seed N, the next one N + 1 (1)
+    --seconds N       the longest search for a witness of one run, or for a smaller run (20)
+    --forbid OUTCOME  fail if a run has this outcome: an end for each thread, such as "0 *"; * is any end; repeatable
+    --want OUTCOME    fail if no run has this outcome; repeatable
+    --wrong HOW       be an engine that is wrong on purpose: plain-atomics, torn-store or stale-load; buffered and free
     --wmlab PROGRAM   the program that checks (the one that ./wmlab --which names)
-    --keep FILE       where the first log that is not allowed is kept (not-allowed.json)
+    --keep FILE       where the first log that is not allowed is kept (not-allowed.json; with --report, among its logs)
+    --kept FOLDER     where the first log of each outcome is kept (recorded, if there are conditions)
+    --report FOLDER   write a page there, index.html, with outcomes, verdicts and kept logs; campaigns of several programs,
+                      modes and engines with the same FOLDER are on one page
     --out FOLDER      keep every log there, as ROUND.json
     --help            print this text
 
-    N is an integer of at least 1.
+    N is an integer of at least 1. In the modes locked and buffered a seed gives the same log, byte for byte.
 
-It prints a table of outcomes and one of verdicts. Ctrl-C prints the tables so far.
+It prints a table of outcomes and one of verdicts. A log that is kept has its explanation (.txt) and its picture (.svg, or .dot
+without Graphviz) beside it, and in the modes locked and buffered a smaller run with the same fault or outcome (-shrunk.json).
+Ctrl-C prints the tables so far.
 
 EXIT STATUS
     0    every log is allowed
-    1    a log is not allowed, or no witness of a run was found
+    1    a log is not allowed, no witness of a run was found, or a condition failed
     2    the command line, a file or the module is refused, in one line on standard error
     3    a fault of the recorder
     130  stopped by Ctrl-C
 `;
 
-const DEFAULTS = { mode: 'locked', rounds: '100', events: '128', spread: '60', seed: '1', seconds: '20', keep: 'not-allowed.json' };
+export const ENGINES = ['node', 'chromium', 'firefox'];
+const DEFAULTS = {
+  engine: 'node', mode: 'locked', rounds: '100', events: '128', turn: '4', seed: '1', seconds: '20',
+};
 const MOST_EVENTS = 16_384;
 const MOST_THREADS = 16;
 
@@ -58,26 +72,40 @@ export function wordsOf(config) {
   }
 }
 
+const TEXT = { type: 'string' };
+const SEVERAL = { type: 'string', multiple: true };
+const WORDS = {
+  engine: TEXT, mode: TEXT, rounds: TEXT, events: TEXT, turn: TEXT, seed: TEXT, seconds: TEXT, wmlab: TEXT, keep: TEXT, kept: TEXT,
+  report: TEXT, out: TEXT, wrong: TEXT, forbid: SEVERAL, want: SEVERAL, help: { type: 'boolean', short: 'h' },
+};
+
+/** Refuses a word that is not one of a list. */
+function oneOf(option, word, words) {
+  if (!words.includes(word)) throw new UserError(`--${option} ${word}: the ${option}s are ${words.join(', ')}`);
+}
+
 /** What the words of a command line ask for, or null for `--help`. */
 export function optionsOf(args) {
-  const text = { type: 'string' };
-  const { values, positionals } = wordsOf({
-    args,
-    allowPositionals: true,
-    options: {
-      mode: text, rounds: text, events: text, spread: text, seed: text, seconds: text, wmlab: text, keep: text, out: text,
-      wrong: { type: 'boolean' }, help: { type: 'boolean', short: 'h' },
-    },
-  });
+  const { values, positionals } = wordsOf({ args, allowPositionals: true, options: WORDS });
   if (values.help) return null;
-  const given = { wrong: false, ...DEFAULTS, ...values };
+  const given = { wrong: null, ...DEFAULTS, ...values };
   const [module, ...starts] = positionals;
   if (module === undefined) throw new UserError('no module is given; --help prints the usage');
   if (starts.length === 0) throw new UserError(`no start is given: name an exported function of ${module} for each thread`);
   if (starts.length > MOST_THREADS) throw new UserError(`${starts.length} starts: a log has at most ${MOST_THREADS} threads`);
-  if (!MODES.includes(given.mode)) throw new UserError(`--mode ${given.mode}: the modes are ${MODES.join(', ')}`);
-  const { mode, wrong, wmlab, keep, out } = given;
-  const counts = ['rounds', 'spread', 'seed', 'seconds'].map((name) => [name, countOf(name, given[name])]);
+  oneOf('engine', given.engine, ENGINES);
+  oneOf('mode', given.mode, MODES);
+  if (given.wrong !== null && !WRONG.includes(given.wrong)) {
+    throw new UserError(`--wrong ${given.wrong}: expected ${WRONG.join(', ')}`);
+  }
+  const { engine, mode, wrong, wmlab, report, out } = given;
+  const counts = ['rounds', 'turn', 'seed', 'seconds'].map((name) => [name, countOf(name, given[name])]);
   const events = countOf('events', given.events, MOST_EVENTS);
-  return { module, starts: starts.map(parseStart), mode, wrong, wmlab, keep, out, events, ...Object.fromEntries(counts) };
+  const conditions = conditionsOf(given, starts.length);
+  const kept = given.kept ?? (report ? `${report}/logs/${campaignName(given, module)}` : conditions.length ? 'recorded' : undefined);
+  const keep = given.keep ?? (report ? `${kept}/not-allowed.json` : 'not-allowed.json');
+  return {
+    module, starts: starts.map(parseStart), engine, mode, wrong, wmlab, keep, kept, report, out, events, conditions,
+    ...Object.fromEntries(counts),
+  };
 }

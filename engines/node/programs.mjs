@@ -5,9 +5,9 @@
 
 import { readFileSync, readdirSync } from 'node:fs';
 import { join } from 'node:path';
-import { UserError } from './errors.mjs';
-import { rewrite } from './rewrite.mjs';
-import { examine } from './wmlab.mjs';
+import { UserError } from '../shared/errors.mjs';
+import { rewrite } from '../shared/rewrite.mjs';
+import { examine } from '../shared/wmlab.mjs';
 
 const STARTS = {
   'spin-lock.wasm': ['work:2', 'work:2'],

@@ -1,14 +1,17 @@
 #!/usr/bin/env node
-/** Records runs of node's WebAssembly, and checks each. The usage is in options.mjs, and printed by `--help`. */
+/** Records runs of an engine's WebAssembly, and checks each. The usage is in options.mjs, and printed by `--help`. */
 
-import { accessSync, constants, mkdirSync, readFileSync, realpathSync, statSync, writeFileSync } from 'node:fs';
+import { accessSync, constants, readFileSync, realpathSync, statSync } from 'node:fs';
 import { dirname } from 'node:path';
 import { fileURLToPath } from 'node:url';
-import { UserError, withFile } from './errors.mjs';
+import { openRecorder } from './engines.mjs';
+import { UserError, withFile } from '../shared/errors.mjs';
+import { hasNoWitness, keep, keepWithShrunk, prepareFolder, writeTo } from '../shared/kept.mjs';
+import { judgeConditions } from '../shared/outcomes.mjs';
+import { writeReport } from '../shared/report.mjs';
+import { recordWith } from '../shared/rounds.mjs';
+import { Judge, Stopped, findProgram } from '../shared/wmlab.mjs';
 import { USAGE, optionsOf } from './options.mjs';
-import { record } from './rounds.mjs';
-import { GAVE_UP, NONE_EXISTS } from './verdict.mjs';
-import { Stopped, examine, findProgram } from './wmlab.mjs';
 
 /** Shows how many rounds were checked: on a terminal each, else each thousandth. Answers what to call after a round. */
 export function progress(rounds, stream = process.stderr) {
@@ -20,26 +23,87 @@ export function progress(rounds, stream = process.stderr) {
   };
 }
 
-const writeTo = (path, text) => withFile(`write ${path}`, () => writeFileSync(path, text));
-
 /** Refuses, before a round runs, places where nothing can be written. */
-function preparePlaces({ keep, out }) {
-  if (statSync(keep, { throwIfNoEntry: false })?.isDirectory()) throw new UserError(`cannot write ${keep}: it is a folder`);
-  withFile(`write ${keep}`, () => accessSync(dirname(keep), constants.W_OK));
-  if (out === undefined) return;
-  withFile(`write to the folder ${out}`, () => {
-    mkdirSync(out, { recursive: true });
-    accessSync(out, constants.W_OK);
-  });
+function preparePlaces({ keep: path, out, kept, report }) {
+  [out, kept, report].filter((folder) => folder !== undefined).forEach(prepareFolder);
+  if (statSync(path, { throwIfNoEntry: false })?.isDirectory()) throw new UserError(`cannot write ${path}: it is a folder`);
+  withFile(`write ${path}`, () => accessSync(dirname(path), constants.W_OK));
 }
 
 // A reader of the tables that ends early, as `head` does.
 const onClosedOutput = () => process.exit(3);
 
-/** What is kept of a round whose log is not allowed. */
-function keptText(line, keep) {
-  if (!line.startsWith(GAVE_UP) && line !== NONE_EXISTS) return `its log is kept in ${keep}`;
-  return `its events are kept in ${keep}, in the form of a log without a witness: each read has [] for its writers, and the order is []`;
+/** What is printed on a round whose log is not allowed. */
+function keptText(line, path) {
+  if (!hasNoWitness(line)) return `its log is kept in ${path}`;
+  return `its events are kept in ${path}, in the form of a log without a witness: each read has [] for its writers, and the order is []`;
+}
+
+/** The most outcomes of which a log is kept. */
+const MOST_KEPT = 20;
+
+/** One run of the command: the recorder, the judge and the options, and the logs that it keeps. */
+class Campaign {
+  constructor(options, recorder, judge, stop) {
+    Object.assign(this, { options, recorder, judge, stop, kept: [], lines: [] });
+    this.places = new Map(); // outcome: the path of its log
+  }
+
+  async record() {
+    const { rounds, out } = this.options;
+    const show = progress(rounds);
+    const seen = ({ number, document }) => {
+      show();
+      if (out !== undefined) writeTo(`${out}/${number}.json`, document);
+    };
+    this.results = await recordWith(this.recorder, this.judge, { ...this.options, seen, stop: this.stop });
+  }
+
+  /** Looks at the conditions, in the order of the rounds, and keeps the first log of each outcome. */
+  async keepOutcomes() {
+    const { kept, conditions } = this.options;
+    const firsts = this.results.firstRounds().map((found) => ({ ...found, place: `round ${found.number}` }));
+    this.conditions = judgeConditions(conditions, firsts);
+    if (kept === undefined) return;
+    const conditionsMet = this.conditions.filter(({ found }) => found);
+    const isNeeded = ({ outcome }) => conditionsMet.some(({ found }) => found.outcome === outcome);
+    for (const found of [...firsts.filter(isNeeded), ...firsts.filter((each) => !isNeeded(each)).slice(0, MOST_KEPT)]) {
+      const path = `${kept}/round-${found.number}.json`;
+      this.places.set(found.outcome, path);
+      const met = conditionsMet.find((each) => each.found.outcome === found.outcome);
+      if (met) await this.keepSmaller(path, found, met.condition);
+      else this.kept.push(await keep(this.judge, path, found));
+    }
+  }
+
+  async keepSmaller(path, found, condition) {
+    const { kept, line } = await keepWithShrunk(this.recorder, this.judge, path, found, condition, { ...this.options, stop: this.stop });
+    this.kept.push(...kept);
+    if (line) this.lines.push(line);
+  }
+
+  /** Keeps the log to look at first, if one is not allowed. */
+  async keepBad() {
+    const { bad } = this.results;
+    if (!bad) return;
+    const path = this.options.keep;
+    this.lines.push(`round ${bad.number}: ${bad.line}`, keptText(bad.line, path));
+    await this.keepSmaller(path, bad, null);
+  }
+
+  /** The lines of the tables and of all that is kept. */
+  text() {
+    const { options: { rounds }, stop, results } = this;
+    const stopped = stop.requested ? [`stopped after ${results.checked} of ${rounds} rounds`] : [];
+    const place = (outcome) => (this.places.has(outcome) ? `  ${this.places.get(outcome)}` : '');
+    const newline = stop.requested && process.stderr.isTTY ? [''] : [];
+    return [...newline, ...results.lines(place), ...stopped, ...this.conditions.map(({ line }) => line), ...this.lines].join('\n');
+  }
+
+  get status() {
+    if (this.stop.requested) return 130;
+    return this.results.bad || this.conditions.some(({ fails }) => fails) ? 1 : 0;
+  }
 }
 
 /** Records as the words of the command line ask. Answers the exit status. */
@@ -49,27 +113,25 @@ async function main(args) {
     process.stdout.write(USAGE);
     return 0;
   }
-  const { module, keep, out, rounds } = options;
+  const { module } = options;
   const bytes = withFile(`read ${module}`, () => readFileSync(module));
   preparePlaces(options);
-  const program = findProgram(options.wmlab);
-  await examine(program, module);
+  const judge = await Judge.open(findProgram(options.wmlab), module);
   const stop = { requested: false };
   process.once('SIGINT', () => { stop.requested = true; });
-  const show = progress(rounds);
-  const seen = (round, document) => {
-    show();
-    if (out !== undefined) writeTo(`${out}/${round}.json`, document);
-  };
-  const results = await record({ ...options, program, bytes, seen, stop });
-  const stopped = stop.requested ? [`stopped after ${results.checked} of ${rounds} rounds`] : [];
-  console.log([...(stop.requested && process.stderr.isTTY ? [''] : []), ...results.lines(), ...stopped].join('\n'));
-  if (results.bad) {
-    writeTo(keep, results.bad.document);
-    console.log(`round ${results.bad.number}: ${results.bad.line}\n${keptText(results.bad.line, keep)}`);
+  const recorder = await openRecorder(bytes, options, stop);
+  try {
+    const campaign = new Campaign(options, recorder, judge, stop);
+    await campaign.record();
+    await campaign.keepOutcomes();
+    await campaign.keepBad();
+    if (options.report !== undefined) await writeReport(options.report, campaign);
+    console.log(campaign.text());
+    return campaign.status;
+  } finally {
+    judge.close();
+    await recorder.close();
   }
-  if (stop.requested) return 130;
-  return results.bad ? 1 : 0;
 }
 
 if (process.argv[1] && realpathSync(process.argv[1]) === fileURLToPath(import.meta.url)) {

@@ -8,8 +8,9 @@ import { setTimeout } from 'node:timers/promises';
 import { fileURLToPath } from 'node:url';
 import { programsOf } from './programs.mjs';
 import { progress } from './record.mjs';
-import { recordWith } from './rounds.mjs';
-import { GAVE_UP, NONE_EXISTS } from './verdict.mjs';
+import { recordWith } from '../shared/rounds.mjs';
+import { GAVE_UP, NONE_EXISTS } from '../shared/verdict.mjs';
+import { Judge } from '../shared/wmlab.mjs';
 
 const HERE = fileURLToPath(new URL('.', import.meta.url));
 const example = (name) => fileURLToPath(new URL(`../../examples/${name}.wasm`, import.meta.url));
@@ -40,12 +41,19 @@ const MISTAKES = [
   [['--events', '16385', BUFFERS, 'a', 'b'], /--events 16385: expected/],
   [['--seconds', '0', BUFFERS, 'a', 'b'], /--seconds 0: expected/],
   [['--seed', 'x', BUFFERS, 'a', 'b'], /--seed x: expected/],
-  [['--spread', '1e3', BUFFERS, 'a', 'b'], /--spread 1e3: expected/],
+  [['--turn', '1e3', BUFFERS, 'a', 'b'], /--turn 1e3: expected/],
   [[], /no module is given/],
   [[BUFFERS], /no start is given/],
   [['--speed', '1', BUFFERS, 'a', 'b'], /'--speed'/],
   [['--mode', 'fast', BUFFERS, 'a', 'b'], /--mode fast: the modes are locked, buffered, free/],
-  [['--wrong', BUFFERS, 'a', 'b'], /--wrong needs --mode buffered or --mode free/],
+  [['--wrong', 'stale-load', BUFFERS, 'a', 'b'], /--wrong needs --mode buffered or --mode free/],
+  [['--wrong', 'fence', '--mode', 'free', BUFFERS, 'a', 'b'], /--wrong fence: expected plain-atomics, torn-store, stale-load/],
+  [['--engine', 'opera', BUFFERS, 'a', 'b'], /--engine opera: the engines are node, chromium, firefox/],
+  [['--forbid', '0', BUFFERS, 'a', 'b'], /--forbid "0": 1 ends for 2 threads/],
+  [['--want', '0 x', BUFFERS, 'a', 'b'], /--want "0 x": "x" is not an end; expected a value/],
+  [['--want', '', BUFFERS, 'a', 'b'], /--want "": "" is not an end/],
+  [['--kept', '/dev/full', BUFFERS, 'a', 'b'], /cannot write to the folder \/dev\/full/],
+  [['--report', '/dev/full', BUFFERS, 'a', 'b'], /cannot write to the folder \/dev\/full/],
   [[BUFFERS, 'a', 'c'], /start c: no function is exported under this name; exported are a, b/],
   [[BUFFERS, 'a:1', 'b'], /start a:1: a takes 0 arguments, and 1 are given; write a$/],
   [[example('peterson'), 'work:x', 'work:1'], /start work:x: the argument "x" is not an integer/],
@@ -92,8 +100,8 @@ function testSuccess({ note, wmlab, folder }) {
 /** The recorder looks for the program where the launcher finds it, and where it is installed. */
 function testPlaces({ note, wmlab, folder }) {
   const top = join(folder, 'share/wmlab');
-  mkdirSync(join(top, 'engines'), { recursive: true });
-  cpSync(HERE, join(top, 'engines/node'), { recursive: true });
+  mkdirSync(top, { recursive: true });
+  cpSync(join(HERE, '..'), join(top, 'engines'), { recursive: true });
   const copy = (...options) => run(folder, [...options, '--rounds', '1', BUFFERS, 'a', 'b'], join(top, 'engines/node/record.mjs'));
   const none = copy();
   note(none.status === 2 && /^record\.mjs: there is no program wmlab yet: run \.\/wmlab --which[^\n]*\n$/.test(none.err), 'without a program one line says what to run');
@@ -127,7 +135,7 @@ function played(rounds) {
     }
     return null;
   }
-  return { round: async (seed) => ({ ends: [['cut']], logs: logs(rounds[seed]) }) };
+  return { round: async (seed) => ({ ends: [['cut']], turns: [], logs: logs(rounds[seed]) }) };
 }
 
 /** How rounds are judged, by a program that answers as the logs' names ask it to. */
@@ -136,7 +144,7 @@ async function testJudgement({ note, folder }) {
 [ "$1" = complete ] && { printf '%s' "$log"; exit; }
 case $log in *slow*) sleep 0.3 ;; esac
 case $log in *broken*) echo 'broken V5 case 3 at 0.1'; exit 1 ;; *) echo 'allowed threads=1 events=0' ;; esac`);
-  const judged = (rounds) => recordWith(played(rounds), { program, module: 'm.wasm', rounds: rounds.length, seed: 0 });
+  const judged = (rounds) => recordWith(played(rounds), new Judge(program, 'm.wasm'), { rounds: rounds.length, seed: 0 });
   const order = await judged([['good'], ['slow broken'], ['broken']]);
   note(order.bad?.number === 1, 'the first log that is not allowed is the first by round');
   const other = await judged([['broken 1', 'broken 2', 'good']]);
@@ -153,9 +161,9 @@ case $log in *broken*) echo 'broken V5 case 3 at 0.1'; exit 1 ;; *) echo 'allowe
 /** A search that is under way when the user stops is not waited for. */
 async function testStop({ note }) {
   const never = { next: () => new Promise(() => {}) };
-  const recorder = { round: async () => ({ ends: [['cut']], logs: never }) };
+  const recorder = { round: async () => ({ ends: [['cut']], turns: [], logs: never }) };
   const stop = { requested: false };
-  const ended = recordWith(recorder, { program: '', module: '', rounds: 1, stop });
+  const ended = recordWith(recorder, new Judge('', ''), { rounds: 1, stop });
   await setTimeout(50);
   stop.requested = true;
   const first = await Promise.race([ended, setTimeout(5_000)]);

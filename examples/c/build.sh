@@ -1,7 +1,8 @@
 #!/usr/bin/env bash
-# Makes modules that wmlab reads of C programs, with Debian's clang, lld and wabt.
+# Makes modules that wmlab reads of C programs, with Debian's clang and lld, wabt's wasm-objdump, and engines/lower.
 #   examples/c/build.sh                         each program here
 #   examples/c/build.sh SOURCE.c OUT.wasm       one program
+# A line `// lower: OPTIONS` of a source has options for engines/lower.
 # The status is 2 if the compiler made the atomic accesses of a program plain ones; then there is no module.
 set -euo pipefail
 here=$(cd "$(dirname "${BASH_SOURCE[0]}")" && pwd)
@@ -33,18 +34,14 @@ refuse_stripped() {
 }
 
 build() {
-    local source=$1 out=$2
+    local source=$1 out=$2 options
     compile "$source" "$room/object.o"
     refuse_stripped "$source" "$room/object.o"
     compile "$here/mem.c" "$room/mem.o"
     # The stack that the linker makes otherwise takes 16 pages alone.
-    wasm-ld --no-entry -z stack-size=4096 "$room/object.o" "$room/mem.o" -o "$room/unshared.wasm"
-    # The linker's own --shared-memory brings passive segments, memory.init and a start function. So the memory is made
-    # shared here, and a table that nothing uses is dropped.
-    wasm2wat --enable-threads "$room/unshared.wasm" |
-        sed -E -e 's/\(memory \(;0;\) ([0-9]+)\)/(memory (;0;) \1 \1 shared)/' \
-            -e '/^  \(table \(;0;\) 1 1 funcref\)$/d' >"$room/shared.wat"
-    wat2wasm --enable-threads "$room/shared.wat" -o "$out"
+    wasm-ld --no-entry -z stack-size=4096 "$room/object.o" "$room/mem.o" -o "$room/linked.wasm"
+    read -ra options < <(sed -n 's,^// lower: ,,p' "$source") || true
+    "$here/../../engines/lower" "$room/linked.wasm" -o "$out" "${options[@]}" | sed "s,^,$(basename "$source"): ,"
 }
 
 if [ $# -eq 2 ]; then

@@ -1,0 +1,130 @@
+use Rattle.std.proofs.Common.{◌≡◌, ℕ, ◌<◌, List, [], ◌∷◌, ◌++◌, length, take, map, refl, sym, ap, subst, ◌∙◌, arith}
+use Rattle.std.specs.Io.KnownBytes.{Consumes, IsAtEnd}
+use Rattle.wm_stream.specs.Answers.{Prints, PrintsFront}
+use Rattle.wm_stream.specs.Lines.{last_line}
+use Rattle.wm_stream.proofs.Answering.{on_err}
+use Rattle.std.proofs.lemmas.List.{take_all}
+use Rattle.wm_stream.proofs.Printing.{texts}
+use Rattle.wm_stream.proofs.Streaming.{AddsLines, answers_all, answers_more, reads_nothing, starts, stops, stops_at_last, stops_within, whole_buffer}
+use Rattle.wm_stream.proofs.stream.answer_lines.Goals as goal
+
+take_none : (xs : List ℕ) → take 0 xs ≡ []
+take_none xs = refl
+
+pub returns-in_err-buffer-clause-stopped : goal.returns-in_err-buffer-clause-stopped
+returns-in_err-buffer-clause-stopped g c =
+    let says = g.J.AnswersLines.says c.args.judge.now in
+    let had = g.I.Read.remaining c.args.input.now in
+    let old = g.O.Write.contents c.args.out.now in
+    on_err c.from_residual.result (stops says c.args.limit had had [] _ old old (starts says c.args.limit had old))
+
+pub loop-init : goal.loop-init
+loop-init g c =
+    let says = g.J.AnswersLines.says c.args.judge.now in
+    let had = g.I.Read.remaining c.args.input.now in
+    let old = g.O.Write.contents c.args.out.now in
+    record { room = grind (arith, c.in_ok-buffer.ensures.len, c.in_ok-buffer.buffer.ok); answered = rw c.new-begun.ensures.items (starts says c.args.limit had old) }
+
+pub returns-in_err-count-clause-stopped : goal.returns-in_err-count-clause-stopped
+returns-in_err-count-clause-stopped g c =
+    on_err c.from_residual-in_err-count.result (stops (g.J.AnswersLines.says c.args.judge.now) c.args.limit (g.I.Read.remaining c.args.input.now) (g.I.Read.remaining c.loop.input)
+    c.loop.begun.items c.loop.status (g.O.Write.contents c.args.out.now) (g.O.Write.contents c.loop.out) c.loop.invariant.answered)
+
+pub returns-in_err-last-clause-stopped : goal.returns-in_err-last-clause-stopped
+returns-in_err-last-clause-stopped g c =
+    on_err c.from_residual-in_err-last.result (stops (g.J.AnswersLines.says c.args.judge.now) c.args.limit (g.I.Read.remaining c.args.input.now) (g.I.Read.remaining c.loop.input)
+    c.loop.begun.items c.loop.status (g.O.Write.contents c.args.out.now) (g.O.Write.contents c.loop.out) c.loop.invariant.answered)
+
+pub returns-in_err-print_answers-clause-stopped : goal.returns-in_err-print_answers-clause-stopped
+returns-in_err-print_answers-clause-stopped g c =
+    let says = g.J.AnswersLines.says c.args.judge.now in
+    let had = g.I.Read.remaining c.args.input.now in
+    let mid = g.I.Read.remaining c.loop.input in
+    let left = g.I.Read.remaining c.read_part.new.input in
+    let old = g.O.Write.contents c.args.out.now in
+    let now = g.O.Write.contents c.loop.out in
+    let part = take c.in_ok-count.count c.read_part.new.buffer in
+    let read = c.in_ok-count.ensures.read in
+    let none : part ≡ [] = ap (λ k. take k c.read_part.new.buffer) c.if-count-eq0.true ∙ take_none c.read_part.new.buffer in
+    let answered = reads_nothing says c.args.limit had mid left c.loop.begun.items part c.loop.status old now c.loop.invariant.answered read.1 none in
+    let new = g.O.Write.contents c.print_answers.new.out in
+    let last : texts c.as_slice.result.now ≡ last_line c.loop.begun.items = ap texts c.as_slice.ensures.value ∙ c.in_ok-last.ensures in
+    let front : PrintsFront says (last_line c.loop.begun.items) now new = subst (λ lines. PrintsFront says lines now new) last c.in_err-print_answers.ensures.stopped in
+    on_err c.from_residual-in_err-print_answers.result
+    (stops_at_last says c.args.limit had left c.loop.begun.items c.loop.status old now new c.requires answered (read.2 c.if-count-eq0.true) front)
+
+pub returns-then-count-eq0-clause-answered : goal.returns-then-count-eq0-clause-answered
+returns-then-count-eq0-clause-answered g c =
+    let says = g.J.AnswersLines.says c.args.judge.now in
+    let had = g.I.Read.remaining c.args.input.now in
+    let mid = g.I.Read.remaining c.loop.input in
+    let left = g.I.Read.remaining c.read_part.new.input in
+    let old = g.O.Write.contents c.args.out.now in
+    let now = g.O.Write.contents c.loop.out in
+    let part = take c.in_ok-count.count c.read_part.new.buffer in
+    let read = c.in_ok-count.ensures.read in
+    let none : part ≡ [] = ap (λ k. take k c.read_part.new.buffer) c.if-count-eq0.true ∙ take_none c.read_part.new.buffer in
+    let answered = reads_nothing says c.args.limit had mid left c.loop.begun.items part c.loop.status old now c.loop.invariant.answered read.1 none in
+    let new = g.O.Write.contents c.print_answers.new.out in
+    let last : texts c.as_slice.result.now ≡ last_line c.loop.begun.items = ap texts c.as_slice.ensures.value ∙ c.in_ok-last.ensures in
+    let prints : Prints says (last_line c.loop.begun.items) c.in_ok-print_answers.field-0 now new = subst (λ lines. Prints says lines c.in_ok-print_answers.field-0 now new) last c.in_ok-print_answers.ensures.printed in
+    rw c.worse.ensures
+    (answers_all says c.args.limit had left c.loop.begun.items c.loop.status c.in_ok-print_answers.field-0 old now new c.requires answered (read.2 c.if-count-eq0.true) prints)
+
+pub returns-in_err-lines-clause-stopped : goal.returns-in_err-lines-clause-stopped
+returns-in_err-lines-clause-stopped g c =
+    on_err c.from_residual-in_err-lines.result (stops (g.J.AnswersLines.says c.args.judge.now) c.args.limit (g.I.Read.remaining c.args.input.now) (g.I.Read.remaining c.loop.input)
+    c.loop.begun.items c.loop.status (g.O.Write.contents c.args.out.now) (g.O.Write.contents c.loop.out) c.loop.invariant.answered)
+
+pub returns-in_err-print_answers-2-clause-stopped : goal.returns-in_err-print_answers-2-clause-stopped
+returns-in_err-print_answers-2-clause-stopped g c =
+    let says = g.J.AnswersLines.says c.args.judge.now in
+    let had = g.I.Read.remaining c.args.input.now in
+    let mid = g.I.Read.remaining c.loop.input in
+    let left = g.I.Read.remaining c.read_part.new.input in
+    let old = g.O.Write.contents c.args.out.now in
+    let now = g.O.Write.contents c.loop.out in
+    let buffer = c.read_part.new.buffer in
+    let part = take c.in_ok-count.count buffer in
+    let whole : c.as_slice-in-loop.result.now ≡ buffer =
+    c.as_slice-in-loop.ensures.value ∙ whole_buffer buffer c.loop.buffer.items c.loop.buffer.len (c.read_part.ensures.size ∙ c.as_mut_slice.ensures.len) in
+    let more = texts c.in_ok-lines.lines.items in
+    let next = c.split_lines.new.begun.items in
+    let adds : AddsLines says c.args.limit part c.loop.begun.items more next =
+    subst (λ bytes. AddsLines says c.args.limit (take c.in_ok-count.count bytes) c.loop.begun.items more next) whole c.in_ok-lines.ensures in
+    let new = g.O.Write.contents c.print_answers-in-loop.new.out in
+    let lines : texts c.as_slice-in-loop-2.result.now ≡ more = ap texts c.as_slice-in-loop-2.ensures.value in
+    let front : PrintsFront says more now new = subst (λ all. PrintsFront says all now new) lines c.in_err-print_answers-2.ensures.stopped in
+    on_err c.from_residual-in_err-print_answers-2.result
+    (stops_within says c.args.limit had mid left c.loop.begun.items next part more c.loop.status old now new c.loop.invariant.answered c.in_ok-count.ensures.read.1 adds front)
+
+pub loop-preserved : goal.loop-preserved
+loop-preserved g c =
+    let says = g.J.AnswersLines.says c.args.judge.now in
+    let had = g.I.Read.remaining c.args.input.now in
+    let mid = g.I.Read.remaining c.loop.input in
+    let left = g.I.Read.remaining c.read_part.new.input in
+    let old = g.O.Write.contents c.args.out.now in
+    let now = g.O.Write.contents c.loop.out in
+    let buffer = c.read_part.new.buffer in
+    let part = take c.in_ok-count.count buffer in
+    let whole : c.as_slice-in-loop.result.now ≡ buffer =
+    c.as_slice-in-loop.ensures.value ∙ whole_buffer buffer c.loop.buffer.items c.loop.buffer.len (c.read_part.ensures.size ∙ c.as_mut_slice.ensures.len) in
+    let more = texts c.in_ok-lines.lines.items in
+    let next = c.split_lines.new.begun.items in
+    let adds : AddsLines says c.args.limit part c.loop.begun.items more next =
+    subst (λ bytes. AddsLines says c.args.limit (take c.in_ok-count.count bytes) c.loop.begun.items more next) whole c.in_ok-lines.ensures in
+    let new = g.O.Write.contents c.print_answers-in-loop.new.out in
+    let lines : texts c.as_slice-in-loop-2.result.now ≡ more = ap texts c.as_slice-in-loop-2.ensures.value in
+    let added = c.in_ok-print_answers-2.field-0 in
+    let prints : Prints says more added now new = subst (λ all. Prints says all added now new) lines c.in_ok-print_answers-2.ensures.printed in
+    record {
+      room = ap length (whole_buffer buffer c.loop.buffer.items c.loop.buffer.len (c.read_part.ensures.size ∙ c.as_mut_slice.ensures.len)) ∙ c.read_part.ensures.size ∙ ap length c.as_mut_slice.ensures.value ∙ c.loop.invariant.room;
+      answered = rw c.worse-status.ensures
+          (answers_more says c.args.limit had mid left c.loop.begun.items next part more c.loop.status added old now new c.loop.invariant.answered c.in_ok-count.ensures.read.1 adds prints);
+    }
+
+pub returns-clause-stopped : goal.returns-clause-stopped
+returns-clause-stopped g c =
+    stops (g.J.AnswersLines.says c.args.judge.now) c.args.limit (g.I.Read.remaining c.args.input.now) (g.I.Read.remaining c.loop.input)
+    c.loop.begun.items c.loop.status (g.O.Write.contents c.args.out.now) (g.O.Write.contents c.loop.out) c.loop.invariant.answered

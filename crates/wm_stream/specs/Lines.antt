@@ -1,0 +1,30 @@
+-- The lines of a text.
+use Rattle.std.specs.Prelude.{◌≡◌, ℕ, ◌<◌, List, [], ◌∷◌, ◌++◌, length, map, nat_eq, nat_lt, take, if◌then◌else◌}
+
+-- what follows the last newline is a line too, if it is not empty
+abbrev pub last_line : List ℕ → List (List ℕ)
+last_line [] = []
+last_line (byte ∷ bytes) = (byte ∷ bytes) ∷ []
+
+-- the lines of a text that follows these first bytes of a line: a newline, which is 10, ends each
+abbrev pub lines_after : List ℕ → List ℕ → List (List ℕ)
+lines_after begun [] = last_line begun
+lines_after begun (byte ∷ bytes) = if nat_eq byte 10 then begun ∷ lines_after [] bytes else lines_after (begun ++ byte ∷ []) bytes
+
+-- the lines of a text
+abbrev pub lines_of : List ℕ → List (List ℕ)
+lines_of = lines_after []
+
+-- the first `limit` bytes of each line
+abbrev pub cut_lines : ℕ → List ℕ → List (List ℕ)
+cut_lines limit bytes = map (take limit) (lines_of bytes)
+
+-- with one more byte, if it is within the limit
+abbrev pub grown : ℕ → List ℕ → ℕ → List ℕ
+grown limit bytes byte = if nat_lt (length bytes) limit then bytes ++ byte ∷ [] else bytes
+
+-- these bytes are whole lines, and `line` begins after them; of each the first `limit` bytes are kept
+pub record Splits (limit : ℕ) (bytes : List ℕ) (lines : List (List ℕ)) (begun : List ℕ) : Type 0 where
+  pub line : List ℕ
+  pub kept : begun ≡ take limit line
+  pub splits : (rest : List ℕ) → cut_lines limit (bytes ++ rest) ≡ lines ++ map (take limit) (lines_after line rest)

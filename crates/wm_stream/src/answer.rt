@@ -1,0 +1,65 @@
+//! Answers to single lines.
+ghost use Rattle.std.specs.Prelude.{◌≡◌, ℕ, IfOk, List, string_bytes};
+ghost use Rattle.wm_stream.specs.declared.answer.LineStatus.{LineStatus};
+ghost use Rattle.wm_stream.specs.Answers.{status_code, worse};
+
+use std::alloc::{AllocError, AllocGlobal};
+use std::thread::Threads;
+
+/// What kind of answer a line got.
+#[derive(Clone, Copy, Debug, PartialEq, Eq)]
+pub enum LineStatus {
+    Allowed,
+    Broken,
+    Refused,
+}
+
+impl LineStatus {
+    /// The exit status: 0, 1 and 2.
+    pub fn code(self) -> u8
+        ensures { result ≡ status_code self }
+    {
+        match self {
+            LineStatus::Allowed => 0,
+            LineStatus::Broken => 1,
+            LineStatus::Refused => 2,
+        }
+    }
+
+    /// The status of two answers together: broken if one of them is, else refused if one of them is.
+    pub(crate) fn worse(self, other: LineStatus) -> LineStatus
+        ensures { result ≡ worse self other }
+    {
+        match (self, other) {
+            (LineStatus::Broken, _) | (_, LineStatus::Broken) => LineStatus::Broken,
+            (LineStatus::Refused, _) | (_, LineStatus::Refused) => LineStatus::Refused,
+            (LineStatus::Allowed, LineStatus::Allowed) => LineStatus::Allowed,
+        }
+    }
+}
+
+/// The answer to a line.
+#[derive(Drop)]
+pub struct LineAnswer {
+    /// Its text, with the newline at the end.
+    pub text: String,
+    pub status: LineStatus,
+}
+
+/// What answers lines, each by itself.
+pub trait AnswersLines: Sync {
+    // Whether a status and a text answer a line.
+    ghost says: { Self → List ℕ → LineStatus → List ℕ → Type 0 };
+
+    /// The answer to a line, which is given without its newline.
+    ///
+    /// # Errors
+    ///
+    /// Only if an allocation fails.
+    fn answer<R: AllocGlobal + Threads + Sync>(
+        &self,
+        rt: &R,
+        line: &[u8],
+    ) -> Result<LineAnswer, AllocError>
+        ensures { IfOk result (λ answer. says self.now line.now answer.status (string_bytes answer.text)) };
+}

@@ -1,0 +1,88 @@
+//! A stream of lines and the answers to them.
+ghost use Rattle.std.specs.Prelude.{◌≡◌, ◌<◌, ◌≤◌, IfOk, OnErr, length, take};
+ghost use Rattle.std.specs.Io.KnownBytes.{Consumes, IsAtEnd, Keeps};
+ghost use Rattle.wm_stream.specs.Stream.{AnswersAll, AnswersFirst};
+ghost use Rattle.wm_stream.specs.declared.stream.StreamFault.TheVariants.{OutOfMemory};
+
+use crate::answer::{AnswersLines, LineStatus};
+use crate::batch::print_answers;
+use crate::lines::{last_line, split_lines};
+use std::alloc::{AllocError, AllocGlobal};
+use std::io::{ErrorKind, Read, Write};
+use std::thread::Threads;
+
+/// How many bytes a read asks for at most. The lines that end among them are answered at the same time.
+const PART: usize = 1 << 22;
+
+/// Why a stream was not answered to its end.
+#[derive(Clone, Copy, Debug, PartialEq, Eq)]
+pub enum StreamFault {
+    /// A read failed.
+    Read,
+    /// A write failed.
+    Write,
+    /// An allocation failed.
+    OutOfMemory,
+}
+
+impl From<AllocError> for StreamFault {
+    ghost from_gives = { λ _ fault. fault ≡ OutOfMemory };
+
+    fn from(_refused: AllocError) -> StreamFault {
+        StreamFault::OutOfMemory
+    }
+}
+
+/// The next bytes of the input, none at its end. An interrupted read is made again.
+fn read_part<I: Read>(input: &mut I, buffer: &mut [u8]) -> Result<usize, StreamFault>
+    requires { 0 < length buffer.old }
+    ensures read { IfOk result (λ count. count ≤ length buffer.new
+        × Consumes (I.remaining input.old) (I.remaining input.new) (take count buffer.new)
+        × (count ≡ 0 → IsAtEnd (I.remaining input.new))) }
+    ensures size { length buffer.new ≡ length buffer.old }
+    ensures failed { OnErr result (Keeps (I.remaining input.old) (I.remaining input.new)) }
+{
+    for _ in 0..u64::MAX {
+        match input.read(buffer) {
+            Ok(count) => return Ok(count),
+            Err(error) if error.kind() == ErrorKind::Interrupted => {}
+            Err(_) => return Err(StreamFault::Read),
+        }
+    }
+    Err(StreamFault::Read)
+}
+
+/// Answers each line of the input, in their order, and returns the status of all answers together. What a read returned is
+/// answered and printed before the next read. Of each line the first `limit` bytes count. What follows the last newline
+/// is a line too, if it is not empty.
+///
+/// # Errors
+///
+/// At the first read, write or allocation that fails; the writer has then gained a front of the answers.
+pub fn answer_lines<R: AllocGlobal + Threads + Sync, I: Read, O: Write, J: AnswersLines>(
+    rt: &R,
+    input: &mut I,
+    out: &mut O,
+    judge: &J,
+    limit: usize,
+) -> Result<LineStatus, StreamFault>
+    requires { 0 < limit }
+    ensures answered { IfOk result (λ status.
+        AnswersAll (J.says judge.now) limit (I.remaining input.old) status (O.contents out.old) (O.contents out.new)) }
+    ensures stopped { OnErr result
+        (AnswersFirst (J.says judge.now) limit (I.remaining input.old) (O.contents out.old) (O.contents out.new)) }
+{
+    let mut buffer = vec![in rt.alloc(); 0u8; PART]?;
+    let mut begun = Vec::new(rt.alloc());
+    let mut status = LineStatus::Allowed;
+    for _ in 0..u64::MAX {
+        let count = read_part(input, buffer.as_mut_slice())?;
+        if count == 0 {
+            let last = last_line(rt.alloc(), begun)?;
+            return Ok(status.worse(print_answers(rt, judge, last.as_slice(), out)?));
+        }
+        let lines = split_lines(rt.alloc(), limit, &mut begun, &buffer.as_slice()[..count])?;
+        status = status.worse(print_answers(rt, judge, lines.as_slice(), out)?);
+    }
+    Err(StreamFault::Read)
+}

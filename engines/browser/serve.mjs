@@ -1,0 +1,101 @@
+#!/usr/bin/env node
+/** Serves the page on which people record modules in their browser. `--help` prints the usage. */
+
+import { readFileSync, realpathSync } from 'node:fs';
+import { basename } from 'node:path';
+import { fileURLToPath } from 'node:url';
+import { countOf, wordsOf } from '../node/options.mjs';
+import { UserError, withFile } from '../shared/errors.mjs';
+import { findProgram } from '../shared/wmlab.mjs';
+import { Judges } from './judges.mjs';
+import { serve } from './server.mjs';
+
+const USAGE = `Serves a page on which modules are recorded in a browser, on this machine alone.
+
+USAGE
+    engines/browser/serve.mjs [OPTIONS] [MODULE]
+
+OPTIONS
+    --port N          the port (8123)
+    --wmlab PROGRAM   the program that checks (the one that ./wmlab --which names, if there is one)
+    --help            print this text
+
+It prints the address of the page, and the tables of each recording that ends. Ctrl-C ends it. With MODULE the page begins with
+that module. A recording begins at once at an address such as http://127.0.0.1:8123/#starts=a,b&mode=free&rounds=50&start
+`;
+
+/** The handlers of the page's posts. `finished` is called with the tables of each recording that ends. */
+export function handlersOf(judges, module, finished) {
+  const handlers = {
+    'GET /about': async () => ({ hasJudge: judges !== null, module }),
+    'POST /finished': async (body) => {
+      finished(JSON.parse(body));
+      return {};
+    },
+  };
+  if (!judges) return handlers;
+  handlers['POST /judge'] = async (body) => judges.judge(JSON.parse(body));
+  handlers['POST /explain'] = async (body) => judges.explain(JSON.parse(body));
+  return handlers;
+}
+
+/** A module as the page takes it. */
+export const moduleOf = (path) => (
+  { name: basename(path), bytes: withFile(`read ${path}`, () => readFileSync(path)).toString('base64') });
+
+/** The program, or null if none is given and none is found. */
+function programFor(given) {
+  try {
+    return findProgram(given);
+  } catch (error) {
+    if (given !== undefined || !(error instanceof UserError)) throw error;
+    console.error(`serve.mjs: logs are not checked: ${error.message}`);
+    return null;
+  }
+}
+
+const print = ({ name, agent, outcomes, verdicts }) => (
+  console.log([`${name}, ${agent}`, 'outcomes', ...outcomes, 'verdicts', ...verdicts].join('\n')));
+
+async function listen(handlers, port) {
+  try {
+    return await serve(handlers, port);
+  } catch (error) {
+    if (error.code === 'EADDRINUSE' || error.code === 'EACCES') throw new UserError(`--port ${port}: it cannot be used (${error.code})`);
+    throw error;
+  }
+}
+
+async function main(args) {
+  const text = { type: 'string' };
+  const { values, positionals } = wordsOf({
+    args, allowPositionals: true, options: { port: text, wmlab: text, help: { type: 'boolean', short: 'h' } },
+  });
+  if (values.help) return process.stdout.write(USAGE);
+  if (positionals.length > 1) throw new UserError(`${positionals.length} modules: expected at most one`);
+  const port = countOf('port', values.port ?? '8123', 65_535);
+  const module = positionals.length ? moduleOf(positionals[0]) : null;
+  const program = programFor(values.wmlab);
+  const judges = program ? new Judges(program) : null;
+  const end = async (status) => {
+    await judges?.close();
+    process.exit(status);
+  };
+  for (const [signal, status] of [['SIGINT', 130], ['SIGTERM', 143], ['SIGHUP', 129]]) process.once(signal, () => end(status));
+  try {
+    const { origin } = await listen(handlersOf(judges, module, print), port);
+    return console.log(`the page is ${origin}/`);
+  } catch (error) {
+    await judges?.close();
+    throw error;
+  }
+}
+
+if (process.argv[1] && realpathSync(process.argv[1]) === fileURLToPath(import.meta.url)) {
+  try {
+    await main(process.argv.slice(2));
+  } catch (error) {
+    console.error(error instanceof UserError ? `serve.mjs: ${error.message}` : error);
+    process.exit(error instanceof UserError ? 2 : 3);
+  }
+}

@@ -1,0 +1,121 @@
+/** Tests of recording in real browsers, and of the page for people. A browser that is not installed is named and not counted. */
+
+import { spawn } from 'node:child_process';
+import { mkdtempSync, readFileSync, readdirSync, rmSync } from 'node:fs';
+import { tmpdir } from 'node:os';
+import { join } from 'node:path';
+import { setTimeout } from 'node:timers/promises';
+import { fileURLToPath } from 'node:url';
+import { openRecorder } from '../node/engines.mjs';
+import { recordWith } from '../shared/rounds.mjs';
+import { parseStart } from '../shared/starts.mjs';
+import { Judge } from '../shared/wmlab.mjs';
+import { Judges } from './judges.mjs';
+import { findBrowser, openPage } from './launch.mjs';
+import { handlersOf, moduleOf } from './serve.mjs';
+import { serve } from './server.mjs';
+
+const RECORD = fileURLToPath(new URL('../node/record.mjs', import.meta.url));
+const example = (name) => fileURLToPath(new URL(`../../examples/${name}.wasm`, import.meta.url));
+const BUFFERS = example('many-store-buffers');
+const TRAPS = ['unreachable', 'divide', 'overflow', 'past', 'odd', 'deep'];
+
+/** Records rounds of a module; answers the results and the logs by round. */
+async function recorded(wmlab, path, starts, { rounds = 10, ...options }) {
+  const judge = await Judge.open(wmlab, path);
+  const recorder = await openRecorder(readFileSync(path), { ...options, starts: starts.map(parseStart) });
+  try {
+    const logs = [];
+    const seen = ({ number, document }) => { logs[number] = document; };
+    return { results: await recordWith(recorder, judge, { rounds, seen }), logs };
+  } finally {
+    judge.close();
+    await recorder.close();
+  }
+}
+
+const isAllowed = ({ results }, rounds = 10) => results.checked === rounds && !results.bad;
+
+async function testModes({ note, wmlab }, engine) {
+  const traps = await recorded(wmlab, example('every-trap'), TRAPS, { engine, mode: 'locked' });
+  note(isAllowed(traps) && traps.results.outcomes.counts.size === 1, `${engine}, locked: each trap is the module's`);
+  const buffered = await recorded(wmlab, BUFFERS, ['a', 'b'], { engine, mode: 'buffered' });
+  const onNode = await recorded(wmlab, BUFFERS, ['a', 'b'], { mode: 'buffered' });
+  note(isAllowed(buffered) && buffered.logs.join() === onNode.logs.join(), `${engine}, buffered: allowed, and by the same seeds the logs of node`);
+  const free = await recorded(wmlab, BUFFERS, ['a', 'b'], { engine, mode: 'free' });
+  note(isAllowed(free) && free.logs.every((log) => log.length > 1_000), `${engine}, free: allowed`);
+  const wrong = await recorded(wmlab, BUFFERS, ['a', 'b'], { engine, mode: 'buffered', wrong: 'torn-store', rounds: 2 });
+  note(wrong.results.checked === 2, `${engine}: an engine that is wrong on purpose is recorded`);
+}
+
+/** Whether a process with this word among its arguments runs. */
+const runs = (word) => readdirSync('/proc').filter((name) => /^\d+$/.test(name)).some((id) => {
+  try {
+    return readFileSync(`/proc/${id}/cmdline`, 'utf8').includes(word);
+  } catch {
+    return false;
+  }
+});
+
+/** The command is killed while a browser records for it: the browser and its profile go too. */
+async function testKill({ note, wmlab }, engine) {
+  const folder = mkdtempSync(join(tmpdir(), 'record-killed-'));
+  const words = [RECORD, '--engine', engine, '--wmlab', wmlab, '--rounds', '100000', '--out', 'logs', BUFFERS, 'a', 'b'];
+  const child = spawn(process.execPath, words, { cwd: folder, env: { ...process.env, TMPDIR: folder }, stdio: 'ignore' });
+  const hasLogs = () => { try { return readdirSync(join(folder, 'logs')).length > 1; } catch { return false; } };
+  for (let tries = 0; tries < 600 && !hasLogs(); tries++) await setTimeout(100);
+  const ran = hasLogs() && runs(folder);
+  child.kill('SIGKILL');
+  const isLeft = () => runs(folder) || readdirSync(folder).some((name) => name.startsWith('wmlab-browser-'));
+  for (let tries = 0; tries < 150 && isLeft(); tries++) await setTimeout(100);
+  note(ran && !isLeft(), `${engine}: the browser and its profile go with a command that is killed`);
+  rmSync(folder, { recursive: true, force: true });
+}
+
+/** The page for people, with and without the program, by an address that starts a recording. */
+async function testPage({ note, wmlab }, engine, program) {
+  for (const isJudged of [true, false]) {
+    const judges = isJudged ? new Judges(wmlab) : null;
+    const finished = withResolvers();
+    const server = await serve(handlersOf(judges, moduleOf(example('store-buffering')), finished.resolve));
+    const page = openPage(engine, program, `${server.origin}/#starts=a,b&mode=${isJudged ? 'free' : 'buffered'}&rounds=12&start`);
+    const tables = await Promise.race([finished.promise, setTimeout(60_000, null)]);
+    await page.close();
+    server.close();
+    await judges?.close();
+    const count = tables?.outcomes.reduce((sum, line) => sum + Number.parseInt(line, 10), 0);
+    const verdicts = isJudged ? '      12  allowed threads=2' : '';
+    note(count === 12 && tables.verdicts.join() === verdicts, `${engine}: the page records ${isJudged ? 'with verdicts' : 'without a program'}`);
+  }
+}
+
+/** A promise and the function that fulfils it. */
+function withResolvers() {
+  const made = {};
+  made.promise = new Promise((resolve) => { made.resolve = resolve; });
+  return made;
+}
+
+/** Requests that the server refuses: other hosts, other files, another page's tasks. */
+async function testServer({ note, wmlab }) {
+  const judges = new Judges(wmlab);
+  const server = await serve(handlersOf(judges, null, () => {}));
+  const status = async (path, options) => (await fetch(`${server.origin}${path}`, options)).status;
+  const seen = await Promise.all(['/', '/shared/witness.mjs', '/shared/../../README.md', '/browser/..%2fserver.mjs', '/none'].map((path) => status(path)));
+  note(seen.join() === '200,200,404,404,404', `the server gives its scripts and nothing else: ${seen.join()}`);
+  const refused = await fetch(`${server.origin}/judge`, { method: 'POST', body: '{"module":"AA=="}' });
+  note(refused.status === 500 && /Magic|refused|module/i.test((await refused.json()).error), 'the server reports a module that is not read');
+  await judges.close();
+  server.close();
+}
+
+export async function testBrowsers(context) {
+  await testServer(context);
+  await Promise.all(['chromium', 'firefox'].map(async (engine) => {
+    const found = findBrowser(engine);
+    if (!found) return console.log(`       ${engine}: not tested, since it is not installed`);
+    await testModes(context, engine);
+    await testPage(context, engine, found.program);
+    return testKill(context, engine);
+  }));
+}

@@ -1,0 +1,128 @@
+#!/usr/bin/env node
+/** Runs `wmlab run` with conditions on its outcomes, and keeps a log of each outcome. `--help` prints the usage. */
+
+import { join } from 'node:path';
+import { countOf, wordsOf } from '../node/options.mjs';
+import { UserError } from '../shared/errors.mjs';
+import { keep, prepareFolder } from '../shared/kept.mjs';
+import { conditionsOf, judgeConditions } from '../shared/outcomes.mjs';
+import { Judge, Stopped, ask, findProgram } from '../shared/wmlab.mjs';
+
+const USAGE = `Runs a module on threads by wmlab run, with conditions on the outcomes, and keeps a log of each outcome.
+
+USAGE
+    engines/run-until [OPTIONS] MODULE ROUNDS START..
+
+    MODULE, ROUNDS and START are those of wmlab run.
+
+OPTIONS
+    --forbid OUTCOME  fail if a run has this outcome: an end for each thread, such as "0 *"; * is any end; repeatable
+    --want OUTCOME    fail if no run has this outcome; repeatable
+    --kept FOLDER     where the logs are kept (recorded)
+    --tries N         the most scripts that are tried for the logs (400)
+    --seed N          what the scripts are chosen by (1)
+    --wmlab PROGRAM   the program (the one that ./wmlab --which names)
+    --help            print this text
+
+wmlab run prints no logs. So each outcome's log is made by wmlab drive, with scripts that a seed gives, until one has the outcome.
+
+EXIT STATUS
+    0    the conditions hold
+    1    a condition failed
+    2    a word or the module is refused, in one line on standard error
+    3    a fault of this command
+`;
+
+const TEXT = { type: 'string' };
+const SEVERAL = { type: 'string', multiple: true };
+
+function optionsOf(args) {
+  const options = {
+    forbid: SEVERAL, want: SEVERAL, kept: TEXT, tries: TEXT, seed: TEXT, wmlab: TEXT, help: { type: 'boolean', short: 'h' },
+  };
+  const { values, positionals } = wordsOf({ args, allowPositionals: true, options });
+  if (values.help) return null;
+  const [module, rounds, ...starts] = positionals;
+  if (!starts.length) throw new UserError(`${positionals.length} words: expected MODULE, ROUNDS and at least one START; --help prints the usage`);
+  const [tries, seed] = [countOf('tries', values.tries ?? '400'), countOf('seed', values.seed ?? '1')];
+  return { module, rounds, starts, tries, seed, kept: values.kept ?? 'recorded', wmlab: values.wmlab, conditions: conditionsOf(values, starts.length) };
+}
+
+/** Numbers below `n` that look random, the same ones for the same seed. */
+function randomFrom(seed) {
+  let state = Math.imul(seed, 0x9e3779b1) >>> 0;
+  return (n) => {
+    state = (Math.imul(state, 1_664_525) + 1_013_904_223) >>> 0;
+    return Math.floor((state / 2 ** 32) * n);
+  };
+}
+
+/** A script of `drive`: turns and drains by chance, and then turns of all threads until they have had many. */
+function scriptOf(random, threads) {
+  const chance = Array.from({ length: 5 + random(60) }, () => {
+    const thread = random(threads);
+    return random(4) === 0 ? `d${thread}` : `${thread}*${1 + random(8)}`;
+  });
+  const round = Array.from({ length: threads }, (_, thread) => [`${thread}*200`, `d${thread}*64`]).flat();
+  return [...chance, ...Array(20).fill(round).flat()].join(',');
+}
+
+/** The outcomes of the table that `run` prints, each with its count. */
+const rowsOf = (text) => [...text.matchAll(/^ *(\d+) {2}(.+)$/gm)].map(([, count, outcome]) => ({ count: Number(count), outcome }));
+
+/** A log of each outcome, made by scripts. */
+async function logsOf(program, { module, starts, tries, seed }, outcomes) {
+  const random = randomFrom(seed);
+  const missing = new Set(outcomes);
+  const logs = new Map();
+  for (let left = tries; left > 0 && missing.size; left--) {
+    const script = scriptOf(random, starts.length);
+    const { text } = await ask(program, ['drive', module, script, ...starts], '');
+    const [first, line, document] = text.split('\n');
+    if (!first.startsWith('outcome ')) throw new UserError(`${module}: ${first}`);
+    const outcome = first.slice('outcome '.length);
+    if (missing.delete(outcome)) logs.set(outcome, { outcome, line, document });
+  }
+  return logs;
+}
+
+/** Keeps the logs. Answers the path of each outcome's log. */
+async function keepAll(judge, kept, outcomes, logs) {
+  const paths = new Map();
+  for (const [number, outcome] of outcomes.entries()) {
+    const path = join(kept, `outcome-${number + 1}.json`);
+    if (logs.has(outcome)) await keep(judge, path, logs.get(outcome));
+    paths.set(outcome, logs.has(outcome) ? path : 'no script was found that gives it');
+  }
+  return paths;
+}
+
+async function main(args) {
+  const options = optionsOf(args);
+  if (!options) {
+    process.stdout.write(USAGE);
+    return 0;
+  }
+  const { module, rounds, starts, kept, conditions } = options;
+  const program = findProgram(options.wmlab);
+  const { text, status } = await ask(program, ['run', module, rounds, ...starts], '');
+  if (status !== 0) throw new UserError(`wmlab run: ${text.split('\n')[0]}`);
+  const rows = rowsOf(text);
+  if (!rows.length) throw new UserError(`--wmlab ${program}: this is not wmlab; its table of outcomes is empty`);
+  prepareFolder(kept);
+  const judge = new Judge(program, module);
+  const outcomes = rows.map(({ outcome }) => outcome);
+  const paths = await keepAll(judge, kept, outcomes, await logsOf(program, options, outcomes));
+  const judged = judgeConditions(conditions, rows.map(({ count, outcome }) => ({ outcome, place: `${count} of ${rounds} rounds` })));
+  const table = rows.map(({ count, outcome }) => `${String(count).padStart(8)}  ${outcome}  ${paths.get(outcome)}`);
+  console.log([...table, text.split('\n').at(-1), ...judged.map(({ line }) => line)].join('\n'));
+  return judged.some(({ fails }) => fails) ? 1 : 0;
+}
+
+try {
+  process.exitCode = await main(process.argv.slice(2));
+} catch (error) {
+  const isExpected = error instanceof UserError || error instanceof Stopped;
+  console.error(isExpected ? `run-until: ${error.message}` : error);
+  process.exit(isExpected ? 2 : 3);
+}

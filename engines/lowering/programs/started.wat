@@ -1,0 +1,23 @@
+;; A start function that stores and sets a global; typed selects; a block type with an index; parts that are never called.
+(module
+  (type $operation (func (param i32 i32) (result i32)))
+  (type $value (func (result i32)))
+  (type $unused (func (param f32) (result f64)))
+  (memory (export "memory") 1 1)
+  (table 3 funcref)
+  (elem (i32.const 1) func $larger)
+  (global $begun (mut i32) (i32.const 0))
+  (data (i32.const 16) "\01\02\03\04")
+  (start $begin)
+  (func $begin
+    (global.set $begun (i32.add (global.get $begun) (i32.load (i32.const 16))))
+    (i32.store (i32.const 32) (global.get $begun)))
+  (func $larger (param i32 i32) (result i32)
+    (select (result i32) (local.get 0) (local.get 1) (i32.gt_s (local.get 0) (local.get 1))))
+  (func $never (param f32) (result f64) (f64.promote_f32 (local.get 0)))
+  (func (export "run") (param $seed i32) (param $count i32) (result i32)
+    (i32.store8 (i32.const 40) (local.get $seed))
+    (block (type $value)
+      (call_indirect (type $operation) (local.get $seed) (local.get $count) (i32.and (local.get $count) (i32.const 3))))
+    (i32.add (global.get $begun))
+    (i32.add (i32.load (i32.const 32)))))

@@ -1,0 +1,81 @@
+/** Runs programs on node before and after the lowering, and compares results and memories. */
+
+import { mkdtempSync, readFileSync, readdirSync, rmSync, writeFileSync } from 'node:fs';
+import { tmpdir } from 'node:os';
+import { fileURLToPath } from 'node:url';
+import { ask } from '../node/wmlab.mjs';
+import { lower } from './lower.mjs';
+
+const FOLDER = fileURLToPath(new URL('./programs', import.meta.url));
+const EMPTY_LOG = '["wasm-litmus-log",2,[],[]]';
+const ALLOWED = 'allowed threads=0 events=0';
+
+/** The traps that a table has, and the lowered calls not. */
+const TABLE_TRAPS = /^(table index is out of bounds|null function or function signature mismatch)$/;
+
+/** Numbers that look random, the same ones for the same seed: 32 bits of a linear congruential generator. */
+function randomFrom(seed) {
+  let state = seed;
+  return () => {
+    state = (Math.imul(state, 1_664_525) + 1_013_904_223) >>> 0;
+    return state ^ (state >>> 13);
+  };
+}
+
+/** What a call answers, and the bytes that it leaves in the memory. */
+function outcomeOf(module, exported, args) {
+  const { exports } = new WebAssembly.Instance(module);
+  let end;
+  try {
+    end = String(exports[exported](...args));
+  } catch (error) {
+    if (!(error instanceof WebAssembly.RuntimeError)) throw error;
+    end = TABLE_TRAPS.test(error.message) ? 'unreachable' : error.message;
+  }
+  return { end, memory: Buffer.from(new Uint8Array(exports.memory.buffer)) };
+}
+
+/** Compares runs of one module; answers how many agree, their ends and the first difference. */
+function compare(bytes, runs, random) {
+  const [before, after] = [bytes, lower(bytes).bytes].map((form) => new WebAssembly.Module(form));
+  const functions = WebAssembly.Module.exports(before).filter(({ kind }) => kind === 'function').map(({ name }) => name);
+  const ends = new Set();
+  let agreed = 0, difference = null;
+  for (let number = 0; number < runs; number++) {
+    const exported = functions[number % functions.length];
+    // Half of the second arguments are small: they are counts and places.
+    const args = [random() | 0, number % 4 < 2 ? random() % 64 : random() | 0];
+    const [one, other] = [before, after].map((module) => outcomeOf(module, exported, args));
+    ends.add(one.end);
+    if (one.end === other.end && one.memory.equals(other.memory)) agreed++;
+    else difference ??= `${exported}(${args}) ends with ${one.end} before, ${other.end} after`;
+  }
+  return { agreed, difference, ends };
+}
+
+/** Whether the program takes a lowered module, and runs it by a script. */
+export async function isTaken(wmlab, bytes, starts = ['run:7:3', 'run:9:2']) {
+  const folder = mkdtempSync(`${tmpdir()}/lowered-`);
+  try {
+    const path = `${folder}/lowered.wasm`;
+    writeFileSync(path, bytes);
+    const checked = await ask(wmlab, ['check', path, '-'], EMPTY_LOG);
+    const driven = await ask(wmlab, ['drive', path, '0*20000,1*20000', ...starts], '');
+    return checked.text === ALLOWED && /^outcome .*\nallowed threads=2 /.test(driven.text);
+  } finally {
+    rmSync(folder, { recursive: true });
+  }
+}
+
+export async function testSemantics({ note, wmlab, runs }) {
+  const random = randomFrom(7);
+  const names = readdirSync(FOLDER).filter((name) => name.endsWith('.wasm')).sort();
+  const each = Math.ceil(runs / names.length);
+  for (const name of names) {
+    const bytes = readFileSync(`${FOLDER}/${name}`);
+    const { agreed, difference, ends } = compare(bytes, each, random);
+    note(agreed === each && ends.size > 1, `${name}: ${agreed} of ${each} runs are the same before and after${difference ? `; ${difference}` : ''}`);
+    note(await isTaken(wmlab, lower(bytes).bytes), `${name}: wmlab takes and drives the lowered module`);
+  }
+  note(names.length > 0, `${names.length} programs, ${names.length * each} runs`);
+}

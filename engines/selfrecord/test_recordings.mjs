@@ -1,0 +1,98 @@
+/** Records programs by themselves and by the hooks of engines/node, and compares the logs. */
+
+import { readFileSync } from 'node:fs';
+import { fileURLToPath } from 'node:url';
+import { Worker } from 'node:worker_threads';
+import { parse } from '../node/document.mjs';
+import { programsOf } from '../node/programs.mjs';
+import { parseStart } from '../node/recorder.mjs';
+import { rewrite } from '../node/rewrite.mjs';
+import { verdictOn } from './command.mjs';
+import { readRecording } from './region.mjs';
+import { recordingModule } from './rewrite.mjs';
+import { EVENTS, argumentsOf, hookedLog, hookedSchedule, importing } from './test_hooks.mjs';
+import { hasInterpreter, runInInterpreter } from './test_interpreter.mjs';
+
+export const EXAMPLES = fileURLToPath(new URL('../../examples', import.meta.url));
+
+/** A run of the module that records itself, with the threads one after the other. Answers the bytes of its memory. */
+export function runInOrder(bytes, starts, capacity = EVENTS) {
+  const made = recordingModule(bytes, { capacity });
+  const { parameters } = rewrite(bytes, 'hooked');
+  const memory = memoryOf(made);
+  const module = new WebAssembly.Module(made.bytes);
+  const instances = starts.map(() => new WebAssembly.Instance(module, importing(made.memory, memory)));
+  for (const [thread, start] of starts.entries()) {
+    try {
+      instances[thread].exports[start.name](...argumentsOf(start, parameters.get(start.name)));
+    } catch (error) {
+      if (!(error instanceof WebAssembly.RuntimeError) && !(error instanceof RangeError)) throw error;
+    }
+  }
+  return Buffer.from(memory.buffer);
+}
+
+const memoryOf = ({ layout }) => new WebAssembly.Memory({ initial: layout.allPages, maximum: layout.allPages, shared: true });
+
+/** The same with a worker for each thread, all at once. */
+async function runAtOnce(bytes, starts) {
+  const made = recordingModule(bytes, { capacity: EVENTS });
+  const { parameters } = rewrite(bytes, 'hooked');
+  const memory = memoryOf(made);
+  const shared = {
+    module: new WebAssembly.Module(made.bytes), memory, importedAs: made.memory, gate: new SharedArrayBuffer(4), threads: starts.length,
+  };
+  await Promise.all(starts.map((start) => new Promise((resolve, reject) => {
+    const args = argumentsOf(start, parameters.get(start.name));
+    const worker = new Worker(new URL('./test_worker.mjs', import.meta.url), { workerData: { ...shared, start: start.name, args } });
+    worker.once('message', resolve);
+    worker.once('error', reject);
+  })));
+  return Buffer.from(memory.buffer);
+}
+
+/** Whether the threads that were done have the results that the hooks saw, and no other thread was done. */
+const haveSameEnds = (own, hooked) => own.every((end, thread) => (
+  end ? end.join() === hooked[thread].join() : hooked[thread][0] !== 'done'));
+
+/** Compares both logs of the threads one after the other, and the results of the threads that were done. */
+function isSameInOrder(bytes, starts) {
+  const hooked = hookedLog(bytes, starts);
+  const own = readRecording(bytes, runInOrder(bytes, starts));
+  return { holds: own.document === hooked.document && haveSameEnds(own.ends, hooked.ends), events: parse(own.document)[3].length };
+}
+
+/** Compares the log of threads that ran at once with that of the hooks, which are held to the same order of accesses. */
+async function isSameBySchedule(bytes, recording) {
+  const hooked = await hookedSchedule(bytes, recording);
+  return recording.document === hooked.document && haveSameEnds(recording.ends, hooked.ends);
+}
+
+async function testProgram({ note, wmlab, rounds }, { name, path, starts: words }) {
+  const bytes = readFileSync(path);
+  const starts = words.map(parseStart);
+  const orders = [starts, [...starts].reverse()].map((order) => isSameInOrder(bytes, order));
+  note(orders.every(({ holds }) => holds), `${name}: the threads one after the other: the log is that of the hooks, in two orders`);
+  const verdicts = new Set();
+  let same = 0;
+  for (let round = 0; round < rounds; round++) {
+    const recording = readRecording(bytes, await runAtOnce(bytes, starts));
+    if (await isSameBySchedule(bytes, recording)) same++;
+    verdicts.add((await verdictOn(wmlab, path, recording)).replace(/ events=\d+$/, ''));
+  }
+  const isAllowed = [...verdicts].join() === `allowed threads=${starts.length}`;
+  note(isAllowed && same === rounds, `${name}: the threads at once: ${same} of ${rounds} logs are those of the hooks; ${[...verdicts].join('; ')}`);
+  if (hasInterpreter) {
+    const { document } = readRecording(bytes, runInInterpreter(bytes, starts));
+    note(document === hookedLog(bytes, starts).document, `${name}: the log that wabt's interpreter records is that of the hooks`);
+  }
+  return orders[0].events + orders[1].events;
+}
+
+export async function testRecordings({ note, wmlab, rounds }) {
+  const programs = await programsOf(EXAMPLES, wmlab);
+  let events = 0;
+  for (const program of programs) events += await testProgram({ note, wmlab, rounds }, program);
+  if (!hasInterpreter) console.log('       wabt is not there: no engine without JavaScript was tried');
+  note(programs.length > 20 && events > 500, `${programs.length} programs, ${events} events of threads one after the other`);
+}

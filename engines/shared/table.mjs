@@ -1,0 +1,24 @@
+/** Counts strings. */
+export class Table {
+  counts = new Map();
+
+  add(text) {
+    const count = (this.counts.get(text) ?? 0) + 1;
+    this.counts.set(text, count);
+    return count;
+  }
+
+  rows() {
+    return [...this.counts].sort(([, a], [, b]) => b - a);
+  }
+
+  /** The rows as lines; `more(text)` is put at the end of each. */
+  lines(more = () => '', most = 20) {
+    const rows = this.rows();
+    const shown = rows.slice(0, most).map(([text, count]) => `${String(count).padStart(8)}  ${text}${more(text)}`);
+    return rows.length > most ? [...shown, `          and ${rows.length - most} others`] : shown;
+  }
+}
+
+/** A verdict without the number of events, which differs from run to run. */
+export const kindOf = (line) => line.replace(/ events=\d+$/, '');
