@@ -42,7 +42,7 @@ use Rattle.wm_check.specs.declared.verdict.Refusal.TheVariants as refusal
 use Rattle.wm_check.specs.declared.verdict.Verdict.{Verdict}
 use Rattle.wm_check.specs.declared.verdict.Verdict.TheVariants.{Allowed, Refused, Broken}
 use Rattle.wm_check.specs.Alone.{Allows, Counts, IsPermitted}
-use Rattle.wm_check.specs.Run.{IsModuleOf, IsRunOf}
+use Rattle.wm_check.specs.Run.{IsCandidateOf, IsModuleOf, IsRunOf}
 use Rattle.wm_check.specs.Verdicts.{IsAllowed, IsBrokenBy, IsRefusedFor, Says}
 
 -- ---- what is allowed has no fault
@@ -110,7 +110,7 @@ same_run run other logs witnesses initials =
     ∙ ap (λ witness. record { log = other.log; witness = witness; initial = run.initial }) witnesses
     ∙ ap (λ initial. record { log = other.log; witness = other.witness; initial = initial }) initials
 
-one_run : AreSpelledOnce → (mb db : List ℕ) (m n : Module) (run other : LoggedRun) → IsRunOf mb db m run → IsRunOf mb db n other → (m ≡ n) × (run ≡ other)
+pub one_run : AreSpelledOnce → (mb db : List ℕ) (m n : Module) (run other : LoggedRun) → IsRunOf mb db m run → IsRunOf mb db n other → (m ≡ n) × (run ≡ other)
 one_run once mb db m n run other first second =
     let modules = one_module once mb m n first.modules.spelled second.modules.spelled in
     let documents = one_document once db run.log other.log run.witness other.witness first.document second.document in
@@ -118,14 +118,15 @@ one_run once mb db m n run other first second =
 
 -- ---- the law
 
-none_refused : AreSpelledOnce → (mb db : List ℕ) (m : Module) (run : LoggedRun) (reason : Refusal) → IsPermitted mb db m run → IsRefusedFor mb db reason → ⊥
-none_refused once mb db m run (refusal.Decode fault) permitted says = says.no_module m permitted.candidate.is_run.modules.spelled
-none_refused once mb db m run (refusal.Valid fault) permitted says =
-    says.invalid (subst Valid (one_module once mb m says.«module» permitted.candidate.is_run.modules.spelled says.spelled) permitted.candidate.is_run.modules.valid)
-none_refused once mb db m run (refusal.Document fault) permitted says = says.1.no_document run.log run.witness permitted.candidate.is_run.document
-none_refused once mb db m run (refusal.Shape fault) permitted says =
-    let same = one_run once mb db m says.«module» run says.run permitted.candidate.is_run says.is_run in
-    no_shape_fault says.run fault (subst IsWellShaped same.1 permitted.candidate.shape) says.first.holds
+-- the bytes of a candidate are not refused
+pub none_refused : AreSpelledOnce → (mb db : List ℕ) (m : Module) (run : LoggedRun) (reason : Refusal) → IsCandidateOf mb db m run → IsRefusedFor mb db reason → ⊥
+none_refused once mb db m run (refusal.Decode fault) is says = says.no_module m is.is_run.modules.spelled
+none_refused once mb db m run (refusal.Valid fault) is says =
+    says.invalid (subst Valid (one_module once mb m says.«module» is.is_run.modules.spelled says.spelled) is.is_run.modules.valid)
+none_refused once mb db m run (refusal.Document fault) is says = says.1.no_document run.log run.witness is.is_run.document
+none_refused once mb db m run (refusal.Shape fault) is says =
+    let same = one_run once mb db m says.«module» run says.run is.is_run says.is_run in
+    no_shape_fault says.run fault (subst IsWellShaped same.1 is.shape) says.first.holds
 
 none_broken : AreSpelledOnce → (mb db : List ℕ) (m : Module) (run : LoggedRun) (reason : Breach) → IsPermitted mb db m run → IsBrokenBy mb db reason → ⊥
 none_broken once mb db m run (breach.Replay answer) permitted says =
@@ -143,7 +144,7 @@ counted once mb db m run certificate permitted says =
 
 pub alone : AreSpelledOnce → (mb db : List ℕ) (m : Module) (run : LoggedRun) (verdict : Verdict) → IsPermitted mb db m run → Says mb db verdict → Allows run verdict
 alone once mb db m run (Allowed certificate) permitted says = counted once mb db m run certificate permitted says
-alone once mb db m run (Refused reason) permitted says = none_refused once mb db m run reason permitted says
+alone once mb db m run (Refused reason) permitted says = none_refused once mb db m run reason permitted.candidate says
 alone once mb db m run (Broken reason) permitted says = none_broken once mb db m run reason permitted says
 
 -- ---- a document past the limit of bytes

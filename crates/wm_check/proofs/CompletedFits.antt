@@ -13,7 +13,7 @@ use Rattle.wm_replay.specs.Complete.{IsCompletion}
 abbrev pub HaveSameEvents : List ThreadLog → List ThreadLog → Type 0
 HaveSameEvents log completed = (k : ℕ) (t c : ThreadLog) → slice_get log k ≡ Some t → slice_get completed k ≡ Some c → c.events ≡ t.events
 
-same_counts : (log completed : List ThreadLog) → length completed ≡ length log → HaveSameEvents log completed → event_counts completed ≡ event_counts log
+pub same_counts : (log completed : List ThreadLog) → length completed ≡ length log → HaveSameEvents log completed → event_counts completed ≡ event_counts log
 same_counts [] [] e same = refl
 same_counts [] (c ∷ completed) e same = absurd (omega (arith, e))
 same_counts (t ∷ log) [] e same = absurd (omega (arith, e))
@@ -28,9 +28,12 @@ same_writes w log completed e same all k d lt =
     (sym (same k (get_or log k d) (get_or completed k d) (slice_get-get_or log k d there) (slice_get-get_or completed k d lt)))
     (all k d there)
 
+pub have_same_events : (m : Module) (log completed : List ThreadLog) → IsCompletion m log completed → HaveSameEvents log completed
+have_same_events m log completed is = λ k t c at there. (is.threads k t c at there).events
+
 pub completed_fits : (m : Module) (log completed : List ThreadLog) (w : Witness) → IsCompletion m log completed → FitsLog log w → FitsLog completed w
 completed_fits m log completed w is fits =
-    let same : HaveSameEvents log completed = λ k t c at there. (is.threads k t c at there).events in record {
+    let same : HaveSameEvents log completed = have_same_events m log completed is in record {
       counts = fits.counts ∙ sym (same_counts log completed is.count same);
       writes = same_writes w log completed is.count same fits.writes;
     }

@@ -1,5 +1,7 @@
 pub mod Run
 pub mod Verdicts
 pub mod Reading
+pub mod Checked
 pub mod Completed
 pub mod Alone
+pub mod Verified

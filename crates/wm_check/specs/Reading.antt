@@ -2,6 +2,7 @@
 use Rattle.std.specs.Prelude.{◌≡◌, ℕ, List, Option, Some, None}
 use Rattle.wm_ast.specs.declared.module.Module.{Module}
 use Rattle.wm_event.specs.declared.log.ThreadLog.{ThreadLog}
+use Rattle.wm_event.specs.declared.misshapen.Misshapen.{Misshapen}
 use Rattle.wm_event.specs.declared.witness.Witness.{Witness}
 use Rattle.wm_event.specs.LoggedRun.{LoggedRun}
 use Rattle.wm_event.specs.Shape.{IsWellShaped}
@@ -79,3 +80,12 @@ abbrev pub HasCandidate : {X : Type 0} → Verdict → Option X → Type 0
 HasCandidate (verdict.Refused refusal) candidate = candidate ≡ None
 HasCandidate {X} (verdict.Allowed certificate) candidate = (run : X) × (candidate ≡ Some run)
 HasCandidate {X} (verdict.Broken breach) candidate = (run : X) × (candidate ≡ Some run)
+
+-- the log and the witness of a refused shape are kept with its fault, and just of such a shape
+abbrev pub KeepsMisshapen : (List ThreadLog → Witness → Type 0) → Verdict → Option Misshapen → Type 0
+KeepsMisshapen P (verdict.Refused (refusal.Decode fault)) kept = kept ≡ None
+KeepsMisshapen P (verdict.Refused (refusal.Valid fault)) kept = kept ≡ None
+KeepsMisshapen P (verdict.Refused (refusal.Document fault)) kept = kept ≡ None
+KeepsMisshapen P (verdict.Refused (refusal.Shape fault)) kept = (m : Misshapen) × (kept ≡ Some m) × (m.fault ≡ fault) × P m.log m.witness
+KeepsMisshapen P (verdict.Allowed certificate) kept = kept ≡ None
+KeepsMisshapen P (verdict.Broken breach) kept = kept ≡ None

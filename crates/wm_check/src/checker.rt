@@ -5,7 +5,8 @@ ghost use Rattle.wm_event.specs.Shape.{event_count};
 ghost use Rattle.wm_event.specs.Shape.{IsWellShaped};
 ghost use Rattle.wm_logfile.specs.DocumentBytes.{IsDocumentOf};
 ghost use Rattle.wm_check.specs.Run.{IsModuleOf};
-ghost use Rattle.wm_check.specs.Reading.{ComparesLog, ComparesOver, HasCandidate, IsCandidateOver, IsJudged, IsRecordedOver, IsUnreadDocument, IsUnreadModule, SaysOver};
+ghost use Rattle.wm_check.specs.Reading.{ComparesLog, ComparesOver, HasCandidate, IsCandidateOver, IsJudged, IsRecordedOver, IsUnreadDocument, IsUnreadModule, KeepsMisshapen, SaysOver};
+ghost use Rattle.wm_check.specs.Checked.{RefusesShape};
 ghost use Rattle.wm_check.specs.Verdicts.{IfAllowed, IfBroken, IfRefused, IsAllowed, IsBrokenBy, IsRefusedFor, Says};
 ghost use Rattle.wm_check.specs.declared.checker.Unread.TheVariants.{OutOfMemory};
 
@@ -13,7 +14,7 @@ use crate::verdict::{Breach, Certificate, Refusal, Verdict};
 use std::alloc::{AllocError, Global};
 use std::thread::Threads;
 use wm_decode::{DecodeFault, decode};
-use wm_event::{Candidate, Judgement, Log, ShapeFault, ThreadLog, Witness};
+use wm_event::{Candidate, Judgement, Log, Misshapen, ShapeFault, ThreadLog, Witness};
 use wm_logfile::{DocFault, read_document};
 use wm_replay::{ReplayAnswer, replay};
 use wm_rules::judge;
@@ -57,7 +58,7 @@ pub(crate) fn read_log(alloc: Global, bytes: &[u8]) -> Result<(Log, Witness), Un
 }
 
 /// How many events the threads have.
-fn count_events(threads: &[ThreadLog]) -> usize
+pub(crate) fn count_events(threads: &[ThreadLog]) -> usize
     requires { event_count threads.now ≤ max_events }
     ensures { result ≡ event_count threads.now }
 {
@@ -99,6 +100,22 @@ pub struct CheckedLog<'m> {
     pub verdict: Verdict,
     /// The log with its witness over the module's initial memory; None where they are refused.
     pub candidate: Option<Candidate<'m>>,
+    /// The log with its witness and its fault, where their shape is refused.
+    pub misshapen: Option<Misshapen>,
+}
+
+/// The refusal of a log with a witness that are no candidate; an allocation failure is no refusal.
+fn refuse_shape<'m>(misshapen: Misshapen) -> Result<CheckedLog<'m>, AllocError>
+    ensures { IfOk result (RefusesShape misshapen) }
+{
+    match misshapen.fault {
+        ShapeFault::OutOfMemory => Err(AllocError),
+        _ => Ok(CheckedLog {
+            verdict: Verdict::Refused(Refusal::Shape(misshapen.fault)),
+            candidate: None,
+            misshapen: Some(misshapen),
+        }),
+    }
 }
 
 /// The verdict on a log with a witness over the initial memory of a module.
@@ -111,21 +128,21 @@ fn compare_log<'m, R: AllocGlobal + Threads + Sync>(
     ensures verdict { IfOk result (λ checked. ComparesOver «module».now log witness checked.verdict) }
     ensures candidate { IfOk result (λ checked. IfSome checked.candidate (IsCandidateOver «module».now log witness)) }
     ensures refused { IfOk result (λ checked. HasCandidate checked.verdict checked.candidate) }
+    ensures misshapen { IfOk result (λ checked.
+        KeepsMisshapen (λ l w. (l ≡ log) × (w ≡ witness)) checked.verdict checked.misshapen) }
 {
-    match Candidate::new(rt.alloc(), log, witness, module.initial()) {
+    match Candidate::of(rt.alloc(), log, witness, module.initial()) {
         Ok(candidate) => Ok(CheckedLog {
             verdict: compare(rt, module, &candidate)?,
             candidate: Some(candidate),
+            misshapen: None,
         }),
-        Err(ShapeFault::OutOfMemory) => Err(AllocError),
-        Err(fault) => Ok(CheckedLog {
-            verdict: Verdict::Refused(Refusal::Shape(fault)),
-            candidate: None,
-        }),
+        Err(misshapen) => refuse_shape(misshapen),
     }
 }
 
-/// Checks the bytes of a log against a valid module, as [`check`] does, and keeps the candidate.
+/// Checks the bytes of a log against a valid module, as [`check`] does, and keeps the candidate, or the log and the witness
+/// whose shape is refused.
 ///
 /// # Errors
 ///
@@ -138,12 +155,15 @@ pub fn check_log<'m, R: AllocGlobal + Threads + Sync>(
     ensures verdict { IfOk result (λ checked. SaysOver «module».now document_bytes.now checked.verdict) }
     ensures candidate { IfOk result (λ checked. IfSome checked.candidate (IsRecordedOver «module».now document_bytes.now)) }
     ensures refused { IfOk result (λ checked. HasCandidate checked.verdict checked.candidate) }
+    ensures misshapen { IfOk result (λ checked.
+        KeepsMisshapen (IsDocumentOf document_bytes.now) checked.verdict checked.misshapen) }
 {
     match read_log(rt.alloc(), document_bytes) {
         Ok((log, witness)) => compare_log(rt, module, log, witness),
         Err(Unread::Refused(refusal)) => Ok(CheckedLog {
             verdict: Verdict::Refused(refusal),
             candidate: None,
+            misshapen: None,
         }),
         Err(Unread::OutOfMemory) => Err(AllocError),
     }

@@ -1,5 +1,6 @@
-//! What is said of a run that is allowed, and of a document that is too large.
+//! What is said of a run that is allowed, of a document that is too large, and of a completed one.
 ghost use Rattle.wm_check.specs.Alone.{AllowedAlone, TooLargeAlone};
+ghost use Rattle.wm_check.specs.Verified.{VerifiesAsCheck};
 
 use wm_decode::spelled_once;
 use wm_logfile::one_pair;
@@ -11,6 +12,15 @@ use wm_logfile::one_pair;
 pub fn one_verdict()
     ensures allowed { AllowedAlone }
     ensures too_large { TooLargeAlone }
+{
+    spelled_once();
+    one_pair();
+}
+
+/// What [`verify`](crate::verify) says of bytes is what [`check`](crate::check) says of the document that
+/// [`complete_document`](crate::complete_document) makes of them, if this can be read as the completed log.
+pub fn verify_is_check_of_completed()
+    ensures { VerifiesAsCheck }
 {
     spelled_once();
     one_pair();

@@ -5,8 +5,10 @@ mod checker;
 mod completed;
 mod law;
 mod verdict;
+mod verified;
 
 pub use checker::{CheckedLog, Unread, check, check_log, read_module};
 pub use completed::{CompletedDocument, complete_document};
-pub use law::one_verdict;
+pub use law::{one_verdict, verify_is_check_of_completed};
 pub use verdict::{Breach, Certificate, Refusal, Verdict};
+pub use verified::{verify, verify_log};

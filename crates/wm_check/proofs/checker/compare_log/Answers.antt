@@ -1,17 +1,21 @@
-use Rattle.std.proofs.Common.{ap, rules, subst, sym}
-use Rattle.std.specs.Prelude.{◌≢◌}
+use Rattle.std.proofs.Common.{◌≡◌, ap, refl, subst, sym}
+use Rattle.std.specs.Prelude.{IfSome}
+use Rattle.std.proofs.lemmas.Result.{IfOk-weaker}
 use Rattle.wm_event.specs.LoggedRun.{LoggedRun}
 use Rattle.wm_event.specs.Shape.{IsWellShaped}
 use Rattle.wm_logfile.specs.DocumentBytes.{IsDocumentOf}
 use Rattle.wm_valid.specs.Valid.{IsInit}
-use Rattle.wm_event.specs.declared.shape_fault.ShapeFault.TheVariants.{OutOfMemory}
+use Rattle.wm_check.specs.declared.verdict.Verdict.{Verdict}
+use Rattle.wm_check.specs.Checked.{RefusesShape}
+use Rattle.wm_check.specs.Reading.{ComparesOver, HasCandidate, IsCandidateOver, KeepsMisshapen}
+use Rattle.wm_check.specs.Verdicts.{Says}
 use Rattle.wm_check.proofs.Candidates.{has_candidate}
 use Rattle.wm_check.proofs.checker.compare_log.Goals as goal
 
 pub returns-in-Err-clause-verdict : goal.returns-in-Err-clause-verdict
-returns-in-Err-clause-verdict g c = λ module_bytes document_bytes is_module is_document.
-    let no_want : c.in-Err.fault ≢ OutOfMemory = search rules in
-    record {
+returns-in-Err-clause-verdict g c =
+    IfOk-weaker c.refuse_shape.result (RefusesShape c.in-Err.misshapen) (λ checked. ComparesOver c.args.module.now c.args.log c.args.witness checked.verdict)
+    (λ checked is module_bytes document_bytes is_module is_document. subst (Says module_bytes document_bytes) (sym is.verdict) record {
       «module» = c.args.module.now;
       run = record { log = c.args.log; witness = c.args.witness; initial = c.initial.result.now };
       is_run = record {
@@ -19,9 +23,27 @@ returns-in-Err-clause-verdict g c = λ module_bytes document_bytes is_module is_
         document = is_document;
         initial = c.initial.ensures;
       };
-      first = c.in-Err.ensures.fault no_want;
-      no_want = no_want;
-    }
+      first = c.in-Err.ensures.fault is.no_want;
+      no_want = is.no_want;
+    })
+    c.refuse_shape.ensures
+
+pub returns-in-Err-clause-candidate : goal.returns-in-Err-clause-candidate
+returns-in-Err-clause-candidate g c =
+    IfOk-weaker c.refuse_shape.result (RefusesShape c.in-Err.misshapen) _ (λ checked is. subst (λ kept. IfSome kept (IsCandidateOver c.args.module.now c.args.log c.args.witness)) (sym is.candidate) tt)
+    c.refuse_shape.ensures
+
+pub returns-in-Err-clause-refused : goal.returns-in-Err-clause-refused
+returns-in-Err-clause-refused g c =
+    IfOk-weaker c.refuse_shape.result (RefusesShape c.in-Err.misshapen) _ (λ checked is. subst (λ (v : Verdict). HasCandidate v checked.candidate) (sym is.verdict) is.candidate)
+    c.refuse_shape.ensures
+
+pub returns-in-Err-clause-misshapen : goal.returns-in-Err-clause-misshapen
+returns-in-Err-clause-misshapen g c =
+    IfOk-weaker c.refuse_shape.result (RefusesShape c.in-Err.misshapen) _
+    (λ checked is. subst (λ (v : Verdict). KeepsMisshapen (λ l w. (l ≡ c.args.log) × (w ≡ c.args.witness)) v checked.misshapen) (sym is.verdict)
+    (c.in-Err.misshapen, is.kept, refl, c.in-Err.ensures.given))
+    c.refuse_shape.ensures
 
 pub returns-in_ok-compare-in-Ok-clause-verdict : goal.returns-in_ok-compare-in-Ok-clause-verdict
 returns-in_ok-compare-in-Ok-clause-verdict g c = λ module_bytes document_bytes is_module is_document.
