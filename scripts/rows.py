@@ -186,8 +186,8 @@ EXPLAINED = re.compile(
 
 
 def rows_of_explanations():
-    """What `explain` writes, as the tests of wm_explain and docs/EXPLANATIONS.md have it: each text of the page is
-    that of a row whose line is the same; and each row with a module is run."""
+    """What `explain` writes, as the tests of wm_explain and docs/EXPLANATIONS.md have it. Each row with a module is
+    run; also, the texts of the page that no row of these tests has, by their sentences, each with its line."""
     source = "crates/wm_explain/src/tests/rows.rt"
     page = "docs/EXPLANATIONS.md"
     with open(f"{TOP}/{source}", encoding="utf-8") as file:
@@ -214,8 +214,8 @@ def rows_of_explanations():
             row.out = [line or MORE + "one line", *sentences.split("\n")]
             row.status = status_of([line]) if line else None
             rows.append(row)
-    missing = [line for sentences, line in lines.items() if sentences not in said and status_of([line]) is not None]
-    return rows, [line for line in missing if line.split(" ")[0] in harness.STATUS]
+    missing = {sentences: line for sentences, line in lines.items() if sentences not in said}
+    return rows, {sentences: line for sentences, line in missing.items() if line.split(" ")[0] in harness.STATUS}
 
 
 # `check` and `rules` of one log, whose answer other ways to the same log keep.
@@ -357,6 +357,8 @@ def all_rows(words):
     rows, missing = rows_of_explanations()
     for path in sorted(glob.glob(f"{TOP}/tests/rows/*.rows")):
         found = rows_of_file(path)
+        for row in found:
+            missing.pop("\n".join(row.out[1:]), None)
         rows += found + ([] if path.endswith("long.rows") else rows_by_another_way(found))
     for pattern in PAGES:
         for path in sorted(glob.glob(f"{TOP}/{pattern}")):
@@ -364,7 +366,7 @@ def all_rows(words):
     rows += rows_of_examples()
     if words:
         return [row for row in rows if any(word in row.name() for word in words)], []
-    return rows, missing
+    return rows, list(missing.values())
 
 
 def main():

@@ -278,7 +278,7 @@ pub(super) const REFUSED: [CheckRow; 15] = [
         shows: "floats",
         module: &FLOATS,
         document: r#"["wasm-litmus-log",2,[["a",[],["done",[0]],6,[["w","un",0,4,1],["r","un",4,4,0,[[],[],[],[]]]]],["b",[],["done",[0]],6,[["w","un",4,4,1],["r","un",0,4,0,[[],[],[],[]]]]]],[[0,0],[1,0],[0,1],[1,1]]]"#,
-        text: r#"The module can't be decoded at byte 29 of 36. The module uses f32 or f64, which isn't supported. Use i32 or i64.
+        text: r#"The module can't be decoded at byte 29 of 36. The module uses f32 or f64 in function 0, which isn't supported. Use i32 or i64.
 The bytes there, the one at 29 in brackets: 03 01 01 0a 0a 01 08 00 [43] 00 00 00 00 1a 0b
 "#,
     },
@@ -294,7 +294,7 @@ The bytes there, the one at 40 in brackets: 00 0a 09 01 07 02 01 7e [e6] 07 7f 0
         shows: "misaligned",
         module: &MISALIGNED,
         document: r#"["wasm-litmus-log",2,[["a",[],["done",[0]],6,[["w","un",0,4,1],["r","un",4,4,0,[[],[],[],[]]]]],["b",[],["done",[0]],6,[["w","un",4,4,1],["r","un",0,4,0,[[],[],[],[]]]]]],[[0,0],[1,0],[0,1],[1,1]]]"#,
-        text: r#"The module isn't valid, in function 0 at instruction 2, both counted from 0, with each else and end. The alignment of a plain access may not be greater than its width, and that of an atomic access has to be its width.
+        text: r#"The module isn't valid, in function 0 at instruction 2, both counted from 0, with each else and end. The instruction is i32.store align=8. The alignment of a plain access may not be greater than its width, and that of an atomic access has to be its width.
 "#,
     },
     CheckRow {

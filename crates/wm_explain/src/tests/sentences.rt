@@ -1,16 +1,16 @@
 //! Each sentence on a fault of the bytes, of the module, of the log and of a start.
 use super::read;
 use super::rows::TOO_MANY_LOCALS;
+use crate::decode_refusal::{DecodeSentence, decode_reason};
 use crate::document_part::PartPhrase;
 use crate::document_refusal::{TextPosition, document_reason};
 use crate::expected::ExpectedPhrase;
-use crate::feature::UnsupportedSentence;
 use crate::json_text::JsonText;
 use crate::module_count::parameters_and_locals;
-use crate::module_refusal::{DecodeSentence, ValidSentence, decode_reason};
 use crate::phrase::EndPhrase;
 use crate::shape_refusal::shape_reason;
 use crate::start_refusal::StartSentence;
+use crate::valid_refusal::ValidSentence;
 use std::test::Fail;
 use wm_decode::{DecodeFault, FaultKind, Feature, Limit};
 use wm_event::{End, EventKey, ShapeFault, TrapKind};
@@ -59,7 +59,7 @@ const DECODE: [(FaultKind, &str); 18] = [
     ),
     (
         FaultKind::Unsupported(Feature::Fence),
-        "The module uses atomic.fence, which isn't supported. Leave it out: each atomic access is sequentially consistent.",
+        "The module uses atomic.fence, which isn't supported. Leave it out: each atomic access is sequentially consistent; engines/lower drops it.",
     ),
     (FaultKind::DuplicateExport, "Two exports have one name."),
     (
@@ -89,7 +89,6 @@ fn each_fault_of_the_bytes(rt: HostRuntime) -> Result<(), Fail> {
     for (kind, text) in &DECODE {
         let sentence = DecodeSentence {
             kind: *kind,
-            bytes: &[],
             found: Some(1_048_577),
         };
         let got = format!(in rt.alloc(); "{sentence}")?;
@@ -335,63 +334,6 @@ fn what_is_expected_at_a_path(rt: HostRuntime) -> Result<(), Fail> {
             path,
         };
         let got = format!(in rt.alloc(); "{expected}")?;
-        assert_eq!(rt; got.as_str(), *text);
-    }
-    Ok(())
-}
-
-/// A feature, the bytes at it, and what is said.
-const FEATURES: [(Feature, &[u8], &str); 8] = [
-    (
-        Feature::PrefixFC,
-        &[0xFC, 0x0B, 0x00],
-        "The module uses memory.fill, which isn't supported. Compile with -mcpu=mvp and -fno-builtin.",
-    ),
-    (
-        Feature::PrefixFC,
-        &[0xFC, 0x0A],
-        "The module uses memory.copy, which isn't supported. Compile with -mcpu=mvp and -fno-builtin.",
-    ),
-    (
-        Feature::Reserved,
-        &[0x12, 0x00],
-        "The module uses return_call, which isn't supported. Compile with -mno-tail-call and -fno-exceptions.",
-    ),
-    (
-        Feature::NarrowCmpxchg,
-        &[0xFE, 0x4A],
-        "The module uses i32.atomic.rmw8.cmpxchg_u, which isn't supported. Use a compare-exchange of the whole type.",
-    ),
-    (
-        Feature::SignExtension,
-        &[0xC1],
-        "The module uses i32.extend16_s, which isn't supported. Compile with -mcpu=mvp.",
-    ),
-    (
-        Feature::Growth,
-        &[0x40],
-        "The module uses memory.grow, which isn't supported. Declare the memory with all its pages.",
-    ),
-    (
-        Feature::Wait,
-        &[],
-        "The module uses memory.atomic.wait32 or memory.atomic.wait64, which isn't supported. Load the value in a loop instead.",
-    ),
-    (
-        Feature::References,
-        &[0xD0],
-        "The module uses reference types, which isn't supported. Compile with -mcpu=mvp.",
-    ),
-];
-
-#[test]
-fn unsupported_features_by_name(rt: HostRuntime) -> Result<(), Fail> {
-    for (feature, bytes, text) in &FEATURES {
-        let sentence = UnsupportedSentence {
-            feature: *feature,
-            bytes,
-        };
-        let got = format!(in rt.alloc(); "{sentence}")?;
         assert_eq!(rt; got.as_str(), *text);
     }
     Ok(())

@@ -1,11 +1,12 @@
-//! Why a module is refused.
+//! Why bytes are not a module within the limits.
 
-use crate::feature::UnsupportedSentence;
+use crate::feature::Part;
 use crate::module_count::{number_at, parameters_and_locals};
+use crate::survey::Place;
+use crate::unsupported::{UnsupportedSentence, unsupported_reason};
 use std::alloc::{AllocError, Global};
 use std::fmt;
 use wm_decode::{DecodeFault, FaultKind, Limit, MAX_MODULE_BYTES};
-use wm_valid::{FaultKind as ValidKind, Location, ValidFault};
 
 /// How many bytes are shown before a faulty one, and how many from it on.
 const AROUND: usize = 8;
@@ -59,15 +60,13 @@ impl fmt::Display for LimitSentence {
 
 /// What is wrong with the bytes of a module.
 #[derive(Clone, Copy)]
-pub(crate) struct DecodeSentence<'a> {
+pub(crate) struct DecodeSentence {
     pub kind: FaultKind,
-    /// The bytes of the module from the faulty one on.
-    pub bytes: &'a [u8],
     /// The number that passes a limit, where it is known.
     pub found: Option<u64>,
 }
 
-impl fmt::Display for DecodeSentence<'_> {
+impl fmt::Display for DecodeSentence {
     fn fmt<W: fmt::Write>(&self, f: &mut fmt::Formatter<W>) -> fmt::Result {
         let text = match self.kind {
             FaultKind::Magic => "A binary module begins with the bytes 00 61 73 6d.",
@@ -95,8 +94,8 @@ impl fmt::Display for DecodeSentence<'_> {
                 return write!(f, "No instruction has the opcode {opcode:02x}.");
             }
             FaultKind::Unsupported(feature) => {
-                let bytes = self.bytes;
-                return write!(f, "{}", UnsupportedSentence { feature, bytes });
+                let (part, place) = (Part::of(feature), Place::Module);
+                return write!(f, "{}", UnsupportedSentence { part, place });
             }
             FaultKind::Limit(limit) => {
                 let found = Found(self.found);
@@ -157,6 +156,22 @@ impl fmt::Display for BytesAround<'_> {
     }
 }
 
+/// A fault at an offset of a module in a sentence, the bytes there, and what else there is to say.
+fn fault_text<S: fmt::Display>(
+    alloc: Global,
+    sentence: &S,
+    offset: usize,
+    bytes: &[u8],
+    more: &str,
+) -> Result<String, AllocError> {
+    let size = bytes.len();
+    let heading = Heading(offset, size);
+    let around = BytesAround(bytes, offset);
+    format!(in alloc;
+        "The module can't be decoded at byte {offset} of {size}. {sentence}\n{heading}{around}\n{more}"
+    )
+}
+
 /// Why bytes are not a module within the limits.
 ///
 /// # Errors
@@ -167,88 +182,15 @@ pub(crate) fn decode_reason(
     fault: &DecodeFault,
     bytes: &[u8],
 ) -> Result<String, AllocError> {
-    match fault {
+    match *fault {
         DecodeFault::OutOfMemory => Err(AllocError),
+        DecodeFault::At(FaultKind::Unsupported(feature), offset) => {
+            let (sentence, more) = unsupported_reason(alloc, feature, offset, bytes)?;
+            fault_text(alloc, &sentence, offset, bytes, more.as_str())
+        }
         DecodeFault::At(kind, offset) => {
-            let sentence = DecodeSentence {
-                kind: *kind,
-                bytes: bytes.get(*offset..).unwrap_or(&[]),
-                found: found_at(*kind, bytes, *offset),
-            };
-            let around = BytesAround(bytes, *offset);
-            let size = bytes.len();
-            let heading = Heading(*offset, size);
-            format!(in alloc;
-                "The module can't be decoded at byte {offset} of {size}. {sentence}\n{heading}{around}\n"
-            )
-        }
-    }
-}
-
-/// Which rule a module breaks.
-#[derive(Clone, Copy)]
-pub(crate) struct ValidSentence(pub ValidKind);
-
-impl fmt::Display for ValidSentence {
-    fn fmt<W: fmt::Write>(&self, f: &mut fmt::Formatter<W>) -> fmt::Result {
-        match self.0 {
-            ValidKind::BadType => f.write_str(
-                "The operands, a label, a global or an offset don't have the types that are expected there, or an immutable global is set.",
-            ),
-            ValidKind::Index => f.write_str(
-                "An index names no type, function, local, global or memory.",
-            ),
-            ValidKind::Label => {
-                f.write_str(
-                    "A branch names a label that is greater than the number of blocks around it.",
-                )
-            }
-            ValidKind::Alignment => f.write_str(
-                "The alignment of a plain access may not be greater than its width, and that of an atomic access has to be its width.",
-            ),
-            ValidKind::DataOutOfRange => {
-                f.write_str("A data segment isn't inside the initial memory.")
-            }
-            ValidKind::MemoryAbsent => {
-                f.write_str(
-                    "An instruction or a data segment needs a memory, and the module has none.",
-                )
-            }
-            ValidKind::MemoryLimits => f.write_str(
-                "The memory's maximum is below its minimum, or above 65536 pages.",
-            ),
-        }
-    }
-}
-
-/// Where a module breaks a rule.
-#[derive(Clone, Copy)]
-struct LocationPhrase(Location);
-
-impl fmt::Display for LocationPhrase {
-    fn fmt<W: fmt::Write>(&self, f: &mut fmt::Formatter<W>) -> fmt::Result {
-        match self.0 {
-            Location::Module => f.write_str("outside the functions' instructions"),
-            Location::Instr { func, instr } => write!(
-                f,
-                "in function {func} at instruction {instr}, both counted from 0, with each else and end"
-            ),
-        }
-    }
-}
-
-/// Why a module isn't valid.
-///
-/// # Errors
-///
-/// Only if an allocation fails.
-pub(crate) fn valid_reason(alloc: Global, fault: &ValidFault) -> Result<String, AllocError> {
-    match fault {
-        ValidFault::OutOfMemory => Err(AllocError),
-        ValidFault::At(kind, location) => {
-            let sentence = ValidSentence(*kind);
-            let place = LocationPhrase(*location);
-            format!(in alloc; "The module isn't valid, {place}. {sentence}\n")
+            let found = found_at(kind, bytes, offset);
+            fault_text(alloc, &DecodeSentence { kind, found }, offset, bytes, "")
         }
     }
 }
