@@ -55,7 +55,8 @@ show_progress() {
 # `rt all check` keeps what it proved in crates/*/out, so that the next call goes on from there.
 prove_crates() {
     local log=$1 tool
-    (cd "$top" && exec rt all check --jobs "${RT_JOBS:-$(nproc)}") </dev/null >"$log" 2>&1 &
+    : >"$log"
+    (cd "$top" && exec rt all check --jobs "${RT_JOBS:-$(nproc)}") </dev/null >>"$log" 2>&1 &
     tool=$!
     # shellcheck disable=SC2064 # this process is meant
     trap "kill $tool 2>/dev/null; is_stopped=yes" INT TERM HUP
