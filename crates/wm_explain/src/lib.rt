@@ -20,6 +20,3 @@ mod shape_refusal;
 mod start_refusal;
 
 pub use reasons::{explain_refusal, explain_run};
-
-#[cfg(test)]
-mod tests;
