@@ -28,6 +28,3 @@ mod unsupported;
 mod valid_refusal;
 
 pub use reasons::{explain_refusal, explain_run};
-
-#[cfg(test)]
-mod tests;

@@ -5,7 +5,7 @@ ghost use Rattle.std.specs.Prelude.{◌≡◌};
 ghost use Rattle.wm_access.specs.declared.AccessWidth.TheVariants as AccessWidth;
 ghost use Rattle.wm_access.specs.declared.MemoryOrder.TheVariants as MemoryOrder;
 
-use super::fakes::same;
+use super::same;
 use std::alloc::{AllocError, Global};
 use std::test::Fail;
 use wm_access::{AccessWidth, MemoryOrder, RmwOperator};

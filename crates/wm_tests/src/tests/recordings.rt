@@ -1,8 +1,10 @@
-//! Random histories through a recorder: each is recorded as a candidate that is valid. Both are proved; the test runs the
-//! recorder, the check of the shape and the judge on one another's values.
+//! Random histories through a recorder: each is recorded as a candidate that is valid, and what happens before what in it is
+//! the plain closure. The first is proved; the test runs the recorder, the check of the shape and the judge on one another's
+//! values.
 ghost use Rattle.std.specs.Prelude.{◌≡◌, ◌<◌, IfOk, map};
 ghost use Rattle.wm_event.specs.declared.log.ThreadLog.{ThreadLog};
 
+use super::closure::compares;
 use std::alloc::{AllocError, Global};
 use std::process::Abort;
 use std::test::Fail;
@@ -17,6 +19,9 @@ use wm_rules::judge;
 
 /// So many bytes has the memory of a history.
 const BYTES: usize = 24;
+
+/// One of so many histories is compared with the plain closure, which takes long.
+const COMPARED: u32 = 100;
 
 /// Numbers from a seed.
 #[derive(Drop)]
@@ -170,6 +175,9 @@ fn all_are_valid<R: Abort + AllocGlobal + Threads + Sync>(
         let candidate = Candidate::new(rt.alloc(), log, witness, &initial)?;
         let judgement = judge(rt, &candidate)?;
         assert!(rt; matches!(judgement, Judgement::Valid), "history {number}");
+        if number % COMPARED == 0 {
+            assert!(rt; compares(rt, &candidate)?, "history {number}");
+        }
     }
     Ok(())
 }

@@ -1,8 +1,8 @@
 //! Rounds of store buffering, with gates that hold threads back.
 ghost use Rattle.std.specs.Prelude.{false};
 
-use super::fakes::same;
 use super::modules::{ARGUMENT, STORE_BUFFERING};
+use super::same;
 use std::alloc::{AllocError, Global};
 use std::sync::Wait;
 use std::sync::atomic::{AtomicBool, Ordering};

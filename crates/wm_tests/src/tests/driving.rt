@@ -1,19 +1,19 @@
-//! Scripts of turns from seeds: each run is allowed. That is proved; the test plays, writes, reads and checks each of them.
-ghost use Rattle.std.specs.Prelude.{◌<◌};
-
-use super::fakes::same;
+//! Scripts of turns from seeds: each run is allowed, which is proved, and what happens before what in it is the plain
+//! closure. The test plays, writes, reads, checks and compares each of them.
+use super::closure::compares_document;
 use super::modules::{STORE_BUFFERING, STORE_BUFFERING_ATOMIC};
+use super::same;
 use std::alloc::{AllocError, Global};
 use std::process::Abort;
 use std::test::Fail;
 use std::thread::Threads;
 use wm_check::{Verdict, check, read_module};
-use wm_event::Start;
+use wm_event::{Initial, Start};
 use wm_list::{List, Text};
 use wm_run::{Plan, Run, Turn, drive, write_run};
 use wm_valid::ValidModule;
 
-/// The first four turns, or all six where a drain may take a store behind the oldest one.
+/// A step, a drain of the oldest store, or a drain of the store behind it.
 fn turn(number: u64) -> Turn {
     match number {
         0 => Turn::Step(0),
@@ -25,10 +25,9 @@ fn turn(number: u64) -> Turn {
     }
 }
 
-/// 40 turns of so many kinds, drawn from a seed.
-fn turns(alloc: Global, seed: u32, kinds: u64) -> Result<Vec<Turn>, AllocError>
-    requires { 0 < kinds }
-{
+/// 40 turns that are drawn from a seed; the last two kinds are left out where stores leave in their order.
+fn turns(alloc: Global, seed: u32, in_order: bool) -> Result<Vec<Turn>, AllocError> {
+    let kinds = if in_order { 4 } else { 6 };
     let mut state = seed as u64;
     let mut turns = Vec::new(alloc);
     for _ in 0..40u32 {
@@ -58,19 +57,21 @@ fn plan(alloc: Global) -> Result<Plan, AllocError> {
     })
 }
 
-/// Whether the check of what is written of a run allows it.
-fn is_allowed<R: AllocGlobal + Threads + Sync>(
+/// Whether the check of what is written of a run allows it, and what happens before what in it is the plain closure.
+fn is_allowed<R: Abort + AllocGlobal + Threads + Sync>(
     rt: &R,
     module_bytes: &[u8],
     run: &Run,
 ) -> Result<bool, AllocError> {
     let document = write_run(rt.alloc(), run)?;
+    let initial = Initial::zeros(rt.alloc(), 1);
+    let is_compared = compares_document(rt, document.as_str(), &initial)?;
     let verdict = check(rt, module_bytes, document.as_bytes())?;
-    Ok(matches!(verdict, Verdict::Allowed(_)))
+    Ok(is_compared && matches!(verdict, Verdict::Allowed(_)))
 }
 
 /// Whether the run of these turns is allowed.
-fn plays_allowed<R: AllocGlobal + Threads + Sync>(
+fn plays_allowed<R: Abort + AllocGlobal + Threads + Sync>(
     rt: &R,
     module: &ValidModule,
     module_bytes: &[u8],
@@ -83,51 +84,35 @@ fn plays_allowed<R: AllocGlobal + Threads + Sync>(
     }
 }
 
-/// How many of 200 seeds give a run that is allowed, by turns of so many kinds.
-fn count_allowed<R: AllocGlobal + Threads + Sync>(
+/// How many of 200 seeds give a run of the module that is allowed; 0 where the bytes spell none.
+fn count_allowed<R: Abort + AllocGlobal + Threads + Sync>(
     rt: &R,
-    module: &ValidModule,
     module_bytes: &[u8],
-    plan: &Plan,
-    kinds: u64,
-) -> Result<u32, AllocError>
-    requires { 0 < kinds }
-{
+    in_order: bool,
+) -> Result<u32, AllocError> {
+    let plan = plan(rt.alloc())?;
+    let Ok(module) = read_module(rt.alloc(), module_bytes) else {
+        return Ok(0);
+    };
     let mut allowed = 0u32;
     for seed in 1..201u32 {
-        let turns = turns(rt.alloc(), seed, kinds)?;
-        if plays_allowed(rt, module, module_bytes, plan, turns.as_slice())? {
+        let turns = turns(rt.alloc(), seed, in_order)?;
+        if plays_allowed(rt, &module, module_bytes, &plan, turns.as_slice())? {
             allowed = allowed.saturating_add(1);
         }
     }
     Ok(allowed)
 }
 
-/// The same over the module that the bytes spell, 0 where they spell none.
-fn allowed_of<R: AllocGlobal + Threads + Sync>(
-    rt: &R,
-    module_bytes: &[u8],
-    kinds: u64,
-) -> Result<u32, AllocError>
-    requires { 0 < kinds }
-{
-    let plan = plan(rt.alloc())?;
-    match read_module(rt.alloc(), module_bytes) {
-        Ok(module) => count_allowed(rt, &module, module_bytes, &plan, kinds),
-        Err(_) => Ok(0),
-    }
-}
-
 #[test]
 fn driven_runs_are_allowed(rt: HostRuntime) -> Result<(), Fail> {
-    same(&rt, allowed_of(&rt, &STORE_BUFFERING, 4)?, 200);
-    same(&rt, allowed_of(&rt, &STORE_BUFFERING_ATOMIC, 4)?, 200);
-    Ok(())
-}
-
-#[test]
-fn runs_that_drain_in_any_order_are_allowed(rt: HostRuntime) -> Result<(), Fail> {
-    same(&rt, allowed_of(&rt, &STORE_BUFFERING, 6)?, 200);
-    same(&rt, allowed_of(&rt, &STORE_BUFFERING_ATOMIC, 6)?, 200);
+    for in_order in [true, false] {
+        same(&rt, count_allowed(&rt, &STORE_BUFFERING, in_order)?, 200);
+        same(
+            &rt,
+            count_allowed(&rt, &STORE_BUFFERING_ATOMIC, in_order)?,
+            200,
+        );
+    }
     Ok(())
 }

@@ -4,8 +4,8 @@ ghost use Rattle.wm_access.specs.declared.AccessWidth.TheVariants as AccessWidth
 ghost use Rattle.wm_access.specs.declared.MemoryOrder.TheVariants as MemoryOrder;
 ghost use Rattle.wm_event.specs.Op.{IsOp};
 
-use super::fakes::same;
 use super::modules::STORE_BUFFERING;
+use super::same;
 use std::alloc::{AllocError, Global};
 use std::process::Abort;
 use std::test::Fail;

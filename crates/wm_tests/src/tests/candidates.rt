@@ -1,7 +1,7 @@
-//! The readers of a candidate and of the initial memory, and the events of accesses.
+//! What a candidate and the initial memory give, and the events of accesses.
 ghost use Rattle.wm_event.specs.Op.{KindFits};
 
-use super::fakes::same;
+use super::same;
 use std::process::Abort;
 use std::test::Fail;
 use wm_access::{AccessWidth, MemoryOrder, RmwOperator};
@@ -33,16 +33,19 @@ fn candidate_of<'a, R: Abort + AllocGlobal>(rt: &R, initial: &'a Initial) -> Can
 }
 
 #[test]
-fn initial_bytes_are_those_given(rt: HostRuntime) -> Result<(), Fail> {
+fn a_candidate_gives_what_it_was_made_of(rt: HostRuntime) -> Result<(), Fail> {
     let initial = Initial::of(rt.alloc(), &[4, 5, 7])?;
-    same(&rt, initial.len(), 3);
     same(&rt, initial.byte(2), Some(7));
     same(&rt, initial.byte(3), None);
+    let candidate = candidate_of(&rt, &initial);
+    same(&rt, candidate.log().threads().len(), 1);
+    same(&rt, candidate.witness().order.len(), 2);
+    same(&rt, candidate.initial().len(), 3);
     Ok(())
 }
 
 #[test]
-fn a_candidate_gives_its_events(rt: HostRuntime) -> Result<(), Fail> {
+fn a_candidate_gives_its_events_places_and_writers(rt: HostRuntime) -> Result<(), Fail> {
     let initial = Initial::of(rt.alloc(), &[4, 5, 7])?;
     let candidate = candidate_of(&rt, &initial);
     let written = candidate
@@ -50,39 +53,15 @@ fn a_candidate_gives_its_events(rt: HostRuntime) -> Result<(), Fail> {
         .map(|event| event.written);
     same(&rt, written, Some(6));
     assert!(rt; candidate.event(EventId::Init).is_none());
-    Ok(())
-}
-
-#[test]
-fn a_candidate_gives_its_places(rt: HostRuntime) -> Result<(), Fail> {
-    let initial = Initial::of(rt.alloc(), &[4, 5, 7])?;
-    let candidate = candidate_of(&rt, &initial);
     same(&rt, candidate.place(EventId::At(SECOND)), Some(1));
     same(&rt, candidate.place(EventId::Init), None);
-    Ok(())
-}
-
-#[test]
-fn a_candidate_gives_writers_and_bytes(rt: HostRuntime) -> Result<(), Fail> {
-    let initial = Initial::of(rt.alloc(), &[4, 5, 7])?;
-    let candidate = candidate_of(&rt, &initial);
-    same(
-        &rt,
-        candidate.writers(SECOND),
-        [EventId::At(WRITE)].as_slice(),
-    );
+    let writers = [EventId::At(WRITE)];
+    same(&rt, candidate.writers(SECOND), writers.as_slice());
     same(&rt, candidate.byte_by(EventId::At(SECOND), 1), Some(6));
     same(&rt, candidate.byte_by(EventId::Init, 2), Some(7));
-    Ok(())
-}
-
-#[test]
-fn a_candidate_gives_what_it_was_made_of(rt: HostRuntime) -> Result<(), Fail> {
-    let initial = Initial::of(rt.alloc(), &[4, 5, 7])?;
-    let candidate = candidate_of(&rt, &initial);
-    same(&rt, candidate.log().threads().len(), 1);
-    same(&rt, candidate.witness().order.len(), 2);
-    same(&rt, candidate.initial().len(), 3);
+    let writes = [EventId::At(WRITE), EventId::At(SECOND)];
+    same(&rt, candidate.writes_to(1), writes.as_slice());
+    same(&rt, candidate.writes_to(0).len(), 0);
     Ok(())
 }
 
