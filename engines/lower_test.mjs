@@ -8,9 +8,9 @@
  * `--runs` is how often programs are run before and after (1000). The last line is `N passed, N failed`.
  */
 
-import { UserError } from './node/errors.mjs';
+import { UserError } from './shared/errors.mjs';
 import { countOf, wordsOf } from './node/options.mjs';
-import { findProgram } from './node/wmlab.mjs';
+import { findProgram } from './shared/wmlab.mjs';
 import { testBuilds } from './lowering/test_builds.mjs';
 import { testCommand } from './lowering/test_command.mjs';
 import { testRefusals } from './lowering/test_refusals.mjs';

@@ -8,9 +8,9 @@
  * `--rounds` is for each program on workers (1). The last line is `N passed, N failed`.
  */
 
-import { UserError } from './node/errors.mjs';
+import { UserError } from './shared/errors.mjs';
 import { countOf, wordsOf } from './node/options.mjs';
-import { findProgram } from './node/wmlab.mjs';
+import { findProgram } from './shared/wmlab.mjs';
 import { testCommand } from './selfrecord/test_command.mjs';
 import { testRecordings } from './selfrecord/test_recordings.mjs';
 

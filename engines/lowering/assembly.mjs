@@ -1,6 +1,6 @@
 /** Instructions as bytes, and the functions that a lowered module has in addition to its own. */
 
-import { s32, u32 } from '../node/binary.mjs';
+import { s32, u32 } from '../shared/binary.mjs';
 import { CODE } from './instructions.mjs';
 import { TYPE } from './module.mjs';
 

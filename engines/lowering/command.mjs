@@ -1,7 +1,7 @@
 /** The command line of engines/lower. */
 
 import { readFileSync, writeFileSync } from 'node:fs';
-import { UserError, withFile } from '../node/errors.mjs';
+import { UserError, withFile } from '../shared/errors.mjs';
 import { countOf, wordsOf } from '../node/options.mjs';
 import { Refused, lower } from './lower.mjs';
 

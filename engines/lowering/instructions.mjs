@@ -5,7 +5,7 @@
  * An instruction's code is its opcode; those with a prefix are `prefix * 256 + code`, such as 0xfe03 for `atomic.fence`.
  */
 
-import { UserError } from '../node/errors.mjs';
+import { UserError } from '../shared/errors.mjs';
 
 /** The codes that the lowering treats on their own. */
 export const CODE = {

@@ -1,7 +1,7 @@
 /** Brings a module that a compiler made into the part of WebAssembly that `wmlab` takes, and reports each change. */
 
-import { UserError } from '../node/errors.mjs';
-import { HEADER, SECTION, name, section, u32, vector } from '../node/binary.mjs';
+import { UserError } from '../shared/errors.mjs';
+import { HEADER, SECTION, name, section, u32, vector } from '../shared/binary.mjs';
 import {
   UNREACHABLE_BODY, call, constant, constantOfType, copyBody, dispatchBody, entryBody, fillBody, signExtension,
 } from './assembly.mjs';

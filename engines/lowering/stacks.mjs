@@ -3,7 +3,7 @@
  * thread starts with the same stack pointer. So exported functions are wrapped: they first set it to a stack of their own.
  */
 
-import { UserError } from '../node/errors.mjs';
+import { UserError } from '../shared/errors.mjs';
 import { CODE } from './instructions.mjs';
 import { KIND, TYPE, constantOf } from './module.mjs';
 

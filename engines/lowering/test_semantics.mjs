@@ -3,7 +3,7 @@
 import { mkdtempSync, readFileSync, readdirSync, rmSync, writeFileSync } from 'node:fs';
 import { tmpdir } from 'node:os';
 import { fileURLToPath } from 'node:url';
-import { ask } from '../node/wmlab.mjs';
+import { ask } from '../shared/wmlab.mjs';
 import { lower } from './lower.mjs';
 
 const FOLDER = fileURLToPath(new URL('./programs', import.meta.url));

@@ -1,10 +1,10 @@
 /** The command line of engines/self. */
 
 import { readFileSync, writeFileSync } from 'node:fs';
-import { UserError, withFile } from '../node/errors.mjs';
-import { endsOf, json } from '../node/document.mjs';
+import { UserError, withFile } from '../shared/errors.mjs';
+import { endsOf, json } from '../shared/document.mjs';
 import { countOf, wordsOf } from '../node/options.mjs';
-import { ask, examine, findProgram } from '../node/wmlab.mjs';
+import { ask, examine, findProgram } from '../shared/wmlab.mjs';
 import { readRecording } from './region.mjs';
 import { recordingModule } from './rewrite.mjs';
 

@@ -1,7 +1,7 @@
 /** The functions that a module which records itself has in addition: one for each kind of access, and one for each start. */
 
-import { s32, u32 } from '../node/binary.mjs';
-import { opcode, operandsOf, reads } from '../node/accesses.mjs';
+import { s32, u32 } from '../shared/binary.mjs';
+import { opcode, operandsOf, reads } from '../shared/accesses.mjs';
 import { EVENT, HEADER, KIND, MAGIC, MOST_THREADS, THREAD, VERSION } from './layout.mjs';
 
 const I32 = 0x7f, I64 = 0x7e;

@@ -1,8 +1,8 @@
 /** Reads what a module recorded of itself from the bytes of its memory. */
 
-import { UserError } from '../node/errors.mjs';
-import { documentOf } from '../node/document.mjs';
-import { cut } from '../node/accesses.mjs';
+import { UserError } from '../shared/errors.mjs';
+import { documentOf } from '../shared/document.mjs';
+import { cut } from '../shared/accesses.mjs';
 import { TYPE, readModule } from '../lowering/module.mjs';
 import { EVENT, HEADER, KIND, MAGIC, MOST_THREADS, PAGE_BYTES, THREAD, VERSION, layoutOf } from './layout.mjs';
 import { startsOf } from './rewrite.mjs';

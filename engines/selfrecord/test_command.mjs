@@ -5,7 +5,7 @@ import { mkdtempSync, readFileSync, rmSync, writeFileSync } from 'node:fs';
 import { tmpdir } from 'node:os';
 import { join } from 'node:path';
 import { fileURLToPath } from 'node:url';
-import { parseStart } from '../node/recorder.mjs';
+import { parseStart } from '../shared/starts.mjs';
 import { EVENT, HEADER, layoutOf } from './layout.mjs';
 import { EXAMPLES, runInOrder } from './test_recordings.mjs';
 
