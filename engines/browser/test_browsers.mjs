@@ -97,7 +97,7 @@ function withResolvers() {
 }
 
 /** Requests that the server refuses: other hosts, other files, another page's tasks. */
-async function testServer({ note, wmlab }) {
+export async function testServer({ note, wmlab }) {
   const judges = new Judges(wmlab);
   const server = await serve(handlersOf(judges, null, () => {}));
   const status = async (path, options) => (await fetch(`${server.origin}${path}`, options)).status;
@@ -109,13 +109,14 @@ async function testServer({ note, wmlab }) {
   server.close();
 }
 
-export async function testBrowsers(context) {
-  await testServer(context);
-  await Promise.all(['chromium', 'firefox'].map(async (engine) => {
-    const found = findBrowser(engine);
-    if (!found) return console.log(`       ${engine}: not tested, since it is not installed`);
-    await testModes(context, engine);
-    await testPage(context, engine, found.program);
-    return testKill(context, engine);
-  }));
+/** All tests of one browser. */
+export async function testBrowser(context, engine) {
+  const found = findBrowser(engine);
+  if (!found) {
+    context.leftOut(engine, 'it is not installed');
+    return;
+  }
+  await testModes(context, engine);
+  await testPage(context, engine, found.program);
+  await testKill(context, engine);
 }

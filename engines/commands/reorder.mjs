@@ -2,7 +2,7 @@
 /** Looks for another witness of a log that a memory rule refuses. `--help` prints the usage. */
 
 import { readFileSync } from 'node:fs';
-import { countOf, wordsOf } from '../node/options.mjs';
+import { HELP, TEXT, countOf, wordsOf } from '../shared/command_line.mjs';
 import { UserError, withFile } from '../shared/errors.mjs';
 import { logsOf } from '../shared/logs.mjs';
 import { initialOf } from '../shared/recorder.mjs';
@@ -32,10 +32,8 @@ EXIT STATUS
     3    a fault of this command
 `;
 
-const TEXT = { type: 'string' };
-
 function optionsOf(args) {
-  const options = { steps: TEXT, seconds: TEXT, wmlab: TEXT, help: { type: 'boolean', short: 'h' } };
+  const options = { steps: TEXT, seconds: TEXT, wmlab: TEXT, ...HELP };
   const { values, positionals } = wordsOf({ args, allowPositionals: true, options });
   if (values.help) return null;
   if (positionals.length !== 2) throw new UserError(`${positionals.length} words: expected MODULE and DOC; --help prints the usage`);

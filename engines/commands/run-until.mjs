@@ -2,7 +2,7 @@
 /** Runs `wmlab run` with conditions on its outcomes, and keeps a log of each outcome. `--help` prints the usage. */
 
 import { join } from 'node:path';
-import { countOf, wordsOf } from '../node/options.mjs';
+import { HELP, SEVERAL, TEXT, countOf, wordsOf } from '../shared/command_line.mjs';
 import { UserError } from '../shared/errors.mjs';
 import { keep, prepareFolder } from '../shared/kept.mjs';
 import { conditionsOf, judgeConditions } from '../shared/outcomes.mjs';
@@ -33,12 +33,10 @@ EXIT STATUS
     3    a fault of this command
 `;
 
-const TEXT = { type: 'string' };
-const SEVERAL = { type: 'string', multiple: true };
 
 function optionsOf(args) {
   const options = {
-    forbid: SEVERAL, want: SEVERAL, kept: TEXT, tries: TEXT, seed: TEXT, wmlab: TEXT, help: { type: 'boolean', short: 'h' },
+    forbid: SEVERAL, want: SEVERAL, kept: TEXT, tries: TEXT, seed: TEXT, wmlab: TEXT, ...HELP,
   };
   const { values, positionals } = wordsOf({ args, allowPositionals: true, options });
   if (values.help) return null;

@@ -90,10 +90,10 @@ function testReport({ note, wmlab, folder }) {
   const record = (...args) => run(folder, 'engines/node/record.mjs', ['--wmlab', wmlab, '--report', 'report', ...args]);
   record('--mode', 'buffered', '--rounds', '10', '--want', '9 9', module('store-buffering'), 'a', 'b');
   record('--mode', 'locked', '--rounds', '5', module('store-buffering'), 'a', 'b');
-  const wrong = record('--mode', 'buffered', '--rounds', '5', '--wrong', 'stale-load', place('engines/shared/torn-words.wasm'), 'a:1', 'a:2');
+  const wrong = record('--mode', 'buffered', '--rounds', '5', '--wrong', 'stale-load', place('engines/testing/races.wasm'), 'words:1:16', 'words:2:16');
   const page = readFileSync(join(folder, 'report/index.html'), 'utf8');
   const has = (text) => page.includes(text);
-  note(has('20 logs of 3 campaigns') && has('store-buffering.wasm, buffered, node') && has('torn-words.wasm, buffered, node'), 'the page has each campaign');
+  note(has('20 logs of 3 campaigns') && has('store-buffering.wasm, buffered, node') && has('races.wasm, buffered, node'), 'the page has each campaign');
   note(has(`node ${process.versions.node}`) && has('wmlab ') && has('FAILED --want &quot;9 9&quot;: never came') && has('on purpose: stale-load'), 'it has the versions, conditions and wrong engines');
   note(wrong.status === 1 && has('broken V3') && has('smaller run') && has('The threads:') && !/<(script|link)|src=|https?:\/\/(?!www\.w3\.org)/.test(page), 'it has the faults and explanations, and needs no other file');
   const links = [...page.matchAll(/href="(logs[^"]+)"/g)];

@@ -2,7 +2,7 @@
 
 import { readFileSync, writeFileSync } from 'node:fs';
 import { UserError, withFile } from '../shared/errors.mjs';
-import { countOf, wordsOf } from '../node/options.mjs';
+import { HELP, TEXT, countOf, wordsOf } from '../shared/command_line.mjs';
 import { Refused, lower } from './lower.mjs';
 
 export const USAGE = `Brings a module that a compiler made into the part of WebAssembly that wmlab takes.
@@ -31,13 +31,11 @@ const MOST_STACK_BYTES = 1_048_576;
 
 /** What the words of a command line ask for, or null for `--help`. */
 function optionsOf(args) {
-  const text = { type: 'string' };
   const { values, positionals } = wordsOf({
     args,
     allowPositionals: true,
     options: {
-      out: { ...text, short: 'o' }, stacks: text, 'stack-bytes': text, quiet: { type: 'boolean' },
-      help: { type: 'boolean', short: 'h' },
+      out: { ...TEXT, short: 'o' }, stacks: TEXT, 'stack-bytes': TEXT, quiet: { type: 'boolean' }, ...HELP,
     },
   });
   if (values.help) return null;

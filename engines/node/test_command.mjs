@@ -6,11 +6,11 @@ import { tmpdir } from 'node:os';
 import { join } from 'node:path';
 import { setTimeout } from 'node:timers/promises';
 import { fileURLToPath } from 'node:url';
-import { programsOf } from './programs.mjs';
 import { progress } from './record.mjs';
 import { recordWith } from '../shared/rounds.mjs';
 import { GAVE_UP, NONE_EXISTS } from '../shared/verdict.mjs';
 import { Judge } from '../shared/wmlab.mjs';
+import { programsOf } from '../testing/programs.mjs';
 
 const HERE = fileURLToPath(new URL('.', import.meta.url));
 const example = (name) => fileURLToPath(new URL(`../../examples/${name}.wasm`, import.meta.url));

@@ -58,7 +58,7 @@ function testWant({ note, wmlab, folder }) {
 
 function testShrunkFault({ note, wmlab, folder }) {
   const args = ['--mode', 'buffered', '--rounds', '20', '--wrong', 'stale-load', '--keep', 'bad.json'];
-  const torn = [fileURLToPath(new URL('../shared/torn-words.wasm', import.meta.url)), 'a:1', 'a:2'];
+  const torn = [fileURLToPath(new URL('../testing/races.wasm', import.meta.url)), 'words:1:16', 'words:2:16'];
   const { status, out } = record(folder, wmlab, [...args, ...torn]);
   const sizes = /a smaller run is kept in (\S+): (\d+) turns and (\d+) moves instead of (\d+) turns and (\d+) moves/.exec(out);
   const [, path, turns, moves, turnsBefore, movesBefore] = sizes ?? [];

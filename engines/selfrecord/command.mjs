@@ -3,7 +3,7 @@
 import { readFileSync, writeFileSync } from 'node:fs';
 import { UserError, withFile } from '../shared/errors.mjs';
 import { endsOf, json } from '../shared/document.mjs';
-import { countOf, wordsOf } from '../node/options.mjs';
+import { HELP, TEXT, countOf, wordsOf } from '../shared/command_line.mjs';
 import { ask, examine, findProgram } from '../shared/wmlab.mjs';
 import { readRecording } from './region.mjs';
 import { recordingModule } from './rewrite.mjs';
@@ -84,11 +84,10 @@ export async function verdictOn(program, path, { document, ends }) {
 const COMMANDS = { module: [writeModule, 1], log: [printLog, 2], check: [checkLog, 2] };
 
 async function run(args) {
-  const text = { type: 'string' };
   const { values, positionals } = wordsOf({
     args,
     allowPositionals: true,
-    options: { out: { ...text, short: 'o' }, events: text, wmlab: text, help: { type: 'boolean', short: 'h' } },
+    options: { out: { ...TEXT, short: 'o' }, events: TEXT, wmlab: TEXT, ...HELP },
   });
   if (values.help) {
     process.stdout.write(USAGE);

@@ -4,7 +4,7 @@ import { readFileSync } from 'node:fs';
 import { fileURLToPath } from 'node:url';
 import { Worker } from 'node:worker_threads';
 import { parse } from '../shared/document.mjs';
-import { programsOf } from '../node/programs.mjs';
+import { programsOf } from '../testing/programs.mjs';
 import { rewrite } from '../shared/rewrite.mjs';
 import { argumentsOf, parseStart } from '../shared/starts.mjs';
 import { verdictOn } from './command.mjs';

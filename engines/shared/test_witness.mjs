@@ -1,9 +1,9 @@
 /** Tests of the search for a witness, over events made by hand. The rules of wmlab judge what is found. */
 
-import { eventsAlone, documentOf } from '../shared/document.mjs';
-import { partsOf } from '../shared/machine.mjs';
-import { witnessesOf } from '../shared/witness.mjs';
-import { ask } from '../shared/wmlab.mjs';
+import { eventsAlone, documentOf } from './document.mjs';
+import { partsOf } from './machine.mjs';
+import { witnessesOf } from './witness.mjs';
+import { ask } from './wmlab.mjs';
 
 const load = (address, value, order = 'un', width = 4) => ['r', order, address, width, BigInt(value)];
 const store = (address, value, order = 'un', width = 4) => ['w', order, address, width, BigInt(value)];
