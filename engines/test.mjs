@@ -2,11 +2,15 @@
 /** The tests of everything in engines/, in parts that run side by side. `--help` prints the usage. */
 
 import { availableParallelism } from 'node:os';
+import { fileURLToPath } from 'node:url';
 import { HELP, SEVERAL, TEXT, countOf, wordsOf } from './shared/command_line.mjs';
 import { UserError } from './shared/errors.mjs';
-import { findProgram } from './shared/wmlab.mjs';
+import { examine, findProgram } from './shared/wmlab.mjs';
 import { COUNTS, PARTS } from './testing/parts.mjs';
 import { runParts } from './testing/processes.mjs';
+
+/** Words in lines of at most 110 columns. */
+const inLines = (words) => words.join(', ').replace(/(.{1,110})( |$)/g, '$1\n    ').trim();
 
 const USAGE = `Tests the recorders, the lowering and the commands of engines/.
 
@@ -23,7 +27,7 @@ OPTIONS
     --help            print this text
 
 PARTS
-    ${Object.keys(PARTS).join(', ')}
+    ${inLines(Object.keys(PARTS))}
 
 What needs a tool that is not installed is left out, and named. The last line is \`N passed, N failed\`.
 
@@ -32,6 +36,9 @@ EXIT STATUS
     1    a test failed, or nothing was tested
     2    the command line is refused, or there is no program
 `;
+
+/** A module that the program has to read. */
+const MODULE = fileURLToPath(new URL('./testing/races.wasm', import.meta.url));
 
 const WORDS = { wmlab: TEXT, part: SEVERAL, jobs: TEXT, rounds: TEXT, wrong: TEXT, runs: TEXT, ...HELP };
 
@@ -47,7 +54,9 @@ async function main(args) {
   if (unknown !== undefined) throw new UserError(`--part ${unknown}: the parts are ${Object.keys(PARTS).join(', ')}`);
   const jobs = countOf('jobs', values.jobs ?? `${availableParallelism()}`, 64);
   const counts = Object.entries(COUNTS).map(([name, usual]) => [name, countOf(name, values[name] ?? `${usual}`)]);
-  const { passed, failed } = await runParts(names, { wmlab: findProgram(values.wmlab), ...Object.fromEntries(counts) }, jobs);
+  const wmlab = findProgram(values.wmlab);
+  await examine(wmlab, MODULE);
+  const { passed, failed } = await runParts(names, { wmlab, ...Object.fromEntries(counts) }, jobs);
   console.log(`${passed} passed, ${failed} failed`);
   return failed || !passed ? 1 : 0;
 }

@@ -1,6 +1,7 @@
 /** What tests share: counting, and running commands. */
 
 import { spawnSync } from 'node:child_process';
+import { existsSync, readFileSync } from 'node:fs';
 
 const MOST_SHOWN = 1_000;
 const inOneLine = (text) => text.trim().replaceAll(/\s*\n\s*/g, ' | ').slice(0, MOST_SHOWN);
@@ -10,6 +11,9 @@ export function run(command, args, options = {}) {
   const { status, signal, error, stdout, stderr } = spawnSync(command, args, { encoding: 'utf8', ...options });
   return { status: status ?? signal ?? error.code, out: stdout ?? '', err: stderr ?? '' };
 }
+
+/** The text of a file, or nothing if it is not there. */
+export const textOf = (path) => (existsSync(path) ? readFileSync(path, 'utf8') : '');
 
 /** Whether a tool can be started. */
 export const isThere = (tool) => !spawnSync(tool, ['--version']).error;
