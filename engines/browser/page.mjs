@@ -119,6 +119,7 @@ async function roundOf(recorder, number) {
 function openRecorder() {
   if (!crossOriginIsolated) throw new Error('this page has no shared memory: open it from engines/browser/serve.mjs');
   if (!state.bytes) throw new Error('choose a module first');
+  if (!part('form').checkValidity()) throw new Error('rounds, events and seed are integers of at least 1, and at most 16384 events');
   const starts = part('starts').value.split(/\s+/).filter(Boolean).map(parseStart);
   const options = { mode: part('mode').value, events: Number(part('events').value) };
   return new Recorder(state.bytes, starts, options, startThread);

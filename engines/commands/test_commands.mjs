@@ -95,7 +95,7 @@ function testReport({ note, leftOut, wmlab, folder }) {
   const page = textOf(join(folder, 'report/index.html'));
   const has = (text) => page.includes(text);
   note(has('20 logs of 3 campaigns') && has('store-buffering.wasm, buffered, node') && has('races.wasm, buffered, node'), 'the page has each campaign', first, second, wrong);
-  note(has(`node ${process.versions.node}`) && has('wmlab ') && has('FAILED --want &quot;9 9&quot;: never came') && has('on purpose: stale-load'), 'it has the versions, conditions and wrong engines');
+  note(has(`node ${process.versions.node}`) && has('wmlab ') && has('FAILED --want &quot;9 9&quot;: never came') && has('1 condition failed') && has('on purpose: stale-load'), 'it has the versions, conditions and wrong engines');
   const isAlone = !/<(script|link)|src=|https?:\/\/(?!www\.w3\.org)/.test(page);
   const hasFaults = has('broken V3') && has('smaller run') && has('The threads:');
   note(wrong.status === 1 && hasFaults && isAlone, 'it has the faults and explanations, and needs no other file', wrong);
