@@ -48,14 +48,14 @@ async function testModes({ note, wmlab }, engine) {
   note(wrong.results.checked === 2, `${engine}: an engine that is wrong on purpose is recorded`);
 }
 
-/** Whether a process with this word among its arguments runs. */
-const runs = (word) => readdirSync('/proc').filter((name) => /^\d+$/.test(name)).some((id) => {
+/** Whether a process with this word among its arguments or in its environment runs. */
+const runs = (word) => readdirSync('/proc').filter((name) => /^\d+$/.test(name)).some((id) => ['cmdline', 'environ'].some((file) => {
   try {
-    return readFileSync(`/proc/${id}/cmdline`, 'utf8').includes(word);
+    return readFileSync(`/proc/${id}/${file}`, 'utf8').includes(word);
   } catch {
     return false;
   }
-});
+}));
 
 /** The command is killed while a browser records for it: the browser and its profile go too. */
 async function testKill({ note, wmlab }, engine) {

@@ -15,7 +15,7 @@ USAGE
     START is an exported function with its arguments, such as work:0:-7, one for each thread.
 
 OPTIONS
-    --engine ENGINE   node, chromium or firefox, the last two headless (node)
+    --engine ENGINE   node, or a browser without a window: chromium, firefox or webkit (node)
     --mode MODE       how accesses are recorded: locked, buffered or free (locked)
     --rounds N        the number of runs (100)
     --events N        the most events of a run, up to 16384 (128)
@@ -47,7 +47,7 @@ EXIT STATUS
     130  stopped by Ctrl-C
 `;
 
-export const ENGINES = ['node', 'chromium', 'firefox'];
+export const ENGINES = ['node', 'chromium', 'firefox', 'webkit'];
 const DEFAULTS = {
   engine: 'node', mode: 'locked', rounds: '100', events: '128', turn: '4', seed: '1', seconds: '20',
 };

@@ -46,7 +46,7 @@ const MISTAKES = [
   [['--mode', 'fast', BUFFERS, 'a', 'b'], /--mode fast: the modes are locked, buffered, free/],
   [['--wrong', 'stale-load', BUFFERS, 'a', 'b'], /--wrong needs --mode buffered or --mode free/],
   [['--wrong', 'fence', '--mode', 'free', BUFFERS, 'a', 'b'], /--wrong fence: expected plain-atomics, torn-store, stale-load/],
-  [['--engine', 'opera', BUFFERS, 'a', 'b'], /--engine opera: the engines are node, chromium, firefox/],
+  [['--engine', 'opera', BUFFERS, 'a', 'b'], /--engine opera: the engines are node, chromium, firefox, webkit/],
   [['--forbid', '0', BUFFERS, 'a', 'b'], /--forbid "0": 1 ends for 2 threads/],
   [['--want', '0 x', BUFFERS, 'a', 'b'], /--want "0 x": "x" is not an end; expected a value/],
   [['--want', '', BUFFERS, 'a', 'b'], /--want "": "" is not an end/],

@@ -219,7 +219,7 @@ export function again({ values, wasCut, size, events }) {
   return { hooks: hooksFor((access) => (...args) => make(access, args)), finish() {} };
 }
 
-/** The messages of V8 and of SpiderMonkey, and the traps of the log. */
+/** The messages of V8, SpiderMonkey and JavaScriptCore in small letters, and the traps of the log. */
 const TRAPS = {
   unreachable: 'unreachable',
   'divide by zero': 'divide-by-zero',
@@ -232,7 +232,14 @@ const TRAPS = {
   'integer overflow': 'overflow',
   'index out of bounds': 'out-of-bounds',
   'unaligned memory access': 'unaligned',
+  'unreachable code should not be executed': 'unreachable',
+  'division by zero': 'divide-by-zero',
+  'out of bounds memory access': 'out-of-bounds',
 };
+
+/** The trap that an error of the engine is, if it is one. JavaScriptCore adds to its messages what it evaluated. */
+const trapNamed = (error) => (
+  error instanceof WebAssembly.RuntimeError ? TRAPS[error.message.replace(/ \(evaluating [^]*\)$/, '').toLowerCase()] : undefined);
 
 /** How a call ended, in the form of a log. */
 export function endOf(call) {
@@ -243,7 +250,8 @@ export function endOf(call) {
   } catch (error) {
     if (error instanceof Cut) return ['cut'];
     if (error instanceof Trap) return ['trap', error.message];
-    if (error instanceof WebAssembly.RuntimeError && TRAPS[error.message]) return ['trap', TRAPS[error.message]];
+    const trap = trapNamed(error);
+    if (trap) return ['trap', trap];
     throw error;
   }
 }

@@ -18,7 +18,7 @@ const USAGE = `Records every program of examples/ in each mode, and counts the v
 USAGE
     engines/testing/census.mjs [--engine ENGINE] [--rounds N] [--wmlab PROGRAM]
 
-    ENGINE is node, chromium or firefox (node); N the rounds of each program and mode (80).
+    ENGINE is node, chromium, firefox or webkit (node); N the rounds of each program and mode (80).
 
 The status is 0 if each log is allowed, 1 if not, 2 for a mistake.
 `;

@@ -8,6 +8,7 @@ export const PARTS = {
   'self-recording': async (context) => (await import('../selfrecord/test_recordings.mjs')).testRecordings(context),
   chromium: async (context) => (await import('../browser/test_browsers.mjs')).testBrowser(context, 'chromium'),
   firefox: async (context) => (await import('../browser/test_browsers.mjs')).testBrowser(context, 'firefox'),
+  webkit: async (context) => (await import('../browser/test_browsers.mjs')).testBrowser(context, 'webkit'),
   'examples-free': async (context) => (await import('./test_programs.mjs')).testPrograms(context, 'free'),
   'examples-buffered': async (context) => (await import('./test_programs.mjs')).testPrograms(context, 'buffered'),
   'examples-locked': async (context) => (await import('./test_programs.mjs')).testPrograms(context, 'locked'),
