@@ -56,8 +56,8 @@ const MISTAKES = [
   [[BUFFERS, 'a:1', 'b'], /start a:1: a takes 0 arguments, and 1 are given; write a$/],
   [[example('peterson'), 'work:x', 'work:1'], /start work:x: the argument "x" is not an integer/],
   [[example('peterson'), 'work:', 'work:1'], /start work:: the argument "" is not an integer/],
-  [[example('peterson'), 'work:4294967296', 'work:1'], /the argument 4294967296 is no i32; write an integer from -2147483648 to 4294967295/],
-  [[example('peterson'), 'work:-2147483649', 'work:1'], /the argument -2147483649 is no i32/],
+  [[example('peterson'), 'work:4294967296', 'work:1'], /the argument 4294967296 does not fit i32; write an integer from -2147483648 to 4294967295/],
+  [[example('peterson'), 'work:-2147483649', 'work:1'], /the argument -2147483649 does not fit i32/],
   [[BUFFERS, ...Array(17).fill('a')], /17 starts: a log has at most 16 threads/],
   [['nothing.wasm', 'a'], /cannot read nothing\.wasm: no such file/],
   [['.', 'a'], /cannot read \.: it is a folder/],
@@ -128,7 +128,7 @@ async function testStarts({ note, wmlab, folder }) {
 
 const logNamed = (name) => `["wasm-litmus-log",2,[["${name}",[],["cut"],0,[]]],[]]`;
 
-/** A recorder whose rounds have these logs; an item that isn't a string is answered at the end. */
+/** A recorder whose rounds have these logs; an item that is not a string is answered at the end. */
 function played(rounds) {
   async function* logs(items) {
     for (const item of items) {

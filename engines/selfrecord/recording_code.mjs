@@ -34,7 +34,7 @@ function body(locals, ...code) {
 const lock = ({ base }) => [0x03, EMPTY, ...i32(0), ...i32(0), ...i32(1), 0xfe, 0x48, 2, ...u32(base + HEADER.lock), 0x0d, 0, 0x0b];
 const unlock = ({ base }) => [...i32(0), ...i32(0), 0xfe, 0x17, 2, ...u32(base + HEADER.lock)];
 
-/** A load of so many bytes as an i64, without a sign. */
+/** A load of the given number of bytes as an unsigned i64. */
 const LOADS = { 1: 0x31, 2: 0x33, 4: 0x35, 8: 0x29 };
 const loadLong = (width) => [LOADS[width], 0, 0];
 

@@ -27,7 +27,7 @@ function testRefusals({ note, file, whole }) {
   const cases = [
     ['no words', []], ['an unknown command', ['record', MODULE]], ['one file too few', ['log', MODULE]],
     ['no output', ['module', MODULE]], ['no events', ['module', MODULE, '-o', file('a'), '--events', '0']],
-    ['what is no module', ['module', file('none.wasm'), '-o', file('a')]], ['a module that is not lowered', ['module', NOT_LOWERED, '-o', file('a')]],
+    ['a file that is not a module', ['module', file('none.wasm'), '-o', file('a')]], ['a module that is not lowered', ['module', NOT_LOWERED, '-o', file('a')]],
     ['a module that is not there', ['log', file('gone.wasm'), file('zeros')]], ['a memory that is not there', ['log', MODULE, file('gone')]],
     ['a memory of zeros', ['log', MODULE, file('zeros')]], ['a memory that is cut', ['log', MODULE, file('short')]],
     ['another version', ['log', MODULE, file('version')]], ['more events than there is room for', ['log', MODULE, file('events')]],

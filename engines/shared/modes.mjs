@@ -40,7 +40,7 @@ const bytesAt = (bytes, address, width) => {
   return value;
 };
 
-/** Makes an access by the engine. Where it is both unaligned and out of bounds the engine's trap is the other one. */
+/** Makes an access by the engine. If it is both unaligned and out of bounds, the engine's trap is the other one. */
 function natively(native, made, args, size) {
   if (made.address > 0xffff_ffff) refuse(made, size);
   try {
@@ -203,7 +203,7 @@ export function free({ limit, values, wrong, native, control }) {
 
 /**
  * No memory at all: the values to be read come from a list, so that a thread of the free mode can be run again for its
- * events. Where it was cut after its last read it is cut there again.
+ * events. If it was cut after its last read, it is cut there again.
  */
 export function again({ values, wasCut, size, events }) {
   let next = 0;

@@ -1,4 +1,4 @@
-/** The parts of the tests. Each is loaded by the process that runs it, so that a part that can't be loaded fails alone. */
+/** The parts of the tests. Each is loaded by the process that runs it, so that a part that cannot be loaded fails alone. */
 
 /** How often things are tried, unless the command line has another number. */
 export const COUNTS = { rounds: 4, wrong: 1_000, runs: 1_000 };

@@ -27,7 +27,7 @@ export class Tally {
   notTested = 0;
 
   /**
-   * Counts whether something holds, and prints a line. If it doesn't, the line has what the command did: `ran` is an answer of
+   * Counts whether something holds, and prints a line. If it does not, the line has what the command did: `ran` is an answer of
    * `run`, several of them, or a string.
    */
   note = (holds, what, ...ran) => {

@@ -35,7 +35,7 @@ const RUST = {
   versions: [[RUSTC, ['--version'], /^rustc 1\.63\.0\s/], ['rust-lld', ['-flavor', 'wasm', '--version'], / 14\.0\.6/]],
 };
 
-/** Why a recipe can't be tried here: a missing tool, or a compiler or a wasm-objdump that can't do what the recipe needs. */
+/** The reason why a recipe cannot be tried here, or null: a missing tool, or one that cannot do what the recipe needs. */
 function hindrance({ tools, probe, ending }, room) {
   const missing = tools.filter((tool) => !isThere(tool));
   if (missing.length) return `${missing.join(', ')} cannot be started`;
@@ -70,7 +70,7 @@ async function testProgram({ note, wmlab, room, isSame }, recipe, program) {
   }
 }
 
-/** Builds all programs of a recipe, and has its other tests made. Leaves them out if the tools can't make a module. */
+/** Builds all programs of a recipe, and has its other tests made. Leaves them out if the tools cannot make a module. */
 async function testRecipe(context, recipe, testOthers) {
   const room = mkdtempSync(join(tmpdir(), 'recipe-'));
   try {
