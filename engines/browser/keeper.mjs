@@ -22,7 +22,10 @@ const BROWSERS = {
       '--disable-background-networking', '--disable-component-update', `--user-data-dir=${profile}`,
     ],
   },
-  firefox: { words: ['--headless', '--no-remote', '--new-instance', '--profile', profile], environment: { MOZ_CRASHREPORTER_DISABLE: '1' } },
+  firefox: {
+    words: ['--headless', '--no-remote', '--new-instance', '--profile', profile],
+    environment: { MOZ_CRASHREPORTER_DISABLE: '1' },
+  },
   // WebKitGTK shares memory between workers only if this option of its engine is set.
   webkit: { words: [], environment: { JSC_useSharedArrayBuffer: '1', NO_AT_BRIDGE: '1' }, needsDisplay: true },
 };

@@ -61,7 +61,9 @@ async function listen(handlers, port) {
   try {
     return await serve(handlers, port);
   } catch (error) {
-    if (error.code === 'EADDRINUSE' || error.code === 'EACCES') throw new UserError(`--port ${port}: it cannot be used (${error.code})`);
+    if (error.code === 'EADDRINUSE' || error.code === 'EACCES') {
+      throw new UserError(`--port ${port}: it cannot be used (${error.code})`);
+    }
     throw error;
   }
 }

@@ -41,7 +41,10 @@ async function testModes({ note, wmlab }, engine) {
   note(isAllowed(traps) && traps.results.outcomes.counts.size === 1, `${engine}, locked: each trap is the module's`);
   const buffered = await recorded(wmlab, BUFFERS, ['a', 'b'], { engine, mode: 'buffered' });
   const onNode = await recorded(wmlab, BUFFERS, ['a', 'b'], { mode: 'buffered' });
-  note(isAllowed(buffered) && buffered.logs.join() === onNode.logs.join(), `${engine}, buffered: allowed, and by the same seeds the logs of node`);
+  note(
+    isAllowed(buffered) && buffered.logs.join() === onNode.logs.join(),
+    `${engine}, buffered: allowed, and by the same seeds the logs of node`,
+  );
   const free = await recorded(wmlab, BUFFERS, ['a', 'b'], { engine, mode: 'free' });
   note(isAllowed(free) && free.logs.every((log) => log.length > 1_000), `${engine}, free: allowed`);
   const wrong = await recorded(wmlab, BUFFERS, ['a', 'b'], { engine, mode: 'buffered', wrong: 'torn-store', rounds: 2 });
@@ -85,7 +88,10 @@ async function testPage({ note, wmlab }, engine, program) {
     await judges?.close();
     const count = tables?.outcomes.reduce((sum, line) => sum + Number.parseInt(line, 10), 0);
     const verdicts = isJudged ? '      12  allowed threads=2' : '';
-    note(count === 12 && tables.verdicts.join() === verdicts, `${engine}: the page records ${isJudged ? 'with verdicts' : 'without a program'}`);
+    note(
+      count === 12 && tables.verdicts.join() === verdicts,
+      `${engine}: the page records ${isJudged ? 'with verdicts' : 'without a program'}`,
+    );
   }
 }
 
@@ -104,7 +110,10 @@ export async function testServer({ note, wmlab }) {
   const seen = await Promise.all(['/', '/shared/witness.mjs', '/shared/../../README.md', '/browser/..%2fserver.mjs', '/none'].map((path) => status(path)));
   note(seen.join() === '200,200,404,404,404', `the server gives its scripts and nothing else: ${seen.join()}`);
   const refused = await fetch(`${server.origin}/judge`, { method: 'POST', body: '{"module":"AA=="}' });
-  note(refused.status === 500 && /Magic|refused|module/i.test((await refused.json()).error), 'the server reports a module that is not read');
+  note(
+    refused.status === 500 && /Magic|refused|module/i.test((await refused.json()).error),
+    'the server reports a module that is not read',
+  );
   await judges.close();
   server.close();
 }

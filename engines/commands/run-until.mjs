@@ -33,7 +33,6 @@ EXIT STATUS
     3    a fault of this command
 `;
 
-
 function optionsOf(args) {
   const options = {
     forbid: SEVERAL, want: SEVERAL, kept: TEXT, tries: TEXT, seed: TEXT, wmlab: TEXT, ...HELP,
@@ -41,9 +40,12 @@ function optionsOf(args) {
   const { values, positionals } = wordsOf({ args, allowPositionals: true, options });
   if (values.help) return null;
   const [module, rounds, ...starts] = positionals;
-  if (!starts.length) throw new UserError(`${positionals.length} words: expected MODULE, ROUNDS and at least one START; --help prints the usage`);
+  if (!starts.length) {
+    throw new UserError(`${positionals.length} words: expected MODULE, ROUNDS and at least one START; --help prints the usage`);
+  }
   const [tries, seed] = [countOf('tries', values.tries ?? '400'), countOf('seed', values.seed ?? '1')];
-  return { module, rounds, starts, tries, seed, kept: values.kept ?? 'recorded', wmlab: values.wmlab, conditions: conditionsOf(values, starts.length) };
+  const { kept = 'recorded', wmlab } = values;
+  return { module, rounds, starts, tries, seed, kept, wmlab, conditions: conditionsOf(values, starts.length) };
 }
 
 /** Numbers below `n` that look random, the same ones for the same seed. */
@@ -111,7 +113,10 @@ async function main(args) {
   const judge = new Judge(program, module);
   const outcomes = rows.map(({ outcome }) => outcome);
   const paths = await keepAll(judge, kept, outcomes, await logsOf(program, options, outcomes));
-  const judged = judgeConditions(conditions, rows.map(({ count, outcome }) => ({ outcome, place: `${count} of ${rounds} rounds` })));
+  const judged = judgeConditions(
+    conditions,
+    rows.map(({ count, outcome }) => ({ outcome, place: `${count} of ${rounds} rounds` })),
+  );
   const table = rows.map(({ count, outcome }) => `${String(count).padStart(8)}  ${outcome}  ${paths.get(outcome)}`);
   console.log([...table, text.split('\n').at(-1), ...judged.map(({ line }) => line)].join('\n'));
   return judged.some(({ fails }) => fails) ? 1 : 0;

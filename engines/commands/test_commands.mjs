@@ -20,7 +20,8 @@ const EVENTS_ALONE = '["wasm-litmus-log",2,[["a",[],["cut"],0,[["w","un",0,4,1],
   + '["b",[],["cut"],0,[["w","un",4,4,1],["r","un",0,4,1,[]]]]],[]]';
 
 function testReorder({ note, wmlab, folder }) {
-  const reorder = (name, document, ...options) => runIn(folder, 'engines/reorder', ['--wmlab', wmlab, ...options, module(name), '-'], document);
+  const reorder = (name, document, ...options) => (
+    runIn(folder, 'engines/reorder', ['--wmlab', wmlab, ...options, module(name), '-'], document));
   const check = (name, document) => run(wmlab, ['check', module(name), '-'], { input: document }).out;
   const completed = run(wmlab, ['complete', module('store-buffering'), '-'], { input: MISORDERED }).out;
   const before = check('store-buffering', completed);
@@ -28,21 +29,34 @@ function testReorder({ note, wmlab, folder }) {
   const isRepaired = found.status === 0 && check('store-buffering', found.out) === 'allowed threads=2 events=4\n';
   note(before.startsWith('broken V') && isRepaired, 'reorder finds a witness that the rules allow', before, found);
   const alone = reorder('store-buffering', EVENTS_ALONE);
-  note(alone.status === 0 && check('store-buffering', alone.out).startsWith('allowed'), 'reorder finds a witness of events alone', alone);
+  note(
+    alone.status === 0 && check('store-buffering', alone.out).startsWith('allowed'),
+    'reorder finds a witness of events alone',
+    alone,
+  );
   const same = readFileSync(place('examples/store-buffering.json'), 'utf8');
   const kept = reorder('store-buffering', same);
   note(check('store-buffering', kept.out) === check('store-buffering', same), 'an allowed log is printed as it is', kept);
   const none = reorder('load-buffering', readFileSync(place('examples/load-buffering-atomic.json'), 'utf8'));
   const plain = reorder('store-buffering-atomic', readFileSync(place('examples/store-buffering-atomic.json'), 'utf8'));
-  note(plain.status === 1 && plain.out === 'no witness exists on a machine with store buffers\n', 'reorder reports that no witness exists', plain);
-  note(none.status === 1 && /^broken replay |^no witness exists/.test(none.out), 'reorder reports a log that its module does not make', none);
+  note(
+    plain.status === 1 && plain.out === 'no witness exists on a machine with store buffers\n',
+    'reorder reports that no witness exists',
+    plain,
+  );
+  note(
+    none.status === 1 && /^broken replay |^no witness exists/.test(none.out),
+    'reorder reports a log that its module does not make',
+    none,
+  );
   const limited = reorder('two-plus-two-writes', EVENTS_OF_WRITES, '--seconds', '1', '--steps', '1');
   const isShort = limited.out === '' && /^reorder: [^\n]*gave up after 1 steps\n$/.test(limited.err);
   note(limited.status === 2 && isShort, 'reorder reports that it gave up, with its steps', limited);
 }
 
 /** Stores of two threads to two places, in an order that takes more than a step to find. */
-const EVENTS_OF_WRITES = '["wasm-litmus-log",2,[["a",[],["cut"],0,[["w","un",0,4,1],["w","un",4,4,2]]],["b",[],["cut"],0,[["w","un",4,4,1],["w","un",0,4,2]]],["c",[],["cut"],0,[["r","un",0,4,2,[]],["r","un",0,4,1,[]]]]],[]]';
+const EVENTS_OF_WRITES = '["wasm-litmus-log",2,[["a",[],["cut"],0,[["w","un",0,4,1],["w","un",4,4,2]]],'
+  + '["b",[],["cut"],0,[["w","un",4,4,1],["w","un",0,4,2]]],["c",[],["cut"],0,[["r","un",0,4,2,[]],["r","un",0,4,1,[]]]]],[]]';
 
 const MISTAKES = [
   ['engines/reorder', [], /0 words: expected MODULE and DOC/],
@@ -82,20 +96,41 @@ function testRunUntil({ note, wmlab, folder }) {
   note(rows.length >= 2 && rows.every(hasOutcome), 'run-until keeps a log of each outcome', ran);
   note(rows.every(([, , , path]) => existsSync(join(folder, path.replace('.json', '.txt')))), 'with its explanation', ran);
   const isForbidden = rows.some(([, , outcome]) => outcome === '0 0');
-  note(status === (isForbidden ? 1 : 0) && /^ok --want "\* \*": came: \d+ of 200 rounds$/m.test(out), 'run-until looks at its conditions', ran);
-  const never = runIn(folder, 'engines/run-until', ['--wmlab', wmlab, '--kept', 'until', '--want', '7 7', module('store-buffering'), '5', 'a', 'b']);
-  note(never.status === 1 && /^FAILED --want "7 7": never came$/m.test(never.out), 'a wanted outcome that never came is status 1', never);
+  note(
+    status === (isForbidden ? 1 : 0) && /^ok --want "\* \*": came: \d+ of 200 rounds$/m.test(out),
+    'run-until looks at its conditions',
+    ran,
+  );
+  const never = runIn(
+    folder,
+    'engines/run-until',
+    ['--wmlab', wmlab, '--kept', 'until', '--want', '7 7', module('store-buffering'), '5', 'a', 'b'],
+  );
+  note(
+    never.status === 1 && /^FAILED --want "7 7": never came$/m.test(never.out),
+    'a wanted outcome that never came is status 1',
+    never,
+  );
 }
 
 function testReport({ note, leftOut, wmlab, folder }) {
   const record = (...args) => runIn(folder, 'engines/node/record.mjs', ['--wmlab', wmlab, '--report', 'report', ...args]);
   const first = record('--mode', 'buffered', '--rounds', '10', '--want', '9 9', module('store-buffering'), 'a', 'b');
   const second = record('--mode', 'locked', '--rounds', '5', module('store-buffering'), 'a', 'b');
-  const wrong = record('--mode', 'buffered', '--rounds', '5', '--wrong', 'stale-load', place('engines/testing/races.wasm'), 'words:1:6', 'words:2:6');
+  const races = [place('engines/testing/races.wasm'), 'words:1:6', 'words:2:6'];
+  const wrong = record('--mode', 'buffered', '--rounds', '5', '--wrong', 'stale-load', ...races);
   const page = textOf(join(folder, 'report/index.html'));
   const has = (text) => page.includes(text);
-  note(has('20 logs of 3 campaigns') && has('store-buffering.wasm, buffered, node') && has('races.wasm, buffered, node'), 'the page has each campaign', first, second, wrong);
-  note(has(`node ${process.versions.node}`) && has('wmlab ') && has('FAILED --want &quot;9 9&quot;: never came') && has('1 condition failed') && has('on purpose: stale-load'), 'it has the versions, conditions and wrong engines');
+  note(
+    has('20 logs of 3 campaigns') && has('store-buffering.wasm, buffered, node') && has('races.wasm, buffered, node'),
+    'the page has each campaign',
+    first,
+    second,
+    wrong,
+  );
+  note(has(`node ${process.versions.node}`) && has('wmlab '), 'it has the versions');
+  note(has('FAILED --want &quot;9 9&quot;: never came') && has('1 condition failed'), 'it has the conditions');
+  note(has('on purpose: stale-load'), 'it names a wrong engine');
   const isAlone = !/<(script|link)|src=|https?:\/\/(?!www\.w3\.org)/.test(page);
   const hasFaults = has('broken V3') && has('smaller run') && has('The threads:');
   note(wrong.status === 1 && hasFaults && isAlone, 'it has the faults and explanations, and needs no other file', wrong);

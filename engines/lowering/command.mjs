@@ -39,7 +39,9 @@ function optionsOf(args) {
     },
   });
   if (values.help) return null;
-  if (positionals.length !== 1) throw new UserError(`${positionals.length} modules are given; expected one; --help prints the usage`);
+  if (positionals.length !== 1) {
+    throw new UserError(`${positionals.length} modules are given; expected one; --help prints the usage`);
+  }
   if (values.out === undefined) throw new UserError('no output is given; write -o OUT.wasm');
   const { stacks = null, quiet = false, out } = values;
   const stackBytes = countOf('stack-bytes', values['stack-bytes'] ?? '4096', MOST_STACK_BYTES);

@@ -87,10 +87,22 @@ function testMistakes({ note, wmlab, folder }) {
 function testSuccess({ note, wmlab, folder }) {
   const one = record(folder, ['--wmlab', wmlab, '--rounds', '2', '--out', 'logs', BUFFERS, 'a', 'b']);
   const kept = [0, 1].map((round) => textOf(join(folder, `logs/${round}.json`)));
-  note(one.status === 0 && /2 {2}allowed threads=2\n$/.test(one.out) && kept.every(Boolean), 'two rounds are recorded and kept', one);
-  const negative = record(folder, ['--wmlab', wmlab, '--rounds', '1', '--out', 'negative', example('own-store'), 'f:-65536', 'f:0x4']);
+  note(
+    one.status === 0 && /2 {2}allowed threads=2\n$/.test(one.out) && kept.every(Boolean),
+    'two rounds are recorded and kept',
+    one,
+  );
+  const negative = record(
+    folder,
+    ['--wmlab', wmlab, '--rounds', '1', '--out', 'negative', example('own-store'), 'f:-65536', 'f:0x4'],
+  );
   const log = textOf(join(folder, 'negative/0.json'));
-  note(negative.status === 0 && log.includes('["f",[4294901760],') && log.includes('["f",[4],'), 'negative arguments wrap', negative, log);
+  note(
+    negative.status === 0 && log.includes('["f",[4294901760],') && log.includes('["f",[4],'),
+    'negative arguments wrap',
+    negative,
+    log,
+  );
   symlinkSync(join(HERE, 'record.mjs'), join(folder, 'link.mjs'));
   const linked = record(folder, ['--rounds', '0', BUFFERS, 'a'], join(folder, 'link.mjs'));
   note(linked.status === 2, 'a link to the command is the command', linked);
@@ -103,7 +115,11 @@ function testPlaces({ note, wmlab, folder }) {
   cpSync(join(HERE, '..'), join(top, 'engines'), { recursive: true });
   const copy = (...options) => record(folder, [...options, '--rounds', '1', BUFFERS, 'a', 'b'], join(top, 'engines/node/record.mjs'));
   const none = copy();
-  note(none.status === 2 && /^record\.mjs: there is no program wmlab yet: run \.\/wmlab --which[^\n]*\n$/.test(none.err), 'without a program one line says what to run', none);
+  note(
+    none.status === 2 && /^record\.mjs: there is no program wmlab yet: run \.\/wmlab --which[^\n]*\n$/.test(none.err),
+    'without a program one line says what to run',
+    none,
+  );
   mkdirSync(join(folder, 'bin'));
   script(join(folder, 'bin'), 'wmlab', `exec '${wmlab}' "$@"`);
   const installed = copy();
@@ -155,9 +171,15 @@ case $log in *broken*) echo 'broken V5 case 3 at 0.1'; exit 1 ;; *) echo 'allowe
   note(all.bad?.document === logNamed('broken 1'), 'a log is broken if each witness is refused');
   const end = (line) => ({ document: 'the events', line });
   const open = await judged([['broken 1', end(`${GAVE_UP}: gave up after 1 steps`)], [end(NONE_EXISTS)]]);
-  note(open.verdicts.counts.get(`${GAVE_UP}: gave up after 1 steps`) === 1 && open.verdicts.counts.get(NONE_EXISTS) === 1, 'a search that gave up and a certain answer are counted apart');
+  note(
+    open.verdicts.counts.get(`${GAVE_UP}: gave up after 1 steps`) === 1 && open.verdicts.counts.get(NONE_EXISTS) === 1,
+    'a search that gave up and a certain answer are counted apart',
+  );
   note(open.outcomes.counts.get('cut') === 2, 'the outcome of a round without a witness is counted');
-  note(open.bad?.number === 1 && open.bad.document === 'the events', 'its events are what is kept; a certain answer comes before a search that gave up');
+  note(
+    open.bad?.number === 1 && open.bad.document === 'the events',
+    'its events are what is kept; a certain answer comes before a search that gave up',
+  );
 }
 
 /** A search that is under way when the user stops is not waited for. */
@@ -184,7 +206,11 @@ async function testInterrupt({ note, wmlab, folder }) {
   child.kill('SIGINT');
   const status = await ended;
   const text = Buffer.concat(printed).toString();
-  note(status === 130 && /^outcomes\n[^]*\nverdicts\n *\d+ {2}allowed threads=2\nstopped after \d+ of 100000 rounds\n$/.test(text), 'Ctrl-C prints the tables so far', `status ${status}: ${text}`);
+  note(
+    status === 130 && /^outcomes\n[^]*\nverdicts\n *\d+ {2}allowed threads=2\nstopped after \d+ of 100000 rounds\n$/.test(text),
+    'Ctrl-C prints the tables so far',
+    `status ${status}: ${text}`,
+  );
 }
 
 function testProgress({ note }) {

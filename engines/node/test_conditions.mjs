@@ -18,7 +18,8 @@ const record = (folder, wmlab, args) => run(process.execPath, [COMMAND, '--wmlab
 const checked = (wmlab, module, log) => run(wmlab, ['check', module, log]);
 
 /** The files of a folder with their contents. */
-const filesOf = (folder) => (existsSync(folder) ? readdirSync(folder) : []).sort().map((name) => `${name}\n${textOf(join(folder, name))}`).join('\n');
+const filesOf = (folder) => (existsSync(folder) ? readdirSync(folder) : []).sort()
+  .map((name) => `${name}\n${textOf(join(folder, name))}`).join('\n');
 
 function testSeeds({ note, wmlab, folder }) {
   const starts = [example('spin-lock'), 'work:2', 'work:2', 'work:3'];
@@ -53,7 +54,11 @@ function testForbid({ note, wmlab, folder }) {
 
 function testWant({ note, wmlab, folder }) {
   const never = record(folder, wmlab, ['--rounds', '5', '--want', '7 7', ...BUFFERS]);
-  note(never.status === 1 && /FAILED --want "7 7": never came/.test(never.out), 'a wanted outcome that never came is status 1', never);
+  note(
+    never.status === 1 && /FAILED --want "7 7": never came/.test(never.out),
+    'a wanted outcome that never came is status 1',
+    never,
+  );
   const fine = record(folder, wmlab, ['--rounds', '5', '--forbid', '0 0', ...BUFFERS]);
   note(fine.status === 0 && /ok --forbid "0 0": never came/.test(fine.out), 'conditions that hold are status 0', fine);
 }
@@ -76,7 +81,10 @@ async function testShrink({ note }) {
   const found = await shrink([1, 3, 1, 2, 5, 2, 5, 1, 1], holds);
   note(found?.turns.join() === '3,5', 'a schedule is shrunk to what has to be there');
   note(await shrink([3, 5], holds) === null, 'a schedule that is smallest stays');
-  note(satisfies('0 trap:overflow -', { ends: ['*', 'trap:overflow', '-'] }) && !satisfies('0 1', { ends: ['0', '*', '*'] }), 'outcomes and patterns');
+  note(
+    satisfies('0 trap:overflow -', { ends: ['*', 'trap:overflow', '-'] }) && !satisfies('0 1', { ends: ['0', '*', '*'] }),
+    'outcomes and patterns',
+  );
 }
 
 export async function testConditions({ note, wmlab }) {

@@ -25,7 +25,11 @@ esac
 }
 
 function record(folder, path) {
-  return run(process.execPath, [RECORD, '--wmlab', path, '--mode', 'buffered', '--rounds', '20', BUFFERS, 'a', 'b'], { cwd: folder });
+  return run(
+    process.execPath,
+    [RECORD, '--wmlab', path, '--mode', 'buffered', '--rounds', '20', BUFFERS, 'a', 'b'],
+    { cwd: folder },
+  );
 }
 
 export function testStream({ note, wmlab }) {
@@ -42,7 +46,11 @@ export function testStream({ note, wmlab }) {
     const broken = record(folder, program(folder, wmlab, "echo 'broken V5 case 3 at 0.1 byte 0 writer init other 1.0'"));
     note(broken.status === 1 && /broken V5 case 3/.test(broken.out), 'its answers count', broken);
     const ended = record(folder, program(folder, wmlab, 'exit 3'));
-    note(ended.status === 2 && /^record\.mjs: \S+ stream ended with status 3 before it answered\n$/.test(ended.err), 'a stream that ends is reported in one line', ended);
+    note(
+      ended.status === 2 && /^record\.mjs: \S+ stream ended with status 3 before it answered\n$/.test(ended.err),
+      'a stream that ends is reported in one line',
+      ended,
+    );
   } finally {
     rmSync(folder, { recursive: true });
   }

@@ -50,7 +50,8 @@ function writeModule([path], { out, events }) {
   const { bytes, layout, memory } = recordingModule(readModuleFile(path), { capacity: countOf('events', events, MOST_EVENTS) });
   if (!WebAssembly.validate(bytes)) throw new Error(`${path}: the module that records itself is not valid`);
   withFile(`write ${out}`, () => writeFileSync(out, bytes));
-  console.log(`it imports ${memory.module}.${memory.name}, a shared memory of ${layout.allPages} pages; its recording begins at byte ${layout.base}`);
+  const imported = `${memory.module}.${memory.name}, a shared memory of ${layout.allPages} pages`;
+  console.log(`it imports ${imported}; its recording begins at byte ${layout.base}`);
   return 0;
 }
 
@@ -94,9 +95,13 @@ async function run(args) {
     return 0;
   }
   const [command, ...files] = positionals;
-  if (!Object.hasOwn(COMMANDS, command ?? '')) throw new UserError(`command ${command ?? '(none)'}: expected module, log or check; --help prints the usage`);
+  if (!Object.hasOwn(COMMANDS, command ?? '')) {
+    throw new UserError(`command ${command ?? '(none)'}: expected module, log or check; --help prints the usage`);
+  }
   const [action, count] = COMMANDS[command];
-  if (files.length !== count) throw new UserError(`${command}: ${files.length} files are given; expected ${count}; --help prints the usage`);
+  if (files.length !== count) {
+    throw new UserError(`${command}: ${files.length} files are given; expected ${count}; --help prints the usage`);
+  }
   return action(files, { events: String(MOST_EVENTS), ...values });
 }
 

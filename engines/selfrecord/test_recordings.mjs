@@ -80,7 +80,10 @@ async function testProgram({ note, wmlab }, { name, path, starts: words }) {
   note(isAllowed && isSame, `${name}: the threads at once: the log is ${isSame ? '' : 'not '}that of the hooks; ${line}`);
   if (hasInterpreter) {
     const { document } = readRecording(bytes, runInInterpreter(bytes, starts));
-    note(document === (await hookedInOrder(bytes, starts)).document, `${name}: the log that wabt's interpreter records is that of the hooks`);
+    note(
+      document === (await hookedInOrder(bytes, starts)).document,
+      `${name}: the log that wabt's interpreter records is that of the hooks`,
+    );
   }
   return orders[0].events + orders[1].events;
 }

@@ -78,7 +78,8 @@ ${svg ? pictureOf(svg) : '<p>No picture.</p>'}</details>`;
 
 /** The part of the page on one campaign. */
 function campaignPart(data) {
-  const limits = `${data.checked} of ${data.rounds} rounds${data.isStopped ? ', stopped' : ''}, at most ${data.events} events, seed ${data.seed}`;
+  const rounds = `${data.checked} of ${data.rounds} rounds${data.isStopped ? ', stopped' : ''}`;
+  const limits = `${rounds}, at most ${data.events} events, seed ${data.seed}`;
   const conditions = data.conditions.map(({ line, fails }) => `<li>${marked(!fails, line)}</li>`).join('');
   return `<h2 id="${escaped(data.name)}">${escaped(data.program)}, ${escaped(data.mode)}, ${escaped(data.engine)}</h2>
 <p>Threads: ${data.starts.map((start) => `<code>${escaped(start)}</code>`).join(' ')}. ${escaped(limits)}.

@@ -39,5 +39,8 @@ export function testLinks({ note }) {
   }
   const imports = scripts.flatMap((script) => importsOf(readFileSync(script, 'utf8')));
   const names = imports.flatMap((each) => each.names);
-  note(scripts.length > 50 && names.length > 200, `${imports.length} imports of ${names.length} names in ${scripts.length} scripts are there`);
+  note(
+    scripts.length > 50 && names.length > 200,
+    `${imports.length} imports of ${names.length} names in ${scripts.length} scripts are there`,
+  );
 }

@@ -102,7 +102,10 @@ export async function testWrongEngines({ note, leftOut, wmlab, wrong }) {
       if (mode === 'free' && availableParallelism() === 1) leftOut(`an engine with ${how}, free`, 'there is one processor');
       else {
         const first = await firstCaught(how, wmlab, mode, wrong);
-        note(first, `an engine with ${how}, ${mode}: ${first ? `caught in round ${first.number}: ${first.line}` : `not caught in ${wrong} rounds`}`);
+        note(
+          first,
+          `an engine with ${how}, ${mode}: ${first ? `caught in round ${first.number}: ${first.line}` : `not caught in ${wrong} rounds`}`,
+        );
       }
     }
   }
