@@ -4,7 +4,7 @@ import { s32, u32 } from '../shared/binary.mjs';
 import { CODE } from './instructions.mjs';
 import { TYPE } from './module.mjs';
 
-export const EMPTY_BLOCK = 0x40;
+const EMPTY_BLOCK = 0x40;
 const PAGE_BITS = 16;
 
 export const get = (local) => [CODE.localGet, ...u32(local)];

@@ -65,7 +65,7 @@ export const reads = (access) => access.kind !== 'store';
 export const cut = (value, width) => BigInt.asUintN(8 * width, BigInt(value));
 
 /** What an update writes. */
-export function updated({ operator, width }, read, operand) {
+function updated({ operator, width }, read, operand) {
   const whole = {
     add: read + operand, sub: read - operand, and: read & operand, or: read | operand, xor: read ^ operand, xchg: operand,
   };

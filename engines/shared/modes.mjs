@@ -14,7 +14,7 @@ import { ACCESSES, eventOf, loaded, operation, reads, cut, trapOf } from './acce
 import { Cut, Turns, nextRandom } from './turns.mjs';
 
 /** A trap of the profile, by its name in the log. */
-export class Trap extends Error {}
+class Trap extends Error {}
 
 /** How a shadow names event `number` of a thread; 0 is the initial memory. */
 const EVENTS = 65_536;

@@ -106,7 +106,7 @@ function overview(all) {
 }
 
 /** The page of these campaigns. */
-export function pageOf(all) {
+function pageOf(all) {
   const logs = all.reduce((sum, { checked }) => sum + checked, 0);
   return `<!doctype html>
 <html lang="en"><head><meta charset="utf-8"><meta name="viewport" content="width=device-width, initial-scale=1">
