@@ -59,8 +59,9 @@ prove_crates() {
     (cd "$top" && exec rt all check --jobs "${RT_JOBS:-$(nproc)}") </dev/null >>"$log" 2>&1 &
     tool=$!
     # shellcheck disable=SC2064 # this process is meant
-    trap "kill $tool 2>/dev/null; is_stopped=yes" INT TERM HUP
-    show_progress "$tool" "$log"
+    trap "is_stopped=yes; kill $tool 2>/dev/null || true" INT TERM HUP
+    # What an interrupt ends here is no failure.
+    show_progress "$tool" "$log" || true
     wait "$tool" || true
     trap - INT TERM HUP
     if [ -n "${is_stopped-}" ]; then

@@ -1,9 +1,9 @@
 /** Tests of the search for a witness, over events made by hand. The rules of wmlab judge what is found. */
 
-import { eventsAlone, documentOf } from '../shared/document.mjs';
-import { partsOf } from '../shared/machine.mjs';
-import { witnessesOf } from '../shared/witness.mjs';
-import { ask } from '../shared/wmlab.mjs';
+import { eventsAlone, documentOf } from './document.mjs';
+import { partsOf } from './machine.mjs';
+import { witnessesOf } from './witness.mjs';
+import { ask } from './wmlab.mjs';
 
 const load = (address, value, order = 'un', width = 4) => ['r', order, address, width, BigInt(value)];
 const store = (address, value, order = 'un', width = 4) => ['w', order, address, width, BigInt(value)];
@@ -137,12 +137,18 @@ async function testRandomRuns({ note, wmlab }) {
     if (witness) explained++;
     if (witness && explained <= 20 && (await rulesOn(wmlab, threads, witness)).startsWith('allowed')) allowed++;
   }
-  note(explained === 100 && allowed === 20, `random runs with torn accesses: ${explained} of 100 explained, ${allowed} of 20 allowed`);
+  note(
+    explained === 100 && allowed === 20,
+    `random runs with torn accesses: ${explained} of 100 explained, ${allowed} of 20 allowed`,
+  );
 }
 
 export async function testWitness({ note, wmlab }) {
   const weak = [[store(0, 1), load(4, 0)], [store(4, 1), load(0, 0)]];
-  note((await rulesOn(wmlab, weak, await first(weak))).startsWith('allowed'), 'a witness of weak store buffering is found and allowed');
+  note(
+    (await rulesOn(wmlab, weak, await first(weak))).startsWith('allowed'),
+    'a witness of weak store buffering is found and allowed',
+  );
 
   const none = await search(LOAD_BUFFERING);
   note(none.list.length === 0 && none.end.gaveUp === null, 'it is certain that store buffers do not give load buffering');
@@ -155,7 +161,10 @@ export async function testWitness({ note, wmlab }) {
   for (const address of [60, 64, 67]) {
     const torn = tornWords(120, address);
     const witness = await first(torn);
-    note(witness && (await rulesOn(wmlab, torn, witness)).startsWith('allowed'), `torn accesses of 8 bytes at ${address} are explained and allowed`);
+    note(
+      witness && (await rulesOn(wmlab, torn, witness)).startsWith('allowed'),
+      `torn accesses of 8 bytes at ${address} are explained and allowed`,
+    );
   }
   const delayed = [
     [[store(0, 1)], [load(8, 1), load(0, 0)], [store(8, 1)]],
@@ -170,7 +179,10 @@ export async function testWitness({ note, wmlab }) {
   await testRandomRuns({ note, wmlab });
   const { list } = await search(LATE);
   const lines = await Promise.all(list.map((witness) => rulesOn(wmlab, LATE, witness)));
-  note(/^broken V/.test(lines[0]) && lines.some((line) => line.startsWith('allowed')), `after a witness that a rule refuses comes one that is allowed (${lines.length} witnesses)`);
+  note(
+    /^broken V/.test(lines[0]) && lines.some((line) => line.startsWith('allowed')),
+    `after a witness that a rule refuses comes one that is allowed (${lines.length} witnesses)`,
+  );
 
   const rows = LOAD_BUFFERING.map((events, t) => ({ start: { name: `t${t}`, args: [] }, events }));
   const kept = eventsAlone(rows, [['done', [1n]], ['done', [1n]]]);

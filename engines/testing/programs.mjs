@@ -27,7 +27,8 @@ const STARTS = {
 /** Programs whose logs have no events. */
 export const WITHOUT_EVENTS = new Set(['every-trap.wasm']);
 
-function startsOf(program, bytes) {
+/** The words of the starts of a program, by its path below examples/. */
+export function startsOf(program, bytes) {
   const { parameters } = rewrite(bytes, 'hooked');
   const starts = STARTS[program] ?? [...parameters].filter(([, types]) => types.length === 0).map(([name]) => name);
   if (!starts.length) throw new UserError(`${program}: each exported function takes arguments; list its starts in programs.mjs`);

@@ -6,7 +6,8 @@ import { UserError } from '../shared/errors.mjs';
 import { MODES } from '../shared/recorder.mjs';
 import { Table } from '../shared/table.mjs';
 import { findProgram } from '../shared/wmlab.mjs';
-import { ENGINES, countOf, wordsOf } from './options.mjs';
+import { ENGINES } from '../node/options.mjs';
+import { HELP, TEXT, countOf, wordsOf } from '../shared/command_line.mjs';
 import { programsOf } from './programs.mjs';
 import { isClassic, run } from './test_programs.mjs';
 
@@ -15,16 +16,15 @@ const EXAMPLES = fileURLToPath(new URL('../../examples', import.meta.url));
 const USAGE = `Records every program of examples/ in each mode, and counts the verdicts and the weak outcomes.
 
 USAGE
-    engines/node/census.mjs [--engine ENGINE] [--rounds N] [--wmlab PROGRAM]
+    engines/testing/census.mjs [--engine ENGINE] [--rounds N] [--wmlab PROGRAM]
 
-    ENGINE is node, chromium or firefox (node); N the rounds of each program and mode (80).
+    ENGINE is node, chromium, firefox or webkit (node); N the rounds of each program and mode (80).
 
 The status is 0 if each log is allowed, 1 if not, 2 for a mistake.
 `;
 
 async function main() {
-  const text = { type: 'string' };
-  const { values } = wordsOf({ options: { engine: text, rounds: text, wmlab: text, help: { type: 'boolean', short: 'h' } } });
+  const { values } = wordsOf({ options: { engine: TEXT, rounds: TEXT, wmlab: TEXT, ...HELP } });
   if (values.help) return process.stdout.write(USAGE);
   const engine = values.engine ?? 'node';
   if (!ENGINES.includes(engine)) throw new UserError(`--engine ${engine}: the engines are ${ENGINES.join(', ')}`);
