@@ -178,44 +178,18 @@ def rows_of_examples():
     return rows
 
 
-EXPLAINED = re.compile(
-    r'(?:CheckRow|RuleRow) \{\s*shows: "(.*?)",\s*(?:module: &(\w+),\s*)?document:\s*(?:r#)?"(.*?)"#?,\s*'
-    r'text:\s*(?:r#)?"(.*?)"#?,\s*\}',
-    re.DOTALL,
-)
-
-
-def rows_of_explanations():
-    """What `explain` writes, as the tests of wm_explain and docs/EXPLANATIONS.md have it: each text of the page is
-    that of a row whose line is the same; and each row with a module is run."""
-    source = "crates/wm_explain/src/tests/rows.rt"
-    page = "docs/EXPLANATIONS.md"
-    with open(f"{TOP}/{source}", encoding="utf-8") as file:
-        text = file.read()
-    with open(f"{TOP}/{page}", encoding="utf-8") as file:
+def texts_of_explanations():
+    """The texts that docs/EXPLANATIONS.md shows: a line of `check`, with the sentences of `explain` below it."""
+    with open(f"{TOP}/docs/EXPLANATIONS.md", encoding="utf-8") as file:
         blocks = re.findall(r"(?m)(?:^    .*\n)+", file.read())
-    blocks = [re.sub(r"(?m)^    ", "", block).rstrip("\n").split("\n") for block in blocks]
-    lines = {"\n".join(block[1:]): block[0] for block in blocks}
-    found = list(EXPLAINED.finditer(text))
-    if len(found) != len(re.findall(r"\b(?:CheckRow|RuleRow) \{", text)) - len(
-        re.findall(r"struct (?:CheckRow|RuleRow) \{", text)
-    ):
-        raise SystemExit(f"{source}: a row is not read")
-    rows, said = [], set()
-    for each in found:
-        shows, module, document, sentences = each.groups()
-        row = Row(source, text.count("\n", 0, each.start()) + 1, shows)
-        sentences = sentences.rstrip("\n")
-        said.add(sentences)
-        if module:
-            row.files["log.json"] = document
-            row.command = f"wmlab explain examples/{module.lower().replace('_', '-')}.wasm log.json"
-            line = lines.get(sentences)
-            row.out = [line or MORE + "one line", *sentences.split("\n")]
-            row.status = status_of([line]) if line else None
-            rows.append(row)
-    missing = [line for sentences, line in lines.items() if sentences not in said and status_of([line]) is not None]
-    return rows, [line for line in missing if line.split(" ")[0] in harness.STATUS]
+    texts = [re.sub(r"(?m)^    ", "", block).rstrip("\n").split("\n") for block in blocks]
+    return [text for text in texts if text[0].split(" ")[0] in harness.STATUS]
+
+
+def texts_without_row(rows):
+    """Those of these texts that no row of `explain` has."""
+    shown = [row.out for row in rows if "wmlab explain " in row.command]
+    return [text for text in texts_of_explanations() if text not in shown]
 
 
 # `check` and `rules` of one log, whose answer other ways to the same log keep.
@@ -304,19 +278,9 @@ def fits(wanted, got):
         return aligned and among and total == int(counts[1]) and fits(rest, got[length:])
     if not got:
         return False
-    if first == MORE + "one line":
-        return fits(rest, got[1:])
     if first.endswith(MORE):
         return got[0].startswith(first.removesuffix(MORE)) and fits(rest, got[1:])
     return first == got[0] and fits(rest, got[1:])
-
-
-def holds(row, got):
-    """Whether what came is what is wanted. Where a row has no status, that of the verdict in its first line is
-    wanted."""
-    if row.status is None:
-        row.status = status_of(got[:1])
-    return fits(row.wanted(), got)
 
 
 def shortened(lines):
@@ -353,18 +317,15 @@ def can_be_updated(row):
 # ---- all
 
 
-def all_rows(words):
-    rows, missing = rows_of_explanations()
+def all_rows():
+    rows = []
     for path in sorted(glob.glob(f"{TOP}/tests/rows/*.rows")):
         found = rows_of_file(path)
         rows += found + ([] if path.endswith("long.rows") else rows_by_another_way(found))
     for pattern in PAGES:
         for path in sorted(glob.glob(f"{TOP}/{pattern}")):
             rows += rows_of_page(path)
-    rows += rows_of_examples()
-    if words:
-        return [row for row in rows if any(word in row.name() for word in words)], []
-    return rows, missing
+    return rows + rows_of_examples()
 
 
 def main():
@@ -380,16 +341,18 @@ def main():
     )
     options = parser.parse_args()
     program = harness.program_of(options)
-    rows, missing = all_rows(options.words)
-    rows = [row for row in rows if not any(word in row.name() for word in options.without)]
+    rows = all_rows()
     tally = harness.Tally()
-    for line in missing:
-        tally.check(False, "docs/EXPLANATIONS.md has a text that no row of wm_explain's tests has", line)
+    for text in texts_without_row(rows):
+        tally.check(False, "docs/EXPLANATIONS.md has a text that no row of `explain` has", text[0])
+    if options.words:
+        rows = [row for row in rows if any(word in row.name() for word in options.words)]
+    rows = [row for row in rows if not any(word in row.name() for word in options.without)]
     changed, times = [], []
     with concurrent.futures.ThreadPoolExecutor(options.jobs) as pool:
         for row, (got, seconds) in zip(rows, pool.map(lambda row: run(row, program), rows)):
             times.append((seconds, row))
-            is_right = holds(row, got)
+            is_right = fits(row.wanted(), got)
             tally.check(
                 is_right, f"{row.name()}\n  $ {row.command}", "\n" + difference(row, got) if not is_right else ""
             )

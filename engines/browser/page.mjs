@@ -61,13 +61,16 @@ async function download(found) {
   setTimeout(() => URL.revokeObjectURL(url), 1_000);
 }
 
+const pictureOf = (svg) => element('img', {
+  alt: 'the execution', src: `data:image/svg+xml;base64,${base64Of(new TextEncoder().encode(svg))}`,
+});
+
 async function explain(found) {
   const { explanation, svg } = await post('/explain', { module: base64Of(state.bytes), document: found.log, line: found.line });
   part('details').hidden = false;
   part('title').textContent = `Round ${found.number}: ${found.outcome}`;
   part('explanation').textContent = explanation;
-  const picture = svg ? element('img', { alt: 'the execution', src: `data:image/svg+xml;base64,${base64Of(new TextEncoder().encode(svg))}` }) : 'No picture.';
-  part('picture').replaceChildren(picture);
+  part('picture').replaceChildren(svg ? pictureOf(svg) : 'No picture.');
   part('details').scrollIntoView();
 }
 
@@ -119,6 +122,9 @@ async function roundOf(recorder, number) {
 function openRecorder() {
   if (!crossOriginIsolated) throw new Error('this page has no shared memory: open it from engines/browser/serve.mjs');
   if (!state.bytes) throw new Error('choose a module first');
+  if (!part('form').checkValidity()) {
+    throw new Error('rounds, events and seed are integers of at least 1, and at most 16384 events');
+  }
   const starts = part('starts').value.split(/\s+/).filter(Boolean).map(parseStart);
   const options = { mode: part('mode').value, events: Number(part('events').value) };
   return new Recorder(state.bytes, starts, options, startThread);
@@ -139,7 +145,10 @@ async function record() {
     }
     show(`${number} of ${rounds} rounds${state.stop.requested ? ', stopped' : ', done'}`);
     tables.show();
-    await post('/finished', { name: state.name, agent: navigator.userAgent, outcomes: tables.outcomes.lines(), verdicts: tables.verdicts.lines() });
+    await post(
+      '/finished',
+      { name: state.name, agent: navigator.userAgent, outcomes: tables.outcomes.lines(), verdicts: tables.verdicts.lines() },
+    );
   } finally {
     await recorder.close();
   }

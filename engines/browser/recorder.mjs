@@ -43,8 +43,7 @@ class BrowserRecorder {
     Object.assign(this, { kind, program, version, initial, desk: new Desk() });
   }
 
-  async open({ stop = {} }) {
-    this.stop = stop;
+  async open() {
     this.server = await serve({ 'POST /task': (body, query) => this.desk.take(body, query) });
     this.page = openPage(this.kind, this.program, `${this.server.origin}/auto?token=${this.desk.token}`);
     await this.answer(SECONDS_TO_OPEN, 'did not open the page');
@@ -53,7 +52,9 @@ class BrowserRecorder {
   /** What the page posts next. */
   async answer(seconds, complaint) {
     let timer = null;
-    const late = new Promise((resolve) => { timer = setTimeout(() => resolve({ problem: `${complaint} in ${seconds} seconds` }), 1000 * seconds); });
+    const late = new Promise((resolve) => {
+      timer = setTimeout(() => resolve({ problem: `${complaint} in ${seconds} seconds` }), 1000 * seconds);
+    });
     const gone = this.page.ended.then(() => ({ problem: 'ended' }));
     const answer = await Promise.race([this.desk.posted, late, gone]);
     clearTimeout(timer);
@@ -79,15 +80,16 @@ class BrowserRecorder {
 }
 
 /** Opens a browser's recorder for a module and starts. */
-export async function openBrowser(bytes, options, stop) {
+export async function openBrowser(bytes, options) {
   const { engine, starts } = options;
   refuseOptions(options, starts);
   const unsigned = startsOf(bytes, starts);
   const recorder = new BrowserRecorder({ kind: engine, ...requireBrowser(engine), initial: initialOf(bytes) });
   try {
-    await recorder.open({ stop });
+    await recorder.open();
     const words = unsigned.map(({ name, args }) => [name, ...args].join(':'));
-    const given = Object.fromEntries(['mode', 'events', 'turn', 'wrong'].filter((name) => options[name] !== undefined).map((name) => [name, options[name]]));
+    const { mode, events, turn, wrong } = options;
+    const given = { mode, events, turn, wrong }; // JSON leaves out what is not defined
     await recorder.ask({ kind: 'open', module: Buffer.from(bytes).toString('base64'), starts: words, options: given });
     return recorder;
   } catch (error) {

@@ -4,7 +4,7 @@
 import { readFileSync, realpathSync } from 'node:fs';
 import { basename } from 'node:path';
 import { fileURLToPath } from 'node:url';
-import { countOf, wordsOf } from '../node/options.mjs';
+import { HELP, TEXT, countOf, wordsOf } from '../shared/command_line.mjs';
 import { UserError, withFile } from '../shared/errors.mjs';
 import { findProgram } from '../shared/wmlab.mjs';
 import { Judges } from './judges.mjs';
@@ -61,15 +61,16 @@ async function listen(handlers, port) {
   try {
     return await serve(handlers, port);
   } catch (error) {
-    if (error.code === 'EADDRINUSE' || error.code === 'EACCES') throw new UserError(`--port ${port}: it cannot be used (${error.code})`);
+    if (error.code === 'EADDRINUSE' || error.code === 'EACCES') {
+      throw new UserError(`--port ${port}: it cannot be used (${error.code})`);
+    }
     throw error;
   }
 }
 
 async function main(args) {
-  const text = { type: 'string' };
   const { values, positionals } = wordsOf({
-    args, allowPositionals: true, options: { port: text, wmlab: text, help: { type: 'boolean', short: 'h' } },
+    args, allowPositionals: true, options: { port: TEXT, wmlab: TEXT, ...HELP },
   });
   if (values.help) return process.stdout.write(USAGE);
   if (positionals.length > 1) throw new UserError(`${positionals.length} modules: expected at most one`);

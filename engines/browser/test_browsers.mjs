@@ -41,21 +41,24 @@ async function testModes({ note, wmlab }, engine) {
   note(isAllowed(traps) && traps.results.outcomes.counts.size === 1, `${engine}, locked: each trap is the module's`);
   const buffered = await recorded(wmlab, BUFFERS, ['a', 'b'], { engine, mode: 'buffered' });
   const onNode = await recorded(wmlab, BUFFERS, ['a', 'b'], { mode: 'buffered' });
-  note(isAllowed(buffered) && buffered.logs.join() === onNode.logs.join(), `${engine}, buffered: allowed, and by the same seeds the logs of node`);
+  note(
+    isAllowed(buffered) && buffered.logs.join() === onNode.logs.join(),
+    `${engine}, buffered: allowed, and by the same seeds the logs of node`,
+  );
   const free = await recorded(wmlab, BUFFERS, ['a', 'b'], { engine, mode: 'free' });
   note(isAllowed(free) && free.logs.every((log) => log.length > 1_000), `${engine}, free: allowed`);
   const wrong = await recorded(wmlab, BUFFERS, ['a', 'b'], { engine, mode: 'buffered', wrong: 'torn-store', rounds: 2 });
   note(wrong.results.checked === 2, `${engine}: an engine that is wrong on purpose is recorded`);
 }
 
-/** Whether a process with this word among its arguments runs. */
-const runs = (word) => readdirSync('/proc').filter((name) => /^\d+$/.test(name)).some((id) => {
+/** Whether a process with this word among its arguments or in its environment runs. */
+const runs = (word) => readdirSync('/proc').filter((name) => /^\d+$/.test(name)).some((id) => ['cmdline', 'environ'].some((file) => {
   try {
-    return readFileSync(`/proc/${id}/cmdline`, 'utf8').includes(word);
+    return readFileSync(`/proc/${id}/${file}`, 'utf8').includes(word);
   } catch {
     return false;
   }
-});
+}));
 
 /** The command is killed while a browser records for it: the browser and its profile go too. */
 async function testKill({ note, wmlab }, engine) {
@@ -85,7 +88,10 @@ async function testPage({ note, wmlab }, engine, program) {
     await judges?.close();
     const count = tables?.outcomes.reduce((sum, line) => sum + Number.parseInt(line, 10), 0);
     const verdicts = isJudged ? '      12  allowed threads=2' : '';
-    note(count === 12 && tables.verdicts.join() === verdicts, `${engine}: the page records ${isJudged ? 'with verdicts' : 'without a program'}`);
+    note(
+      count === 12 && tables.verdicts.join() === verdicts,
+      `${engine}: the page records ${isJudged ? 'with verdicts' : 'without a program'}`,
+    );
   }
 }
 
@@ -97,25 +103,29 @@ function withResolvers() {
 }
 
 /** Requests that the server refuses: other hosts, other files, another page's tasks. */
-async function testServer({ note, wmlab }) {
+export async function testServer({ note, wmlab }) {
   const judges = new Judges(wmlab);
   const server = await serve(handlersOf(judges, null, () => {}));
   const status = async (path, options) => (await fetch(`${server.origin}${path}`, options)).status;
   const seen = await Promise.all(['/', '/shared/witness.mjs', '/shared/../../README.md', '/browser/..%2fserver.mjs', '/none'].map((path) => status(path)));
   note(seen.join() === '200,200,404,404,404', `the server gives its scripts and nothing else: ${seen.join()}`);
   const refused = await fetch(`${server.origin}/judge`, { method: 'POST', body: '{"module":"AA=="}' });
-  note(refused.status === 500 && /Magic|refused|module/i.test((await refused.json()).error), 'the server reports a module that is not read');
+  note(
+    refused.status === 500 && /Magic|refused|module/i.test((await refused.json()).error),
+    'the server reports a module that is not read',
+  );
   await judges.close();
   server.close();
 }
 
-export async function testBrowsers(context) {
-  await testServer(context);
-  await Promise.all(['chromium', 'firefox'].map(async (engine) => {
-    const found = findBrowser(engine);
-    if (!found) return console.log(`       ${engine}: not tested, since it is not installed`);
-    await testModes(context, engine);
-    await testPage(context, engine, found.program);
-    return testKill(context, engine);
-  }));
+/** All tests of one browser. */
+export async function testBrowser(context, engine) {
+  const found = findBrowser(engine);
+  if (!found) {
+    context.leftOut(engine, 'it is not installed');
+    return;
+  }
+  await testModes(context, engine);
+  await testPage(context, engine, found.program);
+  await testKill(context, engine);
 }

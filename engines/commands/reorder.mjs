@@ -2,7 +2,7 @@
 /** Looks for another witness of a log that a memory rule refuses. `--help` prints the usage. */
 
 import { readFileSync } from 'node:fs';
-import { countOf, wordsOf } from '../node/options.mjs';
+import { HELP, TEXT, countOf, wordsOf } from '../shared/command_line.mjs';
 import { UserError, withFile } from '../shared/errors.mjs';
 import { logsOf } from '../shared/logs.mjs';
 import { initialOf } from '../shared/recorder.mjs';
@@ -32,13 +32,13 @@ EXIT STATUS
     3    a fault of this command
 `;
 
-const TEXT = { type: 'string' };
-
 function optionsOf(args) {
-  const options = { steps: TEXT, seconds: TEXT, wmlab: TEXT, help: { type: 'boolean', short: 'h' } };
+  const options = { steps: TEXT, seconds: TEXT, wmlab: TEXT, ...HELP };
   const { values, positionals } = wordsOf({ args, allowPositionals: true, options });
   if (values.help) return null;
-  if (positionals.length !== 2) throw new UserError(`${positionals.length} words: expected MODULE and DOC; --help prints the usage`);
+  if (positionals.length !== 2) {
+    throw new UserError(`${positionals.length} words: expected MODULE and DOC; --help prints the usage`);
+  }
   const [module, path] = positionals;
   const [steps, seconds] = [countOf('steps', values.steps ?? '2000000'), countOf('seconds', values.seconds ?? '20')];
   return { module, path, steps, seconds, wmlab: values.wmlab };
@@ -71,7 +71,9 @@ async function search(judge, document, { module, steps, seconds }) {
   const logs = logsOf(document, initial, { steps, seconds, isStrict: true });
   for (let refused = 0; ; refused++) {
     const { value, done } = await logs.next();
-    if (done && value.line === NONE_EXISTS && refused) return end(`gave up: a rule refuses each of the ${refused} witnesses that were found`, 2);
+    if (done && value.line === NONE_EXISTS && refused) {
+      return end(`gave up: a rule refuses each of the ${refused} witnesses that were found`, 2);
+    }
     if (done) return end(value.line, value.line === NONE_EXISTS ? 1 : 2);
     const answer = await judge.judge(value, NO_ENDS);
     if (answer.line.startsWith('allowed')) return end(answer.document, 0);

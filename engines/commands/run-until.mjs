@@ -2,7 +2,7 @@
 /** Runs `wmlab run` with conditions on its outcomes, and keeps a log of each outcome. `--help` prints the usage. */
 
 import { join } from 'node:path';
-import { countOf, wordsOf } from '../node/options.mjs';
+import { HELP, SEVERAL, TEXT, countOf, wordsOf } from '../shared/command_line.mjs';
 import { UserError } from '../shared/errors.mjs';
 import { keep, prepareFolder } from '../shared/kept.mjs';
 import { conditionsOf, judgeConditions } from '../shared/outcomes.mjs';
@@ -33,19 +33,19 @@ EXIT STATUS
     3    a fault of this command
 `;
 
-const TEXT = { type: 'string' };
-const SEVERAL = { type: 'string', multiple: true };
-
 function optionsOf(args) {
   const options = {
-    forbid: SEVERAL, want: SEVERAL, kept: TEXT, tries: TEXT, seed: TEXT, wmlab: TEXT, help: { type: 'boolean', short: 'h' },
+    forbid: SEVERAL, want: SEVERAL, kept: TEXT, tries: TEXT, seed: TEXT, wmlab: TEXT, ...HELP,
   };
   const { values, positionals } = wordsOf({ args, allowPositionals: true, options });
   if (values.help) return null;
   const [module, rounds, ...starts] = positionals;
-  if (!starts.length) throw new UserError(`${positionals.length} words: expected MODULE, ROUNDS and at least one START; --help prints the usage`);
+  if (!starts.length) {
+    throw new UserError(`${positionals.length} words: expected MODULE, ROUNDS and at least one START; --help prints the usage`);
+  }
   const [tries, seed] = [countOf('tries', values.tries ?? '400'), countOf('seed', values.seed ?? '1')];
-  return { module, rounds, starts, tries, seed, kept: values.kept ?? 'recorded', wmlab: values.wmlab, conditions: conditionsOf(values, starts.length) };
+  const { kept = 'recorded', wmlab } = values;
+  return { module, rounds, starts, tries, seed, kept, wmlab, conditions: conditionsOf(values, starts.length) };
 }
 
 /** Numbers below `n` that look random, the same ones for the same seed. */
@@ -113,7 +113,10 @@ async function main(args) {
   const judge = new Judge(program, module);
   const outcomes = rows.map(({ outcome }) => outcome);
   const paths = await keepAll(judge, kept, outcomes, await logsOf(program, options, outcomes));
-  const judged = judgeConditions(conditions, rows.map(({ count, outcome }) => ({ outcome, place: `${count} of ${rounds} rounds` })));
+  const judged = judgeConditions(
+    conditions,
+    rows.map(({ count, outcome }) => ({ outcome, place: `${count} of ${rounds} rounds` })),
+  );
   const table = rows.map(({ count, outcome }) => `${String(count).padStart(8)}  ${outcome}  ${paths.get(outcome)}`);
   console.log([...table, text.split('\n').at(-1), ...judged.map(({ line }) => line)].join('\n'));
   return judged.some(({ fails }) => fails) ? 1 : 0;

@@ -1,10 +1,10 @@
 /** Instructions as bytes, and the functions that a lowered module has in addition to its own. */
 
-import { s32, u32 } from '../node/binary.mjs';
+import { s32, u32 } from '../shared/binary.mjs';
 import { CODE } from './instructions.mjs';
 import { TYPE } from './module.mjs';
 
-export const EMPTY_BLOCK = 0x40;
+const EMPTY_BLOCK = 0x40;
 const PAGE_BITS = 16;
 
 export const get = (local) => [CODE.localGet, ...u32(local)];

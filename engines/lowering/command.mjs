@@ -1,8 +1,8 @@
 /** The command line of engines/lower. */
 
 import { readFileSync, writeFileSync } from 'node:fs';
-import { UserError, withFile } from '../node/errors.mjs';
-import { countOf, wordsOf } from '../node/options.mjs';
+import { UserError, withFile } from '../shared/errors.mjs';
+import { HELP, TEXT, countOf, wordsOf } from '../shared/command_line.mjs';
 import { Refused, lower } from './lower.mjs';
 
 export const USAGE = `Brings a module that a compiler made into the part of WebAssembly that wmlab takes.
@@ -31,17 +31,17 @@ const MOST_STACK_BYTES = 1_048_576;
 
 /** What the words of a command line ask for, or null for `--help`. */
 function optionsOf(args) {
-  const text = { type: 'string' };
   const { values, positionals } = wordsOf({
     args,
     allowPositionals: true,
     options: {
-      out: { ...text, short: 'o' }, stacks: text, 'stack-bytes': text, quiet: { type: 'boolean' },
-      help: { type: 'boolean', short: 'h' },
+      out: { ...TEXT, short: 'o' }, stacks: TEXT, 'stack-bytes': TEXT, quiet: { type: 'boolean' }, ...HELP,
     },
   });
   if (values.help) return null;
-  if (positionals.length !== 1) throw new UserError(`${positionals.length} modules are given; expected one; --help prints the usage`);
+  if (positionals.length !== 1) {
+    throw new UserError(`${positionals.length} modules are given; expected one; --help prints the usage`);
+  }
   if (values.out === undefined) throw new UserError('no output is given; write -o OUT.wasm');
   const { stacks = null, quiet = false, out } = values;
   const stackBytes = countOf('stack-bytes', values['stack-bytes'] ?? '4096', MOST_STACK_BYTES);

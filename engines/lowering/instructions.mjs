@@ -5,7 +5,7 @@
  * An instruction's code is its opcode; those with a prefix are `prefix * 256 + code`, such as 0xfe03 for `atomic.fence`.
  */
 
-import { UserError } from '../node/errors.mjs';
+import { UserError } from '../shared/errors.mjs';
 
 /** The codes that the lowering treats on their own. */
 export const CODE = {
@@ -116,7 +116,7 @@ export const beginsBlock = (code) => between(code, CODE.block, CODE.if) || code 
 const PREFIXES = new Set([0xfc, 0xfd, 0xfe]);
 
 /** The next instruction: its code, its immediates and its bytes. */
-export function readInstruction(reader) {
+function readInstruction(reader) {
   const start = reader.at;
   const first = reader.byte();
   const code = PREFIXES.has(first) ? first * 256 + reader.u32() : first;

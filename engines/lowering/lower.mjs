@@ -1,7 +1,7 @@
 /** Brings a module that a compiler made into the part of WebAssembly that `wmlab` takes, and reports each change. */
 
-import { UserError } from '../node/errors.mjs';
-import { HEADER, SECTION, name, section, u32, vector } from '../node/binary.mjs';
+import { UserError } from '../shared/errors.mjs';
+import { HEADER, SECTION, name, section, u32, vector } from '../shared/binary.mjs';
 import {
   UNREACHABLE_BODY, call, constant, constantOfType, copyBody, dispatchBody, entryBody, fillBody, signExtension,
 } from './assembly.mjs';
@@ -103,7 +103,9 @@ class Lowering {
     if (code === CODE.fence) return [[], 'dropped'];
     if (code >= 0xc0 && code <= 0xc4) return [signExtension(code), 'replaced by shifts'];
     if (code === CODE.memoryGrow) return [[CODE.drop, ...constant(-1)], 'made to fail'];
-    if (code === CODE.memorySize && this.morePages) return [constant(this.pages), `replaced by ${this.pages}, without the pages of the stacks`];
+    if (code === CODE.memorySize && this.morePages) {
+      return [constant(this.pages), `replaced by ${this.pages}, without the pages of the stacks`];
+    }
     if (code === CODE.memoryCopy) return [call(this.added.once('copy', THREE_OPERANDS, copyBody)), 'replaced by a loop over bytes'];
     if (code === CODE.memoryFill) return [call(this.added.once('fill', THREE_OPERANDS, fillBody)), 'replaced by a loop over bytes'];
     if (code === CODE.callIndirect) return this.dispatch(args[0]);
@@ -148,7 +150,10 @@ class Lowering {
 
   warnOfSharedStack([first, ...others]) {
     const more = others.length ? ` and ${others.length} more` : '';
-    this.note(`warning: ${this.placeOf(first)}${more}`, 'the stack pointer moves; all threads start with one stack; --stacks gives each its own');
+    this.note(
+      `warning: ${this.placeOf(first)}${more}`,
+      'the stack pointer moves; all threads start with one stack; --stacks gives each its own',
+    );
   }
 
   /** Finds out where the stacks are; answers the exported functions as they are in the lowered module. */
@@ -167,9 +172,12 @@ class Lowering {
     const { entries, count } = entriesWithStacks(functions, { copies, size: stackBytes, base, pointer });
     this.morePages = Math.ceil((count * stackBytes) / PAGE_BYTES);
     if (this.pages + this.morePages > LIMITS.pages) {
-      throw new UserError(`--stacks: ${count} stacks of ${stackBytes} bytes make ${this.pages + this.morePages} pages; expected at most ${LIMITS.pages}`);
+      const pages = this.pages + this.morePages;
+      throw new UserError(`--stacks: ${count} stacks of ${stackBytes} bytes make ${pages} pages; expected at most ${LIMITS.pages}`);
     }
-    for (const { name: entry, stack } of entries) this.note(`export ${entry}`, `its stack begins at ${stack.top}, ${stackBytes} bytes down`);
+    for (const { name: entry, stack } of entries) {
+      this.note(`export ${entry}`, `its stack begins at ${stack.top}, ${stackBytes} bytes down`);
+    }
     return entries;
   }
 
@@ -204,17 +212,23 @@ class Lowering {
     for (const [index, [address]] of placed.entries()) {
       const taken = this.linker?.segments.find(({ segment }) => segment === index);
       if (taken) placed[index][0] = taken.address;
-      if (address === null) this.note(`data segment ${index}`, taken ? `passive, made active at ${taken.address}` : 'passive and not used, dropped');
+      if (address === null) {
+        this.note(`data segment ${index}`, taken ? `passive, made active at ${taken.address}` : 'passive and not used, dropped');
+      }
     }
     if (this.linker) {
-      this.note(this.placeOf(this.linker.start), "start function of the linker, dropped: the memory is filled before each thread's start");
+      this.note(
+        this.placeOf(this.linker.start),
+        "start function of the linker, dropped: the memory is filled before each thread's start",
+      );
       placed.push([this.linker.flag, FLAG_WHEN_FILLED]);
     }
     return placed.filter(([address]) => address !== null);
   }
 
   noteTable() {
-    for (const index of this.module.tables.keys()) this.note(`table ${index}`, this.usesTable() ? 'dropped: its calls are direct' : 'not used, dropped');
+    const ending = this.usesTable() ? 'dropped: its calls are direct' : 'not used, dropped';
+    for (const index of this.module.tables.keys()) this.note(`table ${index}`, ending);
   }
 
   /** The sections of the lowered module. Types come last, since all parts may add some. */

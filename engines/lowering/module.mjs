@@ -1,11 +1,11 @@
 /** A module as data: its sections, read from its bytes. V8 has compiled the bytes before, so their form is right. */
 
-import { HEADER, Reader, SECTION, sectionsOf } from '../node/binary.mjs';
+import { HEADER, Reader, SECTION, sectionsOf } from '../shared/binary.mjs';
 import { CODE, readExpression } from './instructions.mjs';
 
 export const TYPE = { i32: 0x7f, i64: 0x7e, f32: 0x7d, f64: 0x7c, v128: 0x7b };
 export const KIND = { function: 0, table: 1, memory: 2, global: 3 };
-export const ELEMENTS = 9, START = 8, TABLES = 4;
+const ELEMENTS = 9, START = 8, TABLES = 4;
 
 const list = (reader, item) => Array.from({ length: reader?.u32() ?? 0 }, (_, index) => item(reader, index));
 

@@ -3,7 +3,7 @@
  * thread starts with the same stack pointer. So exported functions are wrapped: they first set it to a stack of their own.
  */
 
-import { UserError } from '../node/errors.mjs';
+import { UserError } from '../shared/errors.mjs';
 import { CODE } from './instructions.mjs';
 import { KIND, TYPE, constantOf } from './module.mjs';
 
@@ -39,7 +39,9 @@ export function entriesWithStacks(functions, { copies, size, base, pointer }) {
   const entries = functions.flatMap(({ name, index }) => (
     copies ? Array.from({ length: copies }, (_, copy) => ({ name: `${name}.${copy}`, index, copy })) : [{ name, index }]));
   const names = new Set(entries.map(({ name }) => name));
-  if (names.size < entries.length) throw new UserError('two exports would have one name; rename one that ends with a dot and a number');
+  if (names.size < entries.length) {
+    throw new UserError('two exports would have one name; rename one that ends with a dot and a number');
+  }
   // Copies with one number share a stack: one thread has one number.
   const stackOf = ({ copy }, place) => ({ pointer, top: base + size * ((copy ?? place) + 1) });
   return {

@@ -1,10 +1,10 @@
 /** The command line of engines/lower. */
 
-import { spawnSync } from 'node:child_process';
 import { existsSync, mkdtempSync, readFileSync, rmSync, writeFileSync } from 'node:fs';
 import { tmpdir } from 'node:os';
 import { join } from 'node:path';
 import { fileURLToPath } from 'node:url';
+import { run } from '../testing/tally.mjs';
 import { moduleOf } from './test_modules.mjs';
 
 const COMMAND = fileURLToPath(new URL('../lower', import.meta.url));
@@ -14,7 +14,7 @@ const TAKEN = moduleOf({ functions: [{ code: [0xfe, 3, 0], exported: 'a' }] });
 export function testCommand({ note }) {
   const folder = mkdtempSync(join(tmpdir(), 'lower-'));
   const file = (name) => join(folder, name);
-  const run = (...words) => spawnSync(COMMAND, words, { encoding: 'utf8' });
+  const lower = (...words) => run(COMMAND, words);
   try {
     writeFileSync(file('floats.wasm'), NOT_TAKEN);
     writeFileSync(file('fence.wasm'), TAKEN);
@@ -29,16 +29,21 @@ export function testCommand({ note }) {
       ['a folder that is not there', [file('fence.wasm'), '-o', file('none/out.wasm')]],
     ];
     for (const [what, words] of refused) {
-      const { status, stderr } = run(...words);
-      note(status === 2 && /^lower: [^\n]*\n$/.test(stderr) && !existsSync(out), `refused with one line: ${what}: ${stderr.trim().slice(0, 60)}`);
+      const ran = lower(...words);
+      const isLine = /^lower: [^\n]*\n$/.test(ran.err);
+      note(ran.status === 2 && isLine && !existsSync(out), `refused in one line: ${what}: ${ran.err.trim().slice(0, 60)}`, ran);
     }
-    const { status, stderr } = run(file('floats.wasm'), '-o', out);
-    note(status === 2 && stderr.trim().split('\n').length === 2 && !existsSync(out), 'a module with two floats is refused in two lines');
-    const lowered = run(file('fence.wasm'), '-o', out);
+    const floats = lower(file('floats.wasm'), '-o', out);
+    const lines = floats.err.trim().split('\n').length;
+    note(floats.status === 2 && lines === 2 && !existsSync(out), 'a module with two floats is refused in two lines', floats);
+    const lowered = lower(file('fence.wasm'), '-o', out);
     const line = 'function 0 (a) instruction 0: atomic.fence dropped\n';
-    note(lowered.status === 0 && lowered.stdout.endsWith(line) && WebAssembly.validate(readFileSync(out)), 'a fence is dropped, and reported');
-    note(run(file('fence.wasm'), '-o', out, '--quiet').stdout === '', '--quiet prints no changes');
-    note(/^USAGE$/m.test(run('--help').stdout), '--help prints the usage');
+    const isWritten = existsSync(out) && WebAssembly.validate(readFileSync(out));
+    note(lowered.status === 0 && lowered.out.endsWith(line) && isWritten, 'a fence is dropped, and reported', lowered);
+    const quiet = lower(file('fence.wasm'), '-o', out, '--quiet');
+    note(quiet.status === 0 && quiet.out === '', '--quiet prints no changes', quiet);
+    const help = lower('--help');
+    note(help.status === 0 && /^USAGE$/m.test(help.out), '--help prints the usage', help);
   } finally {
     rmSync(folder, { recursive: true });
   }

@@ -1,6 +1,6 @@
 /** Modules for the tests of the lowering, made of their parts as bytes. */
 
-import { HEADER, SECTION, name, section, u32, vector } from '../node/binary.mjs';
+import { HEADER, SECTION, name, section, u32, vector } from '../shared/binary.mjs';
 
 const NOTHING = [0x60, 0, 0];
 const ONE_PAGE = [3, 1, 1];

@@ -51,7 +51,10 @@ export async function testRefusals({ note, wmlab }) {
   for (const [what, bytes, expected] of CASES) {
     const isModule = WebAssembly.validate(bytes);
     const found = refusalsOf(bytes);
-    note(isModule && found.join('; ') === expected.join('; '), `refused: ${what}${isModule ? '' : ' (this is not a module)'}: ${found.join('; ')}`);
+    note(
+      isModule && found.join('; ') === expected.join('; '),
+      `refused: ${what}${isModule ? '' : ' (this is not a module)'}: ${found.join('; ')}`,
+    );
   }
   const called = [{ code: [], exported: 'a' }, { code: NARROW }];
   note(!refusalsOf(moduleOf({ functions: called })).length, 'a function that is never called is not a reason to refuse');

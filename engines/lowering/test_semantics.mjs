@@ -3,7 +3,7 @@
 import { mkdtempSync, readFileSync, readdirSync, rmSync, writeFileSync } from 'node:fs';
 import { tmpdir } from 'node:os';
 import { fileURLToPath } from 'node:url';
-import { ask } from '../node/wmlab.mjs';
+import { ask } from '../shared/wmlab.mjs';
 import { lower } from './lower.mjs';
 
 const FOLDER = fileURLToPath(new URL('./programs', import.meta.url));
@@ -74,7 +74,10 @@ export async function testSemantics({ note, wmlab, runs }) {
   for (const name of names) {
     const bytes = readFileSync(`${FOLDER}/${name}`);
     const { agreed, difference, ends } = compare(bytes, each, random);
-    note(agreed === each && ends.size > 1, `${name}: ${agreed} of ${each} runs are the same before and after${difference ? `; ${difference}` : ''}`);
+    note(
+      agreed === each && ends.size > 1,
+      `${name}: ${agreed} of ${each} runs are the same before and after${difference ? `; ${difference}` : ''}`,
+    );
     note(await isTaken(wmlab, lower(bytes).bytes), `${name}: wmlab takes and drives the lowered module`);
   }
   note(names.length > 0, `${names.length} programs, ${names.length * each} runs`);

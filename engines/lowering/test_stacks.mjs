@@ -25,7 +25,10 @@ function refusal(bytes, options) {
 
 export function testStacks({ note }) {
   const shared = lower(STACKED);
-  note(shared.changes.some((line) => /^warning: function 0 \(push\): the stack pointer moves/.test(line)), 'a stack that all threads share is warned of');
+  note(
+    shared.changes.some((line) => /^warning: function 0 \(push\): the stack pointer moves/.test(line)),
+    'a stack that all threads share is warned of',
+  );
   const copies = instance(lower(STACKED, { stacks: 3, stackBytes: 1_024 }));
   const tops = [0, 1, 2].map((copy) => copies[`push.${copy}`](7));
   note(tops.join() === [1_024, 2_048, 3_072].map((top) => PAGE + top - 16).join(), `three copies have their own stacks: ${tops}`);
@@ -37,7 +40,10 @@ export function testStacks({ note }) {
   note(before.push(1) === 4_096 - 16, 'before the lowering the stack is where the linker put it');
   const without = moduleOf({ functions: [{ code: [], exported: 'a' }] });
   note(/no stack pointer/.test(refusal(without, { stacks: 2 })), 'stacks of a module without a stack pointer are refused');
-  note(/17 pages; expected at most 16/.test(refusal(STACKED, { stacks: 16, stackBytes: PAGE })), 'stacks that do not fit are refused');
+  note(
+    /17 pages; expected at most 16/.test(refusal(STACKED, { stacks: 16, stackBytes: PAGE })),
+    'stacks that do not fit are refused',
+  );
   const clash = moduleOf({ types, functions: [functions[0], { ...functions[0], exported: 'push.0' }], globals: [POINTER] });
   note(refusal(clash, { stacks: 1 }) === 'nothing', 'names that end with a number are kept apart');
 }

@@ -4,7 +4,7 @@ import { Recorder } from '../shared/recorder.mjs';
 import { startThread } from './threads.mjs';
 
 /** A recorder with `round`, `close`, `initial` and `version`, the engine's name and version. */
-export async function openRecorder(bytes, options, stop) {
+export async function openRecorder(bytes, options) {
   const { engine = 'node', starts } = options;
   if (engine === 'node') {
     const recorder = new Recorder(bytes, starts, options, startThread);
@@ -12,5 +12,5 @@ export async function openRecorder(bytes, options, stop) {
     return recorder;
   }
   const { openBrowser } = await import('../browser/recorder.mjs');
-  return openBrowser(bytes, options, stop);
+  return openBrowser(bytes, options);
 }

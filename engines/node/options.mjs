@@ -1,6 +1,6 @@
 /** The command line of record.mjs. */
 
-import { parseArgs } from 'node:util';
+import { HELP, SEVERAL, TEXT, countOf, wordsOf } from '../shared/command_line.mjs';
 import { UserError } from '../shared/errors.mjs';
 import { conditionsOf } from '../shared/outcomes.mjs';
 import { campaignName } from '../shared/report.mjs';
@@ -15,7 +15,7 @@ USAGE
     START is an exported function with its arguments, such as work:0:-7, one for each thread.
 
 OPTIONS
-    --engine ENGINE   node, chromium or firefox, the last two headless (node)
+    --engine ENGINE   node, or a browser without a window: chromium, firefox or webkit (node)
     --mode MODE       how accesses are recorded: locked, buffered or free (locked)
     --rounds N        the number of runs (100)
     --events N        the most events of a run, up to 16384 (128)
@@ -47,36 +47,16 @@ EXIT STATUS
     130  stopped by Ctrl-C
 `;
 
-export const ENGINES = ['node', 'chromium', 'firefox'];
+export const ENGINES = ['node', 'chromium', 'firefox', 'webkit'];
 const DEFAULTS = {
   engine: 'node', mode: 'locked', rounds: '100', events: '128', turn: '4', seed: '1', seconds: '20',
 };
 const MOST_EVENTS = 16_384;
 const MOST_THREADS = 16;
 
-/** The number that an option has: an integer from 1 to `most`. */
-export function countOf(option, text, most = 999_999_999) {
-  if (!/^\d+$/.test(text) || Number(text) < 1 || Number(text) > most) {
-    throw new UserError(`--${option} ${text}: expected an integer from 1 to ${most}`);
-  }
-  return Number(text);
-}
-
-/** The words of the command line as `parseArgs` answers them; its complaints become a `UserError`. */
-export function wordsOf(config) {
-  try {
-    return parseArgs(config);
-  } catch (error) {
-    if (!error.code?.startsWith('ERR_PARSE_ARGS')) throw error;
-    throw new UserError(error.message.split(/\n|\. To /)[0]);
-  }
-}
-
-const TEXT = { type: 'string' };
-const SEVERAL = { type: 'string', multiple: true };
 const WORDS = {
   engine: TEXT, mode: TEXT, rounds: TEXT, events: TEXT, turn: TEXT, seed: TEXT, seconds: TEXT, wmlab: TEXT, keep: TEXT, kept: TEXT,
-  report: TEXT, out: TEXT, wrong: TEXT, forbid: SEVERAL, want: SEVERAL, help: { type: 'boolean', short: 'h' },
+  report: TEXT, out: TEXT, wrong: TEXT, forbid: SEVERAL, want: SEVERAL, ...HELP,
 };
 
 /** Refuses a word that is not one of a list. */

@@ -119,7 +119,7 @@ async function main(args) {
   const judge = await Judge.open(findProgram(options.wmlab), module);
   const stop = { requested: false };
   process.once('SIGINT', () => { stop.requested = true; });
-  const recorder = await openRecorder(bytes, options, stop);
+  const recorder = await openRecorder(bytes, options);
   try {
     const campaign = new Campaign(options, recorder, judge, stop);
     await campaign.record();

@@ -1,26 +1,24 @@
 /** Tests of record.mjs as a command, and of how it counts and keeps what it finds. */
 
-import { spawn, spawnSync } from 'node:child_process';
-import { chmodSync, cpSync, existsSync, mkdirSync, mkdtempSync, readFileSync, readdirSync, rmSync, symlinkSync, writeFileSync } from 'node:fs';
+import { spawn } from 'node:child_process';
+import { chmodSync, cpSync, existsSync, mkdirSync, mkdtempSync, readdirSync, rmSync, symlinkSync, writeFileSync } from 'node:fs';
 import { tmpdir } from 'node:os';
 import { join } from 'node:path';
 import { setTimeout } from 'node:timers/promises';
 import { fileURLToPath } from 'node:url';
-import { programsOf } from './programs.mjs';
 import { progress } from './record.mjs';
 import { recordWith } from '../shared/rounds.mjs';
 import { GAVE_UP, NONE_EXISTS } from '../shared/verdict.mjs';
 import { Judge } from '../shared/wmlab.mjs';
+import { programsOf } from '../testing/programs.mjs';
+import { run, textOf } from '../testing/tally.mjs';
 
 const HERE = fileURLToPath(new URL('.', import.meta.url));
 const example = (name) => fileURLToPath(new URL(`../../examples/${name}.wasm`, import.meta.url));
 const BUFFERS = example('store-buffering');
 
-/** Runs the command in a folder; answers its status and what it printed. */
-function run(folder, args, command = join(HERE, 'record.mjs')) {
-  const { status, stdout, stderr } = spawnSync(process.execPath, [command, ...args], { cwd: folder, encoding: 'utf8' });
-  return { status, out: stdout, err: stderr };
-}
+/** Runs the command in a folder. */
+const record = (folder, args, command = join(HERE, 'record.mjs')) => run(process.execPath, [command, ...args], { cwd: folder });
 
 /** A program in a folder, made of a shell script. */
 function script(folder, name, text) {
@@ -48,7 +46,7 @@ const MISTAKES = [
   [['--mode', 'fast', BUFFERS, 'a', 'b'], /--mode fast: the modes are locked, buffered, free/],
   [['--wrong', 'stale-load', BUFFERS, 'a', 'b'], /--wrong needs --mode buffered or --mode free/],
   [['--wrong', 'fence', '--mode', 'free', BUFFERS, 'a', 'b'], /--wrong fence: expected plain-atomics, torn-store, stale-load/],
-  [['--engine', 'opera', BUFFERS, 'a', 'b'], /--engine opera: the engines are node, chromium, firefox/],
+  [['--engine', 'opera', BUFFERS, 'a', 'b'], /--engine opera: the engines are node, chromium, firefox, webkit/],
   [['--forbid', '0', BUFFERS, 'a', 'b'], /--forbid "0": 1 ends for 2 threads/],
   [['--want', '0 x', BUFFERS, 'a', 'b'], /--want "0 x": "x" is not an end; expected a value/],
   [['--want', '', BUFFERS, 'a', 'b'], /--want "": "" is not an end/],
@@ -58,8 +56,8 @@ const MISTAKES = [
   [[BUFFERS, 'a:1', 'b'], /start a:1: a takes 0 arguments, and 1 are given; write a$/],
   [[example('peterson'), 'work:x', 'work:1'], /start work:x: the argument "x" is not an integer/],
   [[example('peterson'), 'work:', 'work:1'], /start work:: the argument "" is not an integer/],
-  [[example('peterson'), 'work:4294967296', 'work:1'], /the argument 4294967296 is no i32; write an integer from -2147483648 to 4294967295/],
-  [[example('peterson'), 'work:-2147483649', 'work:1'], /the argument -2147483649 is no i32/],
+  [[example('peterson'), 'work:4294967296', 'work:1'], /the argument 4294967296 does not fit i32; write an integer from -2147483648 to 4294967295/],
+  [[example('peterson'), 'work:-2147483649', 'work:1'], /the argument -2147483649 does not fit i32/],
   [[BUFFERS, ...Array(17).fill('a')], /17 starts: a log has at most 16 threads/],
   [['nothing.wasm', 'a'], /cannot read nothing\.wasm: no such file/],
   [['.', 'a'], /cannot read \.: it is a folder/],
@@ -77,24 +75,37 @@ function testMistakes({ note, wmlab, folder }) {
   writeFileSync(join(folder, 'text.wasm'), 'no module\n');
   for (const [args, pattern] of MISTAKES) {
     const words = args.includes('--wmlab') ? args : ['--wmlab', wmlab, ...args];
-    const { status, out, err } = run(folder, words);
-    const isLine = /^record\.mjs: [^\n]+\n$/.test(err) && pattern.test(err.trim());
+    const ran = record(folder, words);
+    const isLine = /^record\.mjs: [^\n]+\n$/.test(ran.err) && pattern.test(ran.err.trim());
     const shown = args.map((word) => word.replace(/^.*\//, '')).join(' ');
-    note(status === 2 && out === '' && isLine, `refused in one line: ${shown}${isLine ? '' : `: status ${status}, ${err}`}`);
+    note(ran.status === 2 && ran.out === '' && isLine, `refused in one line: ${shown}`, ran);
   }
-  const help = run(folder, ['--help']);
-  note(help.status === 0 && help.out.includes('USAGE') && help.err === '', '--help prints the usage');
+  const help = record(folder, ['--help']);
+  note(help.status === 0 && help.out.includes('USAGE') && help.err === '', '--help prints the usage', help);
 }
 
 function testSuccess({ note, wmlab, folder }) {
-  const one = run(folder, ['--wmlab', wmlab, '--rounds', '2', '--out', 'logs', BUFFERS, 'a', 'b']);
-  note(one.status === 0 && /2 {2}allowed threads=2\n$/.test(one.out) && readdirSync(join(folder, 'logs')).length === 2, 'two rounds are recorded and kept');
-  const negative = run(folder, ['--wmlab', wmlab, '--rounds', '1', '--out', 'negative', example('own-store'), 'f:-65536', 'f:0x4']);
-  const log = readFileSync(join(folder, 'negative/0.json'), 'utf8');
-  note(negative.status === 0 && log.includes('["f",[4294901760],') && log.includes('["f",[4],'), 'negative arguments wrap');
+  const one = record(folder, ['--wmlab', wmlab, '--rounds', '2', '--out', 'logs', BUFFERS, 'a', 'b']);
+  const kept = [0, 1].map((round) => textOf(join(folder, `logs/${round}.json`)));
+  note(
+    one.status === 0 && /2 {2}allowed threads=2\n$/.test(one.out) && kept.every(Boolean),
+    'two rounds are recorded and kept',
+    one,
+  );
+  const negative = record(
+    folder,
+    ['--wmlab', wmlab, '--rounds', '1', '--out', 'negative', example('own-store'), 'f:-65536', 'f:0x4'],
+  );
+  const log = textOf(join(folder, 'negative/0.json'));
+  note(
+    negative.status === 0 && log.includes('["f",[4294901760],') && log.includes('["f",[4],'),
+    'negative arguments wrap',
+    negative,
+    log,
+  );
   symlinkSync(join(HERE, 'record.mjs'), join(folder, 'link.mjs'));
-  const linked = run(folder, ['--rounds', '0', BUFFERS, 'a'], join(folder, 'link.mjs'));
-  note(linked.status === 2, 'a link to the command is the command');
+  const linked = record(folder, ['--rounds', '0', BUFFERS, 'a'], join(folder, 'link.mjs'));
+  note(linked.status === 2, 'a link to the command is the command', linked);
 }
 
 /** The recorder looks for the program where the launcher finds it, and where it is installed. */
@@ -102,18 +113,25 @@ function testPlaces({ note, wmlab, folder }) {
   const top = join(folder, 'share/wmlab');
   mkdirSync(top, { recursive: true });
   cpSync(join(HERE, '..'), join(top, 'engines'), { recursive: true });
-  const copy = (...options) => run(folder, [...options, '--rounds', '1', BUFFERS, 'a', 'b'], join(top, 'engines/node/record.mjs'));
+  const copy = (...options) => record(folder, [...options, '--rounds', '1', BUFFERS, 'a', 'b'], join(top, 'engines/node/record.mjs'));
   const none = copy();
-  note(none.status === 2 && /^record\.mjs: there is no program wmlab yet: run \.\/wmlab --which[^\n]*\n$/.test(none.err), 'without a program one line says what to run');
+  note(
+    none.status === 2 && /^record\.mjs: there is no program wmlab yet: run \.\/wmlab --which[^\n]*\n$/.test(none.err),
+    'without a program one line says what to run',
+    none,
+  );
   mkdirSync(join(folder, 'bin'));
   script(join(folder, 'bin'), 'wmlab', `exec '${wmlab}' "$@"`);
-  note(copy().status === 0, 'the installed program is found');
+  const installed = copy();
+  note(installed.status === 0, 'the installed program is found', installed);
   rmSync(join(folder, 'bin'), { recursive: true });
   script(top, 'wmlab', `[ "$*" = --which ] && echo '${wmlab}'`);
-  note(copy().status === 2, 'a launcher without a program builds none for the recorder');
+  const unbuilt = copy();
+  note(unbuilt.status === 2, 'a launcher without a program builds none for the recorder', unbuilt);
   mkdirSync(join(top, '.built'));
   script(join(top, '.built'), 'quick', 'exit 3');
-  note(copy().status === 0, 'the program that the launcher names is found');
+  const named = copy();
+  note(named.status === 0, 'the program that the launcher names is found', named);
 }
 
 /** A folder of programs has to have starts for each. */
@@ -121,12 +139,12 @@ async function testStarts({ note, wmlab, folder }) {
   mkdirSync(join(folder, 'programs'));
   cpSync(example('own-store'), join(folder, 'programs/other.wasm'));
   const refusal = await programsOf(join(folder, 'programs'), wmlab).then(() => '', (error) => error.message);
-  note(/^other\.wasm: each exported function takes arguments/.test(refusal), 'a program without starts is an error');
+  note(/^other\.wasm: each exported function takes arguments/.test(refusal), 'a program without starts is an error', refusal);
 }
 
 const logNamed = (name) => `["wasm-litmus-log",2,[["${name}",[],["cut"],0,[]]],[]]`;
 
-/** A recorder whose rounds have these logs; an item that isn't a string is answered at the end. */
+/** A recorder whose rounds have these logs; an item that is not a string is answered at the end. */
 function played(rounds) {
   async function* logs(items) {
     for (const item of items) {
@@ -153,9 +171,15 @@ case $log in *broken*) echo 'broken V5 case 3 at 0.1'; exit 1 ;; *) echo 'allowe
   note(all.bad?.document === logNamed('broken 1'), 'a log is broken if each witness is refused');
   const end = (line) => ({ document: 'the events', line });
   const open = await judged([['broken 1', end(`${GAVE_UP}: gave up after 1 steps`)], [end(NONE_EXISTS)]]);
-  note(open.verdicts.counts.get(`${GAVE_UP}: gave up after 1 steps`) === 1 && open.verdicts.counts.get(NONE_EXISTS) === 1, 'a search that gave up and a certain answer are counted apart');
+  note(
+    open.verdicts.counts.get(`${GAVE_UP}: gave up after 1 steps`) === 1 && open.verdicts.counts.get(NONE_EXISTS) === 1,
+    'a search that gave up and a certain answer are counted apart',
+  );
   note(open.outcomes.counts.get('cut') === 2, 'the outcome of a round without a witness is counted');
-  note(open.bad?.number === 1 && open.bad.document === 'the events', 'its events are what is kept; a certain answer comes before a search that gave up');
+  note(
+    open.bad?.number === 1 && open.bad.document === 'the events',
+    'its events are what is kept; a certain answer comes before a search that gave up',
+  );
 }
 
 /** A search that is under way when the user stops is not waited for. */
@@ -182,7 +206,11 @@ async function testInterrupt({ note, wmlab, folder }) {
   child.kill('SIGINT');
   const status = await ended;
   const text = Buffer.concat(printed).toString();
-  note(status === 130 && /^outcomes\n[^]*\nverdicts\n *\d+ {2}allowed threads=2\nstopped after \d+ of 100000 rounds\n$/.test(text), 'Ctrl-C prints the tables so far');
+  note(
+    status === 130 && /^outcomes\n[^]*\nverdicts\n *\d+ {2}allowed threads=2\nstopped after \d+ of 100000 rounds\n$/.test(text),
+    'Ctrl-C prints the tables so far',
+    `status ${status}: ${text}`,
+  );
 }
 
 function testProgress({ note }) {

@@ -1,10 +1,10 @@
 /** The command line of engines/self. */
 
 import { readFileSync, writeFileSync } from 'node:fs';
-import { UserError, withFile } from '../node/errors.mjs';
-import { endsOf, json } from '../node/document.mjs';
-import { countOf, wordsOf } from '../node/options.mjs';
-import { ask, examine, findProgram } from '../node/wmlab.mjs';
+import { UserError, withFile } from '../shared/errors.mjs';
+import { endsOf, json } from '../shared/document.mjs';
+import { HELP, TEXT, countOf, wordsOf } from '../shared/command_line.mjs';
+import { ask, examine, findProgram } from '../shared/wmlab.mjs';
 import { readRecording } from './region.mjs';
 import { recordingModule } from './rewrite.mjs';
 
@@ -50,7 +50,8 @@ function writeModule([path], { out, events }) {
   const { bytes, layout, memory } = recordingModule(readModuleFile(path), { capacity: countOf('events', events, MOST_EVENTS) });
   if (!WebAssembly.validate(bytes)) throw new Error(`${path}: the module that records itself is not valid`);
   withFile(`write ${out}`, () => writeFileSync(out, bytes));
-  console.log(`it imports ${memory.module}.${memory.name}, a shared memory of ${layout.allPages} pages; its recording begins at byte ${layout.base}`);
+  const imported = `${memory.module}.${memory.name}, a shared memory of ${layout.allPages} pages`;
+  console.log(`it imports ${imported}; its recording begins at byte ${layout.base}`);
   return 0;
 }
 
@@ -84,20 +85,23 @@ export async function verdictOn(program, path, { document, ends }) {
 const COMMANDS = { module: [writeModule, 1], log: [printLog, 2], check: [checkLog, 2] };
 
 async function run(args) {
-  const text = { type: 'string' };
   const { values, positionals } = wordsOf({
     args,
     allowPositionals: true,
-    options: { out: { ...text, short: 'o' }, events: text, wmlab: text, help: { type: 'boolean', short: 'h' } },
+    options: { out: { ...TEXT, short: 'o' }, events: TEXT, wmlab: TEXT, ...HELP },
   });
   if (values.help) {
     process.stdout.write(USAGE);
     return 0;
   }
   const [command, ...files] = positionals;
-  if (!Object.hasOwn(COMMANDS, command ?? '')) throw new UserError(`command ${command ?? '(none)'}: expected module, log or check; --help prints the usage`);
+  if (!Object.hasOwn(COMMANDS, command ?? '')) {
+    throw new UserError(`command ${command ?? '(none)'}: expected module, log or check; --help prints the usage`);
+  }
   const [action, count] = COMMANDS[command];
-  if (files.length !== count) throw new UserError(`${command}: ${files.length} files are given; expected ${count}; --help prints the usage`);
+  if (files.length !== count) {
+    throw new UserError(`${command}: ${files.length} files are given; expected ${count}; --help prints the usage`);
+  }
   return action(files, { events: String(MOST_EVENTS), ...values });
 }
 

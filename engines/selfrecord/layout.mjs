@@ -1,5 +1,5 @@
 /**
- * Where a module that records itself keeps what it records: in its memory after the program's own pages. All numbers are
+ * The layout of what a module that records itself keeps in its memory, after the program's own pages. All numbers are
  * unsigned and little-endian; those without a width have 4 bytes.
  *
  * - The control page: the header, and from byte 64 on a row of 128 bytes for each thread.

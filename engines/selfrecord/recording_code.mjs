@@ -1,7 +1,7 @@
 /** The functions that a module which records itself has in addition: one for each kind of access, and one for each start. */
 
-import { s32, u32 } from '../node/binary.mjs';
-import { opcode, operandsOf, reads } from '../node/accesses.mjs';
+import { s32, u32 } from '../shared/binary.mjs';
+import { opcode, operandsOf, reads } from '../shared/accesses.mjs';
 import { EVENT, HEADER, KIND, MAGIC, MOST_THREADS, THREAD, VERSION } from './layout.mjs';
 
 const I32 = 0x7f, I64 = 0x7e;
@@ -34,7 +34,7 @@ function body(locals, ...code) {
 const lock = ({ base }) => [0x03, EMPTY, ...i32(0), ...i32(0), ...i32(1), 0xfe, 0x48, 2, ...u32(base + HEADER.lock), 0x0d, 0, 0x0b];
 const unlock = ({ base }) => [...i32(0), ...i32(0), 0xfe, 0x17, 2, ...u32(base + HEADER.lock)];
 
-/** A load of so many bytes as an i64, without a sign. */
+/** A load of the given number of bytes as an unsigned i64. */
 const LOADS = { 1: 0x31, 2: 0x33, 4: 0x35, 8: 0x29 };
 const loadLong = (width) => [LOADS[width], 0, 0];
 

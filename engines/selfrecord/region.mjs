@@ -1,8 +1,8 @@
 /** Reads what a module recorded of itself from the bytes of its memory. */
 
-import { UserError } from '../node/errors.mjs';
-import { documentOf } from '../node/document.mjs';
-import { cut } from '../node/accesses.mjs';
+import { UserError } from '../shared/errors.mjs';
+import { documentOf } from '../shared/document.mjs';
+import { cut } from '../shared/accesses.mjs';
 import { TYPE, readModule } from '../lowering/module.mjs';
 import { EVENT, HEADER, KIND, MAGIC, MOST_THREADS, PAGE_BYTES, THREAD, VERSION, layoutOf } from './layout.mjs';
 import { startsOf } from './rewrite.mjs';
@@ -11,12 +11,17 @@ import { startsOf } from './rewrite.mjs';
 function openRecording(module, memory) {
   const base = (module.memories[0]?.minimum ?? 0) * PAGE_BYTES;
   if (memory.length < base + PAGE_BYTES) {
-    throw new UserError(`the memory has ${memory.length} bytes; expected more than ${base + PAGE_BYTES}, all of the memory of a module that records itself`);
+    const least = `more than ${base + PAGE_BYTES}, all of the memory of a module that records itself`;
+    throw new UserError(`the memory has ${memory.length} bytes; expected ${least}`);
   }
   const view = new DataView(memory.buffer, memory.byteOffset, memory.length);
   const word = (offset) => view.getUint32(base + offset, true);
-  if (word(HEADER.magic) !== MAGIC) throw new UserError(`no recording begins at byte ${base}: no thread was started, or the memory is not that of this module`);
-  if (word(HEADER.version) !== VERSION) throw new UserError(`the recording has version ${word(HEADER.version)}; expected ${VERSION}`);
+  if (word(HEADER.magic) !== MAGIC) {
+    throw new UserError(`no recording begins at byte ${base}: no thread was started, or the memory is not that of this module`);
+  }
+  if (word(HEADER.version) !== VERSION) {
+    throw new UserError(`the recording has version ${word(HEADER.version)}; expected ${VERSION}`);
+  }
   const layout = layoutOf(base / PAGE_BYTES, word(HEADER.capacity));
   const counts = { threads: word(HEADER.threads), events: word(HEADER.events) };
   if (counts.threads > MOST_THREADS || counts.events > layout.capacity || memory.length < layout.allPages * PAGE_BYTES) {

@@ -3,9 +3,9 @@
  * writes an event into the memory after the program's pages. The memory is imported, so that several instances share it.
  */
 
-import { UserError } from '../node/errors.mjs';
-import { HEADER, SECTION, name, s32, section, u32, vector } from '../node/binary.mjs';
-import { accessOf, operandsOf, resultsOf } from '../node/accesses.mjs';
+import { UserError } from '../shared/errors.mjs';
+import { HEADER, SECTION, name, s32, section, u32, vector } from '../shared/binary.mjs';
+import { accessOf, operandsOf, resultsOf } from '../shared/accesses.mjs';
 import { CODE, featureOf, nameOf } from '../lowering/instructions.mjs';
 import { KIND, TYPE, constantOf, readModule } from '../lowering/module.mjs';
 import { constantOfType } from '../lowering/assembly.mjs';

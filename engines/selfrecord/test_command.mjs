@@ -1,11 +1,11 @@
 /** The command line of engines/self, and recordings that are not whole. */
 
-import { spawnSync } from 'node:child_process';
 import { mkdtempSync, readFileSync, rmSync, writeFileSync } from 'node:fs';
 import { tmpdir } from 'node:os';
 import { join } from 'node:path';
 import { fileURLToPath } from 'node:url';
-import { parseStart } from '../node/recorder.mjs';
+import { parseStart } from '../shared/starts.mjs';
+import { run } from '../testing/tally.mjs';
 import { EVENT, HEADER, layoutOf } from './layout.mjs';
 import { EXAMPLES, runInOrder } from './test_recordings.mjs';
 
@@ -14,7 +14,7 @@ const MODULE = join(EXAMPLES, 'c', 'treiber-stack.wasm');
 const STARTS = ['first', 'second'].map(parseStart);
 const NOT_LOWERED = fileURLToPath(new URL('../lowering/programs/blocks.wasm', import.meta.url));
 
-const run = (...words) => spawnSync(COMMAND, words, { encoding: 'utf8' });
+const self = (...words) => run(COMMAND, words);
 
 function testRefusals({ note, file, whole }) {
   const base = layoutOf(1, 1).base;
@@ -27,14 +27,15 @@ function testRefusals({ note, file, whole }) {
   const cases = [
     ['no words', []], ['an unknown command', ['record', MODULE]], ['one file too few', ['log', MODULE]],
     ['no output', ['module', MODULE]], ['no events', ['module', MODULE, '-o', file('a'), '--events', '0']],
-    ['what is no module', ['module', file('none.wasm'), '-o', file('a')]], ['a module that is not lowered', ['module', NOT_LOWERED, '-o', file('a')]],
+    ['a file that is not a module', ['module', file('none.wasm'), '-o', file('a')]], ['a module that is not lowered', ['module', NOT_LOWERED, '-o', file('a')]],
     ['a module that is not there', ['log', file('gone.wasm'), file('zeros')]], ['a memory that is not there', ['log', MODULE, file('gone')]],
     ['a memory of zeros', ['log', MODULE, file('zeros')]], ['a memory that is cut', ['log', MODULE, file('short')]],
     ['another version', ['log', MODULE, file('version')]], ['more events than there is room for', ['log', MODULE, file('events')]],
   ];
   for (const [what, words] of cases) {
-    const { status, stderr, stdout } = run(...words);
-    note(status === 2 && stdout === '' && /^self: [^\n]*\n$/.test(stderr), `refused with one line: ${what}: ${stderr.trim().slice(0, 70)}`);
+    const ran = self(...words);
+    const isLine = /^self: [^\n]*\n$/.test(ran.err);
+    note(ran.status === 2 && ran.out === '' && isLine, `refused in one line: ${what}: ${ran.err.trim().slice(0, 70)}`, ran);
   }
 }
 
@@ -44,21 +45,27 @@ export function testCommand({ note, wmlab }) {
   try {
     const whole = runInOrder(readFileSync(MODULE), STARTS);
     writeFileSync(file('memory'), whole);
-    const log = run('log', MODULE, file('memory'));
-    note(log.status === 0 && log.stdout.startsWith('["wasm-litmus-log",2,[["first",[],["cut"],0,'), 'the log of a memory is printed');
-    const checked = run('check', MODULE, file('memory'), '--wmlab', wmlab);
-    note(checked.status === 0 && /^allowed threads=2 events=\d+\n$/.test(checked.stdout), `a recording is checked: ${checked.stdout.trim()}`);
+    const log = self('log', MODULE, file('memory'));
+    const isLog = log.out.startsWith('["wasm-litmus-log",2,[["first",[],["cut"],0,');
+    note(log.status === 0 && isLog, 'the log of a memory is printed', log);
+    const checked = self('check', MODULE, file('memory'), '--wmlab', wmlab);
+    const isAllowed = /^allowed threads=2 events=\d+\n$/.test(checked.out);
+    note(checked.status === 0 && isAllowed, `a recording is checked: ${checked.out.trim()}`, checked);
     const { events } = layoutOf(1, 1);
     const wrong = Buffer.from(whole);
     wrong[events + EVENT.written]++;
     writeFileSync(file('wrong'), wrong);
-    const broken = run('check', MODULE, file('wrong'), '--wmlab', wmlab);
-    note(broken.status === 1 && /^broken replay thread 0 event 0/.test(broken.stdout), `a value that was changed is found: ${broken.stdout.trim()}`);
+    const broken = self('check', MODULE, file('wrong'), '--wmlab', wmlab);
+    const isFound = /^broken replay thread 0 event 0/.test(broken.out);
+    note(broken.status === 1 && isFound, `a value that was changed is found: ${broken.out.trim()}`, broken);
     writeFileSync(file('cut'), runInOrder(readFileSync(MODULE), STARTS, 5));
-    const cut = run('check', MODULE, file('cut'), '--wmlab', wmlab);
-    note(cut.status === 0 && cut.stdout === 'allowed threads=2 events=5\n', `threads are cut when no event is left: ${cut.stdout.trim()}`);
-    note(/--events/.test(run('log', MODULE, file('cut')).stderr), 'a recording that is full is noted');
-    note(run('module', MODULE, '-o', file('own.wasm')).status === 0 && WebAssembly.validate(readFileSync(file('own.wasm'))), 'a module is written');
+    const cut = self('check', MODULE, file('cut'), '--wmlab', wmlab);
+    const hasFive = cut.out === 'allowed threads=2 events=5\n';
+    note(cut.status === 0 && hasFive, `threads are cut when no event is left: ${cut.out.trim()}`, cut);
+    const full = self('log', MODULE, file('cut'));
+    note(/--events/.test(full.err), 'a recording that is full is noted', full);
+    const made = self('module', MODULE, '-o', file('own.wasm'));
+    note(made.status === 0 && WebAssembly.validate(readFileSync(file('own.wasm'))), 'a module is written', made);
     testRefusals({ note, file, whole });
   } finally {
     rmSync(folder, { recursive: true });

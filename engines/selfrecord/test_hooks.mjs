@@ -1,83 +1,36 @@
-/** The logs that the hooks of engines/node record in the mode locked, by a given schedule. */
+/** The logs that the recorder's hooks make in the mode locked, by a given schedule. */
 
-import { Worker } from 'node:worker_threads';
-import { documentOf, parse } from '../node/document.mjs';
-import { CONTROL, endOf, locked, writerOf } from '../node/modes.mjs';
-import { nativeAccesses, rewrite } from '../node/rewrite.mjs';
+import { parse } from '../shared/document.mjs';
+import { Recorder } from '../shared/recorder.mjs';
+import { startThread } from '../node/threads.mjs';
 
 /** The most events of a run. */
 export const EVENTS = 96;
 
-/** What an instance imports: the memory, under its names, and the hooks. */
-export const importing = ({ module, name }, memory, hooks = {}) => {
-  const imports = { recorder: { ...hooks } };
-  (imports[module] ??= {})[name] = memory;
-  return imports;
-};
+/** The item of a schedule by which a thread makes its next access, or comes to its end. */
+const turnOf = (thread) => 2 * thread;
 
-/** The arguments of a start in the form that JavaScript hands to WebAssembly, by the parameters of the function. */
-export const argumentsOf = ({ args }, parameters) => args.map((value, k) => (
-  parameters[k] === 'i64' ? BigInt.asIntN(64, value) : Number(BigInt.asIntN(32, value))));
-
-/** The arguments as a log has them. */
-const unsignedStart = ({ name, args }, parameters) => ({
-  name, args: args.map((value, k) => BigInt.asUintN(parameters[k] === 'i64' ? 64 : 32, value)),
-});
-
-/** What the threads of a hooked run share. */
-function hookedRun(bytes) {
-  const made = rewrite(bytes, 'hooked');
-  const { initial, maximum } = made.memory;
-  const memory = new WebAssembly.Memory({ initial, maximum, shared: true });
-  const control = new Int32Array(new SharedArrayBuffer(64));
-  const shadow = new Int32Array(new SharedArrayBuffer(4 * memory.buffer.byteLength));
-  control[CONTROL.left] = EVENTS;
-  const modules = { module: new WebAssembly.Module(made.bytes), native: new WebAssembly.Module(nativeAccesses(made.memory)) };
-  return { ...modules, memory, control, shadow, parameters: made.parameters, importedAs: made.memory };
+/** The log and the ends of one run by a schedule. */
+async function hookedRun(bytes, starts, schedule) {
+  const recorder = new Recorder(bytes, starts, { mode: 'locked', events: EVENTS }, startThread);
+  try {
+    return await recorder.round(0, schedule);
+  } finally {
+    await recorder.close();
+  }
 }
 
-/** One thread of a hooked run: its hooks note the events. Answers the function to call, without its arguments. */
-export function hookedThread({ module, native, memory, control, shadow, importedAs }, { thread, name }, gate = (hook) => hook) {
-  const events = [];
-  const accesses = new WebAssembly.Instance(native, { recorder: { memory } }).exports;
-  const { hooks } = locked({ thread, control, shadow, native: accesses, memory, random: () => 0, spread: 0, events });
-  const isEnd = (hook) => hook === 'exhausted' || hook === 'tired';
-  const gated = Object.fromEntries(Object.entries(hooks).map(([key, hook]) => [key, isEnd(key) ? hook : gate(hook)]));
-  const { exports } = new WebAssembly.Instance(module, importing(importedAs, memory, gated));
-  return { events, run: exports[name] };
+/** The run of the threads one after the other. */
+export function hookedInOrder(bytes, starts) {
+  // Turns of a thread that has ended are passed over.
+  return hookedRun(bytes, starts, starts.flatMap((_, thread) => Array(EVENTS + 1).fill(turnOf(thread))));
 }
 
-/** The document and the ends of threads, each `{ start, end, events }`. */
-function logOf(threads, parameters) {
-  const placed = threads.flatMap(({ events }, t) => events.map(({ place }, i) => [place, [t, i]])).sort(([a], [b]) => a - b);
-  const noted = threads.map(({ start, events }) => ({
-    start: unsignedStart(start, parameters.get(start.name)),
-    events: events.map(({ event, writers }) => ({ event, writers: writers.map(writerOf) })),
-  }));
-  return { document: documentOf(noted, placed.map(([, key]) => key)), ends: threads.map(({ end }) => end) };
-}
-
-/** The log of the threads one after the other. */
-export function hookedLog(bytes, starts) {
-  const shared = hookedRun(bytes);
-  const { parameters } = shared;
-  const made = starts.map((start, thread) => ({ start, ...hookedThread(shared, { thread, name: start.name }) }));
-  const ended = made.map((one) => ({ ...one, end: endOf(() => one.run(...argumentsOf(one.start, parameters.get(one.start.name)))) }));
-  return logOf(ended, parameters);
-}
-
-/** The log of the same threads as a recording, on workers that make their accesses in the order of the recording. */
-export async function hookedSchedule(bytes, { document, isFull }) {
-  const { parameters, ...shared } = hookedRun(bytes);
+/** The run of the same threads as a recording, with the accesses in the order of the recording. */
+export function hookedBySchedule(bytes, document) {
   const [, , rows, order] = parse(document);
   const starts = rows.map(([name, args]) => ({ name, args }));
-  const threads = await Promise.all(starts.map((start, thread) => new Promise((resolve, reject) => {
-    const places = order.flatMap(([t], place) => (Number(t) === thread ? [place] : []));
-    const args = argumentsOf(start, parameters.get(start.name));
-    const data = { ...shared, thread, name: start.name, args, places, isFull: isFull === true, threads: starts.length };
-    const worker = new Worker(new URL('./test_hooked_worker.mjs', import.meta.url), { workerData: data });
-    worker.once('message', ({ end, events }) => resolve({ start, end, events }));
-    worker.once('error', reject);
-  })));
-  return logOf(threads, parameters);
+  // One more turn for each thread: to its end, or to the access at which it traps or is cut.
+  const schedule = [...order.map(([thread]) => turnOf(Number(thread))), ...starts.map((_, thread) => turnOf(thread))];
+  return hookedRun(bytes, starts, schedule);
 }

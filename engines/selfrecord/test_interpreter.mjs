@@ -4,7 +4,7 @@ import { spawnSync } from 'node:child_process';
 import { mkdtempSync, rmSync, writeFileSync } from 'node:fs';
 import { tmpdir } from 'node:os';
 import { join } from 'node:path';
-import { rewrite } from '../node/rewrite.mjs';
+import { rewrite } from '../shared/rewrite.mjs';
 import { EVENT, HEADER, MOST_THREADS, PAGE_BYTES, THREAD } from './layout.mjs';
 import { recordingModule } from './rewrite.mjs';
 import { EVENTS } from './test_hooks.mjs';

@@ -1,16 +1,16 @@
-/** Records programs by themselves and by the hooks of engines/node, and compares the logs. */
+/** Records programs by themselves and by the recorder's hooks, and compares the logs. */
 
 import { readFileSync } from 'node:fs';
 import { fileURLToPath } from 'node:url';
 import { Worker } from 'node:worker_threads';
-import { parse } from '../node/document.mjs';
-import { programsOf } from '../node/programs.mjs';
-import { parseStart } from '../node/recorder.mjs';
-import { rewrite } from '../node/rewrite.mjs';
+import { parse } from '../shared/document.mjs';
+import { programsOf } from '../testing/programs.mjs';
+import { rewrite } from '../shared/rewrite.mjs';
+import { argumentsOf, parseStart } from '../shared/starts.mjs';
 import { verdictOn } from './command.mjs';
 import { readRecording } from './region.mjs';
 import { recordingModule } from './rewrite.mjs';
-import { EVENTS, argumentsOf, hookedLog, hookedSchedule, importing } from './test_hooks.mjs';
+import { EVENTS, hookedBySchedule, hookedInOrder } from './test_hooks.mjs';
 import { hasInterpreter, runInInterpreter } from './test_interpreter.mjs';
 
 export const EXAMPLES = fileURLToPath(new URL('../../examples', import.meta.url));
@@ -21,7 +21,7 @@ export function runInOrder(bytes, starts, capacity = EVENTS) {
   const { parameters } = rewrite(bytes, 'hooked');
   const memory = memoryOf(made);
   const module = new WebAssembly.Module(made.bytes);
-  const instances = starts.map(() => new WebAssembly.Instance(module, importing(made.memory, memory)));
+  const instances = starts.map(() => new WebAssembly.Instance(module, { [made.memory.module]: { [made.memory.name]: memory } }));
   for (const [thread, start] of starts.entries()) {
     try {
       instances[thread].exports[start.name](...argumentsOf(start, parameters.get(start.name)));
@@ -56,43 +56,42 @@ const haveSameEnds = (own, hooked) => own.every((end, thread) => (
   end ? end.join() === hooked[thread].join() : hooked[thread][0] !== 'done'));
 
 /** Compares both logs of the threads one after the other, and the results of the threads that were done. */
-function isSameInOrder(bytes, starts) {
-  const hooked = hookedLog(bytes, starts);
+async function isSameInOrder(bytes, starts) {
+  const hooked = await hookedInOrder(bytes, starts);
   const own = readRecording(bytes, runInOrder(bytes, starts));
   return { holds: own.document === hooked.document && haveSameEnds(own.ends, hooked.ends), events: parse(own.document)[3].length };
 }
 
 /** Compares the log of threads that ran at once with that of the hooks, which are held to the same order of accesses. */
 async function isSameBySchedule(bytes, recording) {
-  const hooked = await hookedSchedule(bytes, recording);
+  const hooked = await hookedBySchedule(bytes, recording.document);
   return recording.document === hooked.document && haveSameEnds(recording.ends, hooked.ends);
 }
 
-async function testProgram({ note, wmlab, rounds }, { name, path, starts: words }) {
+async function testProgram({ note, wmlab }, { name, path, starts: words }) {
   const bytes = readFileSync(path);
   const starts = words.map(parseStart);
-  const orders = [starts, [...starts].reverse()].map((order) => isSameInOrder(bytes, order));
+  const orders = await Promise.all([starts, [...starts].reverse()].map((order) => isSameInOrder(bytes, order)));
   note(orders.every(({ holds }) => holds), `${name}: the threads one after the other: the log is that of the hooks, in two orders`);
-  const verdicts = new Set();
-  let same = 0;
-  for (let round = 0; round < rounds; round++) {
-    const recording = readRecording(bytes, await runAtOnce(bytes, starts));
-    if (await isSameBySchedule(bytes, recording)) same++;
-    verdicts.add((await verdictOn(wmlab, path, recording)).replace(/ events=\d+$/, ''));
-  }
-  const isAllowed = [...verdicts].join() === `allowed threads=${starts.length}`;
-  note(isAllowed && same === rounds, `${name}: the threads at once: ${same} of ${rounds} logs are those of the hooks; ${[...verdicts].join('; ')}`);
+  const recording = readRecording(bytes, await runAtOnce(bytes, starts));
+  const isSame = await isSameBySchedule(bytes, recording);
+  const line = await verdictOn(wmlab, path, recording);
+  const isAllowed = line.startsWith(`allowed threads=${starts.length} `);
+  note(isAllowed && isSame, `${name}: the threads at once: the log is ${isSame ? '' : 'not '}that of the hooks; ${line}`);
   if (hasInterpreter) {
     const { document } = readRecording(bytes, runInInterpreter(bytes, starts));
-    note(document === hookedLog(bytes, starts).document, `${name}: the log that wabt's interpreter records is that of the hooks`);
+    note(
+      document === (await hookedInOrder(bytes, starts)).document,
+      `${name}: the log that wabt's interpreter records is that of the hooks`,
+    );
   }
   return orders[0].events + orders[1].events;
 }
 
-export async function testRecordings({ note, wmlab, rounds }) {
+export async function testRecordings({ note, leftOut, wmlab }) {
   const programs = await programsOf(EXAMPLES, wmlab);
   let events = 0;
-  for (const program of programs) events += await testProgram({ note, wmlab, rounds }, program);
-  if (!hasInterpreter) console.log('       wabt is not there: no engine without JavaScript was tried');
+  for (const program of programs) events += await testProgram({ note, wmlab }, program);
+  if (!hasInterpreter) leftOut('recordings by an engine without JavaScript', 'wast2json or spectest-interp is not installed');
   note(programs.length > 20 && events > 500, `${programs.length} programs, ${events} events of threads one after the other`);
 }

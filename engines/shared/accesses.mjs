@@ -53,7 +53,7 @@ export const opcode = (access) => (access.atomic ? [OP.atomic, access.code & 0xf
 
 const OPERANDS = { load: 0, store: 1, update: 1, exchange: 2 };
 
-/** The types of the operands behind the address. */
+/** The types of the operands after the address. */
 export const operandsOf = (access) => Array(OPERANDS[access.kind]).fill(access.type);
 
 /** The types of the results. */
@@ -61,11 +61,11 @@ export const resultsOf = (access) => (access.kind === 'store' ? [] : [access.typ
 
 export const reads = (access) => access.kind !== 'store';
 
-/** A whole number cut to so many bytes, without a sign. */
+/** The lowest `width` bytes of an integer, as an unsigned one. */
 export const cut = (value, width) => BigInt.asUintN(8 * width, BigInt(value));
 
 /** What an update writes. */
-export function updated({ operator, width }, read, operand) {
+function updated({ operator, width }, read, operand) {
   const whole = {
     add: read + operand, sub: read - operand, and: read & operand, or: read | operand, xor: read ^ operand, xchg: operand,
   };
@@ -79,8 +79,8 @@ export function loaded(access, read) {
 }
 
 /**
- * An access with its operands, as a hook gets them: the address, the operands and the offset. The effective address isn't
- * wrapped. A narrow access takes its operands cut to the width.
+ * An access with its operands, as a hook gets them: the address, the operands and the offset. The effective address is
+ * not wrapped. A narrow access takes its operands cut to the width.
  */
 export function operation(access, args) {
   const address = (args[0] >>> 0) + (args.at(-1) >>> 0);
@@ -88,13 +88,13 @@ export function operation(access, args) {
   return { access, address, operand, replacement };
 }
 
-/** Why the access traps, if it does. Where it is both unaligned and out of bounds, V8 says the latter, and the profile the former. */
+/** The trap of an access, or null. If it is both unaligned and out of bounds, V8 reports the latter, and the profile the former. */
 export function trapOf({ access, address }, size) {
   if (access.atomic && address % access.width) return 'unaligned';
   return address + access.width > size ? 'out-of-bounds' : null;
 }
 
-/** The event that the access makes where it reads this value, without its writers. */
+/** The event that the access makes if it reads this value, without its writers. */
 export function eventOf({ access, address, operand, replacement }, read) {
   const { kind, width } = access;
   const order = access.atomic ? 'sc' : 'un';

@@ -5,10 +5,10 @@
 
 import { UserError } from './errors.mjs';
 
-/** A part of a module that can't be rewritten. */
+/** A part of a module that cannot be rewritten. */
 export class NotRecorded extends UserError {
   constructor(what) {
-    super(`${what} isn't recorded`);
+    super(`${what} cannot be recorded`);
   }
 }
 

@@ -1,4 +1,4 @@
-/** The log document, version 2: JSON of arrays, texts and whole numbers of any size. */
+/** The log document, version 2: JSON of arrays, strings and integers of any size. */
 
 /** JSON of a value in which numbers may be BigInts. */
 export function json(value) {
@@ -6,7 +6,7 @@ export function json(value) {
   return typeof value === 'string' ? JSON.stringify(value) : String(value);
 }
 
-/** A value of JSON, with each whole number as a BigInt: a number of 64 bits doesn't fit a JavaScript number. */
+/** A value of JSON, with each integer as a BigInt, since 64 bits do not fit a JavaScript number. */
 export function parse(text) {
   const tagged = text.replace(/"(?:[^"\\]|\\.)*"|-?\d+/g, (token) => (token[0] === '"' ? token : `{"n":"${token}"}`));
   return JSON.parse(tagged, (_, value) => (typeof value?.n === 'string' ? BigInt(value.n) : value));

@@ -56,7 +56,7 @@ export async function keep(judge, path, found) {
 }
 
 /** What has to hold for a smaller run: the condition, or a verdict that begins as the one found. */
-export const holdsFor = (condition, line) => (outcome, answer) => {
+const holdsFor = (condition, line) => (outcome, answer) => {
   if (condition) return satisfies(outcome, condition) && answer.line.startsWith(line.split(' ')[0]);
   return answer.line.split(' ', 2).join(' ') === line.split(' ', 2).join(' ');
 };

@@ -11,7 +11,7 @@ const withoutWriters = (event) => {
 };
 
 /** The threads of a document of version 2, each with its start, and its events without writers. */
-export const threadsOf = (document) => parse(document)[2].map(([name, args, , , events]) => (
+const threadsOf = (document) => parse(document)[2].map(([name, args, , , events]) => (
   { start: { name, args }, events: events.map(withoutWriters) }));
 
 /**

@@ -107,7 +107,7 @@ export class Machine {
     this.threads = threads.map((events) => events.map((event) => prepared(event, weak)));
     this.overview = new Overview(this.threads);
     this.bytes = initial.slice();
-    this.writerAt = new Map(); // byte address to the event that wrote it, where that isn't the initial memory
+    this.writerAt = new Map(); // byte address to the event that wrote it, if that is not the initial memory
     this.hash = new Hash();
     const zeros = () => threads.map(() => 0);
     this.next = zeros(); // the number of each thread's next event

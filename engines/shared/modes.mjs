@@ -14,7 +14,7 @@ import { ACCESSES, eventOf, loaded, operation, reads, cut, trapOf } from './acce
 import { Cut, Turns, nextRandom } from './turns.mjs';
 
 /** A trap of the profile, by its name in the log. */
-export class Trap extends Error {}
+class Trap extends Error {}
 
 /** How a shadow names event `number` of a thread; 0 is the initial memory. */
 const EVENTS = 65_536;
@@ -40,7 +40,7 @@ const bytesAt = (bytes, address, width) => {
   return value;
 };
 
-/** Makes an access by the engine. Where it is both unaligned and out of bounds the engine's trap is the other one. */
+/** Makes an access by the engine. If it is both unaligned and out of bounds, the engine's trap is the other one. */
 function natively(native, made, args, size) {
   if (made.address > 0xffff_ffff) refuse(made, size);
   try {
@@ -203,7 +203,7 @@ export function free({ limit, values, wrong, native, control }) {
 
 /**
  * No memory at all: the values to be read come from a list, so that a thread of the free mode can be run again for its
- * events. Where it was cut after its last read it is cut there again.
+ * events. If it was cut after its last read, it is cut there again.
  */
 export function again({ values, wasCut, size, events }) {
   let next = 0;
@@ -219,7 +219,7 @@ export function again({ values, wasCut, size, events }) {
   return { hooks: hooksFor((access) => (...args) => make(access, args)), finish() {} };
 }
 
-/** The messages of V8 and of SpiderMonkey, and the traps of the log. */
+/** The messages of V8, SpiderMonkey and JavaScriptCore in small letters, and the traps of the log. */
 const TRAPS = {
   unreachable: 'unreachable',
   'divide by zero': 'divide-by-zero',
@@ -232,7 +232,14 @@ const TRAPS = {
   'integer overflow': 'overflow',
   'index out of bounds': 'out-of-bounds',
   'unaligned memory access': 'unaligned',
+  'unreachable code should not be executed': 'unreachable',
+  'division by zero': 'divide-by-zero',
+  'out of bounds memory access': 'out-of-bounds',
 };
+
+/** The trap that an error of the engine is, if it is one. JavaScriptCore adds to its messages what it evaluated. */
+const trapNamed = (error) => (
+  error instanceof WebAssembly.RuntimeError ? TRAPS[error.message.replace(/ \(evaluating [^]*\)$/, '').toLowerCase()] : undefined);
 
 /** How a call ended, in the form of a log. */
 export function endOf(call) {
@@ -243,7 +250,8 @@ export function endOf(call) {
   } catch (error) {
     if (error instanceof Cut) return ['cut'];
     if (error instanceof Trap) return ['trap', error.message];
-    if (error instanceof WebAssembly.RuntimeError && TRAPS[error.message]) return ['trap', TRAPS[error.message]];
+    const trap = trapNamed(error);
+    if (trap) return ['trap', trap];
     throw error;
   }
 }

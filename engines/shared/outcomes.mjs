@@ -12,7 +12,7 @@ const TRAPS = ['unreachable', 'divide-by-zero', 'overflow', 'out-of-bounds', 'un
 const END = new RegExp(`^(\\*|-|\\d+|cut|trap:(${TRAPS.join('|')}))$`);
 
 /** A condition of this option: an end for each thread, `*` for any. */
-export function conditionOf(option, text, threads) {
+function conditionOf(option, text, threads) {
   const ends = text.trim().split(/\s+/);
   const wrong = ends.find((end) => !END.test(end));
   if (wrong !== undefined) {

@@ -47,8 +47,9 @@ code, summary { overflow-wrap: anywhere; }
 .good { color: var(--good); }
 details { border: 1px solid var(--line); border-radius: .3rem; margin: .4rem 0; padding: .3rem .6rem; }
 summary { cursor: pointer; }
-pre { font-size: .85rem; }
+pre { font-size: .85rem; white-space: pre-wrap; }
 .picture { background: white; }
+@media (max-width: 40rem) { body { padding: .5rem; } td, th { padding-right: .3rem; } td.count { width: 3rem; } }
 .picture svg { max-width: 100%; height: auto; }
 `;
 
@@ -77,7 +78,8 @@ ${svg ? pictureOf(svg) : '<p>No picture.</p>'}</details>`;
 
 /** The part of the page on one campaign. */
 function campaignPart(data) {
-  const limits = `${data.checked} of ${data.rounds} rounds${data.isStopped ? ', stopped' : ''}, at most ${data.events} events, seed ${data.seed}`;
+  const rounds = `${data.checked} of ${data.rounds} rounds${data.isStopped ? ', stopped' : ''}`;
+  const limits = `${rounds}, at most ${data.events} events, seed ${data.seed}`;
   const conditions = data.conditions.map(({ line, fails }) => `<li>${marked(!fails, line)}</li>`).join('');
   return `<h2 id="${escaped(data.name)}">${escaped(data.program)}, ${escaped(data.mode)}, ${escaped(data.engine)}</h2>
 <p>Threads: ${data.starts.map((start) => `<code>${escaped(start)}</code>`).join(' ')}. ${escaped(limits)}.
@@ -89,16 +91,22 @@ ${conditions ? `<h3>Conditions</h3><ul>${conditions}</ul>` : ''}
 <h3>Kept logs</h3>${data.kept.map(keptPart).join('\n') || '<p>None.</p>'}`;
 }
 
+/** What came of a campaign in a few words: its verdicts, and the conditions that failed. */
+function resultOf({ isAllowed, conditions }) {
+  const failed = conditions.filter(({ fails }) => fails).length;
+  const verdicts = marked(isAllowed, isAllowed ? 'all allowed' : 'not all allowed');
+  return failed ? `${verdicts}, ${marked(false, `${failed} ${failed === 1 ? 'condition' : 'conditions'} failed`)}` : verdicts;
+}
+
 function overview(all) {
-  const row = (data) => `<tr><td><a href="#${escaped(data.name)}">${escaped(data.program)}</a></td><td>${escaped(data.mode)}</td>`
-    + `<td>${escaped(data.version)}</td><td>${data.checked}</td><td>${data.outcomes.length}</td>`
-    + `<td>${marked(data.isAllowed, data.isAllowed ? 'all allowed' : 'not all allowed')}</td></tr>`;
-  const heads = ['Program', 'Mode', 'Engine', 'Logs', 'Outcomes', 'Verdicts'].map((head) => `<th>${head}</th>`).join('');
+  const row = (data) => `<tr><td><a href="#${escaped(data.name)}">${escaped(data.program)}</a></td><td>${resultOf(data)}</td>`
+    + `<td>${escaped(data.mode)}</td><td>${escaped(data.engine)}</td><td>${data.checked}</td><td>${data.outcomes.length}</td></tr>`;
+  const heads = ['Program', 'Result', 'Mode', 'Engine', 'Logs', 'Outcomes'].map((head) => `<th>${head}</th>`).join('');
   return `<div class="wide"><table><tr>${heads}</tr>${all.map(row).join('\n')}</table></div>`;
 }
 
 /** The page of these campaigns. */
-export function pageOf(all) {
+function pageOf(all) {
   const logs = all.reduce((sum, { checked }) => sum + checked, 0);
   return `<!doctype html>
 <html lang="en"><head><meta charset="utf-8"><meta name="viewport" content="width=device-width, initial-scale=1">

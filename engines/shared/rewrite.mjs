@@ -4,7 +4,7 @@
  * - in the style `hooked` each access becomes a call of a function `recorder.<access>(address, operands.., offset)`;
  * - in the style `noted` accesses stay as they are, and each value that one reads goes through `recorder.note_<type>`.
  *
- * In both, a call where 256 calls are active ends the thread (V8 allows more), and so does a thread that enters too many
+ * In both, a call while 256 calls are active ends the thread (V8 allows more), and so does a thread that enters too many
  * loops and functions without an end (`recorder.exhausted`, `recorder.tired`).
  */
 
@@ -20,7 +20,7 @@ const functionType = (params, results) => {
   return [0x60, ...types(params), ...types(results)];
 };
 
-/** The memory's limits as they stand in the module, and as numbers. */
+/** The memory's limits as bytes of the module, and as numbers. */
 function limitsOf(reader) {
   const at = reader.at;
   const flags = reader.byte();
@@ -29,7 +29,7 @@ function limitsOf(reader) {
   return { bytes: [...reader.bytes.subarray(at, reader.at)], initial, maximum };
 }
 
-/** How many functions and globals are imported, and the memory, wherever it stands. */
+/** How many functions and globals are imported, and the memory, imported or not. */
 function outside(sections) {
   const found = { functions: 0, globals: 0, memory: null, isImported: false };
   const imports = sections.get(SECTION.imports)?.();
@@ -76,7 +76,7 @@ class CodeRewriter {
     return [OP.globalGet, ...u32(global), OP.i32Const, ...s32(amount), OP.i32Add, OP.globalSet, ...u32(global)];
   }
 
-  /** Ends the thread by a hook that throws, where a global has reached a limit. */
+  /** Ends the thread by a hook that throws, if a global has reached a limit. */
   endAt(global, limit, hookName) {
     return [
       OP.globalGet, ...u32(global), OP.i32Const, ...s32(limit), OP.i32GeU, OP.if, OP.empty,
@@ -84,7 +84,7 @@ class CodeRewriter {
     ];
   }
 
-  /** What stands at the head of each loop and function. */
+  /** The code at the head of each loop and function. */
   turn() {
     return [...this.add(this.turns, 1), ...this.endAt(this.turns, this.limit, 'tired')];
   }
@@ -146,7 +146,7 @@ class CodeRewriter {
   }
 }
 
-/** A section with items behind its own. */
+/** A section with items after its own. */
 function longer(sections, id, items) {
   const reader = sections.get(id)?.();
   const count = reader?.u32() ?? 0;

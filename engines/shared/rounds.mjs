@@ -18,7 +18,7 @@ function comesFirst(one, other) {
  * The tables of outcomes and verdicts; `bad`, the log to look at first, if one is not allowed: the first by round (a search
  * that gave up is shown only if no log is at fault); and `first`, the first round of each outcome.
  */
-export class Results {
+class Results {
   outcomes = new Table();
   verdicts = new Table();
   first = new Map();

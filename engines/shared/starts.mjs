@@ -32,7 +32,7 @@ function unsigned(value, type, name) {
   const bits = type === 'i64' ? 64 : 32;
   const least = -(1n << BigInt(bits - 1)), most = (1n << BigInt(bits)) - 1n;
   if (value < least || value > most) {
-    throw new UserError(`start ${name}: the argument ${value} is no ${type}; write an integer from ${least} to ${most}`);
+    throw new UserError(`start ${name}: the argument ${value} does not fit ${type}; write an integer from ${least} to ${most}`);
   }
   return BigInt.asUintN(bits, value);
 }

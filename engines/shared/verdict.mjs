@@ -1,6 +1,6 @@
 /** The verdict on a round: that on its log, or on the witnesses of its events, one after the other. */
 
-/** How the line of a round begins whose search ended at a limit. It is no statement about the engine. */
+/** The beginning of the line of a round whose search ended at a limit. The line says nothing about the engine. */
 export const GAVE_UP = 'no witness found';
 
 /** The line of a round whose events no interleaving of the machines of `witness.mjs` gives. */
@@ -10,7 +10,7 @@ export const NONE_EXISTS = 'no witness exists on a machine with store buffers';
 const isBrokenByRule = (line) => /^broken V\d/.test(line);
 
 /**
- * The first answer to a round's logs that another witness can't change; null if it was stopped before. `logs` yields
+ * The first answer to a round's logs that another witness cannot change; null if it was stopped before. `logs` yields
  * documents of the same events, and at its end answers why there is no further one: null if the last one was the only one,
  * else a document of the events alone with a line.
  *

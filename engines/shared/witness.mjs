@@ -5,11 +5,11 @@
 
 import { Machine } from './machine.mjs';
 
-/** The most choices of one search, and how long one slice of it keeps all else waiting, in milliseconds. */
+/** The most choices of one search, and how long one slice of it keeps everything else waiting, in milliseconds. */
 const STEPS = 2_000_000;
 const SLICE = 50;
 
-/** Lets all else go on: node has `setImmediate`, and a browser only `setTimeout`. */
+/** Lets everything else go on: node has `setImmediate`, and a browser only `setTimeout`. */
 const pause = () => new Promise((resolve) => { (globalThis.setImmediate ?? setTimeout)(resolve); });
 
 /** Numbers in [0, 1) that look random, the same ones for the same seed; for the seed 0 always 0. */
@@ -124,9 +124,9 @@ const OTHER_SEARCHES = 6;
  * machine on which atomic accesses are made at once, and if it gives none, those of a machine on which atomic loads and
  * stores are made as plain ones, which is what a wrong engine does.
  *
- * With `isStrict` only the first machine is tried. At its end it answers `{ gaveUp }`: null if the searches were exhaustive, else the limit at which the first machine's
- * search ended, or the second one's if nothing was found. `steps` is the most choices of a search; `seconds` how long all
- * searches of the round take together.
+ * With `isStrict` only the first machine is tried. At its end it answers `{ gaveUp }`: null if the searches were exhaustive, else
+ * the limit at which the first machine's search ended, or the second one's if nothing was found. `steps` is the most choices of a
+ * search; `seconds` how long all searches of the round take together.
  */
 export async function* witnessesOf(threads, initial, limits = {}) {
   const budget = new Budget(limits);
@@ -137,7 +137,7 @@ export async function* witnessesOf(threads, initial, limits = {}) {
       const search = new Search(threads, initial, { weak, seed, budget });
       const answer = await search.run();
       if (answer !== 'found') {
-        // That a search with other choices gave up is no news where the first one found a witness.
+        // If the first search found a witness, it does not matter that one with other choices gave up.
         if (answer !== 'none' && seed === 0) gaveUp ??= answer;
         break;
       }

@@ -176,7 +176,7 @@ export class Judge {
 
   /**
    * Completes a document and asks for its verdict, and compares the ends that the engine gave with those of the module's runs.
-   * Answers the completed document (the one given, if it can't be completed) and the verdict's line.
+   * Answers the completed document (the one given, if it cannot be completed) and the verdict's line.
    */
   async judge(document, ends) {
     const completed = await this.complete(document);

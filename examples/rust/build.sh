@@ -1,10 +1,10 @@
 #!/usr/bin/env bash
-# Makes modules that wmlab reads of Rust programs, with Debian's rustc, libstd-rust-dev-wasm32 and wabt's wasm-objdump,
-# and engines/lower.
+# Makes modules that wmlab takes out of Rust programs, with Debian's rustc and libstd-rust-dev-wasm32, wasm-objdump and
+# engines/lower.
 #   examples/rust/build.sh                         each program here
 #   examples/rust/build.sh SOURCE.rs OUT.wasm      one program
-# The compiler is /usr/bin/rustc, or the one that RUSTC names. A line `// lower: OPTIONS` of a source has options
-# for engines/lower. The status is 2 if the compiler made the atomic accesses of a program plain
+# The compiler is /usr/bin/rustc, or the one that RUSTC names. A line `// lower: OPTIONS` of a source has options for
+# engines/lower. The status is 2 if a tool is missing, or if the compiler made the atomic accesses of a program plain
 # ones; then there is no module.
 set -euo pipefail
 here=$(cd "$(dirname "${BASH_SOURCE[0]}")" && pwd)
@@ -50,10 +50,13 @@ build() {
         sed "s,^,$(basename "$source"): ,"
 }
 
-if [ ! -x "$rustc" ]; then
-    echo "build.sh: there is no $rustc: apt-get install rustc libstd-rust-dev-wasm32" >&2
-    exit 2
-elif [ $# -eq 2 ]; then
+for tool in "$rustc" wasm-objdump node; do
+    if ! command -v "$tool" >/dev/null; then
+        echo "build.sh: there is no $tool: apt-get install rustc libstd-rust-dev-wasm32 wabt nodejs" >&2
+        exit 2
+    fi
+done
+if [ $# -eq 2 ]; then
     build "$1" "$2"
 elif [ $# -eq 0 ]; then
     for source in "$here"/*.rs; do

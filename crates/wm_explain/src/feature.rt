@@ -1,51 +1,62 @@
 //! Parts of WebAssembly that are not supported, by their names, and what to do about them.
 
-use std::fmt;
+use crate::instruction::Opcode;
 use wm_decode::Feature;
 
-/// What a module uses that is not supported.
-#[derive(Clone, Copy)]
-pub(crate) struct UnsupportedSentence<'a> {
+/// A part of WebAssembly that is not supported, by its name in the field.
+#[derive(Clone, Copy, PartialEq, Eq)]
+pub(crate) struct Part {
     pub feature: Feature,
-    /// The bytes of the module from the faulty one on.
-    pub bytes: &'a [u8],
+    pub name: &'static str,
 }
 
-/// The name of an instruction with the prefix `FE` that is not supported.
-fn atomic_name(code: u8) -> Option<&'static str> {
+impl Part {
+    /// The part of this name.
+    pub(crate) fn named(feature: Feature, name: &'static str) -> Part {
+        Part { feature, name }
+    }
+
+    /// A feature as a whole.
+    pub(crate) fn of(feature: Feature) -> Part {
+        Part::named(feature, feature_name(feature))
+    }
+}
+
+/// An instruction with the prefix `FE` that is not supported.
+fn atomic_part(code: usize) -> Option<Part> {
     match code {
-        0x00 => Some("memory.atomic.notify"),
-        0x01 => Some("memory.atomic.wait32"),
-        0x02 => Some("memory.atomic.wait64"),
-        0x03 => Some("atomic.fence"),
-        0x4A => Some("i32.atomic.rmw8.cmpxchg_u"),
-        0x4B => Some("i32.atomic.rmw16.cmpxchg_u"),
-        0x4C => Some("i64.atomic.rmw8.cmpxchg_u"),
-        0x4D => Some("i64.atomic.rmw16.cmpxchg_u"),
-        0x4E => Some("i64.atomic.rmw32.cmpxchg_u"),
+        0x00 => Some(Part::named(Feature::Notify, "memory.atomic.notify")),
+        0x01 => Some(Part::named(Feature::Wait, "memory.atomic.wait32")),
+        0x02 => Some(Part::named(Feature::Wait, "memory.atomic.wait64")),
+        0x03 => Some(Part::named(Feature::Fence, "atomic.fence")),
+        0x4A => Some(Part::named(Feature::NarrowCmpxchg, "i32.atomic.rmw8.cmpxchg_u")),
+        0x4B => Some(Part::named(Feature::NarrowCmpxchg, "i32.atomic.rmw16.cmpxchg_u")),
+        0x4C => Some(Part::named(Feature::NarrowCmpxchg, "i64.atomic.rmw8.cmpxchg_u")),
+        0x4D => Some(Part::named(Feature::NarrowCmpxchg, "i64.atomic.rmw16.cmpxchg_u")),
+        0x4E => Some(Part::named(Feature::NarrowCmpxchg, "i64.atomic.rmw32.cmpxchg_u")),
         _ => None,
     }
 }
 
 /// The name of an instruction with the prefix `FC`.
-fn bulk_name(code: u8) -> Option<&'static str> {
+fn bulk_name(code: usize) -> &'static str {
     match code {
-        0x00..=0x07 => Some("a saturating conversion of a float"),
-        0x08 => Some("memory.init"),
-        0x09 => Some("data.drop"),
-        0x0A => Some("memory.copy"),
-        0x0B => Some("memory.fill"),
-        0x0C => Some("table.init"),
-        0x0D => Some("elem.drop"),
-        0x0E => Some("table.copy"),
-        0x0F => Some("table.grow"),
-        0x10 => Some("table.size"),
-        0x11 => Some("table.fill"),
-        _ => None,
+        0x00..=0x07 => "a saturating conversion of a float",
+        0x08 => "memory.init",
+        0x09 => "data.drop",
+        0x0A => "memory.copy",
+        0x0B => "memory.fill",
+        0x0C => "table.init",
+        0x0D => "elem.drop",
+        0x0E => "table.copy",
+        0x0F => "table.grow",
+        0x10 => "table.size",
+        0x11 => "table.fill",
+        _ => "an instruction with the prefix fc",
     }
 }
 
-/// The name of an instruction of the proposals for tail calls and exceptions, or of their section.
+/// The name of an instruction for tail calls or exceptions.
 fn reserved_name(code: u8) -> Option<&'static str> {
     match code {
         0x06 => Some("try"),
@@ -53,12 +64,24 @@ fn reserved_name(code: u8) -> Option<&'static str> {
         0x08 => Some("throw"),
         0x09 => Some("rethrow"),
         0x0A => Some("throw_ref"),
-        0x0D => Some("a section of exception tags"),
         0x12 => Some("return_call"),
         0x13 => Some("return_call_indirect"),
         0x18 => Some("delegate"),
         0x19 => Some("catch_all"),
         0x1F => Some("try_table"),
+        _ => None,
+    }
+}
+
+/// The name of an instruction on references or tables.
+fn reference_name(code: u8) -> Option<&'static str> {
+    match code {
+        0x1C => Some("select with a type"),
+        0x25 => Some("table.get"),
+        0x26 => Some("table.set"),
+        0xD0 => Some("ref.null"),
+        0xD1 => Some("ref.is_null"),
+        0xD2 => Some("ref.func"),
         _ => None,
     }
 }
@@ -75,7 +98,56 @@ fn extension_name(code: u8) -> Option<&'static str> {
     }
 }
 
-/// The name of a part of WebAssembly that is more than one instruction.
+/// Whether an instruction takes or gives a float.
+fn is_float(code: u8) -> bool {
+    matches!(
+        code,
+        0x2A | 0x2B | 0x38 | 0x39 | 0x43 | 0x44 | 0x5B..=0x66 | 0x8B..=0xA6 | 0xA8..=0xAB | 0xAE..=0xBF
+    )
+}
+
+/// The part that an instruction without a prefix is of; None if it is supported, or none is known.
+fn plain_part(code: u8) -> Option<Part> {
+    if is_float(code) {
+        return Some(Part::of(Feature::Floats));
+    }
+    if let Some(name) = reserved_name(code) {
+        return Some(Part::named(Feature::Reserved, name));
+    }
+    if let Some(name) = reference_name(code) {
+        return Some(Part::named(Feature::References, name));
+    }
+    if let Some(name) = extension_name(code) {
+        return Some(Part::named(Feature::SignExtension, name));
+    }
+    match code {
+        0x11 => Some(Part::named(Feature::Table, "call_indirect")),
+        0x40 => Some(Part::of(Feature::Growth)),
+        _ => None,
+    }
+}
+
+/// The part that an instruction is of; None if it is supported, or none is known.
+pub(crate) fn unsupported_part(opcode: Opcode) -> Option<Part> {
+    match opcode.byte {
+        0xFC => Some(Part::named(Feature::PrefixFC, bulk_name(opcode.code))),
+        0xFD => Some(Part::of(Feature::Simd)),
+        0xFE => atomic_part(opcode.code),
+        byte => plain_part(byte),
+    }
+}
+
+/// The part that a value type is of; None if it is supported, or none is known.
+pub(crate) fn unsupported_type(byte: u8) -> Option<Part> {
+    match byte {
+        0x7C | 0x7D => Some(Part::of(Feature::Floats)),
+        0x7B => Some(Part::of(Feature::Simd)),
+        0x6F | 0x70 => Some(Part::of(Feature::References)),
+        _ => None,
+    }
+}
+
+/// The name of a feature.
 fn feature_name(feature: Feature) -> &'static str {
     match feature {
         Feature::Wait => "memory.atomic.wait32 or memory.atomic.wait64",
@@ -101,58 +173,32 @@ fn feature_name(feature: Feature) -> &'static str {
     }
 }
 
-/// What to do about it.
-fn remedy(feature: Feature) -> &'static str {
+/// What to do about a feature.
+pub(crate) fn remedy(feature: Feature) -> &'static str {
     match feature {
         Feature::Wait => "Load the value in a loop instead",
         Feature::Notify => "Leave it out: without wait no thread sleeps",
-        Feature::Fence => "Leave it out: each atomic access is sequentially consistent",
-        Feature::Growth => "Declare the memory with all its pages",
-        Feature::NarrowCmpxchg => "Use a compare-exchange of the whole type",
+        Feature::Fence =>
+            "Leave it out: each atomic access is sequentially consistent; engines/lower drops it",
+        Feature::Growth => "Declare the memory with all its pages; engines/lower makes it fail",
+        Feature::NarrowCmpxchg => "Use a compare-exchange of the whole type: of 32 bits on an i32",
         Feature::Floats => "Use i32 or i64",
-        Feature::Table => "Call functions directly",
-        Feature::Start => "Export the function and let a thread start with it",
+        Feature::Table => "Call functions directly, or rewrite the module by engines/lower",
+        Feature::Start =>
+            "Export the function and let a thread start with it, or rewrite the module by engines/lower",
         Feature::Import => "Define it in the module, or leave it out",
         Feature::UnsharedMemory => "Declare the memory as shared, with a maximum",
         Feature::SeveralMemories => "Keep one memory",
         Feature::MultiValue => "Compile with -mno-multivalue",
-        Feature::SignExtension => "Compile with -mcpu=mvp",
-        Feature::PrefixFC => "Compile with -mcpu=mvp and -fno-builtin",
-        Feature::PassiveData => "Use an active data segment",
+        Feature::SignExtension => "Compile with -mcpu=mvp, or rewrite the module by engines/lower",
+        Feature::PrefixFC =>
+            "Compile with -mcpu=mvp and -fno-builtin; engines/lower rewrites memory.copy and memory.fill",
+        Feature::PassiveData =>
+            "Use an active data segment, or rewrite the module by engines/lower",
         Feature::DataMemoryIndex => "Use a data segment without the index",
         Feature::Simd => "Compile without -msimd128",
         Feature::References => "Compile with -mcpu=mvp",
         Feature::Reserved => "Compile with -mno-tail-call and -fno-exceptions",
         Feature::ConstExpression => "Use one i32.const or i64.const",
-    }
-}
-
-impl UnsupportedSentence<'_> {
-    /// The name of the instruction at the fault, if it is one that can be named.
-    fn instruction(&self) -> Option<&'static str> {
-        match (self.feature, self.bytes) {
-            (
-                Feature::Wait | Feature::Notify | Feature::Fence | Feature::NarrowCmpxchg,
-                [0xFE, code, ..],
-            ) => atomic_name(*code),
-            (Feature::PrefixFC, [0xFC, code, ..]) => bulk_name(*code),
-            (Feature::Reserved, [code, ..]) => reserved_name(*code),
-            (Feature::SignExtension, [code, ..]) => extension_name(*code),
-            (_, _) => None,
-        }
-    }
-}
-
-impl fmt::Display for UnsupportedSentence<'_> {
-    fn fmt<W: fmt::Write>(&self, f: &mut fmt::Formatter<W>) -> fmt::Result {
-        let name = match self.instruction() {
-            Some(name) => name,
-            None => feature_name(self.feature),
-        };
-        let remedy = remedy(self.feature);
-        write!(
-            f,
-            "The module uses {name}, which isn't supported. {remedy}."
-        )
     }
 }

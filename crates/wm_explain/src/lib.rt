@@ -2,14 +2,17 @@
 #![tactic(auto)]
 
 mod allowed;
+mod byte_reader;
 mod compared;
+mod decode_refusal;
 mod document_part;
 mod document_refusal;
 mod expected;
 mod feature;
+mod instr_at;
+mod instruction;
 mod json_text;
 mod module_count;
-mod module_refusal;
 mod phrase;
 mod position;
 mod reasons;
@@ -18,8 +21,10 @@ mod row;
 mod rule;
 mod shape_refusal;
 mod start_refusal;
+mod survey;
+mod type_fault;
+mod type_stack;
+mod unsupported;
+mod valid_refusal;
 
 pub use reasons::{explain_refusal, explain_run};
-
-#[cfg(test)]
-mod tests;

@@ -1,51 +1,17 @@
 //! Numbers in the bytes of a module that is past a limit.
 
-/// A place in the bytes of a module, from which they are read on.
-#[derive(Clone, Copy)]
-struct Reader<'a> {
-    bytes: &'a [u8],
-    at: usize,
-}
-
-impl<'a> Reader<'a> {
-    /// The next byte.
-    fn byte(&mut self) -> Option<u8> {
-        let byte = self.bytes.get(self.at).copied()?;
-        self.skip(1);
-        Some(byte)
-    }
-
-    /// The unsigned number of at most 32 bits that begins here (Core 1.0, section 5.2.2), where one ends within its bytes.
-    fn number(&mut self) -> Option<usize> {
-        let mut number = 0usize;
-        let mut scale = 1usize;
-        for _ in 0..5usize {
-            let byte = self.byte()?;
-            number = number.saturating_add(usize::from(byte & 127).saturating_mul(scale));
-            scale = scale.saturating_mul(128);
-            if byte < 128 {
-                return Some(number);
-            }
-        }
-        None
-    }
-
-    /// Leaves out so many bytes.
-    fn skip(&mut self, count: usize) {
-        self.at = self.at.saturating_add(count);
-    }
-}
+use crate::byte_reader::ByteReader;
 
 /// The unsigned number that begins at an offset.
 pub(crate) fn number_at(bytes: &[u8], offset: usize) -> Option<u64> {
-    let mut reader = Reader { bytes, at: offset };
+    let mut reader = ByteReader { bytes, at: offset };
     let number = reader.number()?;
     Some(number as u64)
 }
 
 /// The content of the section of this number (Core 1.0, section 5.5.2).
-fn section(bytes: &[u8], wanted: u8) -> Option<Reader> {
-    let mut reader = Reader { bytes, at: 8 };
+fn section(bytes: &[u8], wanted: u8) -> Option<ByteReader> {
+    let mut reader = ByteReader { bytes, at: 8 };
     for _ in 0..bytes.len() {
         let number = reader.byte()?;
         let size = reader.number()?;
@@ -88,7 +54,7 @@ fn type_index(bytes: &[u8], function: usize) -> Option<usize> {
 }
 
 /// How many locals a body declares up to the entry that begins at an offset, with that entry's (Core 1.0, section 5.5.13).
-fn locals(body: Reader, offset: usize) -> Option<usize> {
+fn locals(body: ByteReader, offset: usize) -> Option<usize> {
     let mut reader = body;
     let entries = reader.number()?;
     let mut locals = 0usize;

@@ -1,11 +1,12 @@
 //! Why a verdict says what it says.
 
 use crate::allowed::allowed_reason;
+use crate::decode_refusal::decode_reason;
 use crate::document_refusal::document_reason;
-use crate::module_refusal::{decode_reason, valid_reason};
 use crate::replay::replay_reason;
 use crate::rule::rule_reason;
 use crate::shape_refusal::shape_reason;
+use crate::valid_refusal::valid_reason;
 use std::alloc::{AllocError, Global};
 use std::thread::Threads;
 use wm_check::{Breach, Refusal, Unread, Verdict, read_module};
@@ -65,7 +66,7 @@ pub fn explain_refusal(
 ) -> Result<String, AllocError> {
     match refusal {
         Refusal::Decode(fault) => decode_reason(alloc, fault, module_bytes),
-        Refusal::Valid(fault) => valid_reason(alloc, fault),
+        Refusal::Valid(fault) => valid_reason(alloc, fault, module_bytes),
         Refusal::Document(fault) => document_reason(alloc, fault, document_bytes),
         Refusal::Shape(fault) => refused_shape(alloc, *fault, module_bytes, document_bytes),
     }

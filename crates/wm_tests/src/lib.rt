@@ -1,5 +1,5 @@
-//! The tests of integers, lists, buffered memory, the recorder, threads, the decoder, validation and documents, through what
-//! their crates make public. They stand in a crate that holds nothing else, since a crate with tests is proved twice.
+//! The tests of the calls of the crates below the program. They are in a crate that holds nothing else, since a crate with
+//! tests is proved twice. What the program prints is tested by rows.
 #![tactic(auto)]
 
 #[cfg(test)]

@@ -1,10 +1,19 @@
-//! Each crate below those that check and run, through its public calls.
+//! Each crate below the program, through its public calls, and several of them together.
 mod buffered_memory;
-mod decoding;
+mod candidates;
+mod closure;
+mod documents;
+mod driving;
+mod gathering;
+mod instructions;
 mod integers;
 mod lists;
+mod modules;
 mod reading;
 mod recorder;
+mod recordings;
+mod refusals;
+mod rounds;
 mod thread;
 mod validation;
 

@@ -14,6 +14,3 @@ pub use fault::WordFault;
 pub use start::{read_start, read_starts};
 pub use turns::{read_turn, read_turns};
 pub use words::{Rounds, Script, read_count, read_rounds, read_script};
-
-#[cfg(test)]
-mod tests;

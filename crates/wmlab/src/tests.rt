@@ -1,21 +1,3 @@
-//! The program over fake streams and files and over those of the system, and runs and logs through several crates.
-mod arguments;
-mod candidates;
-mod check;
-mod closure;
-mod completion;
-mod documents;
-mod driving;
+//! The program over streams that stand in for those of the system. What it prints is tested by rows.
 mod fakes;
-mod gathering;
-mod migration;
-mod modules;
-mod numeric_instructions;
-mod other_instructions;
-mod pictures;
-mod program;
-mod recordings;
-mod refusals;
-mod rounds;
-mod runs;
-mod threads;
+mod streams;

@@ -1,5 +1,5 @@
 #!/usr/bin/env bash
-# Makes the modules that engines/lower_test.mjs lowers, with features that wmlab does not take.
+# Makes the modules on which the lowering is tested, with features that wmlab does not take.
 set -euo pipefail
 here=$(cd "$(dirname "${BASH_SOURCE[0]}")" && pwd)
 room=$(mktemp -d)

@@ -201,29 +201,15 @@ fn an_unaligned_access_needs_no_reply(rt: HostRuntime) -> Result<(), Fail> {
 }
 
 #[test]
-fn a_name_that_nothing_has_is_no_export(rt: HostRuntime) -> Result<(), Fail> {
-    let fault = refusal(rt.alloc(), "store", &[8])?;
-    same(&rt, fault, Some(StartFault::NoExport));
-    Ok(())
-}
-
-#[test]
-fn a_memory_is_no_function(rt: HostRuntime) -> Result<(), Fail> {
-    let fault = refusal(rt.alloc(), "memory", &[8])?;
-    same(&rt, fault, Some(StartFault::NotFunction));
-    Ok(())
-}
-
-#[test]
-fn another_number_of_arguments_is_refused(rt: HostRuntime) -> Result<(), Fail> {
-    let fault = refusal(rt.alloc(), "load", &[8, 9])?;
-    same(&rt, fault, Some(StartFault::ArgCount));
-    Ok(())
-}
-
-#[test]
-fn an_i32_is_below_its_limit(rt: HostRuntime) -> Result<(), Fail> {
-    let fault = refusal(rt.alloc(), "load", &[0x1_0000_0000])?;
-    same(&rt, fault, Some(StartFault::ArgRange));
+fn starts_are_refused(rt: HostRuntime) -> Result<(), Fail> {
+    let cases: [(&str, &[u64], StartFault); 4] = [
+        ("store", &[8], StartFault::NoExport),
+        ("memory", &[8], StartFault::NotFunction),
+        ("load", &[8, 9], StartFault::ArgCount),
+        ("load", &[0x1_0000_0000], StartFault::ArgRange),
+    ];
+    for (name, args, fault) in &cases {
+        same(&rt, refusal(rt.alloc(), name, args)?, Some(*fault));
+    }
     Ok(())
 }

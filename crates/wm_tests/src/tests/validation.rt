@@ -1,18 +1,13 @@
-//! Modules by hand: of each rule one that breaks it, where the fault is, and valid ones, whose first bytes are read.
+//! Modules by hand that no decoder makes: blocks that name one another.
 use super::same;
 use std::alloc::Global;
 use std::test::Fail;
-use wm_ast::{Block, DataSegment, Exports, Func, FuncType, Instr, Limits, Memory, Module};
+use wm_ast::{Block, Exports, Func, FuncType, Instr, Module};
 use wm_list::List;
 use wm_valid::{FaultKind, Location, ValidFault, validate};
 
-mod memory;
-mod numbers;
-mod sections;
-mod types;
-
-/// A module of one function from nothing to nothing, with one page of memory.
-fn module_of_blocks(alloc: Global, blocks: Vec<Block>) -> Result<Module, Fail> {
+/// Why a module of one function of these blocks, from nothing to nothing, is refused; None where it is valid.
+fn refusal(alloc: Global, blocks: Vec<Block>) -> Result<Option<ValidFault>, Fail> {
     let types = vec![in alloc;
         FuncType {
             params: List::new(alloc),
@@ -26,43 +21,31 @@ fn module_of_blocks(alloc: Global, blocks: Vec<Block>) -> Result<Module, Fail> {
             blocks: List::from_vec(blocks)
         },
     ]?;
-    Ok(Module {
+    let module = Module {
         types: List::from_vec(types),
         funcs: List::from_vec(funcs),
-        memory: memory_of(1, 1),
+        memory: None,
         globals: List::new(alloc),
         exports: Exports::new(alloc),
         data: List::new(alloc),
-    })
+    };
+    Ok(validate(alloc, module).err())
 }
 
-fn module_of(alloc: Global, body: Vec<Instr>) -> Result<Module, Fail> {
-    let blocks = vec![in alloc; List::from_vec(body)]?;
-    module_of_blocks(alloc, blocks)
+/// A type fault at an instruction of function 0.
+fn bad_type_at(instr: usize) -> Option<ValidFault> {
+    let place = Location::Instr { func: 0, instr };
+    Some(ValidFault::At(FaultKind::BadType, place))
 }
 
-fn memory_of(minimum: u32, maximum: u32) -> Option<Memory> {
-    Some(Memory {
-        limits: Limits { minimum, maximum },
-        import: None,
-    })
-}
-
-/// Why a module is refused, None where it is valid.
-fn refusal(alloc: Global, module: Module) -> Option<ValidFault> {
-    validate(alloc, module).err()
-}
-
-/// The fault of a function with this body.
-fn fault_of(alloc: Global, body: Vec<Instr>) -> Result<Option<ValidFault>, Fail> {
-    Ok(refusal(alloc, module_of(alloc, body)?))
-}
-
-fn in_module(kind: FaultKind) -> Option<ValidFault> {
-    Some(ValidFault::At(kind, Location::Module))
-}
-
-/// The fault at an instruction of function 0.
-fn at(kind: FaultKind, instr: usize) -> Option<ValidFault> {
-    Some(ValidFault::At(kind, Location::Instr { func: 0, instr }))
+#[test]
+fn blocks_that_name_one_another_are_refused(rt: HostRuntime) -> Result<(), Fail> {
+    let body = vec![in rt.alloc(); Instr::Block(None, 1)]?;
+    let inner = vec![in rt.alloc(); Instr::Loop(None, 1)]?;
+    let blocks = vec![in rt.alloc(); List::from_vec(body), List::from_vec(inner)]?;
+    same(&rt, refusal(rt.alloc(), blocks)?, bad_type_at(1));
+    let body = vec![in rt.alloc(); Instr::Block(None, 0)]?;
+    let blocks = vec![in rt.alloc(); List::from_vec(body)]?;
+    same(&rt, refusal(rt.alloc(), blocks)?, bad_type_at(0));
+    Ok(())
 }

@@ -104,14 +104,12 @@ pub(super) fn holding_writer(alloc: Global) -> HoldingWriter {
     }
 }
 
-/// The files `module.wasm` and `log.json`, where the device fails at every other name, and at a file that isn't there;
-/// and the limit of the last read.
+/// The files `module.wasm` and `log.json`; the device fails at every other name, and at a file that is not there.
 #[derive(Drop)]
 pub(super) struct FakeFiles<'a> {
     alloc: Global,
     program: Option<&'a [u8]>,
     document: Option<&'a [u8]>,
-    pub limit: usize,
     failures: u64,
 }
 
@@ -126,7 +124,6 @@ pub(super) fn fake_files<'a>(
         alloc,
         program,
         document,
-        limit: 0,
         failures: 0,
     }
 }
@@ -142,7 +139,6 @@ impl Files for FakeFiles<'_> {
         if bytes_eq name (codes "log.json") then option_map (λ bytes. bytes.now) files.document else None) };
 
     fn read(&mut self, name: &str, limit: usize) -> Result<Vec<u8>, FileFault> {
-        self.limit = limit;
         let file = match name {
             "module.wasm" => self.program,
             "log.json" => self.document,
@@ -184,7 +180,7 @@ pub(super) fn same<R: Abort, T: PartialEq + Debug + Drop>(rt: &R, got: T, wanted
     assert_eq!(rt; got, wanted);
 }
 
-/// Runs the program over one file, `log.json`, and this input, and looks at its lines and its status.
+/// Runs the program over two files of one byte and this input, and looks at its lines and its status.
 pub(super) fn says<R: Abort + AllocGlobal + Threads + Wait + Sync, I: Read>(
     rt: &R,
     words: &[&str],
@@ -193,7 +189,7 @@ pub(super) fn says<R: Abort + AllocGlobal + Threads + Wait + Sync, I: Read>(
     error: &str,
     status: u8,
 ) {
-    let mut files = fake_files(rt.alloc(), None, Some(b"["));
+    let mut files = fake_files(rt.alloc(), Some(b"["), Some(b"["));
     let mut out = fake_writer(rt.alloc(), NEVER);
     let mut err = fake_writer(rt.alloc(), NEVER);
     let got = serve(rt, words, &mut files, input, &mut out, &mut err);

@@ -1,0 +1,188 @@
+//! The instruction of a number of a function, with the operands that it finds.
+
+use crate::type_stack::{Scope, TypeStack};
+use std::alloc::{AllocError, Global};
+use wm_ast::{Block, BlockType, Else, Instr, Module};
+
+/// A block of a function.
+#[derive(Clone, Copy)]
+pub(crate) struct BlockAt {
+    pub block: usize,
+    /// The number of its first instruction among the opcodes of its function.
+    first: usize,
+    pub result: BlockType,
+    label: BlockType,
+    /// Whether it is the only block of an `if`.
+    pub lacks_else: bool,
+}
+
+/// An instruction of a function, or the end of a block, with the operands of its block.
+#[derive(Drop)]
+pub(crate) struct InstrAt<'m> {
+    /// None at the end of the block.
+    pub instr: Option<&'m Instr>,
+    pub block: BlockAt,
+    pub stack: TypeStack,
+    pub scope: Scope<'m>,
+}
+
+/// How many opcodes an instruction has, where it is known how many its blocks have, each with the opcode that closes it.
+fn opcodes(instr: &Instr, sizes: &[usize]) -> usize {
+    let size = |block: &usize| sizes.get(*block).copied().unwrap_or(0);
+    match instr {
+        Instr::Block(_, block) | Instr::Loop(_, block) => size(block).saturating_add(1),
+        Instr::If {
+            then_block,
+            else_block,
+            else_part,
+            ..
+        } => {
+            let second = match else_part {
+                Else::Present => size(else_block),
+                Else::Absent => 0,
+            };
+            size(then_block).saturating_add(second).saturating_add(1)
+        }
+        _ => 1,
+    }
+}
+
+/// How many opcodes each block has, with the one that closes it. A block has a smaller number than those in it.
+fn block_sizes(alloc: Global, blocks: &[Block]) -> Result<Vec<usize>, AllocError> {
+    let mut sizes = Vec::new(alloc);
+    for _ in blocks {
+        sizes.push(0usize)?;
+    }
+    for (number, block) in blocks.iter().enumerate().rev() {
+        let mut size = 1usize;
+        for instr in block.as_slice() {
+            size = size.saturating_add(opcodes(instr, sizes.as_slice()));
+        }
+        if let Some(place) = sizes.get_mut(number) {
+            *place = size;
+        }
+    }
+    Ok(sizes)
+}
+
+/// The block of an instruction that has the opcode of a number.
+fn inner_block(instr: &Instr, first: usize, number: usize, sizes: &[usize]) -> Option<BlockAt> {
+    let inside = |block: usize, first: usize, ty: BlockType, label: BlockType| BlockAt {
+        block,
+        first,
+        result: ty,
+        label,
+        lacks_else: false,
+    };
+    match instr {
+        Instr::Block(ty, block) => Some(inside(*block, first, *ty, *ty)),
+        Instr::Loop(ty, block) => Some(inside(*block, first, *ty, None)),
+        Instr::If {
+            result,
+            then_block,
+            else_block,
+            else_part,
+        } => {
+            let second = first.saturating_add(sizes.get(*then_block).copied()?);
+            let mut found = inside(*then_block, first, *result, *result);
+            if number >= second {
+                found = inside(*else_block, second, *result, *result);
+            }
+            found.lacks_else = *else_part == Else::Absent;
+            Some(found)
+        }
+        _ => None,
+    }
+}
+
+/// Where a way through a block ends.
+#[derive(Drop)]
+enum Reached<'m> {
+    /// At an instruction, or at the end of the block if there is none, with the operands there.
+    Opcode(Option<&'m Instr>, TypeStack),
+    /// In a block inside it.
+    Inner(BlockAt),
+}
+
+/// Goes through a block up to the opcode of a number.
+fn walk<'m>(
+    alloc: Global,
+    scope: &Scope,
+    block: &'m [Instr],
+    first: usize,
+    number: usize,
+    sizes: &[usize],
+) -> Result<Reached<'m>, AllocError> {
+    let mut stack = TypeStack::new(alloc);
+    let mut here = first;
+    for instr in block {
+        if here == number {
+            return Ok(Reached::Opcode(Some(instr), stack));
+        }
+        let next = here.saturating_add(opcodes(instr, sizes));
+        if number < next {
+            if let Some(inner) = inner_block(instr, here.saturating_add(1), number, sizes) {
+                return Ok(Reached::Inner(inner));
+            }
+        }
+        stack.step(alloc, scope, instr)?;
+        here = next;
+    }
+    Ok(Reached::Opcode(None, stack))
+}
+
+/// The opcode of a number of a function that is well-typed up to there; None if there is none.
+///
+/// # Errors
+///
+/// Only if an allocation fails.
+pub(crate) fn find_instr<'m>(
+    alloc: Global,
+    module: &'m Module,
+    function: usize,
+    number: usize,
+) -> Result<Option<InstrAt<'m>>, AllocError> {
+    let Some(func) = module.funcs.get(function) else {
+        return Ok(None);
+    };
+    let sizes = block_sizes(alloc, func.blocks.as_slice())?;
+    let mut scope = Scope {
+        module,
+        function,
+        labels: Vec::new(alloc),
+    };
+    let result = scope.function_result();
+    let mut block = BlockAt {
+        block: 0,
+        first: 0,
+        result,
+        label: result,
+        lacks_else: false,
+    };
+    for _ in 0..func.blocks.len() {
+        scope.labels.push(block.label)?;
+        let Some(instrs) = func.blocks.get(block.block) else {
+            return Ok(None);
+        };
+        let reached = walk(
+            alloc,
+            &scope,
+            instrs.as_slice(),
+            block.first,
+            number,
+            sizes.as_slice(),
+        )?;
+        match reached {
+            Reached::Inner(inner) => block = inner,
+            Reached::Opcode(instr, stack) => {
+                return Ok(Some(InstrAt {
+                    instr,
+                    block,
+                    stack,
+                    scope,
+                }));
+            }
+        }
+    }
+    Ok(None)
+}

@@ -1,0 +1,75 @@
+//! What a module uses that is not supported.
+
+use crate::feature::{Part, remedy};
+use crate::survey::{Place, Use, unsupported_parts};
+use std::alloc::{AllocError, Global};
+use std::fmt;
+use wm_decode::Feature;
+
+/// What a module uses that is not supported, and where.
+#[derive(Clone, Copy)]
+pub(crate) struct UnsupportedSentence {
+    pub part: Part,
+    pub place: Place,
+}
+
+impl fmt::Display for UnsupportedSentence {
+    fn fmt<W: fmt::Write>(&self, f: &mut fmt::Formatter<W>) -> fmt::Result {
+        let UnsupportedSentence { part, place } = *self;
+        let remedy = remedy(part.feature);
+        write!(
+            f,
+            "The module uses {}{place}, which isn't supported. {remedy}.",
+            part.name
+        )
+    }
+}
+
+/// What is used at an offset at which a feature is faulted: the part by its name, or the feature alone.
+fn sentence_at(uses: &[Use], feature: Feature, offset: usize) -> UnsupportedSentence {
+    for one in uses {
+        if one.offset == offset && one.part.feature == feature {
+            return UnsupportedSentence {
+                part: one.part,
+                place: one.place,
+            };
+        }
+    }
+    UnsupportedSentence {
+        part: Part::of(feature),
+        place: Place::Module,
+    }
+}
+
+/// Whether there is more to report than the first use of one part.
+fn are_several(uses: &[Use]) -> bool {
+    match uses {
+        [] => false,
+        [one] => one.count > 1,
+        _ => true,
+    }
+}
+
+/// Which part is faulted at an offset of a module, in a sentence; and all parts that are not supported, a line each, if
+/// there are several.
+///
+/// # Errors
+///
+/// Only if an allocation fails.
+pub(crate) fn unsupported_reason(
+    alloc: Global,
+    feature: Feature,
+    offset: usize,
+    bytes: &[u8],
+) -> Result<(UnsupportedSentence, String), AllocError> {
+    let uses = unsupported_parts(alloc, bytes)?;
+    let sentence = sentence_at(uses.as_slice(), feature, offset);
+    let mut list = String::new(alloc);
+    if are_several(uses.as_slice()) {
+        list.push_str("What the module uses that isn't supported:\n")?;
+        for one in uses.as_slice() {
+            writeln!(list, "  {one}")?;
+        }
+    }
+    Ok((sentence, list))
+}

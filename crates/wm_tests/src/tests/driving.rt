@@ -1,0 +1,118 @@
+//! Scripts of turns from seeds: each run is allowed, which is proved, and what happens before what in it is the plain
+//! closure. The test plays, writes, reads, checks and compares each of them.
+use super::closure::compares_document;
+use super::modules::{STORE_BUFFERING, STORE_BUFFERING_ATOMIC};
+use super::same;
+use std::alloc::{AllocError, Global};
+use std::process::Abort;
+use std::test::Fail;
+use std::thread::Threads;
+use wm_check::{Verdict, check, read_module};
+use wm_event::{Initial, Start};
+use wm_list::{List, Text};
+use wm_run::{Plan, Run, Turn, drive, write_run};
+use wm_valid::ValidModule;
+
+/// A step, a drain of the oldest store, or a drain of the store behind it.
+fn turn(number: u64) -> Turn {
+    match number {
+        0 => Turn::Step(0),
+        1 => Turn::Step(1),
+        2 => Turn::Drain(0),
+        3 => Turn::Drain(1),
+        4 => Turn::DrainAt(0, 1),
+        _ => Turn::DrainAt(1, 1),
+    }
+}
+
+/// 40 turns that are drawn from a seed; the last two kinds are left out where stores leave in their order.
+fn turns(alloc: Global, seed: u32, in_order: bool) -> Result<Vec<Turn>, AllocError> {
+    let kinds = if in_order { 4 } else { 6 };
+    let mut state = seed as u64;
+    let mut turns = Vec::new(alloc);
+    for _ in 0..40u32 {
+        state = state.wrapping_mul(1_103_515_245).wrapping_add(12_345) % 2_147_483_648;
+        turns.push(turn(state / 65_536 % kinds))?;
+    }
+    Ok(turns)
+}
+
+/// What a thread starts with that has no argument.
+fn start(alloc: Global, name: &str) -> Result<Start, AllocError> {
+    Ok(Start {
+        name: Text::from_string(String::from_str(alloc, name)?),
+        args: List::new(alloc),
+    })
+}
+
+/// Two threads that start with `a` and `b`.
+fn plan(alloc: Global) -> Result<Plan, AllocError> {
+    let mut starts = List::new(alloc);
+    starts.push(start(alloc, "a")?)?;
+    starts.push(start(alloc, "b")?)?;
+    Ok(Plan {
+        starts,
+        steps: 1_000_000,
+        drains: 0,
+    })
+}
+
+/// Whether the check of what is written of a run allows it, and what happens before what in it is the plain closure.
+fn is_allowed<R: Abort + AllocGlobal + Threads + Sync>(
+    rt: &R,
+    module_bytes: &[u8],
+    run: &Run,
+) -> Result<bool, AllocError> {
+    let document = write_run(rt.alloc(), run)?;
+    let initial = Initial::zeros(rt.alloc(), 1);
+    let is_compared = compares_document(rt, document.as_str(), &initial)?;
+    let verdict = check(rt, module_bytes, document.as_bytes())?;
+    Ok(is_compared && matches!(verdict, Verdict::Allowed(_)))
+}
+
+/// Whether the run of these turns is allowed.
+fn plays_allowed<R: Abort + AllocGlobal + Threads + Sync>(
+    rt: &R,
+    module: &ValidModule,
+    module_bytes: &[u8],
+    plan: &Plan,
+    turns: &[Turn],
+) -> Result<bool, AllocError> {
+    match drive(rt.alloc(), module, plan, turns) {
+        Ok(run) => is_allowed(rt, module_bytes, &run),
+        Err(_) => Ok(false),
+    }
+}
+
+/// How many of 200 seeds give a run of the module that is allowed; 0 where the bytes spell none.
+fn count_allowed<R: Abort + AllocGlobal + Threads + Sync>(
+    rt: &R,
+    module_bytes: &[u8],
+    in_order: bool,
+) -> Result<u32, AllocError> {
+    let plan = plan(rt.alloc())?;
+    let Ok(module) = read_module(rt.alloc(), module_bytes) else {
+        return Ok(0);
+    };
+    let mut allowed = 0u32;
+    for seed in 1..201u32 {
+        let turns = turns(rt.alloc(), seed, in_order)?;
+        if plays_allowed(rt, &module, module_bytes, &plan, turns.as_slice())? {
+            allowed = allowed.saturating_add(1);
+        }
+    }
+    Ok(allowed)
+}
+
+#[test]
+fn driven_runs_are_allowed(rt: HostRuntime) -> Result<(), Fail> {
+    for in_order in [true, false] {
+        same(&rt, count_allowed(&rt, &STORE_BUFFERING, in_order)?, 200);
+        same(
+            &rt,
+            count_allowed(&rt, &STORE_BUFFERING_ATOMIC, in_order)?,
+            200,
+        );
+    }
+    Ok(())
+}

@@ -1,0 +1,191 @@
+//! Rounds of store buffering, with gates that hold threads back.
+ghost use Rattle.std.specs.Prelude.{false};
+
+use super::modules::{ARGUMENT, STORE_BUFFERING};
+use super::same;
+use std::alloc::{AllocError, Global};
+use std::sync::Wait;
+use std::sync::atomic::{AtomicBool, Ordering};
+use std::test::Fail;
+use std::thread::{Threads, yield_now};
+use wm_check::read_module;
+use wm_event::{End, Start};
+use wm_list::{List, Text};
+use wm_run::{Gate, OpenGate, Plan, Run, run_round};
+use wm_valid::ValidModule;
+
+/// How often a gate looks whether another thread has come.
+const MAX_LOOKS: u32 = 20_000_000;
+
+/// Threads that start with these functions of one argument each, or none.
+fn plan(alloc: Global, starts: &[(&str, Option<u64>)], drains: u32) -> Result<Plan, AllocError> {
+    let mut list = List::new(alloc);
+    for (name, arg) in starts {
+        let mut args = List::new(alloc);
+        if let Some(arg) = arg {
+            args.push(*arg)?;
+        }
+        let name = Text::from_string(String::from_str(alloc, name)?);
+        list.push(Start { name, args })?;
+    }
+    Ok(Plan {
+        starts: list,
+        steps: 1_000_000,
+        drains,
+    })
+}
+
+/// The two threads of store buffering.
+const BOTH: [(&str, Option<u64>); 2] = [("a", None), ("b", None)];
+
+/// How the threads of a run ended, of at most two.
+fn ends(run: &Run) -> [Option<End>; 2] {
+    let mut found = [None, None];
+    for (end, thread) in found.iter_mut().zip(run.log().threads()) {
+        *end = Some(thread.end);
+    }
+    found
+}
+
+/// How the two threads of a round of a module ended, and nothing where no round is made.
+fn ends_over<R: AllocGlobal + Threads + Wait + Sync, G: Gate + Sync>(
+    rt: &R,
+    module: &ValidModule,
+    plan: &Plan,
+    gate: &G,
+) -> [Option<End>; 2] {
+    match run_round(rt, rt.alloc(), module, plan, gate) {
+        Ok(run) => ends(&run),
+        Err(_) => [None, None],
+    }
+}
+
+/// The same of the module that the bytes spell.
+fn round<R: AllocGlobal + Threads + Wait + Sync, G: Gate + Sync>(
+    rt: &R,
+    module_bytes: &[u8],
+    plan: &Plan,
+    gate: &G,
+) -> [Option<End>; 2] {
+    match read_module(rt.alloc(), module_bytes) {
+        Ok(module) => ends_over(rt, &module, plan, gate),
+        Err(_) => [None, None],
+    }
+}
+
+/// Whether a flag is set within so many looks.
+fn comes(flag: &AtomicBool) -> bool {
+    for _look in 0..MAX_LOOKS {
+        if flag.load(Ordering::SeqCst) {
+            return true;
+        }
+        yield_now();
+    }
+    false
+}
+
+/// Holds thread 1 at its first access until thread 0 comes to its first, and thread 0 there until thread 1 comes to its
+/// second. So the threads have to overlap.
+#[derive(Drop)]
+struct Meeting {
+    first_came: AtomicBool,
+    second_made_one: AtomicBool,
+}
+
+impl Gate for Meeting {
+    ghost is_open = { λ _. false };
+
+    fn before(&self, thread: u32, event_number: usize) -> bool {
+        match (thread, event_number) {
+            (0, 0) => {
+                self.first_came.store(true, Ordering::SeqCst);
+                comes(&self.second_made_one)
+            }
+            (1, 0) => comes(&self.first_came),
+            (1, 1) => {
+                self.second_made_one.store(true, Ordering::SeqCst);
+                true
+            }
+            _ => true,
+        }
+    }
+
+    fn before_drain(&self, _turn: u32) -> bool {
+        true
+    }
+}
+
+#[test]
+fn two_workers_meet(rt: HostRuntime) -> Result<(), Fail> {
+    let gate = Meeting {
+        first_came: AtomicBool::new(false),
+        second_made_one: AtomicBool::new(false),
+    };
+    let plan = plan(rt.alloc(), &BOTH, 0)?;
+    for end in round(&rt, &STORE_BUFFERING, &plan, &gate) {
+        assert!(rt; matches!(end, Some(End::Done(Some(_)))));
+    }
+    Ok(())
+}
+
+/// Holds the drainer at its first turn until thread 0 made its store, and thread 1 at its load until the drainer made that
+/// turn.
+#[derive(Drop)]
+struct Drained {
+    stored: AtomicBool,
+    drained: AtomicBool,
+}
+
+impl Gate for Drained {
+    ghost is_open = { λ _. false };
+
+    fn before(&self, thread: u32, event_number: usize) -> bool {
+        match (thread, event_number) {
+            (0, 1) => {
+                self.stored.store(true, Ordering::SeqCst);
+                true
+            }
+            (1, 1) => comes(&self.drained),
+            _ => true,
+        }
+    }
+
+    fn before_drain(&self, turn: u32) -> bool {
+        match turn {
+            0 => comes(&self.stored),
+            1 => {
+                self.drained.store(true, Ordering::SeqCst);
+                true
+            }
+            _ => true,
+        }
+    }
+}
+
+#[test]
+fn the_drainer_drains(rt: HostRuntime) -> Result<(), Fail> {
+    let gate = Drained {
+        stored: AtomicBool::new(false),
+        drained: AtomicBool::new(false),
+    };
+    let plan = plan(rt.alloc(), &BOTH, 2)?;
+    same(
+        &rt,
+        round(&rt, &STORE_BUFFERING, &plan, &gate)[1],
+        Some(End::Done(Some(1))),
+    );
+    Ok(())
+}
+
+#[test]
+fn a_worker_reads_back_what_it_stored(rt: HostRuntime) -> Result<(), Fail> {
+    let plan = plan(rt.alloc(), &[("f", Some(0)), ("f", Some(4))], 256)?;
+    for _round in 0..3u32 {
+        same(
+            &rt,
+            round(&rt, &ARGUMENT, &plan, &OpenGate),
+            [Some(End::Done(Some(7))); 2],
+        );
+    }
+    Ok(())
+}

@@ -1,0 +1,13 @@
+/** All tests of the lowering. */
+
+import { testCommand } from './test_command.mjs';
+import { testRefusals } from './test_refusals.mjs';
+import { testSemantics } from './test_semantics.mjs';
+import { testStacks } from './test_stacks.mjs';
+
+export async function testLowering(context) {
+  await testSemantics(context);
+  await testRefusals(context);
+  await testStacks(context);
+  testCommand(context);
+}

@@ -1,0 +1,166 @@
+/** The recipes of examples/c and examples/rust: each program is built again and recorded, and stripped atomics are refused. */
+
+import { chmodSync, existsSync, mkdirSync, mkdtempSync, readFileSync, readdirSync, rmSync, writeFileSync } from 'node:fs';
+import { tmpdir } from 'node:os';
+import { delimiter, join } from 'node:path';
+import { fileURLToPath } from 'node:url';
+import { startsOf } from './programs.mjs';
+import { isThere, run } from './tally.mjs';
+import { run as record } from './test_programs.mjs';
+
+const EXAMPLES = fileURLToPath(new URL('../../examples', import.meta.url));
+
+/** The rounds of a program that another compiler made. */
+const ROUNDS = 4;
+
+/** Sources of a recipe that are not programs. */
+const NOT_PROGRAMS = new Set(['mem.c']);
+
+/**
+ * The recipes: the tools that they need, the words of a command that shows whether the compiler has the target, and the versions
+ * of compiler and linker that made the modules which are there. Other versions make other modules, which are recorded.
+ */
+const { CLANG = 'clang', WASM_LD = 'wasm-ld', RUSTC = '/usr/bin/rustc' } = process.env;
+const C = {
+  folder: 'c', ending: '.c', tools: [CLANG, WASM_LD, 'wasm-objdump', 'node'],
+  probe: { source: 'int a(void) { return 1; }\n', words: (from, to) => [CLANG, '--target=wasm32', '-c', from, '-o', to] },
+  versions: [[CLANG, ['--version'], / version 14\.0\.6/], [WASM_LD, ['--version'], / 14\.0\.6/]],
+};
+const RUST = {
+  folder: 'rust', ending: '.rs', tools: [RUSTC, 'wasm-objdump', 'node'],
+  probe: {
+    source: '#![no_std]\n#[panic_handler] fn halt(_: &core::panic::PanicInfo) -> ! { loop {} }\n',
+    words: (from, to) => [RUSTC, '--target', 'wasm32-unknown-unknown', '--crate-type', 'cdylib', from, '-o', to],
+  },
+  versions: [[RUSTC, ['--version'], /^rustc 1\.63\.0\s/], ['rust-lld', ['-flavor', 'wasm', '--version'], / 14\.0\.6/]],
+};
+
+/** The reason why a recipe cannot be tried here, or null: a missing tool, or one that cannot do what the recipe needs. */
+function hindrance({ tools, probe, ending }, room) {
+  const missing = tools.filter((tool) => !isThere(tool));
+  if (missing.length) return `${missing.join(', ')} cannot be started`;
+  const [from, to] = [`probe${ending}`, 'probe.wasm'].map((name) => join(room, name));
+  writeFileSync(from, probe.source);
+  const [compiler, ...words] = probe.words(from, to);
+  const made = run(compiler, words);
+  if (made.status !== 0) return `${compiler} makes no module for wasm32: ${made.err.trim().split('\n')[0]}`;
+  const shown = run('wasm-objdump', ['-x', to]);
+  return shown.status === 0 ? null : `wasm-objdump -x does not read what ${compiler} makes`;
+}
+
+const build = ({ folder }, from, to, environment = {}) => (
+  run(join(EXAMPLES, folder, 'build.sh'), [from, to], { env: { ...process.env, ...environment } }));
+
+const isSameCompiler = ({ versions }) => versions.every(([tool, words, version]) => version.test(run(tool, words).out));
+
+/** Builds a program again. Its bytes have to be those that are there, or, by another compiler, its logs have to be allowed. */
+async function testProgram({ note, wmlab, room, isSame }, recipe, program) {
+  const name = `${recipe.folder}/${program}`;
+  const out = join(room, `${program}.wasm`);
+  const made = build(recipe, join(EXAMPLES, `${name}${recipe.ending}`), out);
+  const isBuilt = made.status === 0 && existsSync(out);
+  if (!isBuilt) {
+    note(false, `${name} is built`, made);
+  } else if (isSame) {
+    note(readFileSync(out).equals(readFileSync(join(EXAMPLES, `${name}.wasm`))), `${name} is built again, byte for byte`, made);
+  } else {
+    const starts = startsOf(`${name}.wasm`, readFileSync(out));
+    const { holds, text } = await record({ name: `${name}.wasm`, path: out, starts }, wmlab, { mode: 'buffered', rounds: ROUNDS });
+    note(holds, `${name} is built by another compiler and recorded: ${text}`, made);
+  }
+}
+
+/** Builds all programs of a recipe, and has its other tests made. Leaves them out if the tools cannot make a module. */
+async function testRecipe(context, recipe, testOthers) {
+  const room = mkdtempSync(join(tmpdir(), 'recipe-'));
+  try {
+    const hindered = hindrance(recipe, room);
+    if (hindered) {
+      context.leftOut(`building examples/${recipe.folder}`, hindered);
+      return;
+    }
+    const isSame = isSameCompiler(recipe);
+    const sources = readdirSync(join(EXAMPLES, recipe.folder)).filter((name) => name.endsWith(recipe.ending) && !NOT_PROGRAMS.has(name));
+    for (const source of sources) await testProgram({ ...context, room, isSame }, recipe, source.slice(0, -recipe.ending.length));
+    testOthers({ ...context, room });
+  } finally {
+    rmSync(room, { recursive: true });
+  }
+}
+
+/** Store buffering in C; with a thread-local variable the compiler makes its atomic accesses plain ones. */
+const storeBuffering = (depth) => `${depth} int depth;
+static _Atomic int x, y;
+__attribute__((export_name("a"))) int a(void) { depth++; x = 1; return y; }
+__attribute__((export_name("b"))) int b(void) { depth++; y = 1; return x; }
+`;
+
+const COPY = `struct large { int numbers[100]; };
+static struct large one, two;
+__attribute__((export_name("a"))) int a(int value) { one = (struct large){{0}}; one.numbers[99] = value; two = one; return two.numbers[99]; }
+`;
+
+/** Builds a C program of this source; answers what the command did, and the module's bytes if there is one. */
+function buildSource(room, source, environment) {
+  const [from, to] = ['program.c', 'program.wasm'].map((name) => join(room, name));
+  rmSync(to, { force: true });
+  writeFileSync(from, source);
+  const made = build(C, from, to, environment);
+  return { ...made, bytes: existsSync(to) ? readFileSync(to) : null };
+}
+
+/** The number of atomic accesses of 4 bytes: an opcode that begins with FE, and an alignment of 2. */
+function atomicAccesses(bytes) {
+  let count = 0;
+  for (let at = 0; at + 2 < bytes.length; at++) if (bytes[at] === 0xfe && bytes[at + 1] >= 0x10 && bytes[at + 2] === 2) count++;
+  return count;
+}
+
+/** A PATH on which a tool is this shell script. */
+function pathWith(room, tool, script) {
+  const bin = join(room, `bin-${tool}`);
+  mkdirSync(bin, { recursive: true });
+  writeFileSync(join(bin, tool), `#!/bin/bash\n${script}\n`);
+  chmodSync(join(bin, tool), 0o755);
+  return { PATH: `${bin}${delimiter}${process.env.PATH}` };
+}
+
+/** `wasm-objdump` as it shows an object with these features. */
+const showing = (room, ...features) => pathWith(room, 'wasm-objdump', [' - name: "target_features"', ...features.map((one) => `  - ${one}`)]
+  .map((line) => `echo '${line}'`).join('\n'));
+
+function testStrippedC({ note, room }) {
+  const plain = buildSource(room, storeBuffering('static'));
+  const count = plain.bytes ? atomicAccesses(plain.bytes) : 0;
+  note(plain.status === 0 && count === 4, `a C program is built with its four atomic accesses: ${count}`, plain);
+  for (const word of ['static _Thread_local', 'static __thread']) {
+    const local = buildSource(room, storeBuffering(word));
+    const isNamed = /-shared-mem/.test(local.err) && /thread-local variable/.test(local.err);
+    note(local.status === 2 && !local.bytes && isNamed, `a C program with ${word} is refused, and the cause named`, local);
+  }
+  const marked = buildSource(room, storeBuffering('static'), showing(room, '[-] atomics'));
+  note(marked.status === 2 && !marked.bytes, 'an object that is marked -atomics is refused', marked);
+  const silent = buildSource(room, storeBuffering('static'), showing(room));
+  note(silent.status === 2 && !silent.bytes, 'an object that states nothing on atomics is refused', silent);
+  const copy = buildSource(room, COPY);
+  const copied = copy.bytes && new WebAssembly.Instance(new WebAssembly.Module(copy.bytes)).exports.a(7);
+  note(copy.status === 0 && copied === 7, 'a C program that copies and fills large structures is built', copy);
+  const without = buildSource(room, COPY, { CLANG: join(room, 'none') });
+  note(without.status === 2 && !without.bytes && /apt-get install/.test(without.err), 'a missing C compiler is named', without);
+}
+
+/** Rust without the feature `atomics`: the compiler makes atomic accesses plain ones, and nothing in the module shows it. */
+function testStrippedRust({ note, room }) {
+  const compiler = join(room, 'rustc');
+  writeFileSync(compiler, `#!/bin/bash\nexec ${RUSTC} "\${@/+atomics,/}"\n`);
+  chmodSync(compiler, 0o755);
+  const [source, out] = [join(EXAMPLES, 'rust', 'mutex.rs'), join(room, 'stripped.wasm')];
+  const stripped = build(RUST, source, out, { RUSTC: compiler });
+  const isNamed = /atomic accesses plain ones/.test(stripped.err);
+  note(stripped.status === 2 && !existsSync(out) && isNamed, 'Rust without atomics is refused, and the cause named', stripped);
+  const missing = build(RUST, source, out, { RUSTC: join(room, 'none') });
+  note(missing.status === 2 && /apt-get install/.test(missing.err), 'a missing Rust compiler is named', missing);
+}
+
+export const testC = (context) => testRecipe(context, C, testStrippedC);
+export const testRust = (context) => testRecipe(context, RUST, testStrippedRust);

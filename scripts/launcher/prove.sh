@@ -1,0 +1,91 @@
+# The proved program: `./wmlab --prove` proves every crate, shows how far it is, and keeps the program as .built/wmlab.
+# shellcheck shell=bash disable=SC2154 # the launcher sets `top`, `built` and `toolchain`
+
+# How many seconds pass at most without a line of progress.
+quiet=300
+
+crates() {
+    sed -n 's/^\([a-z_0-9]*\)[^#]*:.*/\1/p' "$top/crates.txt"
+}
+
+# The crates that are done, by the log of `rt all check`, each with the number of modules that were checked for it: 0
+# if an earlier run had proved it.
+crates_done() {
+    awk '$1 == "==" && $2 != "summary" { name = $2; checked[name] = 0 }
+         $1 == "crate" { split($5, count, "="); checked[name] = count[2] }
+         END { for (name in checked) print name, checked[name] }' "$1"
+}
+
+# The bytes of a crate's sources and proofs, which its share of the work is taken to be.
+bytes_of() {
+    { find "$top/crates/$1/src" "$top/crates/$1/proofs" -type f -printf '%s\n' 2>/dev/null || true; } |
+        awk '{ sum += $1 } END { print sum + 0 }'
+}
+
+# Prints how many crates are proved and left, and an estimate by those that were proved in this many seconds.
+report_progress() {
+    local seconds=$1 finished=$2 name checked left="" todo=0 done_now=0 count=0 all=0
+    while read -r name checked; do
+        [ -n "$name" ] || continue
+        count=$((count + 1))
+        if [ "$checked" -gt 0 ]; then done_now=$((done_now + $(bytes_of "$name"))); fi
+    done <<<"$finished"
+    for name in $(crates); do
+        all=$((all + 1))
+        grep -q "^$name " <<<"$finished" || todo=$((todo + $(bytes_of "$name")))
+    done
+    if [ "$done_now" -gt 0 ]; then left="; about $(((seconds * todo / done_now + 59) / 60)) min left"; fi
+    say "$count crates proved, $((all - count)) left after $((seconds / 60)) min$left"
+}
+
+# Reports the progress of a process whenever a crate has been proved, and now and then in between.
+show_progress() {
+    local tool=$1 log=$2 before=none finished said=$SECONDS start=$SECONDS
+    while kill -0 "$tool" 2>/dev/null; do
+        finished=$(crates_done "$log")
+        if [ "$finished" != "$before" ] || [ $((SECONDS - said)) -ge "$quiet" ]; then
+            before=$finished
+            said=$SECONDS
+            report_progress $((SECONDS - start)) "$finished"
+        fi
+        sleep 1
+    done
+}
+
+# `rt all check` keeps what it proved in crates/*/out, so that the next call goes on from there.
+prove_crates() {
+    local log=$1 tool
+    : >"$log"
+    (cd "$top" && exec rt all check --jobs "${RT_JOBS:-$(nproc)}") </dev/null >>"$log" 2>&1 &
+    tool=$!
+    # shellcheck disable=SC2064 # this process is meant
+    trap "is_stopped=yes; kill $tool 2>/dev/null || true" INT TERM HUP
+    # What an interrupt ends here is no failure.
+    show_progress "$tool" "$log" || true
+    wait "$tool" || true
+    trap - INT TERM HUP
+    if [ -n "${is_stopped-}" ]; then
+        say "stopped; ./wmlab --prove goes on from here"
+        exit 130
+    fi
+}
+
+# `rt run` builds the program over what is proved, and runs it without words.
+prove() {
+    local made="$top/crates/wmlab/out/wmlab" log="$built/prove.log"
+    command -v rt >/dev/null || { say "proving needs $toolchain, which is not in PATH"; exit 3; }
+    mkdir -p "$built"
+    say "proving every crate; this takes most of an hour, and can be interrupted and resumed; the log is $log"
+    rm -f "$made"
+    prove_crates "$log"
+    say "building the program"
+    (cd "$top/crates/wmlab" && exec rt run) </dev/null >>"$log" 2>&1 || true
+    if [ ! -x "$made" ]; then
+        tail -n 20 "$log" >&2
+        say "the build failed; $log has the rest"
+        exit 3
+    fi
+    cp "$made" "$built/wmlab.new"
+    mv "$built/wmlab.new" "$built/wmlab"
+    say "the proved program is $built/wmlab"
+}
