@@ -131,6 +131,18 @@ fn walk<'m>(
     Ok(Reached::Opcode(None, stack))
 }
 
+/// The body of the function, as a block.
+fn body(scope: &Scope) -> BlockAt {
+    let result = scope.function_result();
+    BlockAt {
+        block: 0,
+        first: 0,
+        result,
+        label: result,
+        lacks_else: false,
+    }
+}
+
 /// The opcode of a number of a function that is well-typed up to there; None if there is none.
 ///
 /// # Errors
@@ -146,33 +158,21 @@ pub(crate) fn find_instr<'m>(
         return Ok(None);
     };
     let sizes = block_sizes(alloc, func.blocks.as_slice())?;
-    let mut scope = Scope {
-        module,
-        function,
-        labels: Vec::new(alloc),
-    };
-    let result = scope.function_result();
-    let mut block = BlockAt {
-        block: 0,
-        first: 0,
-        result,
-        label: result,
-        lacks_else: false,
-    };
+    let mut scope = Scope::new(alloc, module, function);
+    let mut block = body(&scope);
     for _ in 0..func.blocks.len() {
         scope.labels.push(block.label)?;
         let Some(instrs) = func.blocks.get(block.block) else {
             return Ok(None);
         };
-        let reached = walk(
+        match walk(
             alloc,
             &scope,
             instrs.as_slice(),
             block.first,
             number,
             sizes.as_slice(),
-        )?;
-        match reached {
+        )? {
             Reached::Inner(inner) => block = inner,
             Reached::Opcode(instr, stack) => {
                 return Ok(Some(InstrAt {

@@ -129,6 +129,17 @@ pub(crate) struct Scope<'m> {
     pub labels: Vec<BlockType>,
 }
 
+impl<'m> Scope<'m> {
+    /// A function outside of its body, which is its outermost label.
+    pub(crate) fn new(alloc: Global, module: &'m Module, function: usize) -> Scope<'m> {
+        Scope {
+            module,
+            function,
+            labels: Vec::new(alloc),
+        }
+    }
+}
+
 impl Scope<'_> {
     /// The type of the function.
     fn function_type(&self) -> Option<&FuncType> {
