@@ -53,7 +53,7 @@ const MISTAKES = [
   [['--kept', '/dev/full', BUFFERS, 'a', 'b'], /cannot write to the folder \/dev\/full/],
   [['--report', '/dev/full', BUFFERS, 'a', 'b'], /cannot write to the folder \/dev\/full/],
   [[BUFFERS, 'a', 'c'], /start c: no function is exported under this name; exported are a, b/],
-  [[BUFFERS, 'a:1', 'b'], /start a:1: a takes 0 arguments, and 1 are given; write a$/],
+  [[BUFFERS, 'a:1', 'b'], /start a:1: a takes 0 arguments, and 1 is given; write a$/],
   [[example('peterson'), 'work:x', 'work:1'], /start work:x: the argument "x" is not an integer/],
   [[example('peterson'), 'work:', 'work:1'], /start work:: the argument "" is not an integer/],
   [[example('peterson'), 'work:4294967296', 'work:1'], /the argument 4294967296 does not fit i32; write an integer from -2147483648 to 4294967295/],

@@ -59,7 +59,8 @@ const haveSameEnds = (own, hooked) => own.every((end, thread) => (
 async function isSameInOrder(bytes, starts) {
   const hooked = await hookedInOrder(bytes, starts);
   const own = readRecording(bytes, runInOrder(bytes, starts));
-  return { holds: own.document === hooked.document && haveSameEnds(own.ends, hooked.ends), events: parse(own.document)[3].length };
+  const holds = own.document === hooked.document && haveSameEnds(own.ends, hooked.ends);
+  return { holds, document: hooked.document, events: parse(own.document)[3].length };
 }
 
 /** Compares the log of threads that ran at once with that of the hooks, which are held to the same order of accesses. */
@@ -80,10 +81,7 @@ async function testProgram({ note, wmlab }, { name, path, starts: words }) {
   note(isAllowed && isSame, `${name}: the threads at once: the log is ${isSame ? '' : 'not '}that of the hooks; ${line}`);
   if (hasInterpreter) {
     const { document } = readRecording(bytes, runInInterpreter(bytes, starts));
-    note(
-      document === (await hookedInOrder(bytes, starts)).document,
-      `${name}: the log that wabt's interpreter records is that of the hooks`,
-    );
+    note(document === orders[0].document, `${name}: the log that wabt's interpreter records is that of the hooks`);
   }
   return orders[0].events + orders[1].events;
 }

@@ -12,6 +12,8 @@ export function parseStart(word) {
   return { name, args: args.map(BigInt) };
 }
 
+const counted = (count) => `${count} ${count === 1 ? 'argument' : 'arguments'}`;
+
 /** A start of an exported function, with its arguments as unsigned integers, as a log has them. */
 export function unsignedStart({ name, args }, functions) {
   const parameters = functions.get(name);
@@ -21,7 +23,7 @@ export function unsignedStart({ name, args }, functions) {
   }
   const usage = [name, ...parameters.map((type) => type.toUpperCase())].join(':');
   if (parameters.length !== args.length) {
-    const counts = `${name} takes ${parameters.length} arguments, and ${args.length} are given`;
+    const counts = `${name} takes ${counted(parameters.length)}, and ${args.length} ${args.length === 1 ? 'is' : 'are'} given`;
     throw new UserError(`start ${[name, ...args].join(':')}: ${counts}; write ${usage}`);
   }
   return { name, args: args.map((value, k) => unsigned(value, parameters[k], name)) };

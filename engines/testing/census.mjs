@@ -20,7 +20,7 @@ USAGE
 
     ENGINE is node, chromium, firefox or webkit (node); N the rounds of each program and mode (80).
 
-The status is 0 if each log is allowed, 1 if not, 2 for a mistake.
+The number of programs so far is on standard error. The status is 0 if each log is allowed, 1 if not, 2 for a mistake.
 `;
 
 async function main() {
@@ -32,7 +32,8 @@ async function main() {
   const wmlab = findProgram(values.wmlab);
   let logs = 0, allowed = 0;
   const others = new Table();
-  for (const program of await programsOf(EXAMPLES, wmlab)) {
+  const programs = await programsOf(EXAMPLES, wmlab);
+  for (const [number, program] of programs.entries()) {
     for (const mode of MODES) {
       const seen = await run(program, wmlab, { engine, mode, rounds });
       logs += rounds;
@@ -40,6 +41,7 @@ async function main() {
       for (const [line, count] of seen.others) for (let k = 0; k < count; k++) others.add(`${program.name}, ${mode}: ${line}`);
       if (isClassic(program.name)) console.log(`${engine}, ${program.name}, ${mode}: ${seen.weak} weak of ${rounds}`);
     }
+    console.error(`${number + 1} of ${programs.length} programs: ${allowed} of ${logs} logs allowed`);
   }
   console.log([...others.lines(), `${engine}: ${allowed} of ${logs} logs allowed`].join('\n'));
   process.exitCode = allowed === logs ? 0 : 1;

@@ -1,4 +1,5 @@
 ;; What engines that are wrong on purpose run: loops that are long enough for two threads to meet.
+;; races.wasm is made of it by `wat2wasm --enable-threads races.wat -o races.wasm`.
 (module
   (memory 1 1 shared)
   ;; Stores a word of two equal halves at one place, and loads one, COUNT times. A half of another word is a torn store.

@@ -17,49 +17,60 @@ const ROUNDS = 4;
 const NOT_PROGRAMS = new Set(['mem.c']);
 
 /**
- * The recipes: the tools that they need, the words of a command that shows whether the compiler has the target, and the versions
- * of compiler and linker that made the modules which are there. Other versions make other modules, which are recorded.
+ * The recipes: the tools that they need, the commands that show whether these make an object with atomics and a module of one
+ * source, and the versions of compiler and linker that made the modules which are there. Other versions make other modules, which
+ * are recorded. With a compiler that was not tried (`tried`), a program that is not built is left out.
  */
 const { CLANG = 'clang', WASM_LD = 'wasm-ld', RUSTC = '/usr/bin/rustc' } = process.env;
 const C = {
   folder: 'c', ending: '.c', tools: [CLANG, WASM_LD, 'wasm-objdump', 'node'],
-  probe: { source: 'int a(void) { return 1; }\n', words: (from, to) => [CLANG, '--target=wasm32', '-c', from, '-o', to] },
+  source: 'int a(void) { return 1; }\n',
+  probes: (from, object, module) => [
+    [CLANG, '--target=wasm32', '-mcpu=mvp', '-matomics', '-c', from, '-o', object], [WASM_LD, '--no-entry', object, '-o', module],
+  ],
   versions: [[CLANG, ['--version'], / version 14\.0\.6/], [WASM_LD, ['--version'], / 14\.0\.6/]],
+  tried: [[CLANG, ['--version'], / version 1[46]\./], [WASM_LD, ['--version'], / 1[46]\./]],
 };
 const RUST = {
   folder: 'rust', ending: '.rs', tools: [RUSTC, 'wasm-objdump', 'node'],
-  probe: {
-    source: '#![no_std]\n#[panic_handler] fn halt(_: &core::panic::PanicInfo) -> ! { loop {} }\n',
-    words: (from, to) => [RUSTC, '--target', 'wasm32-unknown-unknown', '--crate-type', 'cdylib', from, '-o', to],
-  },
+  source: '#![no_std]\n#[panic_handler] fn halt(_: &core::panic::PanicInfo) -> ! { loop {} }\n',
+  probes: (from, object, module) => [[
+    RUSTC, '--target', 'wasm32-unknown-unknown', '--crate-type', 'cdylib', '-C', 'target-cpu=mvp', '-C', 'target-feature=+atomics',
+    `--emit=obj=${object},link=${module}`, from,
+  ]],
   versions: [[RUSTC, ['--version'], /^rustc 1\.63\.0\s/], ['rust-lld', ['-flavor', 'wasm', '--version'], / 14\.0\.6/]],
+  tried: [[RUSTC, ['--version'], /^rustc 1\.63\./]],
 };
 
 /** The reason why a recipe cannot be tried here, or null: a missing tool, or one that cannot do what the recipe needs. */
-function hindrance({ tools, probe, ending }, room) {
+function hindrance({ tools, source, probes, ending }, room) {
   const missing = tools.filter((tool) => !isThere(tool));
   if (missing.length) return `${missing.join(', ')} cannot be started`;
-  const [from, to] = [`probe${ending}`, 'probe.wasm'].map((name) => join(room, name));
-  writeFileSync(from, probe.source);
-  const [compiler, ...words] = probe.words(from, to);
-  const made = run(compiler, words);
-  if (made.status !== 0) return `${compiler} makes no module for wasm32: ${made.err.trim().split('\n')[0]}`;
-  const shown = run('wasm-objdump', ['-x', to]);
-  return shown.status === 0 ? null : `wasm-objdump -x does not read what ${compiler} makes`;
+  const [from, object, module] = [`probe${ending}`, 'probe.o', 'probe.wasm'].map((name) => join(room, name));
+  writeFileSync(from, source);
+  for (const [tool, ...words] of probes(from, object, module)) {
+    const made = run(tool, words);
+    if (made.status !== 0) return `${tool} fails on a program of one function: ${made.err.trim().split('\n')[0]}`;
+  }
+  const isShown = run('wasm-objdump', ['-x', object]).out.includes('[+] atomics');
+  return isShown ? null : `wasm-objdump -x does not show the features of an object of ${tools[0]}`;
 }
 
 const build = ({ folder }, from, to, environment = {}) => (
   run(join(EXAMPLES, folder, 'build.sh'), [from, to], { env: { ...process.env, ...environment } }));
 
-const isSameCompiler = ({ versions }) => versions.every(([tool, words, version]) => version.test(run(tool, words).out));
+/** Whether the tools have these versions. */
+const haveVersions = (list) => list.every(([tool, words, version]) => version.test(run(tool, words).out));
 
 /** Builds a program again. Its bytes have to be those that are there, or, by another compiler, its logs have to be allowed. */
-async function testProgram({ note, wmlab, room, isSame }, recipe, program) {
+async function testProgram({ note, leftOut, wmlab, room, isSame, isTried }, recipe, program) {
   const name = `${recipe.folder}/${program}`;
   const out = join(room, `${program}.wasm`);
   const made = build(recipe, join(EXAMPLES, `${name}${recipe.ending}`), out);
   const isBuilt = made.status === 0 && existsSync(out);
-  if (!isBuilt) {
+  if (!isBuilt && !isTried) {
+    leftOut(name, `this version of ${recipe.tools[0]}, which was not tried, does not build it: ${made.err.trim().split('\n')[0]}`);
+  } else if (!isBuilt) {
     note(false, `${name} is built`, made);
   } else if (isSame) {
     note(readFileSync(out).equals(readFileSync(join(EXAMPLES, `${name}.wasm`))), `${name} is built again, byte for byte`, made);
@@ -79,9 +90,9 @@ async function testRecipe(context, recipe, testOthers) {
       context.leftOut(`building examples/${recipe.folder}`, hindered);
       return;
     }
-    const isSame = isSameCompiler(recipe);
+    const [isSame, isTried] = [recipe.versions, recipe.tried].map(haveVersions);
     const sources = readdirSync(join(EXAMPLES, recipe.folder)).filter((name) => name.endsWith(recipe.ending) && !NOT_PROGRAMS.has(name));
-    for (const source of sources) await testProgram({ ...context, room, isSame }, recipe, source.slice(0, -recipe.ending.length));
+    for (const source of sources) await testProgram({ ...context, room, isSame, isTried }, recipe, source.slice(0, -recipe.ending.length));
     testOthers({ ...context, room });
   } finally {
     rmSync(room, { recursive: true });
@@ -136,7 +147,13 @@ function testStrippedC({ note, room }) {
   for (const word of ['static _Thread_local', 'static __thread']) {
     const local = buildSource(room, storeBuffering(word));
     const isNamed = /-shared-mem/.test(local.err) && /thread-local variable/.test(local.err);
-    note(local.status === 2 && !local.bytes && isNamed, `a C program with ${word} is refused, and the cause named`, local);
+    const isRefused = local.status === 2 && !local.bytes && isNamed;
+    const isKept = local.status === 0 && atomicAccesses(local.bytes) === 4; // by a compiler that does not strip them
+    note(
+      isRefused || isKept,
+      `a C program with ${word} is ${isKept ? 'built with its atomic accesses' : 'refused, and the cause named'}`,
+      local,
+    );
   }
   const marked = buildSource(room, storeBuffering('static'), showing(room, '[-] atomics'));
   note(marked.status === 2 && !marked.bytes, 'an object that is marked -atomics is refused', marked);
