@@ -5,19 +5,22 @@
     scripts/edits.py --all CRATE..   tries the gate's too
     scripts/edits.py --check         asks whether each can still be applied, and whether the gate's copies are current
     scripts/edits.py --sync          copies those that edits/gate.txt lists to crates/CRATE/must-fail/
+    scripts/edits.py --functions     tries those that edits/gate.txt lists with a function, on that function alone
 
-Each is tried on a copy, over the proofs that are there. The last line is `N passed, N failed`.
+Each is tried on a copy, over the proofs that are there; --functions needs what `rt ci` left in out/. The last line is
+`N passed, N failed`.
 """
 import argparse
 import concurrent.futures
 import filecmp
 import glob
 import os
+import re
 import shutil
 import subprocess
 import tempfile
 
-from wmlabtools import TOP, edits, harness
+from wmlabtools import TOP, edits, harness, prover
 
 
 def copy_of(edit):
@@ -32,8 +35,10 @@ def check(tally):
         changed = edits.changed_files(edit)
         tally.check(not isinstance(changed, str), edit, changed)
     listed = edits.gate_edits()
-    tally.check(listed == sorted(set(listed)), "edits/gate.txt is not sorted, or lists an edit twice")
-    wanted = {copy_of(edit): edit for edit in listed}
+    tally.check(list(listed) == sorted(listed), "edits/gate.txt is not sorted")
+    for edit in listed:
+        tally.check(os.path.isfile(f"{TOP}/{edit}"), f"edits/gate.txt lists {edit}, which is not there")
+    wanted = {copy_of(edit): edit for edit, function in listed.items() if not function}
     found = {os.path.relpath(path, TOP) for path in glob.glob(f"{TOP}/crates/*/must-fail/*")}
     for copy in sorted(found | set(wanted)):
         is_current = copy in found and copy in wanted and os.path.isfile(f"{TOP}/{wanted[copy]}")
@@ -45,9 +50,10 @@ def sync():
     """Makes the copies in the crates."""
     for path in glob.glob(f"{TOP}/crates/*/must-fail"):
         shutil.rmtree(path)
-    for edit in edits.gate_edits():
-        os.makedirs(f"{TOP}/{os.path.dirname(copy_of(edit))}", exist_ok=True)
-        shutil.copy(f"{TOP}/{edit}", f"{TOP}/{copy_of(edit)}")
+    for edit, function in edits.gate_edits().items():
+        if not function:
+            os.makedirs(f"{TOP}/{os.path.dirname(copy_of(edit))}", exist_ok=True)
+            shutil.copy(f"{TOP}/{edit}", f"{TOP}/{copy_of(edit)}")
 
 
 def linked(source, target):
@@ -87,12 +93,62 @@ def try_all(tally, crates, jobs, with_gate):
                 print(f"{crate}: {count} of {len(names)} refused", flush=True)
 
 
+def is_proved(crate, function, texts):
+    """Whether the prover proves a function, and what it calls, of a copy of the crate with these texts in place of its
+    own; and what it said. Nothing if it did not come so far."""
+    with tempfile.TemporaryDirectory() as room:
+        for part in ("src", "specs", "proofs"):
+            if os.path.isdir(f"{TOP}/crates/{crate}/{part}"):
+                shutil.copytree(f"{TOP}/crates/{crate}/{part}", f"{room}/{part}")
+        for path, text in texts.items():
+            with open(path.replace(f"{TOP}/crates/{crate}", room, 1), "w", encoding="utf-8") as file:
+                file.write(text)
+        words = prover.check_words(crate, "--only", f"{crate}::{function}")
+        ran = subprocess.run(
+            words, cwd=room, stdout=subprocess.PIPE, stderr=subprocess.STDOUT, text=True, check=False
+        )
+    counts = re.search(r"^only=(\d+) proved=(\d+)$", ran.stdout, re.MULTILINE)
+    if not counts or counts[1] == "0" or ran.returncode not in (0, 1):
+        return None, ran.stdout
+    return counts[1] == counts[2], ran.stdout
+
+
+# What the prover says at a place of a file, and of a proof that names what an edit took away: the latter shows nothing
+# about the contract.
+GOAL = re.compile(r"note: \S+:\d+:\d+: |\S+:\d+:\d+: error")
+NAMES = re.compile(r"proofs/.*(has no field|is not in scope|has no `|was not admitted)")
+
+
+def refused(edit, function):
+    """Whether the prover refuses a function with the edit that it proves without, by a goal of its contract; and what
+    it said."""
+    crate = edit.split("/")[1]
+    is_proved_before, said = is_proved(crate, function, {})
+    if not is_proved_before:
+        return False, f"{function} is not proved without the edit: {said[-500:]}"
+    is_proved_after, said = is_proved(crate, function, edits.changed_files(edit))
+    told = [line for line in said.split("\n") if GOAL.match(line) and not NAMES.search(line)]
+    if is_proved_after is None or is_proved_after or not told:
+        return False, f"it is not refused: {said[-500:]}"
+    return True, told[0][:200]
+
+
+def try_functions(tally, jobs):
+    listed = {edit: function for edit, function in edits.gate_edits().items() if function}
+    with concurrent.futures.ThreadPoolExecutor(jobs) as pool:
+        answers = pool.map(lambda each: refused(*each), listed.items())
+        for edit, (is_refused, said) in zip(listed, answers):
+            tally.check(is_refused, edit, said)
+            print(f"{edit}: {said}", flush=True)
+
+
 def main():
     parser = argparse.ArgumentParser(description=__doc__, formatter_class=argparse.RawDescriptionHelpFormatter)
     parser.add_argument(
         "--check", action="store_true", help="only ask whether each can be applied and the copies are current"
     )
     parser.add_argument("--sync", action="store_true", help="only copy those of edits/gate.txt into the crates")
+    parser.add_argument("--functions", action="store_true", help="only try those of edits/gate.txt with a function")
     parser.add_argument("--all", action="store_true", help="try the gate's edits too")
     parser.add_argument("--jobs", type=int, default=os.cpu_count(), help="crates that are tried side by side")
     parser.add_argument("crates", nargs="*", metavar="CRATE")
@@ -102,6 +158,8 @@ def main():
         sync()
     if options.check or options.sync:
         check(tally)
+    elif options.functions:
+        try_functions(tally, options.jobs)
     else:
         try_all(tally, options.crates, options.jobs, options.all)
     tally.end()

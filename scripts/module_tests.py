@@ -71,6 +71,13 @@ TRAPS = """
   (func (export "c") (result i32)
     (i32.atomic.load (i32.const 65534))))
 """
+OVERLAPPING_LOAD = """
+(module
+  (memory 1 1 shared)
+  (func (export "a") (result i32)
+    (i64.store (i32.const 0) (i64.const 0x0807060504030201))
+    (i32.load (i32.const 2))))
+"""
 ARGUMENT = """
 (module
   (memory 1 1 shared)
@@ -91,6 +98,26 @@ DATA = STORE_BUFFERING.rstrip()[:-1] + '\n  (data (i32.const 4) "\\09"))\n'
 def body(text, memory="(memory 1 1 shared)", more=""):
     """A module of one function, from nothing to nothing."""
     return f"(module {memory} (func {text}){more})"
+
+
+def waits_for_the_other(access, tries):
+    """Two threads that each store 1, and load what the other stores so many times, with 400 steps before each load;
+    the result is whether it was seen."""
+    return f"""
+(module
+  (memory 1 1 shared)
+  (func $meet (param $own i32) (param $other i32) (result i32) (local $made i32) (local $delay i32)
+    ({access}.store (local.get $own) (i32.const 1))
+    (loop $try
+      (local.set $delay (i32.const 100))
+      (loop $wait
+        (br_if $wait (local.tee $delay (i32.sub (local.get $delay) (i32.const 1)))))
+      (if ({access}.load (local.get $other)) (then (return (i32.const 1))))
+      (br_if $try (i32.lt_u (local.tee $made (i32.add (local.get $made) (i32.const 1))) (i32.const {tries}))))
+    (i32.const 0))
+  (func (export "a") (result i32) (call $meet (i32.const 0) (i32.const 4)))
+  (func (export "b") (result i32) (call $meet (i32.const 4) (i32.const 0))))
+"""
 
 
 # A custom section, and the code section's size in five bytes; a data count in front of the code.
@@ -162,6 +189,8 @@ FILES = {
     (i32.add (i32.mul (i32.load8_u (i32.const 0)) (i32.const 10)) (i32.load8_u (i32.const 1)))))
 """,
     ),
+    "meets": (waits_for_the_other("i32.atomic", tries=300),),
+    "sees-plain-stores": (waits_for_the_other("i32", tries=5),),
     "spins-beside-nothing": (
         """
 (module
@@ -183,7 +212,13 @@ CALLED = [
         STORE_BUFFERING,
     ),
     ("The same with atomic accesses.", "STORE_BUFFERING_ATOMIC", STORE_BUFFERING_ATOMIC),
+    ("Three functions: an unaligned atomic load, a load past the memory, and one that is both.", "TRAPS", TRAPS),
+    ("A store of eight bytes, and a load of four in its middle.", "OVERLAPPING_LOAD", OVERLAPPING_LOAD),
     ("A function that stores 7 at its argument and loads it.", "ARGUMENT", ARGUMENT),
+    ("A loop that reads until it finds something else than 0.", "SPINS", SPINS),
+    ("Store buffering with a custom section at its end.", "NAME_SECTION_BEHIND", *FILES["name-section-behind"]),
+    ("Store buffering where the size of the code section is padded.", "PADDED_SIZE", *FILES["padded-size"]),
+    ("Store buffering with a data count and a byte 9 at address 4.", "DATA_SEGMENT", *FILES["data-segment"]),
 ]
 
 # ---- files
@@ -196,12 +231,13 @@ def module_of(text, *changes):
     return wasm
 
 
-def array(shows, name, text):
+def array(shows, name, text, *changes):
     """The bytes of a module as Rattle has them, behind its text."""
-    wasm = assembled(text)
+    wasm = module_of(text, *changes)
     rows = [wasm[k : k + 16] for k in range(0, len(wasm), 16)]
     bytes_of_rows = "".join("    " + ", ".join(f"0x{byte:02X}" for byte in row) + ",\n" for row in rows)
-    comment = textwrap.indent(text.strip(), "// ")
+    but = "\nbut for the bytes that the script changes" if changes else ""
+    comment = textwrap.indent(text.strip() + but, "// ")
     return f"\n{comment}\n/// {shows}\npub(super) const {name}: [u8; {len(wasm)}] = [\n{bytes_of_rows}];\n"
 
 

@@ -3,9 +3,11 @@
 copy, which is built without proof, and at least one row has to fail on it. The last line is `N passed, N failed`.
 
     scripts/planted_rows.py [NAME..]        those whose name has one of these words in it, or all; minutes for each
+    scripts/planted_rows.py --gate          those of tests/planted/gate.txt, each on the row that it names there
     scripts/planted_rows.py --check         asks only whether each can still be applied
 """
 import argparse
+import concurrent.futures
 import glob
 import os
 import re
@@ -15,6 +17,7 @@ import tempfile
 
 from wmlabtools import TOP, edits, harness
 
+LIST = "tests/planted/gate.txt"
 # The rows that are tried on a planted bug, but for those of long.rows, which only these bugs need.
 NEEDS_LONG = "full_log"
 
@@ -22,6 +25,13 @@ NEEDS_LONG = "full_log"
 def planted(words):
     paths = sorted(os.path.relpath(path, TOP) for path in glob.glob(f"{TOP}/tests/planted/*/*.edit"))
     return [path for path in paths if not words or any(word in path for word in words)]
+
+
+def rows_of_gate():
+    """The planted bugs of the gate, each with the words of its row."""
+    with open(f"{TOP}/{LIST}", encoding="utf-8") as file:
+        lines = [line.strip().split(": ", 1) for line in file if line.strip() and not line.startswith("#")]
+    return {f"tests/planted/{edit}": row for edit, row in lines}
 
 
 def built(edit, folder):
@@ -37,30 +47,53 @@ def built(edit, folder):
     return ran.stdout.strip() if ran.returncode == 0 else None
 
 
-def red_rows(program, with_long):
-    """The titles of the rows that fail on the program."""
-    words = [f"{TOP}/scripts/rows.py", "--wmlab", program]
-    words += ["long.rows"] if with_long else ["--without", "long.rows"]
-    ran = subprocess.run(words, stdout=subprocess.PIPE, text=True, check=False)
-    return re.findall(r"(?m)^FAILED (.*)$", ran.stdout)
+def red_rows(program, words):
+    """The titles of the rows that fail on the program, and whether any was run."""
+    ran = subprocess.run(
+        [f"{TOP}/scripts/rows.py", "--wmlab", program, *words], stdout=subprocess.PIPE, text=True, check=False
+    )
+    return re.findall(r"(?m)^FAILED (.*)$", ran.stdout), not ran.stdout.endswith("0 passed, 0 failed\n")
+
+
+def tried(edit, row):
+    """Whether rows fail on the planted bug, and what to say of it."""
+    if row:
+        words = [row]
+    else:
+        words = ["long.rows"] if NEEDS_LONG in edit else ["--without", "long.rows"]
+    with tempfile.TemporaryDirectory() as folder:
+        program = built(edit, folder)
+        if not program:
+            return False, "it is not built"
+        red, is_run = red_rows(program, words)
+    if not is_run:
+        return False, f"no row has these words: {row}"
+    return bool(red), f"{len(red)} rows see it, {red[0]}" if red else "no row sees it"
 
 
 def main():
     parser = argparse.ArgumentParser(description=__doc__, formatter_class=argparse.RawDescriptionHelpFormatter)
     parser.add_argument("--check", action="store_true", help="ask only whether each can still be applied")
+    parser.add_argument("--gate", action="store_true", help=f"only those of {LIST}, each on its row")
+    parser.add_argument("--jobs", type=int, default=os.cpu_count(), help="bugs that are tried side by side")
     parser.add_argument("names", nargs="*", metavar="NAME")
     options = parser.parse_args()
     tally = harness.Tally()
-    for edit in planted(options.names):
+    rows = rows_of_gate()
+    for edit in rows:
+        tally.check(os.path.isfile(f"{TOP}/{edit}"), f"{LIST} names {edit}, which is not there")
+    listed = [edit for edit in planted(options.names) if edit in rows or not options.gate]
+    to_try = []
+    for edit in listed:
         changed = edits.changed_files(edit)
-        if options.check or isinstance(changed, str):
-            tally.check(not isinstance(changed, str), edit, changed)
-            continue
-        with tempfile.TemporaryDirectory() as folder:
-            program = built(edit, folder)
-            red = red_rows(program, NEEDS_LONG in edit) if program else []
-        tally.check(red, f"{edit}: {'no row sees it' if program else 'it is not built'}")
-        print(f"{edit}: {len(red)} rows see it, {red[0] if red else ''}", flush=True)
+        tally.check(not isinstance(changed, str), edit, changed)
+        if not options.check and not isinstance(changed, str):
+            to_try.append(edit)
+    with concurrent.futures.ThreadPoolExecutor(options.jobs) as pool:
+        answers = pool.map(lambda edit: tried(edit, rows[edit] if options.gate else None), to_try)
+        for edit, (is_seen, said) in zip(to_try, answers):
+            tally.check(is_seen, edit, said)
+            print(f"{edit}: {said}", flush=True)
     tally.end()
 
 

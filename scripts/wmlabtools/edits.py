@@ -14,10 +14,11 @@ def all_edits(crates=()):
 
 
 def gate_edits():
-    """The edits that the gate tries, as `edits/gate.txt` lists them: CRATE/NAME.edit a line."""
+    """The edits that the gate tries, as `edits/gate.txt` lists them, CRATE/NAME.edit a line, each with the function on
+    which alone it is tried, or nothing."""
     with open(f"{TOP}/edits/gate.txt", encoding="utf-8") as file:
-        lines = [line.strip() for line in file]
-    return [f"edits/{line}" for line in lines if line and not line.startswith("#")]
+        lines = [line.strip() for line in file if line.strip() and not line.startswith("#")]
+    return {f"edits/{name}": function for name, _, function in (line.partition(": ") for line in lines)}
 
 
 def text_of(path):

@@ -2,6 +2,7 @@
 mod buffered_memory;
 mod candidates;
 mod closure;
+mod decoding;
 mod documents;
 mod driving;
 mod gathering;

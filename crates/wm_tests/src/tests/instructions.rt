@@ -1,79 +1,114 @@
 //! Instructions in the words of the text format.
-use std::alloc::Global;
+use std::alloc::{AllocError, Global};
 use std::test::Fail;
 use wm_access::RmwOperator;
 use wm_ast::{AccessKind, Instr, InstrText, MemArg, Narrow, Storage, ValType};
 use wm_list::List;
 use wm_num::{BinaryOperator, Comparison, Conversion, UnaryOperator, Width};
 
-/// A memory instruction.
-fn access(kind: AccessKind, alignment: u32, offset: u32) -> Instr {
-    Instr::Access(kind, MemArg { alignment, offset })
+/// Accesses with their alignment and offset, and their texts.
+const ACCESSES: [(AccessKind, u32, u32, &str); 11] = [
+    (AccessKind::Read(Storage::I32), 2, 0, "i32.load"),
+    (AccessKind::Read(Storage::I64As32), 2, 0, "i64.load32_u"),
+    (AccessKind::ReadSigned(Narrow::I32As8), 0, 0, "i32.load8_s"),
+    (AccessKind::Write(Storage::I64As16), 1, 0, "i64.store16"),
+    (AccessKind::Write(Storage::I64), 2, 0, "i64.store align=4"),
+    (
+        AccessKind::Read(Storage::I32),
+        0,
+        8,
+        "i32.load offset=8 align=1",
+    ),
+    (
+        AccessKind::AtomicRead(Storage::I32As8),
+        0,
+        0,
+        "i32.atomic.load8_u",
+    ),
+    (
+        AccessKind::AtomicWrite(Storage::I64As32),
+        2,
+        0,
+        "i64.atomic.store32",
+    ),
+    (
+        AccessKind::Rmw(RmwOperator::Add, Storage::I32As16),
+        1,
+        0,
+        "i32.atomic.rmw16.add_u",
+    ),
+    (
+        AccessKind::Rmw(RmwOperator::Xchg, Storage::I64),
+        3,
+        0,
+        "i64.atomic.rmw.xchg",
+    ),
+    (
+        AccessKind::CmpXchg(ValType::I64),
+        3,
+        0,
+        "i64.atomic.rmw.cmpxchg",
+    ),
+];
+
+/// The texts of the instructions of [`other`].
+const OTHERS: [&str; 15] = [
+    "unreachable",
+    "block (result i32)",
+    "loop",
+    "br_if 3",
+    "br_table 1 0 2",
+    "call 7",
+    "i64.const 5",
+    "i32.eqz",
+    "i64.lt_s",
+    "i32.ctz",
+    "i32.rem_u",
+    "i64.extend_i32_u",
+    "local.tee 4",
+    "global.set 0",
+    "memory.size",
+];
+
+/// An instruction that is no access.
+fn other(alloc: Global, number: usize) -> Result<Instr, AllocError> {
+    Ok(match number {
+        0 => Instr::Unreachable,
+        1 => Instr::Block(Some(ValType::I32), 1),
+        2 => Instr::Loop(None, 1),
+        3 => Instr::BrIf(3),
+        4 => Instr::BrTable(List::from_vec(vec![in alloc; 1, 0]?), 2),
+        5 => Instr::Call(7),
+        6 => Instr::I64Const(5),
+        7 => Instr::Eqz(Width::W32),
+        8 => Instr::Compare(Comparison::LtS, Width::W64),
+        9 => Instr::Unary(UnaryOperator::Ctz, Width::W32),
+        10 => Instr::Binary(BinaryOperator::RemU, Width::W32),
+        11 => Instr::Convert(Conversion::ExtendI32U),
+        12 => Instr::LocalTee(4),
+        13 => Instr::GlobalSet(0),
+        _ => Instr::MemorySize,
+    })
 }
 
-/// Instructions that access the memory, with their texts.
-fn accesses() -> [(Instr, &'static str); 11] {
-    use AccessKind::{AtomicRead, AtomicWrite, CmpXchg, Read, ReadSigned, Rmw, Write};
-    [
-        (access(Read(Storage::I32), 2, 0), "i32.load"),
-        (access(Read(Storage::I64As32), 2, 0), "i64.load32_u"),
-        (access(ReadSigned(Narrow::I32As8), 0, 0), "i32.load8_s"),
-        (access(Write(Storage::I64As16), 1, 0), "i64.store16"),
-        (access(Write(Storage::I64), 2, 0), "i64.store align=4"),
-        (
-            access(Read(Storage::I32), 0, 8),
-            "i32.load offset=8 align=1",
-        ),
-        (
-            access(AtomicRead(Storage::I32As8), 0, 0),
-            "i32.atomic.load8_u",
-        ),
-        (
-            access(AtomicWrite(Storage::I64As32), 2, 0),
-            "i64.atomic.store32",
-        ),
-        (
-            access(Rmw(RmwOperator::Add, Storage::I32As16), 1, 0),
-            "i32.atomic.rmw16.add_u",
-        ),
-        (
-            access(Rmw(RmwOperator::Xchg, Storage::I64), 3, 0),
-            "i64.atomic.rmw.xchg",
-        ),
-        (
-            access(CmpXchg(ValType::I64), 3, 0),
-            "i64.atomic.rmw.cmpxchg",
-        ),
-    ]
-}
-
-/// Other instructions, with their texts.
-fn others(labels: List<u32>) -> [(Instr, &'static str); 15] {
-    [
-        (Instr::Unreachable, "unreachable"),
-        (Instr::Block(Some(ValType::I32), 1), "block (result i32)"),
-        (Instr::Loop(None, 1), "loop"),
-        (Instr::BrIf(3), "br_if 3"),
-        (Instr::BrTable(labels, 2), "br_table 1 0 2"),
-        (Instr::Call(7), "call 7"),
-        (Instr::I64Const(5), "i64.const 5"),
-        (Instr::Eqz(Width::W32), "i32.eqz"),
-        (Instr::Compare(Comparison::LtS, Width::W64), "i64.lt_s"),
-        (Instr::Unary(UnaryOperator::Ctz, Width::W32), "i32.ctz"),
-        (Instr::Binary(BinaryOperator::RemU, Width::W32), "i32.rem_u"),
-        (Instr::Convert(Conversion::ExtendI32U), "i64.extend_i32_u"),
-        (Instr::LocalTee(4), "local.tee 4"),
-        (Instr::GlobalSet(0), "global.set 0"),
-        (Instr::MemorySize, "memory.size"),
-    ]
+fn text_of(alloc: Global, instr: &Instr) -> Result<String, AllocError> {
+    format!(in alloc; "{}", InstrText(instr))
 }
 
 #[test]
 fn instructions_have_their_texts(rt: HostRuntime) -> Result<(), Fail> {
-    let alloc: Global = rt.alloc();
-    let labels = List::from_vec(vec![in alloc; 1, 0]?);
-    for (instr, text) in accesses().iter().chain(others(labels).iter()) {
-        let got = format!(in alloc; "{}", InstrText(instr))?;
+    for (kind, alignment, offset, text) in &ACCESSES {
+        let operands = MemArg {
+            alignment: *alignment,
+            offset: *offset,
+        };
+        let instr = Instr::Access(*kind, operands);
+        let got = text_of(rt.alloc(), &instr)?;
+        assert_eq!(rt; got.as_str(), *text);
+    }
+    for (number, text) in OTHERS.iter().enumerate() {
+        let instr = other(rt.alloc(), number)?;
+        let got = text_of(rt.alloc(), &instr)?;
         assert_eq!(rt; got.as_str(), *text);
     }
     Ok(())

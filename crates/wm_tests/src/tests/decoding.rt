@@ -1,0 +1,348 @@
+//! Modules that are decoded, beside the same modules by hand, and validated.
+use super::modules::{
+    ARGUMENT, DATA_SEGMENT, NAME_SECTION_BEHIND, OVERLAPPING_LOAD, PADDED_SIZE, SPINS,
+    STORE_BUFFERING, STORE_BUFFERING_ATOMIC, TRAPS,
+};
+use super::same;
+use std::alloc::{AllocError, Global};
+use std::test::Fail;
+use wm_ast::{
+    AccessKind, Block, ConstExpr, DataSegment, Export, ExportKind, Exports, Func, FuncType, Instr,
+    Limits, MemArg, Memory, Module, Storage, ValType,
+};
+use wm_check::read_module;
+use wm_decode::decode;
+use wm_list::List;
+use wm_num::Width;
+
+fn same_instr(one: &Instr, two: &Instr) -> bool {
+    match (one, two) {
+        (Instr::I32Const(a), Instr::I32Const(b)) => *a == *b,
+        (Instr::I64Const(a), Instr::I64Const(b)) => *a == *b,
+        (Instr::LocalGet(a), Instr::LocalGet(b)) => *a == *b,
+        (Instr::BrIf(a), Instr::BrIf(b)) => *a == *b,
+        (Instr::Eqz(a), Instr::Eqz(b)) => *a == *b,
+        (Instr::Loop(t, a), Instr::Loop(u, b)) => *t == *u && *a == *b,
+        (Instr::Access(k, a), Instr::Access(l, b)) => *k == *l && *a == *b,
+        _ => false,
+    }
+}
+
+fn same_block(one: &Block, two: &Block) -> bool {
+    let mut pairs = one.as_slice().iter().zip(two.as_slice().iter());
+    one.len() == two.len() && pairs.all(|(a, b)| same_instr(a, b))
+}
+
+fn same_func(one: &Func, two: &Func) -> bool {
+    let mut pairs = one
+        .blocks
+        .as_slice()
+        .iter()
+        .zip(two.blocks.as_slice().iter());
+    one.type_index == two.type_index
+        && one.locals.as_slice() == two.locals.as_slice()
+        && one.blocks.len() == two.blocks.len()
+        && pairs.all(|(a, b)| same_block(a, b))
+}
+
+fn same_type(one: &FuncType, two: &FuncType) -> bool {
+    one.params.as_slice() == two.params.as_slice() && one.result == two.result
+}
+
+fn same_segment(one: &DataSegment, two: &DataSegment) -> bool {
+    one.offset == two.offset && one.bytes.as_slice() == two.bytes.as_slice()
+}
+
+fn same_memory(one: &Option<Memory>, two: &Option<Memory>) -> bool {
+    match (one, two) {
+        (Some(a), Some(b)) => a.limits == b.limits && a.import.is_none() && b.import.is_none(),
+        _ => false,
+    }
+}
+
+/// Whether two modules are the same; their exports have these names, in this order.
+fn same_module(one: &Module, two: &Module, names: &[&str]) -> bool {
+    let mut types = one.types.as_slice().iter().zip(two.types.as_slice().iter());
+    let mut funcs = one.funcs.as_slice().iter().zip(two.funcs.as_slice().iter());
+    let mut data = one.data.as_slice().iter().zip(two.data.as_slice().iter());
+    let mut exports = true;
+    for (position, name) in names.iter().enumerate() {
+        exports = exports
+            && one.exports.at(position) == two.exports.at(position)
+            && one.exports.get(name) == two.exports.at(position)
+            && two.exports.get(name) == two.exports.at(position);
+    }
+    one.types.len() == two.types.len()
+        && types.all(|(a, b)| same_type(a, b))
+        && one.funcs.len() == two.funcs.len()
+        && funcs.all(|(a, b)| same_func(a, b))
+        && same_memory(&one.memory, &two.memory)
+        && one.globals.as_slice() == two.globals.as_slice()
+        && one.exports.len() == names.len()
+        && two.exports.len() == names.len()
+        && exports
+        && one.data.len() == two.data.len()
+        && data.all(|(a, b)| same_segment(a, b))
+}
+
+fn access(kind: AccessKind, alignment: u32) -> Instr {
+    Instr::Access(
+        kind,
+        MemArg {
+            alignment,
+            offset: 0,
+        },
+    )
+}
+
+const LOAD: AccessKind = AccessKind::Read(Storage::I32);
+
+const STORE: AccessKind = AccessKind::Write(Storage::I32);
+
+const ATOMIC_LOAD: AccessKind = AccessKind::AtomicRead(Storage::I32);
+
+const ATOMIC_STORE: AccessKind = AccessKind::AtomicWrite(Storage::I32);
+
+/// A function of type 0 with these instructions.
+fn one_block(alloc: Global, instrs: Vec<Instr>) -> Result<Func, AllocError> {
+    let blocks = List::from_vec(vec![in alloc; List::from_vec(instrs)]?);
+    Ok(Func {
+        type_index: 0,
+        locals: List::new(alloc),
+        blocks,
+    })
+}
+
+/// A module of one page and one type, that exports its functions under these names.
+fn one_page(
+    alloc: Global,
+    params: Vec<ValType>,
+    gives: Option<ValType>,
+    funcs: Vec<Func>,
+    names: &[&str],
+) -> Result<Module, AllocError> {
+    let mut exports = Exports::new(alloc);
+    let mut index = 0u32;
+    for name in names {
+        if exports.get(name).is_none() {
+            let export = Export {
+                kind: ExportKind::Func,
+                index,
+            };
+            exports.push(String::from_str(alloc, name)?, export)?;
+        }
+        index = index.wrapping_add(1);
+    }
+    let params = List::from_vec(params);
+    Ok(Module {
+        types: List::from_vec(vec![in alloc;
+            FuncType {
+                params,
+                result: gives
+            },
+        ]?),
+        funcs: List::from_vec(funcs),
+        memory: Some(Memory {
+            limits: Limits {
+                minimum: 1,
+                maximum: 1,
+            },
+            import: None,
+        }),
+        globals: List::new(alloc),
+        exports,
+        data: List::new(alloc),
+    })
+}
+
+/// Stores 1 at one address and loads from another.
+fn store_and_load(
+    alloc: Global,
+    at: u32,
+    from: u32,
+    store: AccessKind,
+    load: AccessKind,
+) -> Result<Func, AllocError> {
+    one_block(
+        alloc,
+        vec![in alloc;
+            Instr::I32Const(at),
+            Instr::I32Const(1),
+            access(store, 2),
+            Instr::I32Const(from),
+            access(load, 2),
+        ]?,
+    )
+}
+
+fn store_buffering(
+    alloc: Global,
+    store: AccessKind,
+    load: AccessKind,
+) -> Result<Module, AllocError> {
+    let funcs = vec![in alloc;
+        store_and_load(alloc, 0, 4, store, load)?,
+        store_and_load(alloc, 4, 0, store, load)?,
+    ]?;
+    one_page(
+        alloc,
+        Vec::new(alloc),
+        Some(ValType::I32),
+        funcs,
+        &["a", "b"],
+    )
+}
+
+/// Loads from one address.
+fn one_load(alloc: Global, from: u32, load: AccessKind) -> Result<Func, AllocError> {
+    one_block(
+        alloc,
+        vec![in alloc; Instr::I32Const(from), access(load, 2)]?,
+    )
+}
+
+fn decodes(
+    alloc: Global,
+    bytes: &[u8],
+    wanted: &Module,
+    names: &[&str],
+) -> Result<bool, AllocError> {
+    match decode(alloc, bytes) {
+        Ok(module) => Ok(same_module(&module, wanted, names)),
+        Err(_) => Ok(false),
+    }
+}
+
+/// A store and a load beside one another, in two functions.
+#[test]
+fn store_buffering_is_decoded(rt: HostRuntime) -> Result<(), Fail> {
+    let alloc = rt.alloc();
+    let names = ["a", "b"];
+    let plain = store_buffering(alloc, STORE, LOAD)?;
+    let same_bytes: [&[u8]; 3] = [&STORE_BUFFERING, &NAME_SECTION_BEHIND, &PADDED_SIZE];
+    for bytes in &same_bytes {
+        assert!(rt; decodes(alloc, bytes, &plain, &names)?);
+    }
+    let other_bytes: [&[u8]; 2] = [&STORE_BUFFERING_ATOMIC, &DATA_SEGMENT];
+    for bytes in &other_bytes {
+        assert!(rt; !decodes(alloc, bytes, &plain, &names)?);
+    }
+    let atomic = store_buffering(alloc, ATOMIC_STORE, ATOMIC_LOAD)?;
+    assert!(rt; decodes(alloc, &STORE_BUFFERING_ATOMIC, &atomic, &names)?);
+    let mut with_data = plain;
+    with_data.data = one_byte_at_four(alloc)?;
+    assert!(rt; decodes(alloc, &DATA_SEGMENT, &with_data, &names)?);
+    Ok(())
+}
+
+fn one_byte_at_four(alloc: Global) -> Result<List<DataSegment>, AllocError> {
+    let bytes = List::from_vec(vec![in alloc; 9u8]?);
+    let offset = ConstExpr::I32(4);
+    Ok(List::from_vec(vec![in alloc; DataSegment { offset, bytes }]?))
+}
+
+fn three_loads(alloc: Global) -> Result<Vec<Func>, AllocError> {
+    let mut loads = Vec::new(alloc);
+    loads.push(one_load(alloc, 2, ATOMIC_LOAD)?)?;
+    loads.push(one_load(alloc, 65534, LOAD)?)?;
+    loads.push(one_load(alloc, 65534, ATOMIC_LOAD)?)?;
+    Ok(loads)
+}
+
+fn one_func(alloc: Global, instrs: Vec<Instr>) -> Result<Vec<Func>, AllocError> {
+    Ok(vec![in alloc; one_block(alloc, instrs)?]?)
+}
+
+fn mixed_widths(alloc: Global) -> Result<Vec<Instr>, AllocError> {
+    let wide = access(AccessKind::Write(Storage::I64), 3);
+    let value = Instr::I64Const(578437695752307201);
+    Ok(vec![in alloc;
+        Instr::I32Const(0),
+        value,
+        wide,
+        Instr::I32Const(2),
+        access(LOAD, 2),
+    ]?)
+}
+
+fn use_of_parameter(alloc: Global) -> Result<Vec<Instr>, AllocError> {
+    Ok(vec![in alloc;
+        Instr::LocalGet(0),
+        Instr::I32Const(7),
+        access(STORE, 2),
+        Instr::LocalGet(0),
+        access(LOAD, 2),
+    ]?)
+}
+
+fn turns(alloc: Global) -> Result<Vec<Instr>, AllocError> {
+    Ok(vec![in alloc;
+        Instr::I32Const(0),
+        access(ATOMIC_LOAD, 2),
+        Instr::Eqz(Width::W32),
+        Instr::BrIf(0),
+    ]?)
+}
+
+fn spinning(alloc: Global) -> Result<Vec<Func>, AllocError> {
+    let mut func = one_block(alloc, vec![in alloc; Instr::Loop(None, 1)]?)?;
+    func.blocks.push(List::from_vec(turns(alloc)?))?;
+    Ok(vec![in alloc; func]?)
+}
+
+#[test]
+fn other_modules_are_decoded(rt: HostRuntime) -> Result<(), Fail> {
+    let alloc = rt.alloc();
+    let number = Some(ValType::I32);
+    let names = ["a", "b", "c"];
+    let traps = one_page(alloc, Vec::new(alloc), number, three_loads(alloc)?, &names)?;
+    assert!(rt; decodes(alloc, &TRAPS, &traps, &names)?);
+    let load = one_func(alloc, mixed_widths(alloc)?)?;
+    let overlapping = one_page(alloc, Vec::new(alloc), number, load, &["a"])?;
+    assert!(rt; decodes(alloc, &OVERLAPPING_LOAD, &overlapping, &["a"])?);
+    let params = vec![in alloc; ValType::I32]?;
+    let own = one_func(alloc, use_of_parameter(alloc)?)?;
+    let argument = one_page(alloc, params, number, own, &["f"])?;
+    assert!(rt; decodes(alloc, &ARGUMENT, &argument, &["f"])?);
+    let spins = one_page(alloc, Vec::new(alloc), None, spinning(alloc)?, &["a"])?;
+    assert!(rt; decodes(alloc, &SPINS, &spins, &["a"])?);
+    Ok(())
+}
+
+/// How many pages the module has that the bytes spell, None where they spell no valid one.
+fn pages(alloc: Global, bytes: &[u8]) -> Option<u32> {
+    match read_module(alloc, bytes) {
+        Ok(module) => Some(module.pages()),
+        Err(_) => None,
+    }
+}
+
+#[test]
+fn six_modules_are_valid(rt: HostRuntime) {
+    let modules: [&[u8]; 6] = [
+        &STORE_BUFFERING,
+        &STORE_BUFFERING_ATOMIC,
+        &TRAPS,
+        &OVERLAPPING_LOAD,
+        &ARGUMENT,
+        &SPINS,
+    ];
+    for bytes in &modules {
+        same(&rt, pages(rt.alloc(), bytes), Some(1));
+    }
+}
+
+/// The first byte that the module of a data segment has at an address.
+fn initial_byte(alloc: Global, at: usize) -> Option<u8> {
+    match read_module(alloc, &DATA_SEGMENT) {
+        Ok(module) => module.init_byte(at),
+        Err(_) => None,
+    }
+}
+
+#[test]
+fn the_initial_memory_has_the_data(rt: HostRuntime) {
+    same(&rt, initial_byte(rt.alloc(), 4), Some(9));
+    same(&rt, initial_byte(rt.alloc(), 5), Some(0));
+    same(&rt, initial_byte(rt.alloc(), 65_536), None);
+}
