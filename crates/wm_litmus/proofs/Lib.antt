@@ -1,7 +1,6 @@
 pub mod Answering
 pub mod Entered
 pub mod Words
-pub mod Writing
 pub mod Pieces
 pub mod OwnVerdicts
 pub mod Counting

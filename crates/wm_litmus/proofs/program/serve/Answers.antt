@@ -1,6 +1,6 @@
 use Rattle.std.proofs.Common.{string_bytes, subst}
 use Rattle.wm_litmus.specs.Replies.WritesFront.{front}
-use Rattle.wm_litmus.specs.Output.{AppendsFront}
+use Rattle.wm_stream.specs.Output.{AppendsFront}
 use Rattle.wm_litmus.proofs.program.serve.Goals as goal
 
 pub returns-in-Err-clause-stopped : goal.returns-in-Err-clause-stopped
