@@ -64,9 +64,10 @@ same_execution m run completed is =
 -- what the memory rules say of the log is what they say of the completed one
 pub judged_completed : (m : Module) (run : LoggedRun) (completed : List ThreadLog) (verdict : Verdict) → IsCompletion m run.log completed → JudgesRun run verdict
     → JudgesRun (with_log run completed) verdict
-judged_completed m run completed (Allowed certificate) is judged =
-    (subst IsValid (same_execution m run completed is) judged.0,
-     (judged.1.0 ∙ sym is.count, judged.1.1 ∙ sym (same_total run.log completed is.count (have_same_events m run.log completed is))))
+judged_completed m run completed (Allowed certificate) is judged = (
+  subst IsValid (same_execution m run completed is) judged.0,
+  (judged.1.0 ∙ sym is.count, judged.1.1 ∙ sym (same_total run.log completed is.count (have_same_events m run.log completed is))),
+)
 judged_completed m run completed (Refused refusal) is judged = absurd judged
 judged_completed m run completed (Broken (Replay answer)) is judged = absurd judged
 judged_completed m run completed (Broken (Rule fault)) is judged = subst (λ (x : Execution). Judges x (judgement.Broken fault)) (same_execution m run completed is) judged
