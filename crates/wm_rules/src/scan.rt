@@ -14,7 +14,7 @@ use crate::no_tearing::tearing_fault;
 use crate::sequential_consistency::consistency_fault;
 use crate::written_values::value_fault;
 use rayon::prelude::*;
-use std::alloc::AllocError;
+use std::alloc::{AllocError, Global};
 use std::thread::Threads;
 use wm_event::{Candidate, Event, Judgement, Rule, RuleFault};
 use wm_hb::{Edge, HappensBefore, Ordered};
@@ -164,6 +164,33 @@ fn first_fault(rt: &(impl Threads + Sync), relation: &HappensBefore) -> Option<R
     None
 }
 
+/// The first fault by a rule, by this thread alone.
+fn fault_by_rule_alone(relation: &HappensBefore, rule: LateRule) -> Option<RuleFault>
+    ensures { Finds (execution relation.now) (late_number rule ∷ []) result }
+{
+    for thread in 0..relation.candidate().log().threads().len() {
+        let fault = fault_in_thread(relation, rule, thread);
+        if fault.is_some() {
+            return fault;
+        }
+    }
+    None
+}
+
+/// The first fault, where none is of the first two rules, by this thread alone.
+fn first_fault_alone(relation: &HappensBefore) -> Option<RuleFault>
+    requires { (f : RuleFault) → Breaks (execution relation.now) f → 3 ≤ rule_number f.rule }
+    ensures { Finds (execution relation.now) [] result }
+{
+    for rule in LATE_RULES {
+        let fault = fault_by_rule_alone(relation, rule);
+        if fault.is_some() {
+            return fault;
+        }
+    }
+    None
+}
+
 /// The fault of an edge that the order doesn't agree with.
 fn fault_of_edge(edge: Edge) -> RuleFault
     ensures { result ≡ fault_of edge }
@@ -196,6 +223,32 @@ pub fn judge(
         Ok(ordered) => {
             let relation = HappensBefore::of(rt, rt.alloc(), &ordered)?;
             match first_fault(rt, &relation) {
+                Some(fault) => Ok(Judgement::Broken(fault)),
+                None => Ok(Judgement::Valid),
+            }
+        }
+    }
+}
+
+/// The judgement that [`judge`] gives, by this thread alone: for callers that judge many runs at the same time.
+///
+/// # Errors
+///
+/// Only if an allocation fails.
+pub fn judge_sequentially(
+    alloc: Global,
+    candidate: &Candidate,
+) -> Result<Judgement, AllocError>
+    ensures judged { IfOk result (λ judgement. Judges (execution candidate.now) judgement) }
+{
+    if let Some(fault) = first_value_fault(candidate) {
+        return Ok(Judgement::Broken(fault));
+    }
+    match Ordered::of(candidate) {
+        Err(edge) => Ok(Judgement::Broken(fault_of_edge(edge))),
+        Ok(ordered) => {
+            let relation = HappensBefore::sequential(alloc, &ordered)?;
+            match first_fault_alone(&relation) {
                 Some(fault) => Ok(Judgement::Broken(fault)),
                 None => Ok(Judgement::Valid),
             }
