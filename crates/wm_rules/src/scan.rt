@@ -235,10 +235,7 @@ pub fn judge(
 /// # Errors
 ///
 /// Only if an allocation fails.
-pub fn judge_sequentially(
-    alloc: Global,
-    candidate: &Candidate,
-) -> Result<Judgement, AllocError>
+pub fn judge_sequentially(alloc: Global, candidate: &Candidate) -> Result<Judgement, AllocError>
     ensures judged { IfOk result (λ judgement. Judges (execution candidate.now) judgement) }
 {
     if let Some(fault) = first_value_fault(candidate) {
