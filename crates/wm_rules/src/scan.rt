@@ -14,7 +14,7 @@ use crate::no_tearing::tearing_fault;
 use crate::sequential_consistency::consistency_fault;
 use crate::written_values::value_fault;
 use rayon::prelude::*;
-use std::alloc::{AllocError, Global};
+use std::alloc::AllocError;
 use std::thread::Threads;
 use wm_event::{Candidate, Event, Judgement, Rule, RuleFault};
 use wm_hb::{Edge, HappensBefore, Ordered};
@@ -35,7 +35,7 @@ fn value_fault_in_thread(candidate: &Candidate, thread: usize) -> Option<RuleFau
 }
 
 /// The first fault by V1.
-fn first_value_fault(candidate: &Candidate) -> Option<RuleFault>
+pub(crate) fn first_value_fault(candidate: &Candidate) -> Option<RuleFault>
     ensures { Finds (execution candidate.now) (1 ∷ []) result }
 {
     for thread in 0..candidate.log().threads().len() {
@@ -49,14 +49,14 @@ fn first_value_fault(candidate: &Candidate) -> Option<RuleFault>
 
 /// The rules that speak of an order that agrees with happens-before.
 #[derive(Clone, Copy)]
-enum LateRule {
+pub(crate) enum LateRule {
     Coherence,
     NoTearing,
     SequentialConsistency,
 }
 
 /// Those rules, in the order in which they are judged.
-const LATE_RULES: [LateRule; 3] = [
+pub(crate) const LATE_RULES: [LateRule; 3] = [
     LateRule::Coherence,
     LateRule::NoTearing,
     LateRule::SequentialConsistency,
@@ -102,7 +102,11 @@ fn first_faulty(
 }
 
 /// The first fault in a thread by a rule.
-fn fault_in_thread(relation: &HappensBefore, rule: LateRule, thread: usize) -> Option<RuleFault>
+pub(crate) fn fault_in_thread(
+    relation: &HappensBefore,
+    rule: LateRule,
+    thread: usize,
+) -> Option<RuleFault>
     requires { thread < length relation.now.log }
     ensures { Finds (execution relation.now) (late_number rule ∷ thread ∷ []) result }
 {
@@ -164,35 +168,8 @@ fn first_fault(rt: &(impl Threads + Sync), relation: &HappensBefore) -> Option<R
     None
 }
 
-/// The first fault by a rule, by this thread alone.
-fn fault_by_rule_alone(relation: &HappensBefore, rule: LateRule) -> Option<RuleFault>
-    ensures { Finds (execution relation.now) (late_number rule ∷ []) result }
-{
-    for thread in 0..relation.candidate().log().threads().len() {
-        let fault = fault_in_thread(relation, rule, thread);
-        if fault.is_some() {
-            return fault;
-        }
-    }
-    None
-}
-
-/// The first fault, where none is of the first two rules, by this thread alone.
-fn first_fault_alone(relation: &HappensBefore) -> Option<RuleFault>
-    requires { (f : RuleFault) → Breaks (execution relation.now) f → 3 ≤ rule_number f.rule }
-    ensures { Finds (execution relation.now) [] result }
-{
-    for rule in LATE_RULES {
-        let fault = fault_by_rule_alone(relation, rule);
-        if fault.is_some() {
-            return fault;
-        }
-    }
-    None
-}
-
 /// The fault of an edge that the order doesn't agree with.
-fn fault_of_edge(edge: Edge) -> RuleFault
+pub(crate) fn fault_of_edge(edge: Edge) -> RuleFault
     ensures { result ≡ fault_of edge }
 {
     RuleFault {
@@ -223,29 +200,6 @@ pub fn judge(
         Ok(ordered) => {
             let relation = HappensBefore::of(rt, rt.alloc(), &ordered)?;
             match first_fault(rt, &relation) {
-                Some(fault) => Ok(Judgement::Broken(fault)),
-                None => Ok(Judgement::Valid),
-            }
-        }
-    }
-}
-
-/// The judgement that [`judge`] gives, by this thread alone: for callers that judge many runs at the same time.
-///
-/// # Errors
-///
-/// Only if an allocation fails.
-pub fn judge_sequentially(alloc: Global, candidate: &Candidate) -> Result<Judgement, AllocError>
-    ensures judged { IfOk result (λ judgement. Judges (execution candidate.now) judgement) }
-{
-    if let Some(fault) = first_value_fault(candidate) {
-        return Ok(Judgement::Broken(fault));
-    }
-    match Ordered::of(candidate) {
-        Err(edge) => Ok(Judgement::Broken(fault_of_edge(edge))),
-        Ok(ordered) => {
-            let relation = HappensBefore::sequential(alloc, &ordered)?;
-            match first_fault_alone(&relation) {
                 Some(fault) => Ok(Judgement::Broken(fault)),
                 None => Ok(Judgement::Valid),
             }

@@ -3,7 +3,7 @@ use Rattle.wm_event.specs.Faults.{Breaks, rank}
 use Rattle.wm_rules.specs.Late.{late_number}
 use Rattle.wm_event.proofs.Scan.{NoneBelow}
 use Rattle.wm_event.specs.LoggedRun.{execution}
-use Rattle.wm_rules.proofs.scan.fault_by_rule_alone.Given as goal
+use Rattle.wm_rules.proofs.sequential.fault_by_rule.Given as goal
 
 -- the threads so far have no fault
 abbrev pub invariant-loop-thread : goal.invariant-loop-thread

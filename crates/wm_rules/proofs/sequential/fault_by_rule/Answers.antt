@@ -5,7 +5,7 @@ use Rattle.wm_event.specs.LoggedRun.{execution}
 use Rattle.wm_event.proofs.LogLemmas.{thread_inside}
 use Rattle.wm_hb.proofs.Parts.{thread_found, threads_none}
 use Rattle.wm_hb.proofs.FaultLemmas.{fault_listed}
-use Rattle.wm_rules.proofs.scan.fault_by_rule_alone.Goals as goal
+use Rattle.wm_rules.proofs.sequential.fault_by_rule.Goals as goal
 
 pub returns-then-is_some : goal.returns-then-is_some
 returns-then-is_some c =

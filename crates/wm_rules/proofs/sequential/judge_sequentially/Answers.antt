@@ -6,18 +6,18 @@ use Rattle.wm_event.specs.Faults.{Breaks, rule_number}
 use Rattle.wm_hb.specs.Scan.{Finds}
 use Rattle.wm_rules.proofs.CaseLemmas.{of_all}
 use Rattle.wm_rules.proofs.ValidLaws.{is_valid, later_rule}
-use Rattle.wm_rules.proofs.scan.judge_sequentially.Goals as goal
+use Rattle.wm_rules.proofs.sequential.judge_sequentially.Goals as goal
 
-pub first_fault_alone-requires : goal.first_fault_alone-requires
-first_fault_alone-requires c =
+pub first_fault-requires : goal.first_fault-requires
+first_fault-requires c =
     let same : c.in_ok-relation-in-Ok.relation ≡ c.args.candidate.now = c.in_ok-relation-in-Ok.ensures ∙ c.in-Ok.ensures.value in
     subst (λ (run : LoggedRun). (f : RuleFault) → Breaks (execution run) f → 3 ≤ rule_number f.rule) (sym same)
     (later_rule (execution c.args.candidate.now) c.in_default.ensures c.in-Ok.ensures.agrees)
 
-pub returns-in-Some-first_fault_alone : goal.returns-in-Some-first_fault_alone
-returns-in-Some-first_fault_alone c = record {
-  judged = of_all (execution c.args.candidate.now) c.in-Some-first_fault_alone.fault
-      (subst (λ (run : LoggedRun). Finds (execution run) [] (Some c.in-Some-first_fault_alone.fault)) (c.in_ok-relation-in-Ok.ensures ∙ c.in-Ok.ensures.value) c.in-Some-first_fault_alone.ensures);
+pub returns-in-Some-first_fault : goal.returns-in-Some-first_fault
+returns-in-Some-first_fault c = record {
+  judged = of_all (execution c.args.candidate.now) c.in-Some-first_fault.fault
+      (subst (λ (run : LoggedRun). Finds (execution run) [] (Some c.in-Some-first_fault.fault)) (c.in_ok-relation-in-Ok.ensures ∙ c.in-Ok.ensures.value) c.in-Some-first_fault.ensures);
 }
 
 pub returns : goal.returns
