@@ -1,6 +1,6 @@
 #!/usr/bin/env python3
-"""Tests the library for C: builds it, and compares its answers with those of `wmlab verify` on the examples, from C under
-the address sanitizer on one thread and on four, from Python, and in a harness for a fuzzer.
+"""Tests the library for C: builds it, and compares its answers with those of `wmlab verify` on the examples, from C
+under the address sanitizer on one thread and on four, from Python, and in a harness for a fuzzer.
 
     library/test.py [--wmlab PATH]
 
@@ -72,9 +72,8 @@ def check_harness(room):
             "return LLVMFuzzerTestOneInput(log, size); }\n"
         )
     program = f"{room}/fuzz"
-    made = run(
-        COMPILER, "-O1", f"-I{room}", driver, f"{TOP}/examples/c-library/fuzz.c", f"{room}/libwmlab.a", "-lm", "-o", program
-    )
+    sources = [driver, f"{TOP}/examples/c-library/fuzz.c", f"{room}/libwmlab.a"]
+    made = run(COMPILER, "-O1", f"-I{room}", *sources, "-lm", "-o", program)
     TALLY.check(made[2] == 0, "examples/c-library/fuzz.c does not compile", made)
     environment = {**os.environ, "MODULE": f"{TOP}/examples/store-buffering.wasm"}
     for log, passes in (("store-buffering", True), ("too-few-writers", True), ("value-of-another-module", False)):
