@@ -23,10 +23,12 @@ count_answers() {
                 }
             }
         }
-        END { printf "%s%s\n", shows ? "\r" : "", counts() >"/dev/stderr" }'
+        END { printf "%s%s\n", shows ? "\r" : "", counts() >"/dev/stderr" }
+    '
 }
 
-# Runs the program with the counts beside it, and ends with its status. The counts move only if the answers go elsewhere.
+# Runs the program with the counts beside it, and ends with its status. The counts move only if the answers go
+# elsewhere.
 answer_with_counts() {
     local status shows=yes
     if [ -t 1 ]; then shows=; fi
