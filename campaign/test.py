@@ -89,9 +89,12 @@ class Room:
 
     def run(self, *words, **more):
         """What a campaign prints, what it writes to standard error, and its status."""
-        started = self.start(*words, **more)
-        out, err = started.communicate(timeout=SECONDS)
-        return out, err, started.returncode
+        return self.run_all([words], **more)[0]
+
+    def run_all(self, campaigns, **more):
+        """The same of several campaigns at once."""
+        started = [self.start(*words, **more) for words in campaigns]
+        return [(*each.communicate(timeout=SECONDS), each.returncode) for each in started]
 
     def finished(self, name):
         return len(list((self.folder / name / "batches").glob("[0-9a-f]*.json")))
@@ -270,14 +273,14 @@ def is_of_session(process, session):
 
 
 def statuses(tally, room, cluster):
-    for name, lines, expected in (
-        ("allowed", [ALLOWED] * 3, 0),
-        ("refused", [ALLOWED, REFUSED, ""], 2),
-        ("broken", [REFUSED, BROKEN], 1),
-    ):
+    given = {"allowed": [ALLOWED] * 3, "refused": [ALLOWED, REFUSED, ""], "broken": [REFUSED, BROKEN]}
+    campaigns = []
+    for name, lines in given.items():
         write_lines(room.folder / f"{name}.jsonl", lines)
         words = ["--scheduler", cluster.address, "logs", MODULE, str(room.folder / f"{name}.jsonl")]
-        out, err, status = room.run(f"of-{name}", *words)
+        campaigns.append([f"of-{name}", *words])
+    for (name, lines), (out, err, status) in zip(given.items(), room.run_all(campaigns)):
+        expected = harness.STATUS[name]
         is_right = status == expected and is_table_of(out, room.one_process(lines)) and is_quiet(err)
         tally.check(is_right, f"logs that are {name} have the status {expected}", (status, out, err))
     kept = sorted(path.name for path in (room.folder / "of-broken/kept").iterdir())
@@ -372,6 +375,7 @@ def mistakes(tally, room):
     (room.folder / "empty").mkdir()
     write_lines(room.folder / "one.jsonl", [ALLOWED])
     one = str(room.folder / "one.jsonl")
+    impatient = {**os.environ, "DASK_DISTRIBUTED__COMM__TIMEOUTS__CONNECT": "3s"}
     for name, words, more, status, reason in (
         ("no words", [], {}, 2, "usage:"),
         ("no place", ["logs", MODULE], {}, 2, "PLACE"),
@@ -388,7 +392,7 @@ def mistakes(tally, room):
         ("no scheduler", ["--scheduler", "tcp://127.0.0.1:9", "logs", MODULE, one], {}, 3, "cannot connect to tcp"),
         ("no address", ["--scheduler", "nowhere", "logs", MODULE, one], {}, 3, "cannot connect to nowhere"),
     ):
-        out, err, got = room.run(f"mistake-{name.replace(' ', '-')}", *words, **more)
+        out, err, got = room.run(f"mistake-{name.replace(' ', '-')}", *words, **more, env=impatient)
         is_right = got == status and reason in err and out == "" and is_quiet(err)
         tally.check(is_right, f"{name}: refused with status {status}", (got, out, err))
 
@@ -405,21 +409,27 @@ def without_dask(tally, room):
 
 
 def no_logs(tally, room, cluster):
-    words = ["--scheduler", cluster.address, "logs", MODULE]
-    out, err, status = room.run("none", *words, str(room.folder / "empty"))
-    tally.check(status == 2 and "no logs" in err, "a campaign without logs does not succeed", (status, out, err))
-    plan = room.folder / "half.txt"
-    plan.write_text(f"logs {ATOMIC} {room.folder / 'empty'}\nlogs {MODULE} {room.folder / 'one.jsonl'}\n", encoding="utf-8")
-    out, err, status = room.run("half", "--scheduler", cluster.address, "plan", str(plan))
-    tally.check(status == 2 and "no logs" in err, "a part without logs is told", (status, out, err))
-    out, err, status = room.run("gone", *words, str(room.folder / "one.jsonl"), "/nothing.jsonl")
-    is_right = status == 3 and "cannot read /nothing.jsonl" in err and "not all were cut" in out
-    tally.check(is_right, "a missing file ends the campaign", (status, out, err))
+    """Places without logs, and files that cannot be read."""
+    (room.folder / "half.txt").write_text(
+        f"logs {ATOMIC} {room.folder / 'empty'}\nlogs {MODULE} {room.folder / 'one.jsonl'}\n", encoding="utf-8"
+    )
     whole = gzip.compress(f"{ALLOWED}\n".encode() * 500)
     (room.folder / "torn.jsonl.gz").write_bytes(whole[:-20])
-    out, err, status = room.run("torn", *words, str(room.folder / "torn.jsonl.gz"))
-    is_right = status == 3 and "cannot read " in err and is_quiet(err)
-    tally.check(is_right, "a compressed file that is cut ends the campaign", (status, out, err))
+    words = ["--scheduler", cluster.address]
+    none, half, gone, torn = room.run_all(
+        [
+            ["none", *words, "logs", MODULE, str(room.folder / "empty")],
+            ["half", *words, "plan", str(room.folder / "half.txt")],
+            ["gone", *words, "logs", MODULE, str(room.folder / "one.jsonl"), "/nothing.jsonl"],
+            ["torn", *words, "logs", MODULE, str(room.folder / "torn.jsonl.gz")],
+        ]
+    )
+    tally.check(none[2] == 2 and "no logs" in none[1], "a campaign without logs does not succeed", none)
+    tally.check(half[2] == 2 and "no logs" in half[1], "a part without logs is reported", half)
+    is_right = gone[2] == 3 and "cannot read /nothing.jsonl" in gone[1] and "not all were cut" in gone[0]
+    tally.check(is_right, "a missing file ends the campaign", gone)
+    is_right = torn[2] == 3 and "cannot read " in torn[1] and is_quiet(torn[1])
+    tally.check(is_right, "a compressed file that is cut ends the campaign", torn)
 
 
 def other_folders(tally, room, cluster):
@@ -461,7 +471,7 @@ def main():
         interrupted(tally, room)
         mistakes(tally, room)
         without_dask(tally, room)
-        with dask_cluster(room.folder, 1) as cluster:
+        with dask_cluster(room.folder, 2) as cluster:
             for test in (statuses, forms_of_logs, recordings, failing_streams, no_logs, other_folders):
                 test(tally, room, cluster)
     tally.end()

@@ -16,7 +16,6 @@ try:
 except ImportError as error:
     raise Fault(f"Dask is missing ({error}): install Debian's package python3-distributed") from error
 
-SECONDS_TO_CONNECT = 5
 DASHBOARD = "127.0.0.1:8787"
 
 
@@ -104,7 +103,7 @@ def connected(options):
 
 def client_of(options, stack):
     if options.scheduler:
-        return Client(options.scheduler, timeout=SECONDS_TO_CONNECT)
+        return Client(options.scheduler)
     cluster = LocalCluster(
         n_workers=options.workers,
         threads_per_worker=1,
@@ -112,7 +111,7 @@ def client_of(options, stack):
         dashboard_address=DASHBOARD,
         silence_logs=logging.CRITICAL,
     )
-    return Client(stack.enter_context(cluster), timeout=SECONDS_TO_CONNECT)
+    return Client(stack.enter_context(cluster))
 
 
 def announce(client):
