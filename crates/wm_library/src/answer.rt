@@ -1,6 +1,5 @@
 //! The answer to a module and a log.
 ghost use Rattle.std.specs.Prelude.{◌≡◌, ◌++◌, IfOk, drop, length, take};
-ghost use Rattle.wm_check.specs.Verified.{Verifies};
 ghost use Rattle.wm_litmus.specs.Lines.{verdict_status};
 ghost use Rattle.wm_library.specs.Answer.{IsAnswerOf};
 
@@ -33,7 +32,7 @@ fn status_of(verdict: &Verdict) -> u8
 /// # Errors
 ///
 /// Only if an allocation fails.
-pub(crate) fn answer(
+pub(crate) fn answer_to(
     alloc: Global,
     module_bytes: &[u8],
     document_bytes: &[u8],

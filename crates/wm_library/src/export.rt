@@ -2,7 +2,7 @@
 ghost use Rattle.std.specs.Prelude.{◌≡◌, ◌≤◌, ◌<◌};
 ghost use Rattle.wm_library.specs.Answer.{WritesAnswer};
 
-use crate::answer::{answer, write_front};
+use crate::answer::{answer_to, write_front};
 use std::alloc::Global;
 
 /// Completes a log against its module and checks it, as the command `verify` does. The line of the verdict is written into
@@ -21,7 +21,7 @@ pub extern "C" fn wmlab_answer(
     ensures room_kept { result ≡ 3 → room.new ≡ room.old }
     ensures size_kept { result ≡ 3 → size.new ≡ size.old }
 {
-    match answer(alloc, module_bytes, document_bytes) {
+    match answer_to(alloc, module_bytes, document_bytes) {
         Ok(answer) => {
             let text = answer.line.as_bytes();
             *size = text.len();
