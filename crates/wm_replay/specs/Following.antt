@@ -49,11 +49,11 @@ Steps m old new events n (by_log.Stepped now) = ((now ≡ n) × (step m 0 old �
 Steps m old new events n by_log.OtherAccess = AccessesOther m old events n
 Steps m old new events n by_log.Ended = step m 0 old ≡ NoStep
 
--- a step that isn't made changes nothing
-abbrev pub Stays : Config → Config → StepByLog → Type 0
-Stays old new (by_log.Stepped now) = ⊤
-Stays old new by_log.OtherAccess = new ≡ old
-Stays old new by_log.Ended = new ≡ old
+-- without a step nothing changes
+abbrev pub KeepsUnstepped : Config → Config → StepByLog → Type 0
+KeepsUnstepped old new (by_log.Stepped now) = ⊤
+KeepsUnstepped old new by_log.OtherAccess = new ≡ old
+KeepsUnstepped old new by_log.Ended = new ≡ old
 
 -- ---- a thread
 

@@ -32,15 +32,12 @@ pub enum Moved {
     Rested,
 }
 
-/// How a thread ends that makes no further step.
+/// How a thread ends that makes no further step. Its result fits a document.
 pub fn end_of(thread: &Thread) -> End
     ensures end { result ≡ config_end (config_of thread.now) }
     ensures fits { EndFits result }
 {
-    match thread.next() {
-        Need::Ended(end) => end,
-        Need::Local | Need::Access(_) => End::Cut,
-    }
+    wm_replay::end_of(thread)
 }
 
 /// Makes the access that a thread needs, where the log isn't full.
