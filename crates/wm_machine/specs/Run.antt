@@ -8,7 +8,7 @@ use Rattle.wm_event.specs.declared.log.End.TheVariants.{Cut}
 use Rattle.wm_event.specs.declared.op.OpFields.{OpFields}
 use Rattle.wm_event.specs.Op.{kind_finds, event_made}
 use Rattle.wm_machine.specs.declared.fault.StartFault.{StartFault}
-use Rattle.wm_machine.specs.Term.{Config, Running, Over, Step, Went, NoStep}
+use Rattle.wm_machine.specs.Term.{Config, Running, Over, Step, ReducesTo, NoStep}
 use Rattle.wm_machine.specs.Step.{step, access_of}
 use Rattle.wm_machine.specs.Start.{started}
 
@@ -44,7 +44,7 @@ noted thread number (Some op) read = event_made record { thread = thread; number
 
 abbrev pub ran_on : ℕ → Ran → Taken → Step → Option Ran
 ran_on thread ran taken NoStep = None
-ran_on thread ran taken (Went made config) =
+ran_on thread ran taken (ReducesTo made config) =
     Some record { events = ran.events ++ noted thread (length ran.events) made taken.read; config = config; reads = taken.others }
 
 abbrev pub ran_with : Module → ℕ → Ran → Option Taken → Option Ran

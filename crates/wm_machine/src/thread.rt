@@ -188,7 +188,7 @@ impl<'m> Thread<'m> {
         requires { self.old.ended ≡ None }
         ensures asks { IfOk result (NamesNextAccess given self.old) }
         ensures made { IfOk result (MakesStep given self.old self.new) }
-        ensures stays { IfOk result (KeepsThread self.old self.new) }
+        ensures kept { IfOk result (KeepsThread self.old self.new) }
         ensures err { OnErr result (self.new ≡ self.old) }
         ensures same { self.new.module ≡ self.old.module }
     {

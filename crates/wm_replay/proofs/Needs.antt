@@ -12,7 +12,7 @@ use Rattle.wm_machine.specs.Run.{end_of}
 use Rattle.wm_machine.specs.State.{State, as_need, config_from, config_of, need_in, need_of}
 use Rattle.wm_machine.specs.Step.{access_of, step, next_config}
 use Rattle.wm_replay.specs.Following.{Accesses, MakesEvent, MakesNotEvent}
-use Rattle.wm_machine.specs.Term.{Config, Over, Step, Term, Vars, Went, NoStep}
+use Rattle.wm_machine.specs.Term.{Config, Over, Step, Term, Vars, ReducesTo, NoStep}
 use Rattle.wm_machine.specs.Configuration.{left_of, under, waiting}
 use Rattle.wm_machine.specs.Inside.{vars_of}
 use Rattle.wm_machine.specs.declared.call_frame.CallFrame.{CallFrame}
@@ -57,22 +57,22 @@ pub no_step_of_need : (s : State) (r : ℕ) (end : End) → need_of r s ≡ need
 no_step_of_need s r end e = ap (step s.module 0) (ended_of_need s r end e)
 
 -- a step that is made, by its access
-pub made_access : (s : Step) (op : OpFields) (c : Config) → access_of s ≡ Some op → next_config s ≡ Some c → s ≡ Went (Some op) c
+pub made_access : (s : Step) (op : OpFields) (c : Config) → access_of s ≡ Some op → next_config s ≡ Some c → s ≡ ReducesTo (Some op) c
 made_access NoStep op c is next = absurd (none-some op is)
-made_access (Went made after) op c is next = ap (λ o. Went o after) is ∙ ap (Went (Some op)) (same_Some after c next)
+made_access (ReducesTo made after) op c is next = ap (λ o. ReducesTo o after) is ∙ ap (ReducesTo (Some op)) (same_Some after c next)
 
-pub made_local : (s : Step) (c : Config) → access_of s ≡ None → next_config s ≡ Some c → s ≡ Went None c
+pub made_local : (s : Step) (c : Config) → access_of s ≡ None → next_config s ≡ Some c → s ≡ ReducesTo None c
 made_local NoStep c is next = absurd (none-some c next)
-made_local (Went made after) c is next = ap (λ o. Went o after) is ∙ ap (Went None) (same_Some after c next)
+made_local (ReducesTo made after) c is next = ap (λ o. ReducesTo o after) is ∙ ap (ReducesTo None) (same_Some after c next)
 
 pub no_step : (s : Step) → next_config s ≡ None → s ≡ NoStep
 no_step NoStep e = refl
-no_step (Went made after) e = absurd (none-some after (sym e))
+no_step (ReducesTo made after) e = absurd (none-some after (sym e))
 
 -- a step that makes an access is one
 pub access_has_next : (s : Step) (op : OpFields) → access_of s ≡ Some op → next_config s ≡ None → ⊥
 access_has_next NoStep op is e = none-some op is
-access_has_next (Went made after) op is e = none-some after (sym e)
+access_has_next (ReducesTo made after) op is e = none-some after (sym e)
 
 -- a thread in the midst of its calls is cut
 under_is_cut : (m : Module) (cs : List CallFrame) (func : ℕ) (vars : Vars) (t : Term) → end_of (under m cs func vars t) ≡ Cut

@@ -12,7 +12,7 @@ use Rattle.wm_machine.specs.declared.fault.StartFault.TheVariants.{OutOfMemory}
 use Rattle.wm_machine.specs.Run.{steps}
 use Rattle.wm_machine.specs.State.{config_of}
 use Rattle.wm_machine.specs.Step.{access_of, step}
-use Rattle.wm_machine.specs.Term.{Config, Went, NoStep}
+use Rattle.wm_machine.specs.Term.{Config, ReducesTo, NoStep}
 use Rattle.wm_replay.specs.declared.by_log.Followed.{Followed}
 use Rattle.wm_replay.specs.declared.by_log.StepByLog.{StepByLog}
 use Rattle.wm_replay.specs.declared.by_log.StepByLog.TheVariants as by_log
@@ -35,7 +35,7 @@ pub record Accesses (m : Module) (old new : Config) (events : List Event) (n : �
   pub listed : slice_get events n ≡ Some event
   pub makes : MakesEvent op event
   pub asks : (r : ℕ) → access_of (step m r old) ≡ Some op
-  pub steps_to : step m event.read old ≡ Went (Some op) new
+  pub steps_to : step m event.read old ≡ ReducesTo (Some op) new
 
 -- the step would make an access that isn't the log's event n
 pub record AccessesOther (m : Module) (old : Config) (events : List Event) (n : ℕ) : Type 0 where
@@ -45,7 +45,7 @@ pub record AccessesOther (m : Module) (old : Config) (events : List Event) (n : 
 
 -- a step of a thread that has made the log's events below n
 abbrev pub Steps : Module → Config → Config → List Event → ℕ → StepByLog → Type 0
-Steps m old new events n (by_log.Stepped now) = ((now ≡ n) × (step m 0 old ≡ Went None new)) ⊎ ((now ≡ n + 1) × Accesses m old new events n)
+Steps m old new events n (by_log.Stepped now) = ((now ≡ n) × (step m 0 old ≡ ReducesTo None new)) ⊎ ((now ≡ n + 1) × Accesses m old new events n)
 Steps m old new events n by_log.OtherAccess = AccessesOther m old events n
 Steps m old new events n by_log.Ended = step m 0 old ≡ NoStep
 

@@ -9,7 +9,7 @@ use Rattle.wm_event.specs.declared.log.ThreadLog.{ThreadLog}
 use Rattle.wm_event.specs.declared.op.OpFields.{OpFields}
 use Rattle.wm_machine.specs.Step.{access_of, step}
 use Rattle.wm_machine.specs.Start.{started}
-use Rattle.wm_machine.specs.Term.{Config, Step as Outcome, Went, NoStep}
+use Rattle.wm_machine.specs.Term.{Config, Step as Outcome, ReducesTo, NoStep}
 use Rattle.wm_memory.specs.declared.history_step.HistoryStep.{HistoryStep}
 use Rattle.wm_memory.specs.Memory.{drains_first}
 use Rattle.wm_memory.specs.Visibility.{Step}
@@ -26,26 +26,26 @@ use Rattle.wm_run.proofs.Runs.{turns_count}
 
 -- ---- a turn leads to one state
 
-no_access : (op : OpFields) (next : Config) (s : Outcome) → s ≡ Went None next → access_of s ≡ Some op → ⊥
+no_access : (op : OpFields) (next : Config) (s : Outcome) → s ≡ ReducesTo None next → access_of s ≡ Some op → ⊥
 no_access op next s local_step asks = none-some op (sym (ap access_of local_step) ∙ asks)
 
 one_step : (g : Setting) (h : List HistoryStep) (t : ℕ) (old a b : ThreadState) (is js : List HistoryStep) → StepsTo g h t old a is → StepsTo g h t old b js → (a ≡ b) × (is ≡ js)
 one_step g h t old _ _ _ _ (local {next = c} lt leads) (local {next = d} lt' leads') =
-    let same : Went None c ≡ Went None d = sym leads ∙ leads' in
+    let same : ReducesTo None c ≡ ReducesTo None d = sym leads ∙ leads' in
     let next : c ≡ d = cc in
     (ap (λ x. record { config = x; made = suc old.made }) next, refl)
 one_step g h t old _ _ _ _ (local {next = c} lt leads) (access {op = op} lt' few asks leads') = absurd (no_access op c (step g.program 0 old.config) leads (asks 0))
 one_step g h t old _ _ _ _ (access {op = op} lt few asks leads) (local {next = c} lt' leads') = absurd (no_access op c (step g.program 0 old.config) leads' (asks 0))
 one_step g h t old _ _ _ _ (access {op = p} {next = c} lt few asks leads) (access {op = q} {next = d} lt' few' asks' leads') =
     let same_op : p ≡ q = same_Some p q (sym (asks 0) ∙ asks' 0) in
-    let next_config : step g.program (value_read g h t q) old.config ≡ Went (Some q) c = subst (λ o. step g.program (value_read g h t o) old.config ≡ Went (Some o) c) same_op leads in
-    let same : Went (Some q) c ≡ Went (Some q) d = sym next_config ∙ leads' in
+    let next_config : step g.program (value_read g h t q) old.config ≡ ReducesTo (Some q) c = subst (λ o. step g.program (value_read g h t o) old.config ≡ ReducesTo (Some o) c) same_op leads in
+    let same : ReducesTo (Some q) c ≡ ReducesTo (Some q) d = sym next_config ∙ leads' in
     let next : c ≡ d = cc in
     (ap (λ x. record { config = x; made = suc old.made }) next, ap (λ o. access_items (drains_first (done g h) t o) t o) same_op)
 
 -- a thread that rests makes no step
 no_rest : (g : Setting) (h : List HistoryStep) (t : ℕ) (old next : ThreadState) (items : List HistoryStep) → StepsTo g h t old next items → Rests g h old → ⊥
-no_rest g h t old _ _ (local lt leads) (ended end over) = let none : NoStep ≡ Went None _ = sym (ap (step g.program 0) over) ∙ leads in absurd cc
+no_rest g h t old _ _ (local lt leads) (ended end over) = let none : NoStep ≡ ReducesTo None _ = sym (ap (step g.program 0) over) ∙ leads in absurd cc
 no_rest g h t old _ _ (local lt leads) (spent all) = omega (arith, lt, all)
 no_rest g h t old _ _ (local {next = c} lt leads) (full op asks much) = no_access op c (step g.program 0 old.config) leads (asks 0)
 no_rest g h t old _ _ (access {op = op} lt few asks leads) (ended end over) = none-some op (sym (ap (λ c. access_of (step g.program 0 c)) over) ∙ asks 0)

@@ -14,7 +14,7 @@ use Rattle.wm_event.specs.Op.{event_made, kind_finds}
 use Rattle.wm_machine.specs.Run.{Ran, Taken, and_run_on, outcome_of, ran_on, ran_with, run_from, steps, take_read, take_where}
 use Rattle.wm_machine.specs.Start.{started}
 use Rattle.wm_machine.specs.Step.{access_of, step}
-use Rattle.wm_machine.specs.Term.{Config, Went}
+use Rattle.wm_machine.specs.Term.{Config, ReducesTo}
 use Rattle.wm_memory.specs.declared.history_step.HistoryStep.{HistoryStep}
 use Rattle.wm_memory.specs.declared.history_step.HistoryStep.TheVariants as item
 use Rattle.wm_memory.specs.Memory.{drains_first, ready}
@@ -61,7 +61,7 @@ reads_last es e more =
     ∙ append_assoc (reads_of es) (own_read e) more
 
 -- a step without an access
-pub ran_local : (m : Module) (t : ℕ) (start : Start) (thread : ThreadState) (es : List Event) (next : Config) → HasRun m t start thread es → step m 0 thread.config ≡ Went None next
+pub ran_local : (m : Module) (t : ℕ) (start : Start) (thread : ThreadState) (es : List Event) (next : Config) → HasRun m t start thread es → step m 0 thread.config ≡ ReducesTo None next
     → HasRun m t start (record { config = next; made = suc thread.made }) es
 ran_local m t start thread es next h leads = record {
   first = h.first;
@@ -86,7 +86,7 @@ taken op e more false finds_so reads_so fits none = ap (λ v. Some (record { rea
 
 -- an access that makes this event
 pub ran_access : (m : Module) (t : ℕ) (start : Start) (thread : ThreadState) (es : List Event) (op : OpFields) (e : Event) (next : Config) → HasRun m t start thread es
-    → access_of (step m 0 thread.config) ≡ Some op → step m e.read thread.config ≡ Went (Some op) next → reads e ≡ kind_finds op.kind → Fits op.width e.read → (kind_finds op.kind ≡ false → e.read ≡ 0)
+    → access_of (step m 0 thread.config) ≡ Some op → step m e.read thread.config ≡ ReducesTo (Some op) next → reads e ≡ kind_finds op.kind → Fits op.width e.read → (kind_finds op.kind ≡ false → e.read ≡ 0)
     → event_made (record { thread = t; number = length es }) op e.read ≡ e → HasRun m t start (record { config = next; made = suc thread.made }) (es ++ e ∷ [])
 ran_access m t start thread es op e next h asks leads reads_so fits none is = record {
   first = h.first;
