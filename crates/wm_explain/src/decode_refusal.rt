@@ -6,7 +6,10 @@ use crate::survey::Place;
 use crate::unsupported::{UnsupportedSentence, unsupported_reason};
 use std::alloc::{AllocError, Global};
 use std::fmt;
-use wm_decode::{DecodeFault, FaultKind, Limit, MAX_MODULE_BYTES};
+use wm_decode::{
+    DecodeFault, FaultKind, Limit, MAX_FUNCTIONS, MAX_INITIAL_PAGES, MAX_LOCALS, MAX_MODULE_BYTES,
+    MAX_NESTING,
+};
 
 /// How many bytes are shown before a faulty one, and how many from it on.
 const AROUND: usize = 8;
@@ -41,18 +44,20 @@ impl fmt::Display for LimitSentence {
             ),
             Limit::Pages => write!(
                 f,
-                "The memory has {found} initial pages. At most 16 are supported."
+                "The memory has {found} initial pages. At most {MAX_INITIAL_PAGES} are supported."
             ),
             Limit::Functions => write!(
                 f,
-                "The module has {found} functions. At most 1000 are supported."
+                "The module has {found} functions. At most {MAX_FUNCTIONS} are supported."
             ),
             Limit::Locals => write!(
                 f,
-                "A function has {found} parameters and locals up to here. At most 1000 are supported."
+                "A function has {found} parameters and locals up to here. At most {MAX_LOCALS} are supported."
             ),
-            Limit::Nesting => f.write_str(
-                "This block has a nesting depth of 65. At most 64 is supported.",
+            Limit::Nesting => write!(
+                f,
+                "This block has a nesting depth of {}. At most {MAX_NESTING} is supported.",
+                MAX_NESTING + 1
             ),
         }
     }

@@ -95,11 +95,15 @@ begin f callee vars operands rest =
     Next None vars (Frame (drop (length f.params) operands) rest callee
     (reverse (take (length f.params) operands) ++ map zero_of f.locals) (Here [] f.body))
 
--- a call where so many calls are active
+-- the most active calls of a thread
+abbrev pub max_calls : ℕ
+max_calls = 256
+
+-- a call where this number of calls is active
 abbrev pub invoke : Option Callable → ℕ → ℕ → Vars → List TypedValue → List Instr → Reduced
 invoke None depth callee vars operands rest = Stuck
 invoke (Some f) depth callee vars operands rest =
-    if nat_lt depth 256 then begin f callee vars operands rest else Traps Exhausted
+    if nat_lt depth max_calls then begin f callee vars operands rest else Traps Exhausted
 
 -- an access, or its trap
 abbrev pub make : Option TrapKind → AccessKind → ℕ → ℕ → Asked → Vars → List Instr → Reduced
