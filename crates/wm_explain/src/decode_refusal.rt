@@ -2,7 +2,7 @@
 
 use crate::feature::Part;
 use crate::module_count::{number_at, parameters_and_locals};
-use crate::survey::Place;
+use crate::survey::Location;
 use crate::unsupported::{UnsupportedSentence, unsupported_reason};
 use std::alloc::{AllocError, Global};
 use std::fmt;
@@ -99,8 +99,8 @@ impl fmt::Display for DecodeSentence {
                 return write!(f, "No instruction has the opcode {opcode:02x}.");
             }
             FaultKind::Unsupported(feature) => {
-                let (part, place) = (Part::of(feature), Place::Module);
-                return write!(f, "{}", UnsupportedSentence { part, place });
+                let (part, location) = (Part::of(feature), Location::Module);
+                return write!(f, "{}", UnsupportedSentence { part, location });
             }
             FaultKind::Limit(limit) => {
                 let found = Found(self.found);

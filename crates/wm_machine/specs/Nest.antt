@@ -38,7 +38,7 @@ carried_top false operands = []
 abbrev pub given_up : Bool → Nest → Option Nest
 given_up carry n = joined (carried_top carry n.operands) n.outer
 
--- the block round so many more, which takes over what is carried
+-- the block this number of labels further out, which takes over what is carried
 abbrev pub after_branch : ℕ → List TypedValue → List Position → Option Nest
 after_branch label values [] = None
 after_branch zero values (p ∷ ps) =

@@ -117,7 +117,7 @@ access m kind offset read None vars rest = Stuck
 access m kind offset read (Some a) vars rest =
     make (access_trap m kind (a.base + offset)) kind (a.base + offset) read a vars rest
 
--- what the first instruction does where it stands
+-- what the first instruction does in its place
 abbrev pub act : Module → ℕ → ℕ → ℕ → Vars → List TypedValue → Instr → List Instr → Reduced
 act m depth read func vars operands instr.Unreachable rest = Traps Unreachable
 act m depth read func vars operands instr.Nop rest = continue_with vars operands rest

@@ -31,7 +31,7 @@ pub data Reduced : Type 0 where
   Next : (made : Option OpFields) (vars : Vars) (term : Term) → Reduced
   -- it is at its end
   Ends : (operands : List TypedValue) → Reduced
-  -- it branches out of so many labels more
+  -- it branches out of this number of labels more
   Leaves : (labels : ℕ) (operands : List TypedValue) → Reduced
   -- it returns from its function
   Returns : (operands : List TypedValue) → Reduced

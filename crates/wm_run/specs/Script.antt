@@ -21,7 +21,7 @@ pub record Setting : Type 0 where
   pub initial : List ℕ
   pub limit : ℕ
 
--- where a thread stands, behind so many steps
+-- where a thread is, after this number of steps
 pub record ThreadState : Type 0 where
   pub config : Config
   pub made : ℕ
@@ -35,7 +35,7 @@ pub record ScriptState : Type 0 where
 abbrev pub done : Setting → List HistoryStep → List Done
 done g history = steps g.initial (reverse history)
 
--- the thread makes no further step: it has ended, has made its steps, or stands before an access where the log is full
+-- the thread makes no further step: it has ended, has made its steps, or is before an access where the log is full
 pub data Rests (g : Setting) (history : List HistoryStep) (thread : ThreadState) : Type 0 where
   ended : (end : End) → thread.config ≡ Over end → Rests g history thread
   spent : g.limit ≤ thread.made → Rests g history thread

@@ -66,7 +66,7 @@ fn access(
     }
 }
 
-/// Makes the next step of a thread, where it has one: not where it has ended, nor where it stands before an access and the
+/// Makes the next step of a thread, where it has one: not where it has ended, nor where it is before an access and the
 /// log is full.
 fn advance(thread: &mut Thread, number: u32, recorder: &mut Recorder) -> Result<Moved, AllocError>
     requires there { number < threads_of recorder.old }

@@ -26,7 +26,7 @@ abbrev pub turn_of : List ℕ → Option Turn
 turn_of [] = None
 turn_of (first ∷ rest) = if first == 100 then drain_of (pieces 47 rest) else option_map Step (small (first ∷ rest))
 
--- the turn so many times over, at least once
+-- the turn repeated this number of times, at least once
 abbrev pub repeated : Option Turn → Option ℕ → Option (List Turn)
 repeated (Some turn) (Some (suc times)) = Some (replicate (suc times) turn)
 repeated _ _ = None

@@ -36,7 +36,7 @@ pub record IsRoundsOf (count : List ℕ) (starts : List (List ℕ)) (rounds : Ro
   pub count_is : rounds_of count ≡ Some rounds.count
   pub plan_is : IsPlanOf starts drainer_turns rounds.plan
 
--- the words spell no script, since the first or then one of the starts spells nothing. Want of memory says nothing of them
+-- the words spell no script, since the first or then one of the starts spells nothing. An allocation failure says nothing of them
 abbrev pub SpellNoScript : List ℕ → List (List ℕ) → WordFault → Type 0
 SpellNoScript turns starts fault.Turns = turns_of turns ≡ None
 SpellNoScript turns starts fault.Rounds = ⊥
