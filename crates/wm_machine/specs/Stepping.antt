@@ -1,6 +1,5 @@
 -- What the calls that make a step say: of a call's frame, and of a thread.
-use Rattle.std.specs.Prelude.{◌≡◌, ◌⊎◌, ◌++◌, ◌<◌, ℕ, List, [], Option, Some, None, Bool, true, Result, Ok, Err, drop, length, option_map}
-use Rattle.wm_access.specs.AccessWidth.{bytes_of}
+use Rattle.std.specs.Prelude.{◌≡◌, ◌⊎◌, ◌++◌, ◌<◌, ℕ, List, [], Option, Some, Bool, true, Result, Ok, Err, drop, length, option_map}
 use Rattle.wm_num.specs.Conversion.{low_part}
 use Rattle.wm_ast.specs.declared.access.Storage.{Storage}
 use Rattle.wm_ast.specs.declared.module.Module.{Module}

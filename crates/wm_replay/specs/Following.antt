@@ -1,5 +1,5 @@
 -- How a thread runs by its log, on the values that its events read.
-use Rattle.std.specs.Prelude.{◌≡◌, ◌≢◌, ℕ, ◌+◌, ◌<◌, ◌≤◌, ◌⊎◌, List, drop, length, take, Option, Some, None, Result, Ok, Err, slice_get, ⊤}
+use Rattle.std.specs.Prelude.{◌≡◌, ◌≢◌, ℕ, ◌+◌, ◌<◌, ◌≤◌, ◌⊎◌, List, drop, length, take, Some, None, Result, Ok, Err, slice_get, ⊤}
 use Rattle.wm_access.specs.AccessWidth.{Fits}
 use Rattle.wm_ast.specs.declared.module.Module.{Module}
 use Rattle.wm_event.specs.declared.event.Event.{Event}
