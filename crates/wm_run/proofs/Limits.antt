@@ -1,5 +1,5 @@
 -- No thread of a script makes more steps than it may.
-use Rattle.std.proofs.Common.{◌≡◌, ℕ, suc, ◌<◌, ◌≤◌, List, [], ◌∷◌, length, Some, slice_get, inl, inr, arith, subst}
+use Rattle.std.proofs.Common.{◌≡◌, ℕ, ◌<◌, ◌≤◌, List, [], ◌∷◌, length, Some, slice_get, arith, subst}
 use Rattle.std.proofs.lemmas.Option.{slice_get_within}
 use Rattle.wm_event.specs.declared.log.Start.{Start}
 use Rattle.wm_memory.specs.declared.history_step.HistoryStep.{HistoryStep}

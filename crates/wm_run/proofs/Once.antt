@@ -1,14 +1,13 @@
 -- A script has one run.
-use Rattle.std.proofs.Common.{◌≡◌, ℕ, suc, ◌<◌, ◌≤◌, List, [], ◌∷◌, ◌++◌, Option, Some, None, Ok, refl, sym, ap, ap₂, subst, ◌∙◌, arith, length, slice_get, get_or}
+use Rattle.std.proofs.Common.{◌≡◌, ℕ, suc, ◌<◌, List, [], ◌∷◌, ◌++◌, Some, None, Ok, refl, sym, ap, ap₂, subst, ◌∙◌, arith, length, slice_get, get_or}
 use Rattle.std.specs.Prelude.{slice_set}
 use Rattle.std.proofs.lemmas.List.{same_lists}
-use Rattle.std.proofs.lemmas.Option.{get_or_from_slice_get, none-some, same_Some, slice_get-get_or, slice_get_within}
+use Rattle.std.proofs.lemmas.Option.{get_or_from_slice_get, none-some, same_Some, slice_get-get_or}
 use Rattle.wm_ast.specs.declared.module.Module.{Module}
 use Rattle.wm_event.specs.declared.log.Start.{Start}
 use Rattle.wm_event.specs.declared.log.ThreadLog.{ThreadLog}
 use Rattle.wm_event.specs.declared.op.OpFields.{OpFields}
 use Rattle.wm_machine.specs.Step.{access_of, step}
-use Rattle.wm_machine.specs.Start.{started}
 use Rattle.wm_machine.specs.Term.{Config, Step as Outcome, ReducesTo, NoStep}
 use Rattle.wm_memory.specs.declared.history_step.HistoryStep.{HistoryStep}
 use Rattle.wm_memory.specs.Memory.{drains_first}
@@ -20,7 +19,7 @@ use Rattle.wm_run.specs.declared.turn.Turn.{Turn}
 use Rattle.wm_run.specs.declared.turn.Turn.TheVariants as turn
 use Rattle.wm_run.specs.Run.{Record}
 use Rattle.wm_run.specs.Script.{MayDrain, TurnsLead, Rests, ScriptState, Setting, ThreadState, StepsTo, TurnLeads, access, done, drain_of, drains, ended, full, keeps, local, rests, spent, steps_on, value_read}
-use Rattle.wm_run.specs.Scripted.{Begins, IsFirstState, IsLogOf, IsScripted, thread_log}
+use Rattle.wm_run.specs.Scripted.{IsFirstState, IsLogOf, IsScripted, thread_log}
 use Rattle.wm_run.proofs.Logging.{get_some}
 use Rattle.wm_run.proofs.Runs.{turns_count}
 
