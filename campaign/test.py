@@ -102,7 +102,8 @@ class Room:
     def one_process(self, lines):
         """The counts of the answers of one process to all lines."""
         given = "".join(f"{line}\n" for line in lines).encode()
-        answers = subprocess.run([self.wmlab, "stream", MODULE], input=given, stdout=subprocess.PIPE, cwd=TOP, check=False)
+        words = [self.wmlab, "stream", MODULE]
+        answers = subprocess.run(words, input=given, stdout=subprocess.PIPE, cwd=TOP, check=False)
         return Counter(map(kind_of, answers.stdout.decode().splitlines()))
 
 
@@ -219,7 +220,8 @@ def lost_worker_and_scheduler(tally, room):
         cluster.scheduler.terminate()
         out, err = running.communicate(timeout=SECONDS)
     finished = room.finished("lost")
-    tally.check(lost.wait() == -signal.SIGKILL and is_running, "a campaign goes on without a worker that was killed", err)
+    was_killed = lost.wait() == -signal.SIGKILL
+    tally.check(was_killed and is_running, "a campaign goes on without a worker that was killed", err)
     tally.check(
         running.returncode == 3 and "scheduler was closed" in err and "--resume" in err and is_quiet(err),
         "a campaign whose scheduler is stopped fails in one line",
@@ -315,7 +317,8 @@ def forms_of_logs(tally, room, cluster):
 def recordings(tally, room, cluster):
     words = ["--scheduler", cluster.address, "--batch", "8", "record", "--mode", "buffered", "--rounds", "20"]
     out, err, status = room.run("recorded", *words, MODULE, "a", "b")
-    tally.check(status == 0 and is_table_of(out, {"allowed": 20}), "rounds are recorded and allowed", (status, out, err))
+    is_recorded = status == 0 and is_table_of(out, {"allowed": 20})
+    tally.check(is_recorded, "rounds are recorded and allowed", (status, out, err))
     tally.check(room.finished("recorded") == 3, "rounds are cut into batches", out)
     wrong = ["--wrong", "plain-atomics", "--seconds", "1", ATOMIC, "a", "b"]
     out, err, status = room.run("wrong", *words, *wrong)

@@ -47,8 +47,8 @@ def known_words():
     """The words of the crates; and those with the words of everything else that a page may speak of."""
     crates = words_below("crates", "docs", "examples", endings=(".rt", ".antt")) | words_of(f"{TOP}/crates.txt")
     crates |= ELSEWHERE | words_of(f"{TOP}/HANDLES") | set(WORD.findall(" ".join(os.listdir(TOP))))
-    tools = ("scripts", "bench", "engines", ".ci", "tests", "edits")
-    return crates, crates | words_below(*tools, endings=(".py", ".sh", ".mjs", ".rs", ".c", ".txt", "run", "fast"))
+    tools = ("scripts", "bench", "campaign", "engines", "library", "litmus", ".ci", "tests", "edits")
+    return crates, crates | words_below(*tools, endings=(".py", ".sh", ".mjs", ".rs", ".c", ".h", ".txt", "run", "fast"))
 
 
 def path_of(cited):
