@@ -48,7 +48,8 @@ def known_words():
     crates = words_below("crates", "docs", "examples", endings=(".rt", ".antt")) | words_of(f"{TOP}/crates.txt")
     crates |= ELSEWHERE | words_of(f"{TOP}/HANDLES") | set(WORD.findall(" ".join(os.listdir(TOP))))
     tools = ("scripts", "bench", "campaign", "engines", "library", "litmus", ".ci", "tests", "edits")
-    return crates, crates | words_below(*tools, endings=(".py", ".sh", ".mjs", ".rs", ".c", ".h", ".txt", "run", "fast"))
+    endings = (".py", ".sh", ".mjs", ".rs", ".c", ".h", ".txt", "run", "fast")
+    return crates, crates | words_below(*tools, endings=endings)
 
 
 def path_of(cited):
