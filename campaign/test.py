@@ -9,11 +9,13 @@ import gzip
 import json
 import lzma
 import os
+import pty
 import shutil
 import signal
 import subprocess
 import sys
 import tempfile
+import threading
 import time
 from collections import Counter
 from pathlib import Path
@@ -102,8 +104,8 @@ class Room:
     def one_process(self, lines):
         """The counts of the answers of one process to all lines."""
         given = "".join(f"{line}\n" for line in lines).encode()
-        answers = subprocess.run([self.wmlab, "stream", MODULE], input=given, stdout=subprocess.PIPE, cwd=TOP, check=False)
-        return Counter(map(kind_of, answers.stdout.decode().splitlines()))
+        out = harness.run(self.wmlab, ["stream", MODULE], input=given)[0]
+        return Counter(map(kind_of, out.splitlines()))
 
 
 def wait_for(condition):
@@ -219,7 +221,8 @@ def lost_worker_and_scheduler(tally, room):
         cluster.scheduler.terminate()
         out, err = running.communicate(timeout=SECONDS)
     finished = room.finished("lost")
-    tally.check(lost.wait() == -signal.SIGKILL and is_running, "a campaign goes on without a worker that was killed", err)
+    is_lost = lost.wait() == -signal.SIGKILL
+    tally.check(is_lost and is_running, "a campaign goes on without a worker that was killed", err)
     tally.check(
         running.returncode == 3 and "scheduler was closed" in err and "--resume" in err and is_quiet(err),
         "a campaign whose scheduler is stopped fails in one line",
@@ -240,15 +243,41 @@ def lost_worker_and_scheduler(tally, room):
     tally.check(table == out, "the table is written beside the results", table)
 
 
+def on_terminal(start):
+    """Starts a process whose standard error is a terminal. Returns it, and a function that gives what was written
+    there."""
+    ours, theirs = pty.openpty()
+    started, parts = start(stderr=theirs), []
+    os.close(theirs)
+
+    def read():
+        with contextlib.suppress(OSError):  # the terminal was closed
+            while part := os.read(ours, 65_536):
+                parts.append(part)
+
+    reader = threading.Thread(target=read)
+    reader.start()
+
+    def written():
+        reader.join()
+        os.close(ours)
+        return b"".join(parts).decode(errors="replace").replace("\r\n", "\n")
+
+    return started, written
+
+
 def interrupted(tally, room):
-    """Ctrl-C in a terminal reaches the campaign and its workers."""
+    """Ctrl-C in a terminal reaches the campaign and its workers. A terminal shows Dask's bar."""
     write_lines(room.folder / "stopped.jsonl", varied_lines(600))
     slow = room.stand_in("slow-too", 'sleep 0.2; exec "$wmlab" "$@"')
     words = ["--batch", "10", "logs", MODULE, str(room.folder / "stopped.jsonl")]
-    running = room.start("stopped", "--workers", "2", *words, wmlab=slow)
+    running, written = on_terminal(
+        lambda **streams: room.start("stopped", "--workers", "2", *words, wmlab=slow, **streams)
+    )
     wait_for(lambda: room.finished("stopped") >= 4)
     os.killpg(running.pid, signal.SIGINT)
-    out, err = running.communicate(timeout=SECONDS)
+    out, err = running.communicate(timeout=SECONDS)[0], written()
+    tally.check("% Completed" in err and "dashboard: http" in err, "a terminal shows Dask's bar", err)
     tally.check(
         running.returncode == 130 and "stopped; --resume goes on" in err and is_quiet(err),
         "Ctrl-C ends a campaign in one line",
@@ -315,7 +344,8 @@ def forms_of_logs(tally, room, cluster):
 def recordings(tally, room, cluster):
     words = ["--scheduler", cluster.address, "--batch", "8", "record", "--mode", "buffered", "--rounds", "20"]
     out, err, status = room.run("recorded", *words, MODULE, "a", "b")
-    tally.check(status == 0 and is_table_of(out, {"allowed": 20}), "rounds are recorded and allowed", (status, out, err))
+    is_right = status == 0 and is_table_of(out, {"allowed": 20})
+    tally.check(is_right, "rounds are recorded and allowed", (status, out, err))
     tally.check(room.finished("recorded") == 3, "rounds are cut into batches", out)
     wrong = ["--wrong", "plain-atomics", "--seconds", "1", ATOMIC, "a", "b"]
     out, err, status = room.run("wrong", *words, *wrong)
