@@ -301,6 +301,25 @@ def is_of_session(process, session):
 # ---- answers and kept logs
 
 
+def kinds(tally):
+    """What answers are counted as."""
+    for answer, kind in (
+        ("allowed threads=2 events=4", "allowed"),
+        ("broken V5 case 3 at 0.1 byte 0 writer init other 1.0", "broken V5 case 3"),
+        ("broken replay thread 12 event 345", "broken replay event"),
+        ("broken replay thread 0 end", "broken replay end"),
+        ("broken replay thread 0 start NoExport", "broken replay start NoExport"),
+        ("refused decode Unsupported Floats at 29", "refused decode Unsupported Floats"),
+        ("refused valid Alignment in function 0 instruction 2", "refused valid Alignment"),
+        ("refused document BadShape at /2/0/1", "refused document BadShape"),
+        ("refused shape OrderNotPermutation", "refused shape OrderNotPermutation"),
+        ('thread 0 ended with ["done",[1]], and its run with ["done",[0]]', "broken engine's end"),
+        ("no witness exists on a machine with store buffers", "broken no witness exists"),
+        ("no witness found: gave up after 2000000 steps", "refused no witness found"),
+    ):
+        tally.check(kind_of(answer) == kind, f"the kind of {answer}", kind_of(answer))
+
+
 def statuses(tally, room, cluster):
     given = {"allowed": [ALLOWED] * 3, "refused": [ALLOWED, REFUSED, ""], "broken": [REFUSED, BROKEN]}
     campaigns = []
@@ -404,6 +423,8 @@ def mistakes(tally, room):
     """What is refused before a batch is sent."""
     (room.folder / "empty").mkdir()
     write_lines(room.folder / "one.jsonl", [ALLOWED])
+    write_lines(room.folder / "plans.txt", ["# a comment", "plan plans.txt"])
+    write_lines(room.folder / "quote.txt", [f"logs {MODULE} 'logs"])
     one = str(room.folder / "one.jsonl")
     impatient = {**os.environ, "DASK_DISTRIBUTED__COMM__TIMEOUTS__CONNECT": "3s"}
     for name, words, more, status, reason in (
@@ -414,6 +435,8 @@ def mistakes(tally, room):
         ("two clusters", ["--workers", "1", "--scheduler", "x", "logs", MODULE, one], {}, 2, "not allowed with"),
         ("an unknown mode", ["record", "--mode", "fast", MODULE, "a"], {}, 2, "invalid choice"),
         ("an empty plan", ["plan", "/dev/null"], {}, 2, "has no line"),
+        ("a plan of a plan", ["plan", str(room.folder / "plans.txt")], {}, 2, "plans.txt line 2: error: argument"),
+        ("a quote that is open", ["plan", str(room.folder / "quote.txt")], {}, 2, "quote.txt line 1: No closing"),
         ("a missing plan", ["plan", "/nothing"], {}, 3, "cannot read /nothing"),
         ("a missing module", ["logs", "/nothing.wasm", one], {}, 3, "cannot read /nothing.wasm"),
         ("a missing program", ["logs", MODULE, one], {"wmlab": "/nothing"}, 3, "/nothing is not a program"),
@@ -497,6 +520,7 @@ def main():
     tally = harness.Tally()
     with tempfile.TemporaryDirectory() as folder:
         room = Room(folder, harness.program_of(options))
+        kinds(tally)
         lost_worker_and_scheduler(tally, room)
         interrupted(tally, room)
         mistakes(tally, room)
