@@ -234,7 +234,7 @@ def lost_worker_and_scheduler(tally, room):
     out, err, status = room.run(*words[:1], "--resume", "--workers", "3", *words[1:], wmlab=slow)
     tally.check(status == 1 and is_quiet(err), "the resumed campaign has the status of its logs", (status, err))
     tally.check(is_table_of(out, room.one_process(lines)), "the table is the one of one process", out)
-    tally.check("batches: 60 of 60 finished, " in out and "before" in out, "each batch is counted once", out)
+    tally.check("batches finished: 60 of 60, " in out and "by an earlier run" in out, "each batch is counted once", out)
     contents = {tuple(lines[first : first + 10]) for first in range(0, len(lines), 10)}
     tally.check(
         room.finished("lost") == len(contents) < 60, "batches of the same content have one file", room.finished("lost")
@@ -357,7 +357,7 @@ def forms_of_logs(tally, room, cluster):
     out, err, status = room.run("forms-out", "--scheduler", cluster.address, "--batch", "4", "plan", str(plan))
     counts = {"allowed": 14, "refused document TooLarge": 1}
     tally.check(status == 2 and is_table_of(out, counts) and is_quiet(err), "each form of logs is read", (out, err))
-    tally.check("batches: 6 of 6" in out, "a batch is cut by its size too", out)
+    tally.check("batches finished: 6 of 6\n" in out, "a batch is cut by its size too", out)
 
 
 def recordings(tally, room, cluster):
@@ -415,7 +415,7 @@ def failing_streams(tally, room, cluster):
         told = next((line for line in err.splitlines() if f"batch {number} (" in line), "")
         tally.check(f"spaces.jsonl line {10 * number - 9})" in told and reason in told, f"a stream that {name}", err)
     is_left_out = counts_in(out)[0] == [10, 10, 0, 0] and f"not counted: {len(FAILURES)}; --resume" in out
-    tally.check(is_left_out and f"batches: 1 of {len(FAILURES) + 1} finished" in out, "they are not counted", out)
+    tally.check(is_left_out and f"batches finished: 1 of {len(FAILURES) + 1}\n" in out, "they are not counted", out)
     tally.check(room.finished("failing") == 1, "they have no file", room.finished("failing"))
 
 
@@ -479,7 +479,7 @@ def no_logs(tally, room, cluster):
     )
     tally.check(none[2] == 2 and "no logs" in none[1], "a campaign without logs does not succeed", none)
     tally.check(half[2] == 2 and "no logs" in half[1], "a part without logs is reported", half)
-    is_right = gone[2] == 3 and "cannot read /nothing.jsonl" in gone[1] and "not all were cut" in gone[0]
+    is_right = gone[2] == 3 and "cannot read /nothing.jsonl" in gone[1] and "and there are more" in gone[0]
     tally.check(is_right, "a missing file ends the campaign", gone)
     is_right = torn[2] == 3 and "cannot read " in torn[1] and is_quiet(torn[1])
     tally.check(is_right, "a compressed file that is cut ends the campaign", torn)
