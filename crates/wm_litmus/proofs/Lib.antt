@@ -8,3 +8,4 @@ pub mod Gathering
 pub mod Tabling
 pub mod Padding
 pub mod Explaining
+pub mod Streaming

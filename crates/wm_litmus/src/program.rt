@@ -1,5 +1,5 @@
 //! The whole program.
-ghost use Rattle.std.specs.Prelude.{◌≡◌, ◌+◌, ◌^◌, ◌≤◌, ◌<◌, IfErr, IfOk, OnOk, List, ℕ, drop, map, string_bytes};
+ghost use Rattle.std.specs.Prelude.{◌≡◌, ◌+◌, ◌^◌, ◌≤◌, ◌<◌, IfErr, IfOk, OnErr, OnOk, List, ℕ, drop, map, string_bytes};
 ghost use Rattle.wm_decode.specs.Bounds.{max_module_bytes};
 ghost use Rattle.wm_litmus.specs.Replies.{WritesAnswer, WritesFront, given};
 ghost use Rattle.wm_litmus.specs.Serving.{IsOfLines, IsReply, StreamsAll, StreamsFront};
@@ -268,7 +268,7 @@ fn reply_to<'a, R: AllocGlobal + Threads + Wait + Sync, F: Files, I: Read>(
         }
         Ok(Command::Verify { module, document }) => {
             let read = read_run(rt, files, input, module, document)?;
-            Ok(Reply::Answer(verify_answer(rt, read.0.as_slice(), read.1.as_slice())?))
+            Ok(Reply::Answer(verify_answer(rt.alloc(), read.0.as_slice(), read.1.as_slice())?))
         }
         Ok(Command::Stream { module }) => Ok(Reply::Lines(module)),
         Ok(Command::Explain { module, document }) => {

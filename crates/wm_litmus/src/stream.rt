@@ -6,8 +6,7 @@ ghost use Rattle.wm_litmus.specs.Prints.{ended};
 ghost use Rattle.wm_litmus.specs.Stream.{AnswersVerify, IsJudgeOf, JudgesLine};
 
 use crate::answer::Answer;
-use std::alloc::{AllocError, AllocGlobal, Global};
-use std::thread::Threads;
+use std::alloc::{AllocError, Global};
 use wm_check::{Unread, Verdict, read_module, verify, verify_log};
 use wm_stream::{AnswersLines, LineAnswer, LineStatus};
 use wm_valid::ValidModule;
@@ -17,16 +16,16 @@ use wm_valid::ValidModule;
 /// # Errors
 ///
 /// Only if an allocation fails.
-pub(crate) fn verify_answer<R: AllocGlobal + Threads + Sync>(
-    rt: &R,
+pub(crate) fn verify_answer(
+    alloc: Global,
     module_bytes: &[u8],
     document_bytes: &[u8],
 ) -> Result<Answer, AllocError>
     ensures { IfOk result (λ answer.
         AnswersVerify module_bytes.now document_bytes.now answer.status (string_bytes answer.text)) }
 {
-    let verdict = verify(rt, module_bytes, document_bytes)?;
-    Answer::of_verdict(rt.alloc(), &verdict)
+    let verdict = verify(alloc, module_bytes, document_bytes)?;
+    Answer::of_verdict(alloc, &verdict)
 }
 
 /// Who answers the lines of a stream.
@@ -64,17 +63,13 @@ fn line_answer(alloc: Global, verdict: &Verdict) -> Result<LineAnswer, AllocErro
 impl AnswersLines for Judge {
     ghost says = { JudgesLine };
 
-    fn answer<R: AllocGlobal + Threads + Sync>(
-        &self,
-        rt: &R,
-        line: &[u8],
-    ) -> Result<LineAnswer, AllocError> {
+    fn answer(&self, alloc: Global, line: &[u8]) -> Result<LineAnswer, AllocError> {
         match self {
             Judge::Module(module) => {
-                let verdict = verify_log(rt, module, line)?;
-                line_answer(rt.alloc(), &verdict)
+                let verdict = verify_log(alloc, module, line)?;
+                line_answer(alloc, &verdict)
             }
-            Judge::Refused(verdict) => line_answer(rt.alloc(), verdict),
+            Judge::Refused(verdict) => line_answer(alloc, verdict),
         }
     }
 }

@@ -20,14 +20,15 @@ fn answers_to<R: AllocGlobal + Threads + Sync, J: AnswersLines>(
     ensures { IfOk result (λ answers. AllZip
         (λ line answer. J.says judge.now line.items answer.status (string_bytes answer.text)) lines.now answers.items) }
 {
+    let alloc = rt.alloc();
     lines
         .par_iter()
         .map(
             |line: &Vec<u8>| -> Result<LineAnswer, AllocError>
                 ensures { IfOk result (λ a. J.says judge.entry.now line.now.items a.status (string_bytes a.text)) }
-            { judge.answer(rt, line.as_slice()) },
+            { judge.answer(alloc, line.as_slice()) },
         )
-        .collect::<Result<Vec<LineAnswer>, AllocError>>(rt, rt.alloc())?
+        .collect::<Result<Vec<LineAnswer>, AllocError>>(rt, alloc)?
 }
 
 /// Prints the answers to lines, in their order, and returns their status together.

@@ -1,11 +1,11 @@
 use Rattle.std.proofs.Common.{◌≡◌, subst, string_bytes}
-use Rattle.std.proofs.lemmas.Result.{IfOk-weaker}
 use Rattle.wm_litmus.specs.Drive.{IsScriptAnswer}
 use Rattle.wm_litmus.specs.Explanation.{AnswersExplain, AnswersGraph}
 use Rattle.wm_litmus.specs.Rounds.{IsRoundsAnswer}
+use Rattle.wm_litmus.specs.Stream.{AnswersVerify}
 use Rattle.wm_litmus.specs.Replies.{AnswersCheck, AnswersComplete, AnswersMigrate, AnswersRules}
-use Rattle.wm_litmus.specs.Replies.IsAnswer.{check_of, complete_of, drive_of, explain_of, graph_of, help_of, migrate_of, no_command, rules_of, run_of, version_of}
-use Rattle.wm_litmus.proofs.program.answer_of.Goals as goal
+use Rattle.wm_litmus.specs.Replies.IsAnswer.{check_of, complete_of, drive_of, explain_of, graph_of, help_of, migrate_of, no_command, rules_of, run_of, verify_of, version_of}
+use Rattle.wm_litmus.proofs.program.reply_to.Goals as goal
 
 pub returns-in_ok-rules_answer-in-Ok-Rules-clause-answers : goal.returns-in_ok-rules_answer-in-Ok-Rules-clause-answers
 returns-in_ok-rules_answer-in-Ok-Rules-clause-answers g c =
@@ -49,6 +49,19 @@ returns-in_ok-completion_answer-in-Ok-Complete-clause-answers g c =
     (subst (λ bytes. AnswersComplete bytes c.as_slice-in-Ok-Complete-2.result.now answer.status (string_bytes answer.text)) of_module
     c.in_ok-completion_answer-in-Ok-Complete.ensures))
 
+pub returns-in_ok-verify_answer-in-Ok-Verify-clause-answers :
+    goal.returns-in_ok-verify_answer-in-Ok-Verify-clause-answers
+returns-in_ok-verify_answer-in-Ok-Verify-clause-answers g c =
+    let answer = c.in_ok-verify_answer-in-Ok-Verify.field-0 in
+    let read = c.in_ok-read-in-Ok-Verify in
+    let of_module : c.as_slice-in-Ok-Verify.result.now ≡ read.read.0.items = c.as_slice-in-Ok-Verify.ensures.value in
+    let of_document : c.as_slice-in-Ok-Verify-2.result.now ≡ read.read.1.items = c.as_slice-in-Ok-Verify-2.ensures.value in
+    verify_of c.in-Ok-Verify.module c.in-Ok-Verify.document read.read.0.items read.read.1.items (rw c.in-Ok-Verify.field-0-is at c.in-Ok-Verify.ensures.read)
+    read.ensures.modules read.ensures.documents
+    (subst (λ bytes. AnswersVerify read.read.0.items bytes answer.status (string_bytes answer.text)) of_document
+    (subst (λ bytes. AnswersVerify bytes c.as_slice-in-Ok-Verify-2.result.now answer.status (string_bytes answer.text)) of_module
+    c.in_ok-verify_answer-in-Ok-Verify.ensures))
+
 pub returns-in_ok-explain_answer-in-Ok-Explain-clause-answers :
     goal.returns-in_ok-explain_answer-in-Ok-Explain-clause-answers
 returns-in_ok-explain_answer-in-Ok-Explain-clause-answers g c =
@@ -75,23 +88,21 @@ returns-in_ok-graph_answer-in-Ok-Graph-clause-answers g c =
     (subst (λ bytes. AnswersGraph bytes c.as_slice-in-Ok-Graph-2.result.now answer.status (string_bytes answer.text)) of_module
     c.in_ok-graph_answer-in-Ok-Graph.ensures))
 
-pub returns-in-Ok-Drive-clause-answers : goal.returns-in-Ok-Drive-clause-answers
-returns-in-Ok-Drive-clause-answers g c =
+pub returns-in_ok-answer-in-Ok-Drive-clause-answers : goal.returns-in_ok-answer-in-Ok-Drive-clause-answers
+returns-in_ok-answer-in-Ok-Drive-clause-answers g c =
     let read = rw c.in-Ok-Drive.field-0-is at c.in-Ok-Drive.ensures.read in
     let turns = c.in-Ok-Drive.turns in
+    let answer = c.in_ok-answer-in-Ok-Drive.answer in
     let file = g.F.Files.content_of c.args.files.now c.in-Ok-Drive.module.now in
-    IfOk-weaker c.script_of.result _ _
-    (λ answer is. drive_of c.in-Ok-Drive.module turns read (subst (λ starts. IsScriptAnswer file turns.now starts answer.status (string_bytes answer.text)) c.starts_of-starts.ensures is))
-    c.script_of.ensures.answers
+    drive_of c.in-Ok-Drive.module turns read (subst (λ starts. IsScriptAnswer file turns.now starts answer.status (string_bytes answer.text)) c.starts_of-starts.ensures c.in_ok-answer-in-Ok-Drive.ensures.answers)
 
-pub returns-in-Ok-Run-clause-answers : goal.returns-in-Ok-Run-clause-answers
-returns-in-Ok-Run-clause-answers g c =
+pub returns-in_ok-answer-in-Ok-Run-clause-answers : goal.returns-in_ok-answer-in-Ok-Run-clause-answers
+returns-in_ok-answer-in-Ok-Run-clause-answers g c =
     let read = rw c.in-Ok-Run.field-0-is at c.in-Ok-Run.ensures.read in
     let rounds = c.in-Ok-Run.rounds in
+    let answer = c.in_ok-answer-in-Ok-Run.answer in
     let file = g.F.Files.content_of c.args.files.now c.in-Ok-Run.module.now in
-    IfOk-weaker c.rounds_of.result _ _
-    (λ answer is. run_of c.in-Ok-Run.module rounds read (subst (λ starts. IsRoundsAnswer file rounds.now starts answer.status (string_bytes answer.text)) c.starts_of-starts.ensures is))
-    c.rounds_of.ensures.answers
+    run_of c.in-Ok-Run.module rounds read (subst (λ starts. IsRoundsAnswer file rounds.now starts answer.status (string_bytes answer.text)) c.starts_of-starts.ensures c.in_ok-answer-in-Ok-Run.ensures.answers)
 
 pub returns-in_ok-help_answer-in-Ok-Help-clause-answers : goal.returns-in_ok-help_answer-in-Ok-Help-clause-answers
 returns-in_ok-help_answer-in-Ok-Help-clause-answers g c =
