@@ -9,11 +9,13 @@ import gzip
 import json
 import lzma
 import os
+import pty
 import shutil
 import signal
 import subprocess
 import sys
 import tempfile
+import threading
 import time
 from collections import Counter
 from pathlib import Path
@@ -102,9 +104,8 @@ class Room:
     def one_process(self, lines):
         """The counts of the answers of one process to all lines."""
         given = "".join(f"{line}\n" for line in lines).encode()
-        words = [self.wmlab, "stream", MODULE]
-        answers = subprocess.run(words, input=given, stdout=subprocess.PIPE, cwd=TOP, check=False)
-        return Counter(map(kind_of, answers.stdout.decode().splitlines()))
+        out = harness.run(self.wmlab, ["stream", MODULE], input=given)[0]
+        return Counter(map(kind_of, out.splitlines()))
 
 
 def wait_for(condition):
@@ -220,8 +221,8 @@ def lost_worker_and_scheduler(tally, room):
         cluster.scheduler.terminate()
         out, err = running.communicate(timeout=SECONDS)
     finished = room.finished("lost")
-    was_killed = lost.wait() == -signal.SIGKILL
-    tally.check(was_killed and is_running, "a campaign goes on without a worker that was killed", err)
+    is_lost = lost.wait() == -signal.SIGKILL
+    tally.check(is_lost and is_running, "a campaign goes on without a worker that was killed", err)
     tally.check(
         running.returncode == 3 and "scheduler was closed" in err and "--resume" in err and is_quiet(err),
         "a campaign whose scheduler is stopped fails in one line",
@@ -233,7 +234,7 @@ def lost_worker_and_scheduler(tally, room):
     out, err, status = room.run(*words[:1], "--resume", "--workers", "3", *words[1:], wmlab=slow)
     tally.check(status == 1 and is_quiet(err), "the resumed campaign has the status of its logs", (status, err))
     tally.check(is_table_of(out, room.one_process(lines)), "the table is the one of one process", out)
-    tally.check("batches: 60 of 60 finished, " in out and "before" in out, "each batch is counted once", out)
+    tally.check("batches finished: 60 of 60, " in out and "by an earlier run" in out, "each batch is counted once", out)
     contents = {tuple(lines[first : first + 10]) for first in range(0, len(lines), 10)}
     tally.check(
         room.finished("lost") == len(contents) < 60, "batches of the same content have one file", room.finished("lost")
@@ -242,15 +243,41 @@ def lost_worker_and_scheduler(tally, room):
     tally.check(table == out, "the table is written beside the results", table)
 
 
+def on_terminal(start):
+    """Starts a process whose standard error is a terminal. Returns it, and a function that gives what was written
+    there."""
+    ours, theirs = pty.openpty()
+    started, parts = start(stderr=theirs), []
+    os.close(theirs)
+
+    def read():
+        with contextlib.suppress(OSError):  # the terminal was closed
+            while part := os.read(ours, 65_536):
+                parts.append(part)
+
+    reader = threading.Thread(target=read)
+    reader.start()
+
+    def written():
+        reader.join()
+        os.close(ours)
+        return b"".join(parts).decode(errors="replace").replace("\r\n", "\n")
+
+    return started, written
+
+
 def interrupted(tally, room):
-    """Ctrl-C in a terminal reaches the campaign and its workers."""
+    """Ctrl-C in a terminal reaches the campaign and its workers. A terminal shows Dask's bar."""
     write_lines(room.folder / "stopped.jsonl", varied_lines(600))
     slow = room.stand_in("slow-too", 'sleep 0.2; exec "$wmlab" "$@"')
     words = ["--batch", "10", "logs", MODULE, str(room.folder / "stopped.jsonl")]
-    running = room.start("stopped", "--workers", "2", *words, wmlab=slow)
+    running, written = on_terminal(
+        lambda **streams: room.start("stopped", "--workers", "2", *words, wmlab=slow, **streams)
+    )
     wait_for(lambda: room.finished("stopped") >= 4)
     os.killpg(running.pid, signal.SIGINT)
-    out, err = running.communicate(timeout=SECONDS)
+    out, err = running.communicate(timeout=SECONDS)[0], written()
+    tally.check("% Completed" in err and "dashboard: http" in err, "a terminal shows Dask's bar", err)
     tally.check(
         running.returncode == 130 and "stopped; --resume goes on" in err and is_quiet(err),
         "Ctrl-C ends a campaign in one line",
@@ -272,6 +299,25 @@ def is_of_session(process, session):
 
 
 # ---- answers and kept logs
+
+
+def kinds(tally):
+    """What answers are counted as."""
+    for answer, kind in (
+        ("allowed threads=2 events=4", "allowed"),
+        ("broken V5 case 3 at 0.1 byte 0 writer init other 1.0", "broken V5 case 3"),
+        ("broken replay thread 12 event 345", "broken replay event"),
+        ("broken replay thread 0 end", "broken replay end"),
+        ("broken replay thread 0 start NoExport", "broken replay start NoExport"),
+        ("refused decode Unsupported Floats at 29", "refused decode Unsupported Floats"),
+        ("refused valid Alignment in function 0 instruction 2", "refused valid Alignment"),
+        ("refused document BadShape at /2/0/1", "refused document BadShape"),
+        ("refused shape OrderNotPermutation", "refused shape OrderNotPermutation"),
+        ('thread 0 ended with ["done",[1]], and its run with ["done",[0]]', "broken engine's end"),
+        ("no witness exists on a machine with store buffers", "broken no witness exists"),
+        ("no witness found: gave up after 2000000 steps", "refused no witness found"),
+    ):
+        tally.check(kind_of(answer) == kind, f"the kind of {answer}", kind_of(answer))
 
 
 def statuses(tally, room, cluster):
@@ -311,14 +357,14 @@ def forms_of_logs(tally, room, cluster):
     out, err, status = room.run("forms-out", "--scheduler", cluster.address, "--batch", "4", "plan", str(plan))
     counts = {"allowed": 14, "refused document TooLarge": 1}
     tally.check(status == 2 and is_table_of(out, counts) and is_quiet(err), "each form of logs is read", (out, err))
-    tally.check("batches: 6 of 6" in out, "a batch is cut by its size too", out)
+    tally.check("batches finished: 6 of 6\n" in out, "a batch is cut by its size too", out)
 
 
 def recordings(tally, room, cluster):
     words = ["--scheduler", cluster.address, "--batch", "8", "record", "--mode", "buffered", "--rounds", "20"]
     out, err, status = room.run("recorded", *words, MODULE, "a", "b")
-    is_recorded = status == 0 and is_table_of(out, {"allowed": 20})
-    tally.check(is_recorded, "rounds are recorded and allowed", (status, out, err))
+    is_right = status == 0 and is_table_of(out, {"allowed": 20})
+    tally.check(is_right, "rounds are recorded and allowed", (status, out, err))
     tally.check(room.finished("recorded") == 3, "rounds are cut into batches", out)
     wrong = ["--wrong", "plain-atomics", "--seconds", "1", ATOMIC, "a", "b"]
     out, err, status = room.run("wrong", *words, *wrong)
@@ -369,7 +415,7 @@ def failing_streams(tally, room, cluster):
         told = next((line for line in err.splitlines() if f"batch {number} (" in line), "")
         tally.check(f"spaces.jsonl line {10 * number - 9})" in told and reason in told, f"a stream that {name}", err)
     is_left_out = counts_in(out)[0] == [10, 10, 0, 0] and f"not counted: {len(FAILURES)}; --resume" in out
-    tally.check(is_left_out and f"batches: 1 of {len(FAILURES) + 1} finished" in out, "they are not counted", out)
+    tally.check(is_left_out and f"batches finished: 1 of {len(FAILURES) + 1}\n" in out, "they are not counted", out)
     tally.check(room.finished("failing") == 1, "they have no file", room.finished("failing"))
 
 
@@ -377,6 +423,8 @@ def mistakes(tally, room):
     """What is refused before a batch is sent."""
     (room.folder / "empty").mkdir()
     write_lines(room.folder / "one.jsonl", [ALLOWED])
+    write_lines(room.folder / "plans.txt", ["# a comment", "plan plans.txt"])
+    write_lines(room.folder / "quote.txt", [f"logs {MODULE} 'logs"])
     one = str(room.folder / "one.jsonl")
     impatient = {**os.environ, "DASK_DISTRIBUTED__COMM__TIMEOUTS__CONNECT": "3s"}
     for name, words, more, status, reason in (
@@ -387,6 +435,8 @@ def mistakes(tally, room):
         ("two clusters", ["--workers", "1", "--scheduler", "x", "logs", MODULE, one], {}, 2, "not allowed with"),
         ("an unknown mode", ["record", "--mode", "fast", MODULE, "a"], {}, 2, "invalid choice"),
         ("an empty plan", ["plan", "/dev/null"], {}, 2, "has no line"),
+        ("a plan of a plan", ["plan", str(room.folder / "plans.txt")], {}, 2, "plans.txt line 2: error: argument"),
+        ("a quote that is open", ["plan", str(room.folder / "quote.txt")], {}, 2, "quote.txt line 1: No closing"),
         ("a missing plan", ["plan", "/nothing"], {}, 3, "cannot read /nothing"),
         ("a missing module", ["logs", "/nothing.wasm", one], {}, 3, "cannot read /nothing.wasm"),
         ("a missing program", ["logs", MODULE, one], {"wmlab": "/nothing"}, 3, "/nothing is not a program"),
@@ -429,7 +479,7 @@ def no_logs(tally, room, cluster):
     )
     tally.check(none[2] == 2 and "no logs" in none[1], "a campaign without logs does not succeed", none)
     tally.check(half[2] == 2 and "no logs" in half[1], "a part without logs is reported", half)
-    is_right = gone[2] == 3 and "cannot read /nothing.jsonl" in gone[1] and "not all were cut" in gone[0]
+    is_right = gone[2] == 3 and "cannot read /nothing.jsonl" in gone[1] and "and there are more" in gone[0]
     tally.check(is_right, "a missing file ends the campaign", gone)
     is_right = torn[2] == 3 and "cannot read " in torn[1] and is_quiet(torn[1])
     tally.check(is_right, "a compressed file that is cut ends the campaign", torn)
@@ -470,6 +520,7 @@ def main():
     tally = harness.Tally()
     with tempfile.TemporaryDirectory() as folder:
         room = Room(folder, harness.program_of(options))
+        kinds(tally)
         lost_worker_and_scheduler(tally, room)
         interrupted(tally, room)
         mistakes(tally, room)

@@ -37,7 +37,7 @@ class Campaign:
     def __init__(self, parts, folder, most_logs):
         self.parts, self.folder, self.most_logs = parts, folder, most_logs
         self.table = Table(dict.fromkeys(part.module.path for part in parts))
-        self.kept, self.failures = set(), []
+        self.kept, self.failures, self.judged = set(), [], set()
         self.batches = self.finished = self.from_before = 0
         self.is_cut = False
 
@@ -63,6 +63,7 @@ class Campaign:
                 self.fail(batches, result["failure"])
                 continue
             written = self.folder.finish(batches[0], result)
+            self.judged.add(batches[0].name)
             for batch in batches:
                 self.count(batch, written)
 
@@ -82,7 +83,7 @@ class Campaign:
             written = self.folder.finished(batch)
             if written:
                 self.count(batch, written)
-                self.from_before += 1
+                self.from_before += batch.name not in self.judged
                 continue
             wave.add(batch, cluster.submit)
             if wave.is_full:
@@ -99,9 +100,9 @@ class Campaign:
     def text(self):
         """The table, and below it how far the campaign is and what is kept."""
         lines = list(self.table.lines())
-        of = f" of {self.batches:,}" if self.is_cut else ", and not all were cut"
-        before = f", {self.from_before:,} of them before" if self.from_before else ""
-        lines.append(f"batches: {self.finished:,}{of} finished{before}")
+        of = f" of {self.batches:,}" if self.is_cut else ", and there are more"
+        before = f", {self.from_before:,} of them by an earlier run" if self.from_before else ""
+        lines.append(f"batches finished: {self.finished:,}{of}{before}")
         if self.failures:
             lines.append(f"batches that failed and are not counted: {len(self.failures):,}; --resume tries them again")
         if self.kept:

@@ -13,6 +13,7 @@ Logs that are not allowed are kept in FOLDER/kept, each with its explanation. do
 import argparse
 import json
 import os
+import signal
 import sys
 
 from .campaign import Campaign
@@ -23,7 +24,7 @@ from .program import find_program, materials
 
 STATUSES = """
 exit status: 0 all logs are allowed; 1 one is broken; 2 one is refused, nothing was judged, or the words are wrong;
-3 a batch, the cluster or a file failed; 130 stopped by Ctrl-C. At 3 and 130, --resume goes on.
+3 a batch, the cluster or a file failed; 130 stopped by Ctrl-C or SIGTERM. At 3 and 130, --resume goes on.
 """
 
 
@@ -73,7 +74,9 @@ def run_campaign(options, parts):
     campaign = Campaign(parts, folder, options.batch)
     with cluster.connected(options) as client:
         try:
-            campaign.run(cluster.Cluster(client, found, options.keep))
+            sender = cluster.Cluster(client, found, options.keep)
+            campaign.run(sender)
+            sender.report_lost()
             return campaign.status
         except KeyboardInterrupt:
             print("campaign: stopped; --resume goes on", file=sys.stderr)
@@ -89,6 +92,8 @@ def main(words):
     """Runs a campaign as the words ask, and returns the exit status."""
     whole, single = parsers()
     options = whole.parse_args(words)
+    # A batch system that ends the job leaves a table and a folder to resume, as Ctrl-C does.
+    signal.signal(signal.SIGTERM, signal.default_int_handler)
     try:
         return run_campaign(options, parts_of(options, single))
     except KeyboardInterrupt:

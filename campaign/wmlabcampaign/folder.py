@@ -11,14 +11,18 @@ MANIFEST = "campaign.json"
 
 
 def write_whole(path, data):
+    new = ""
     try:
         with tempfile.NamedTemporaryFile(dir=os.path.dirname(path), prefix=".new-", delete=False) as file:
+            new = file.name
             file.write(data)
             file.flush()
             os.fsync(file.fileno())
-        os.chmod(file.name, 0o644)
-        os.replace(file.name, path)
+        os.chmod(new, 0o644)
+        os.replace(new, path)
     except OSError as error:
+        if os.path.exists(new):
+            os.unlink(new)
         raise Fault(f"cannot write {path}: {error.strerror}") from error
 
 
