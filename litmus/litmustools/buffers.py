@@ -4,22 +4,22 @@ With `wrong` it is an engine that is wrong on purpose, for tests of the suite.""
 from collections import deque
 from dataclasses import dataclass, replace
 
-from .modules import has_result, instructions_of
+from .modules import instructions_of
 
 WRONG = {
     "plain-atomics": "atomic loads and stores are made as plain ones",
     "no-release": "an atomic store leaves earlier plain stores in their buffer",
     "torn-store": "a store becomes visible in two halves",
-    "split-update": "an update is a load and then a store",
-    "early-load": "a load may be made before the atomic store that precedes it",
+    "split-update": "an update is a load and, later, a store",
+    "early-load": "an atomic store waits in the buffer, and later atomic loads do not wait for it",
     "stale-load": "an atomic load may answer with what the memory had before the last store",
 }
 
 
 @dataclass(frozen=True)
 class State:
-    """How far each thread is, its waiting stores (the oldest first), the memory, what it was before the last store, and
-    the values read."""
+    """How far each thread is, its waiting stores (the oldest first), the memory, what it was before the last store, the
+    values read, and in wrong engines the stores of which a part or all is still to come."""
 
     done: tuple
     buffers: tuple
@@ -90,12 +90,12 @@ class Machine:
         event = self.test.threads[thread][index]
         state = replace(state, done=changed(state.done, thread, index + 1))
         is_atomic = self.is_atomic(event)
-        if event.writes and not event.reads and not is_atomic:
+        waits = not is_atomic or self.wrong == "early-load"
+        if event.writes and not event.reads and waits:
             buffer = (*state.buffers[thread], index)
             yield replace(state, buffers=changed(state.buffers, thread, buffer))
             return
-        keeps_buffer = self.wrong == "no-release" and event.writes and not event.reads
-        if is_atomic and not keeps_buffer:
+        if is_atomic and not self.keeps_buffer(event):
             state = self.drained(state, thread)
         if not event.reads:
             yield self.store(state, event)
@@ -106,11 +106,22 @@ class Machine:
         for memory in memories:
             value = self.value(state, thread, event, memory)
             after = replace(state, reads=(*state.reads, ((thread, index), value)))
-            yield self.store(after, event) if event.writes else after
+            if event.writes and self.wrong == "split-update":
+                yield replace(after, halves=(*after.halves, event))
+            else:
+                yield self.store(after, event) if event.writes else after
+
+    def keeps_buffer(self, event):
+        """Whether a wrong engine makes an atomic access while stores wait."""
+        if self.wrong == "no-release":
+            return event.writes and not event.reads
+        return self.wrong == "early-load" and event.reads and not event.writes
 
     def leaves(self, state, thread):
         """Which stores may leave the buffer: those that overlap none of the older ones."""
         buffer, events = state.buffers[thread], self.test.threads[thread]
+        if self.wrong == "early-load":
+            buffer = buffer[:1]  # so that nothing but the load is early
         for k, index in enumerate(buffer):
             older = {at for other in buffer[:k] for at in events[other].bytes}
             if not older & set(events[index].bytes):
@@ -131,7 +142,7 @@ class Machine:
     def outcome(self, state):
         values = dict(state.reads)
         return tuple(
-            tuple(values[thread, i] for i, event in enumerate(events) if event.reads)
+            tuple(values[thread, i] for i, event in enumerate(events) if event.is_observed)
             for thread, events in enumerate(self.test.threads)
         )
 
@@ -183,17 +194,3 @@ def script(test, moves):
     for thread, each in enumerate(steps):
         turns += [str(thread)] * (each[-1] - made[thread])
     return repeated(turns)
-
-
-def results_text(test, outcome):
-    """The outcome as `wmlab drive` and `run` print it."""
-    found = []
-    for thread, values in enumerate(outcome):
-        if not has_result(test, thread):
-            found.append("-")
-        elif test.is_uniform:
-            found.append(str(int("".join(map(str, values)))))
-        else:
-            wanted = [event.expected for event in test.reads_of(thread)]
-            found.append(str(int(all(want in (None, value) for want, value in zip(wanted, values)))))
-    return " ".join(found)

@@ -81,3 +81,8 @@ def permitted(document, judge):
 def allowed(batch, judge):
     answers = judge.answers([line for _, line in batch])
     return {values for (values, _), answer in zip(batch, answers, strict=True) if answer.startswith("allowed")}
+
+
+def reads_of_document(document):
+    """The thread and the number of each event that reads."""
+    return reads_of(json.loads(document)[2])

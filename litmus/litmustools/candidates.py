@@ -60,11 +60,12 @@ def event_text(event, choice):
     return log.compact(["r", *place, choice.value, by])
 
 
-def flag_pairs(test):
-    """The write of each flag, and the read of it. In every candidate the read takes its value from the write, so that
-    the write happens before it."""
+def flag_pairs(test, wanted):
+    """The write of each flag, and the read of it, if the read has to take its value from the write: then the write
+    happens before it."""
     flags = {(event.location, event.writes): key for key, event in test.events.items() if is_flag(event)}
-    return tuple((key, flags[name, False]) for (name, writes), key in sorted(flags.items()) if writes)
+    pairs = [(key, flags[name, False]) for (name, writes), key in sorted(flags.items()) if writes]
+    return tuple((write, read) for write, read in pairs if wanted[read])
 
 
 @cache
@@ -102,24 +103,29 @@ class Found:
 
 
 class Candidates:
-    """The candidates of a test, as texts of logs. `outcome` keeps to those with the cycle's outcome."""
+    """The candidates of a test, as texts of logs; with `outcome`, those in which the observed events read this."""
 
-    def __init__(self, test, by_byte=False, all_orders=False, outcome_only=False):
+    def __init__(self, test, by_byte=False, all_orders=False, outcome=None):
         self.test, self.reads = test, [key for key, event in test.events.items() if event.reads]
-        self.choices = [self.kept_choices(key, by_byte, outcome_only) for key in self.reads]
+        self.wanted = self.wanted_values(outcome)
+        self.choices = [self.kept_choices(key, by_byte) for key in self.reads]
         if all_orders:
             self.orders = [log.compact(order) for order in permutations(test.events)]
         else:
-            self.orders = order_texts(tuple(len(events) for events in test.threads), flag_pairs(test))
+            self.orders = order_texts(tuple(len(events) for events in test.threads), flag_pairs(test, self.wanted))
 
-    def kept_choices(self, key, by_byte, outcome_only):
-        event = self.test.events[key]
-        is_fixed = event.expected is not None and (outcome_only or is_flag(event))
-        return [
-            choice
-            for choice in choices_of(self.test, key, by_byte)
-            if not is_fixed or choice.value == event.expected
-        ]
+    def wanted_values(self, outcome):
+        """What each read of a flag has to give, and with an outcome each observed event."""
+        if outcome is None:
+            return {key: event.expected for key, event in self.test.events.items() if event.reads and is_flag(event)}
+        observed = [key for key in self.reads if self.test.events[key].is_observed]
+        return dict(zip(observed, (value for values in outcome for value in values), strict=True))
+
+    def kept_choices(self, key, by_byte):
+        choices = choices_of(self.test, key, by_byte)
+        if key not in self.wanted:
+            return list(choices)
+        return [choice for choice in choices if choice.value == self.wanted[key]]
 
     def count(self):
         count = len(self.orders)
@@ -136,10 +142,11 @@ class Candidates:
         return ",".join(threads)
 
     def outcome_of(self, chosen):
-        """The values that each thread reads."""
+        """The values that the observed events of each thread read."""
         values = {thread: [] for thread, _ in enumerate(self.test.threads)}
-        for (thread, _), choice in zip(self.reads, chosen):
-            values[thread].append(choice.value)
+        for key, choice in zip(self.reads, chosen):
+            if self.test.events[key].is_observed:
+                values[key[0]].append(choice.value)
         return tuple(tuple(values[thread]) for thread in sorted(values))
 
     def __iter__(self):
@@ -148,15 +155,6 @@ class Candidates:
             outcome, threads = self.outcome_of(chosen), self.threads_text(chosen)
             for order in self.orders:
                 yield outcome, f'["wasm-litmus-log",2,[{threads}],{order}]'
-
-
-def is_cycle(test, outcome):
-    """Whether an outcome is that of the cycle."""
-    for thread, values in enumerate(outcome):
-        expected = [event.expected for event in test.reads_of(thread)]
-        if any(want is not None and want != value for want, value in zip(expected, values)):
-            return False
-    return True
 
 
 def value_text(test, value):

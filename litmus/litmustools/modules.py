@@ -86,8 +86,6 @@ def reading(event, is_first, is_uniform):
     width = event.access.width
     if is_uniform:
         return ([WRAP] if width == 8 else []) + ([] if is_first else [ADD])
-    if event.expected is None:
-        return [DROP] if not is_first else [DROP, constant(1)]
     compared = [constant(event.expected, width), EQUAL[8 if width == 8 else 4]]
     return compared + ([] if is_first else [AND])
 
@@ -96,20 +94,22 @@ def instructions_of(test, thread):
     """The instructions of a thread. Its result stays on the operand stack while it goes on."""
     code, is_first = [], True
     for event in test.threads[thread]:
-        if event.reads and not is_first and test.is_uniform:
+        if event.is_observed and not is_first and test.is_uniform:
             code += [constant(10), MULTIPLY]
         code.append(constant(event.address))
         if event.writes:
             code.append(constant(event.written, event.access.width))
         code.append(access_of(event))
-        if event.reads:
+        if event.is_observed:
             code += reading(event, is_first, test.is_uniform)
             is_first = False
+        elif event.reads:
+            code.append(DROP)
     return code
 
 
 def has_result(test, thread):
-    return bool(test.reads_of(thread))
+    return bool(test.observed(thread))
 
 
 def text_of(test):

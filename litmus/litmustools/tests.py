@@ -33,6 +33,11 @@ class Event:
     def writes(self):
         return self.written is not None
 
+    @property
+    def is_observed(self):
+        """Whether its value is a part of the outcome. What an exchange reads for the sake of its write is not."""
+        return self.expected is not None
+
     def byte(self, at):
         """The byte that it writes at an address."""
         return self.written >> 8 * (at - self.address) & 255
@@ -174,25 +179,31 @@ class LitmusTest:
     def starts(self):
         return list(EXPORTS[: len(self.threads)])
 
-    def reads_of(self, thread):
+    def observed(self, thread):
         """The events of a thread whose values are in its result."""
-        return [event for event in self.threads[thread] if event.reads]
+        return [event for event in self.threads[thread] if event.is_observed]
 
-    def result(self, thread):
-        """The result of a thread in the outcome, `-` if it has none, `*` if it may be any."""
-        reads = self.reads_of(thread)
-        if not reads:
+    @property
+    def cycle_values(self):
+        """What the observed events of each thread read in the outcome."""
+        return tuple(tuple(event.expected for event in self.observed(t)) for t, _ in enumerate(self.threads))
+
+    def result(self, thread, values):
+        """The result of a thread whose observed events read these values, `-` if it has none."""
+        if not values:
             return "-"
         if not self.is_uniform:
-            return "1"
-        if any(event.expected is None for event in reads):
-            return "*"
-        return str(int("".join(str(event.expected) for event in reads)))
+            return str(int(values == self.cycle_values[thread]))
+        return str(int("".join(map(str, values))))
+
+    def results(self, values):
+        """The results of all threads, as `wmlab run` prints them."""
+        return " ".join(self.result(thread, each) for thread, each in enumerate(values))
 
     @property
     def outcome(self):
-        """The outcome as the conditions of the recorder have it."""
-        return " ".join(self.result(thread) for thread in range(len(self.threads)))
+        """The results in the cycle's outcome."""
+        return self.results(self.cycle_values)
 
 
 def needs_final(cycle, location):

@@ -6,19 +6,15 @@
     i32.const 0
     i32.const 2
     i32.atomic.rmw.xchg
-    i32.const 10
-    i32.mul
     i32.const 16
     i32.const 1
     i32.atomic.rmw.xchg
-    i32.add)
+    drop)
   (func (export "b") (result i32)
     i32.const 16
     i32.const 2
     i32.atomic.rmw.xchg
-    i32.const 10
-    i32.mul
     i32.const 0
     i32.const 1
     i32.atomic.rmw.xchg
-    i32.add))
+    drop))
