@@ -16,8 +16,17 @@ ROUNDS_COMMAND = os.path.join(TOP, "litmus/rounds.mjs")
 
 
 @dataclass
+class Seen:
+    """What an engine gave in its rounds of a test: how often each outcome and each verdict came."""
+
+    outcomes: dict
+    verdicts: dict
+
+
+@dataclass
 class Row:
-    """What came of a test. `log` is the first allowed candidate with the cycle's outcome, or one that is refused."""
+    """What came of a test. `log` is the first allowed candidate with the cycle's outcome, or one that is refused.
+    `engines` has what each engine gave that ran it."""
 
     test: LitmusTest
     module: str
@@ -26,25 +35,25 @@ class Row:
     log: str = ""
     script: str | None = None
     runs: int = 0
-    engine: dict = field(default_factory=dict)
-    engine_verdicts: dict = field(default_factory=dict)
+    engines: dict = field(default_factory=dict)
 
     @property
     def asked(self):
         return sum(self.answers.values())
 
-    @property
-    def engine_times(self):
-        return self.engine.get(self.test.outcome, 0)
+    def times(self, engine):
+        """How often an engine gave the cycle's outcome."""
+        return self.engines[engine].outcomes.get(self.test.outcome, 0) if engine in self.engines else 0
 
     @property
     def finds(self):
         """What an engine or the program showed that no candidate permits, in sentences."""
         found = []
-        if self.engine_times and not self.is_permitted:
-            found.append(f"{self.test.name}: the engine gave the cycle's outcome, which no candidate permits")
-        others = [line for line in self.engine_verdicts if not line.startswith("allowed")]
-        found += [f"{self.test.name}: a log of the engine is answered by: {line}" for line in others]
+        for engine, seen in self.engines.items():
+            if self.times(engine) and not self.is_permitted:
+                found.append(f"{self.test.name}: {engine} gave the cycle's outcome, which no candidate permits")
+            others = [line for line in seen.verdicts if not line.startswith("allowed")]
+            found += [f"{self.test.name}: a log of {engine} is answered by: {line}" for line in others]
         if (self.script or self.runs) and not self.is_permitted:
             found.append(f"{self.test.name}: the store buffers gave the cycle's outcome, which no candidate permits")
         return found
@@ -111,6 +120,6 @@ def engine_rounds(rows, program, engine, rounds):
     if ran.returncode or len(lines) != len(rows) + 1:
         raise Failed(f"rounds.mjs ended with status {ran.returncode}: {ran.stderr.strip()[-200:]}")
     for row, line in zip(rows, lines[1:], strict=True):
-        _, seen, verdicts = json.loads(line)
-        row.engine, row.engine_verdicts = dict(seen), dict(verdicts)
+        _, outcomes_seen, verdicts = json.loads(line)
+        row.engines[engine] = Seen(dict(outcomes_seen), dict(verdicts))
     return json.loads(lines[0])

@@ -46,8 +46,13 @@ def buffers_text(row, collected):
     return f"`{row.script}`; {row.runs}"
 
 
-def engine_text(row):
-    return str(row.engine_times) if row.engine else ""
+def engine_text(row, engine):
+    """How often an engine gave the outcome; nothing if it did not run the test."""
+    return str(row.times(engine)) if engine in row.engines else ""
+
+
+def engine_cells(row, collected):
+    return [engine_text(row, engine) for engine in collected.engines]
 
 
 def counts(rows):
@@ -60,7 +65,7 @@ def counts(rows):
         "not found": len(rows) - len(permitted),
         "permitted, and shown by the store buffers": len(shown),
         "permitted, and not by the store buffers": len(permitted) - len(shown),
-        "permitted, and seen in the engine": sum(bool(row.engine_times) for row in permitted),
+        "permitted, and seen in an engine": sum(any(map(row.times, row.engines)) for row in permitted),
         "seen, and not found among the candidates": sum(bool(row.finds) for row in rows),
     }
 
@@ -92,8 +97,8 @@ HEAD = """# Gallery of litmus tests
 What came of each test of [litmus/](../litmus/README.md), where names, outcomes and candidates are described. For people
 who compare this model with another one, or an engine with the model. `litmus/gallery` writes this page.
 
-Seen on {date} with {version}. {engine}, {engine_rounds} rounds of each test in the mode free; {run_rounds} rounds of
-`wmlab run`. {asked} candidates were asked in {seconds:.0f} s.
+Seen on {date} with {version}. {engines}: {rounds} rounds of each test in the mode free. {run_rounds} rounds of
+`wmlab run`. {asked} candidates were asked in {seconds:.0f} s. Browsers ran the tests of `litmus/tests` alone.
 
 | | Tests |
 |---|---|
@@ -105,7 +110,8 @@ Seen on {date} with {version}. {engine}, {engine_rounds} rounds of each test in 
   gave the outcome. *no*: a search over all moves of such buffers found none. They make loads in order, and all threads
   see a published store at once. So load buffering (`LB`), and what needs a store that only some threads see (`IRIW`,
   `WRC`), cannot come from them, although the rules permit the plain tests.
-- **{engine_name}**: how often the engine gave the outcome. Each of its logs was checked.
+- **{names}**: how often the engine gave the outcome. Each of its logs was checked. Each thread runs once in a round and
+  ends within microseconds, so few threads meet.
 """
 
 
@@ -114,9 +120,9 @@ def head(collected):
     return HEAD.format(
         date=collected.date,
         version=collected.version,
-        engine=collected.engine,
-        engine_name=collected.engine_name,
-        engine_rounds=collected.engine_rounds,
+        engines=", ".join(collected.engines.values()),
+        names=", ".join(collected.engines),
+        rounds=collected.rounds,
         run_rounds=collected.run_rounds,
         asked=collected.asked,
         seconds=collected.seconds,
@@ -129,11 +135,12 @@ def table_lines(collected):
         yield ""
         yield f"### {shape}: `{SHAPES[shape]}`"
         yield ""
-        yield f"| Test | Outcome | Rules | Store buffers | {collected.engine_name} |"
-        yield "|---|---|---|---|---|"
+        titles = ["Test", "Outcome", "Rules", "Store buffers", *collected.engines]
+        yield f"| {' | '.join(titles)} |"
+        yield "|---" * len(titles) + "|"
         for row in rows:
             cells = [f"`{row.test.name}`", outcome_text(row.test), rules_text(row), buffers_text(row, collected)]
-            yield f"| {' | '.join(cells)} | {engine_text(row)} |"
+            yield f"| {' | '.join([*cells, *engine_cells(row, collected)])} |"
 
 
 def markdown(collected):
@@ -162,12 +169,13 @@ def escaped(text):
 def html_row(row, collected):
     tone = "good" if row.is_permitted else "bad"
     name = escaped(row.test.name)
+    engines = ", ".join(f"{engine}: {row.times(engine)} of {collected.rounds}" for engine in row.engines)
     return (
         f'<details id="{name}"><summary><code>{name}</code> {escaped(outcome_text(row.test))}: '
         f'<span class="{tone}">{escaped(rules_text(row))}</span></summary>'
         f"<p>Cycle <code>{escaped(row.test.cycle.text)}</code>, outcome <code>{escaped(row.test.outcome)}</code>.</p>"
         f"<p>Store buffers: {escaped(buffers_text(row, collected)).replace('`', '')}. "
-        f"{escaped(collected.engine_name)}: {escaped(engine_text(row))} of {collected.engine_rounds}.</p>"
+        f"{escaped(engines)}.</p>"
         f'<img loading="lazy" alt="the execution" src="{name}.svg">'
         f'<p><a href="{name}.wat">{name}.wat</a>, <a href="{name}.wasm">{name}.wasm</a>, '
         f'<a href="{name}.json">{name}.json</a></p></details>'
@@ -175,13 +183,14 @@ def html_row(row, collected):
 
 
 def html_page(collected):
+    engines = ", ".join(collected.engines.values())
     parts = ["<!doctype html>", '<html lang="en"><head><meta charset="utf-8">']
     parts += ['<meta name="viewport" content="width=device-width, initial-scale=1">']
     parts.append(f"<title>Gallery of litmus tests</title><style>{STYLE}</style></head>")
     parts.append("<body><h1>Gallery of litmus tests</h1>")
     parts.append(
-        f"<p>{escaped(collected.date)}, {escaped(collected.version)}, {escaped(collected.engine)}. A picture is the "
-        "execution with the cycle's outcome; red is what violates a rule.</p><div class=scroll><table>"
+        f"<p>{escaped(collected.date)}, {escaped(collected.version)}, {escaped(engines)}. A picture is the execution with "
+        "the cycle's outcome; red is what violates a rule.</p><div class=scroll><table>"
     )
     parts += [f"<tr><td>{escaped(name)}</td><td>{count}</td></tr>" for name, count in counts(collected.rows).items()]
     parts.append("</table></div><h2>Beside the literature</h2><div class=scroll><table>")
@@ -197,10 +206,10 @@ def html_page(collected):
 
 
 def data(collected):
-    """The table as JSON lines: name, cycle, outcome, verdict, answers, script, times in `run` and in the engine."""
+    """The table as JSON lines: name, cycle, outcome, verdict, answers, script, times in `run` and in each engine."""
     lines = []
     for row in collected.rows:
         verdict = "permitted" if row.is_permitted else "not found"
         item = [row.test.name, row.test.cycle.text, row.test.outcome, verdict, dict(row.answers), row.script, row.runs]
-        lines.append(log.compact([*item, row.engine_times]))
+        lines.append(log.compact([*item, {engine: row.times(engine) for engine in row.engines}]))
     return "\n".join(lines) + "\n"
