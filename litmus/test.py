@@ -18,6 +18,7 @@ from litmustools.accesses import BadCycle
 from litmustools.buffers import WRONG, Machine, outcomes, script
 from litmustools.candidates import Candidates, ask
 from litmustools.cycles import cycle_of
+from litmustools.gallery import Row, Seen
 from litmustools.judges import Stream
 from litmustools.logs import cycle_log
 from litmustools.model import Model
@@ -286,6 +287,23 @@ def test_commands(tally, program, room):
     tally.check(holds, "gallery of two tests", page + err)
 
 
+def test_finds(tally, tests):
+    """What no candidate permits is a find, wherever it came."""
+    allowed = {"allowed threads=2": 5}
+    cases = [
+        ("SB+sc", False, Seen({"0 0": 1, "0 1": 4}, allowed), "node gave the cycle's outcome"),
+        ("SB+sc", False, Seen({"0 1": 5}, {"broken V3 case 2": 5}), "answered by: broken V3 case 2"),
+        ("SB+sc", False, Seen({"0 1": 5}, allowed), None),
+        ("SB", True, Seen({"0 0": 5}, allowed), None),
+    ]
+    for name, is_permitted, seen, sentence in cases:
+        row = Row(tests[name], "", is_permitted, engines={"node": seen})
+        holds = len(row.finds) == 1 and sentence in row.finds[0] if sentence else not row.finds
+        tally.check(holds, f"{name}: a find: {sentence}", row.finds)
+    row = Row(tests["SB+sc"], "", script="0*5,1*5")
+    tally.check("the store buffers gave" in row.finds[0], "a script for what no candidate permits is a find")
+
+
 def test_page(tally, tests, verdicts):
     """The page and the verdicts are of today's suite."""
     tally.check(list(verdicts) == list(tests), "verdicts.txt has each test of the suite")
@@ -327,6 +345,7 @@ def main():
     test_cycles(tally, tests)
     test_suite(tally, tests)
     test_cycle_check(tally, tests)
+    test_finds(tally, tests)
     test_page(tally, tests, verdicts)
     test_model(tally, tests, verdicts, list(tests) if options.all else committed(tests))
     with tempfile.TemporaryDirectory() as room:

@@ -189,8 +189,8 @@ def html_page(collected):
     parts.append(f"<title>Gallery of litmus tests</title><style>{STYLE}</style></head>")
     parts.append("<body><h1>Gallery of litmus tests</h1>")
     parts.append(
-        f"<p>{escaped(collected.date)}, {escaped(collected.version)}, {escaped(engines)}. A picture is the execution with "
-        "the cycle's outcome; red is what violates a rule.</p><div class=scroll><table>"
+        f"<p>{escaped(collected.date)}, {escaped(collected.version)}, {escaped(engines)}. A picture is the execution "
+        "with the cycle's outcome; red is what violates a rule.</p><div class=scroll><table>"
     )
     parts += [f"<tr><td>{escaped(name)}</td><td>{count}</td></tr>" for name, count in counts(collected.rows).items()]
     parts.append("</table></div><h2>Beside the literature</h2><div class=scroll><table>")
