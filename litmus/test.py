@@ -3,13 +3,11 @@
 
     litmus/test.py             the tests of litmus/tests, half a minute with the proved program
     litmus/test.py --all       each test of the suite
-
-Without a program that has the command stream only what needs none is tested.
+    litmus/test.py --plain     what asks no program
 """
 import os
 import shutil
 import subprocess
-import sys
 import tempfile
 from collections import Counter
 
@@ -30,6 +28,8 @@ from litmustools.verdicts import expected_verdicts, verdict_of
 HERE = os.path.join(TOP, "litmus")
 LEAST_TESTS = 400
 LEAST_COMMITTED = 60
+# Of larger tests the outcomes of wrong engines are too many.
+MOST_EVENTS_OF_ENGINES = 6
 
 # The rules that a wrong judge leaves out.
 JUDGES = ("V2", "V3", "V5 case 2", "V5 case 3")
@@ -159,45 +159,47 @@ def not_permitted(test, judge, wrong=None):
     return [values for values in outcomes(Machine(test, wrong)) if not permits(test, values, judge)]
 
 
-def test_engines(tally, tests, stream_on):
-    """The store buffers give only what a candidate permits. Engines that are wrong on purpose are caught."""
-    small = [name for name in committed(tests) if len(tests[name].events) <= 6]
+def test_verdict(tally, test, expected, stream, program):
+    """The verdict on the cycle's outcome, and what `check` answers to the witness."""
+    verdict, witness = verdict_of(test, stream)
+    tally.check(verdict == expected, f"the verdict on {test.name}", f"{verdict}, expected {expected}")
+    if witness:
+        document = judges.completed(program, stream.module, witness)
+        answer = harness.run(program, ["check", stream.module, "-"], input=document.encode())[0]
+        tally.check(answer.startswith("allowed"), f"check allows the witness of {test.name}", answer)
+
+
+def test_script(tally, test, stream, program):
+    """The script that the search found gives the outcome."""
+    found = outcomes(Machine(test))
+    if test.cycle_values in found:
+        words = ["drive", stream.module, script(test, found[test.cycle_values]), *test.starts]
+        lines = harness.run(program, words)[0].split("\n")
+        holds = lines[0] == f"outcome {test.outcome}" and lines[1].startswith("allowed")
+        tally.check(holds, f"drive gives the outcome of {test.name}", lines[:2])
+
+
+def test_engines(tally, test, stream, caught):
+    """The store buffers give only what a candidate permits. `caught` has the first test that catches each engine that is
+    wrong on purpose."""
+    found = not_permitted(test, stream)
+    tally.check(not found, f"{test.name}: what the store buffers give is permitted", found)
+    for how in WRONG:
+        if how not in caught and not_permitted(test, stream, how):
+            caught[how] = test.name
+
+
+def test_each(tally, tests, verdicts, names, stream_on, program):
     caught = {}
-    for name in small:
+    for name in names:
         with stream_on(tests[name]) as stream:
-            found = not_permitted(tests[name], stream)
-            tally.check(not found, f"{name}: what the store buffers give is permitted", found)
-            for how in WRONG:
-                if how not in caught and not_permitted(tests[name], stream, how):
-                    caught[how] = name
+            test_verdict(tally, tests[name], verdicts[name], stream, program)
+            test_script(tally, tests[name], stream, program)
+            if len(tests[name].events) <= MOST_EVENTS_OF_ENGINES:
+                test_engines(tally, tests[name], stream, caught)
     for how, what in WRONG.items():
         tally.check(how in caught, f"an engine in which {what} is caught")
         print(f"{how}, an engine in which {what}, is caught by {caught.get(how, 'no test')}")
-
-
-def test_verdicts(tally, tests, verdicts, names, stream_on, program):
-    for name in names:
-        test = tests[name]
-        with stream_on(test) as stream:
-            verdict, witness = verdict_of(test, stream)
-            tally.check(verdict == verdicts[name], f"the verdict on {name}", f"{verdict}, expected {verdicts[name]}")
-            if witness:
-                document = judges.completed(program, stream.module, witness)
-                words = ["check", stream.module, "-"]
-                answer = harness.run(program, words, input=document.encode())[0]
-                tally.check(answer.startswith("allowed"), f"check allows the witness of {name}", answer)
-
-
-def test_scripts(tally, tests, names, stream_on, program):
-    for name in names:
-        test = tests[name]
-        found = outcomes(Machine(test))
-        if test.cycle_values in found:
-            with stream_on(test) as stream:
-                words = ["drive", stream.module, script(test, found[test.cycle_values]), *test.starts]
-                lines = harness.run(program, words)[0].split("\n")
-            holds = lines[0] == f"outcome {test.outcome}" and lines[1].startswith("allowed")
-            tally.check(holds, f"drive gives the outcome of {name}", lines[:2])
 
 
 def smallest(tests):
@@ -269,13 +271,15 @@ def test_refusals(tally, room):
 
 
 def test_commands(tally, program, room):
+    """The commands do what their pages say."""
     listed, _, status = ran("generate", "--list")
     tally.check(status == 0 and len(listed.splitlines()) >= LEAST_TESTS, "generate --list", status)
     shown, _, status = ran("generate", "--test", "MP+un-sc+sc-un")
     is_whole = "i32.atomic.store" in shown and '"wasm-litmus-log",2' in shown
     tally.check(status == 0 and is_whole, "generate --test", shown)
-    if not program:
-        return
+    drawn, err, status = ran("generate", "--test", "SB", os.path.join(room, "drawn"), "--pictures", "--wmlab", program)
+    picture = os.path.join(room, "drawn/SB.dot")
+    tally.check(status == 0 and os.path.getsize(picture) > 500, "generate --pictures", drawn + err)
     kept = os.path.join(room, "kept")
     asked, err, status = ran("candidates", "--wmlab", program, "SB+sc", "--all-orders", "--keep", kept)
     holds = status == 0 and "* not found  0 0" in asked and "96 candidates, 4 outcomes" in asked
@@ -326,36 +330,36 @@ def with_program(tally, tests, verdicts, program, is_all):
             commands.write(module, bytes_of(test))
             return Stream(program, module)
 
-        test_verdicts(tally, tests, verdicts, names, stream_on, program)
-        test_scripts(tally, tests, names, stream_on, program)
+        test_commands(tally, program, room)
+        test_each(tally, tests, verdicts, names, stream_on, program)
         test_second_enumeration(tally, tests, stream_on)
         test_same_answers(tally, tests, stream_on)
-        test_engines(tally, tests, stream_on)
 
 
-def main():
-    parser = commands.arguments(__doc__)
-    parser.add_argument("--all", action="store_true", help="each test of the suite")
-    options = parser.parse_args()
-    program = harness.program_of(options)
-    if not judges.has_stream(program):
-        print(f"{program} has no command stream: candidates are not asked")
-        program = None
-    tally, tests, verdicts = harness.Tally(), suite(), expected_verdicts()
+def without_program(tally, tests, verdicts, is_all):
     test_cycles(tally, tests)
     test_suite(tally, tests)
     test_cycle_check(tally, tests)
     test_finds(tally, tests)
     test_page(tally, tests, verdicts)
-    test_model(tally, tests, verdicts, list(tests) if options.all else committed(tests))
+    test_model(tally, tests, verdicts, list(tests) if is_all else committed(tests))
     with tempfile.TemporaryDirectory() as room:
-        test_files(tally, tests, room, options.all)
+        test_files(tally, tests, room, is_all)
         test_refusals(tally, room)
-        test_commands(tally, program, room)
+
+
+def main():
+    parser = commands.arguments(__doc__)
+    parser.add_argument("--all", action="store_true", help="each test of the suite")
+    parser.add_argument("--plain", action="store_true", help="only what asks no program")
+    options = parser.parse_args()
+    program = None if options.plain else commands.program_of(options)
+    tally, tests, verdicts = harness.Tally(), suite(), expected_verdicts()
+    without_program(tally, tests, verdicts, options.all)
     if program:
         with_program(tally, tests, verdicts, program, options.all)
     tally.end()
 
 
 if __name__ == "__main__":
-    sys.exit(main())
+    commands.ending(main)
