@@ -135,6 +135,17 @@ def test_files(tally, tests, room, is_all):
             tally.check(file.read() == bytes_of(tests[name]), f"wat2wasm makes the same module of {name}")
 
 
+def test_theorem(tally, tests, verdicts):
+    """Without races no outcome of a cycle is permitted; across threads plain accesses of two locations permit each."""
+    free = [name for name, test in tests.items() if test.is_free_of_races]
+    permitted = [name for name in free if verdicts[name] == "permitted"]
+    tally.check(len(free) > 50 and not permitted, "no outcome of a test without races is permitted", permitted)
+    plain = [name for name, test in tests.items() if not any(access.is_atomic for access in test.cycle.accesses)]
+    wide = [name for name in plain if len(set(tests[name].cycle.locations())) > 1]
+    others = [name for name in wide if verdicts[name] != "permitted"]
+    tally.check(len(wide) > 50 and not others, "each outcome of plain accesses of two locations is permitted", others)
+
+
 def test_model(tally, tests, verdicts, names):
     """The rules as a plain program give the verdicts of the suite; without a rule they do not."""
     wrong = [name for name in names if verdict_of(tests[name], Model())[0] != verdicts[name]]
@@ -342,6 +353,7 @@ def without_program(tally, tests, verdicts, is_all):
     test_cycle_check(tally, tests)
     test_finds(tally, tests)
     test_page(tally, tests, verdicts)
+    test_theorem(tally, tests, verdicts)
     test_model(tally, tests, verdicts, list(tests) if is_all else committed(tests))
     with tempfile.TemporaryDirectory() as room:
         test_files(tally, tests, room, is_all)

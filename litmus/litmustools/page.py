@@ -115,6 +115,16 @@ Seen on {date} with {version}. {engines}: {rounds} rounds of each test in the mo
 """
 
 
+def theorem_line(rows):
+    """What SC-DRF says of the tests without races, and what came."""
+    free = [row for row in rows if row.test.is_free_of_races]
+    permitted = [row.test.name for row in free if row.is_permitted]
+    return (
+        f"Of {len(free)} tests all accesses are atomic, those of a location of one range. They have no races, so by SC-DRF "
+        f"none of their outcomes is permitted. Permitted here: {', '.join(permitted) or 'none'}."
+    )
+
+
 def head(collected):
     rows = "\n".join(f"| {name} | {count} |" for name, count in counts(collected.rows).items())
     return HEAD.format(
@@ -145,6 +155,7 @@ def table_lines(collected):
 
 def markdown(collected):
     lines = [head(collected), "## Beside the literature", "", *literature_lines(collected.rows), ""]
+    lines += [theorem_line(collected.rows), ""]
     lines += ["[MODEL.md](MODEL.md#beside-the-literature) explains what differs.", "", "## Tests"]
     lines += table_lines(collected)
     finds = [f"- {find}" for row in collected.rows for find in row.finds]

@@ -128,17 +128,25 @@ class CycleReader:
         others = [k for k in location.members if k not in location.order and self.cycle.accesses[k].order == "rmw"]
         return [(k, number) for number, k in enumerate([*location.order, *others], 1)]
 
-    def snapshot(self, location, access, count):
-        """What an access reads after the first writes of the location."""
+    def snapshot(self, location, access, count, left_out=()):
+        """What an access reads after the first writes of the location, of which some are left out."""
         value = 0
+        order = [k for k in location.order[:count] if k not in left_out]
         for at in access.range:
-            writers = [k for k in location.order[:count] if at in self.cycle.accesses[k].range]
+            writers = [k for k in order if at in self.cycle.accesses[k].range]
             if writers:
                 byte = self.numbers[writers[-1]]
                 if location.is_uniform:
                     byte = byte if at == access.offset else 0
                 value |= byte << 8 * (at - access.offset)
         return value
+
+    def later_writes(self, k):
+        """The later accesses of the thread of k, but for the one from which k reads. What k reads beside that one has
+        to come from elsewhere."""
+        source = (k - 1) % len(self.cycle) if self.cycle.edge_to(k).kind == "Rf" else None
+        thread = next(accesses for accesses in self.cycle.threads() if k in accesses)
+        return [other for other in thread if other > k and other != source]
 
     def event(self, k, thread):
         location, access = self.location_of[k], self.cycle.accesses[k]
@@ -147,7 +155,8 @@ class CycleReader:
         expected = None
         if self.cycle.direction(k) != "W":
             position = position_read(self.cycle, k, location.order)
-            expected = None if position is None else self.snapshot(location, access, position)
+            later = self.later_writes(k)
+            expected = None if position is None else self.snapshot(location, access, position, later)
         address = location.address + access.offset
         return Event(thread, access, location.name, address, reads, written, expected)
 
@@ -174,6 +183,13 @@ class LitmusTest:
             by_location.setdefault(event.location, set()).add(event.bytes)
         written = [event.written for event in self.events.values() if event.writes]
         return all(len(ranges) == 1 for ranges in by_location.values()) and max(written) <= MOST_DIGIT
+
+    @cached_property
+    def is_free_of_races(self):
+        """Whether all accesses of the cycle are atomic, those of a location of one range."""
+        at, accesses = self.cycle.locations(), self.cycle.accesses
+        ranges = {(location, access.range) for location, access in zip(at, accesses)}
+        return all(access.is_atomic for access in accesses) and len(ranges) == len(set(at))
 
     @property
     def starts(self):
