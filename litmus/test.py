@@ -191,8 +191,8 @@ def test_script(tally, test, stream, program):
 
 
 def test_engines(tally, test, stream, caught):
-    """The store buffers give only what a candidate permits. `caught` has the first test that catches each engine that is
-    wrong on purpose."""
+    """The store buffers give only what a candidate permits. `caught` has the first test that catches each engine that
+    is wrong on purpose."""
     found = not_permitted(test, stream)
     tally.check(not found, f"{test.name}: what the store buffers give is permitted", found)
     for how in WRONG:

@@ -120,8 +120,8 @@ def theorem_line(rows):
     free = [row for row in rows if row.test.is_free_of_races]
     permitted = [row.test.name for row in free if row.is_permitted]
     return (
-        f"Of {len(free)} tests all accesses are atomic, those of a location of one range. They have no races, so by SC-DRF "
-        f"none of their outcomes is permitted. Permitted here: {', '.join(permitted) or 'none'}."
+        f"Of {len(free)} tests all accesses are atomic, those of a location of one range. They have no races, so by "
+        f"SC-DRF none of their outcomes is permitted. Permitted here: {', '.join(permitted) or 'none'}."
     )
 
 
