@@ -270,7 +270,8 @@ def test_refusals(tally, room):
         ("candidates", "PodWW Rfe"),
         ("candidates", "--wmlab", "/bin/true", "SB"),
         ("candidates", "--wmlab", fake, "SB"),
-        ("candidates", "--all-orders", "--wmlab", fake, "Z6.0"),
+        ("candidates", "--all-orders", "--wmlab", fake, "3.2W"),
+        ("candidates", "--wmlab", fake, "PosRR PosRR PosRR PosRW Rfe PosRR PosRR PosRR PosRW Rfe PosRR PosRR PosRW Rfe"),
         ("candidates", "--most", "10", "--wmlab", fake, "SB"),
         ("gallery", "--test", "SB", "--wmlab", "/bin/true"),
     ]

@@ -4,12 +4,14 @@ from collections import Counter
 from dataclasses import dataclass, field
 from functools import cache
 from itertools import islice, permutations, product
+from math import factorial, prod
 
 from . import log
 from .judges import Failed
 
 # How many candidates are asked at once; after an allowed one no more are, if only one outcome is wanted.
 CHUNK = 500
+MOST_ORDERS = 1_000_000
 ANSWER = re.compile(r"allowed|broken V[1-5](?: case [1-3])?")
 
 
@@ -109,10 +111,14 @@ class Candidates:
         self.test, self.reads = test, [key for key, event in test.events.items() if event.reads]
         self.wanted = self.wanted_values(outcome)
         self.choices = [self.kept_choices(key, by_byte) for key in self.reads]
+        lengths = tuple(len(events) for events in test.threads)
+        count = factorial(len(test.events)) // (1 if all_orders else prod(map(factorial, lengths)))
+        if count > MOST_ORDERS:
+            raise Failed(f"{test.name}: {count} orders of {len(test.events)} events, more than {MOST_ORDERS}")
         if all_orders:
             self.orders = [log.compact(order) for order in permutations(test.events)]
         else:
-            self.orders = order_texts(tuple(len(events) for events in test.threads), flag_pairs(test, self.wanted))
+            self.orders = order_texts(lengths, flag_pairs(test, self.wanted))
 
     def wanted_values(self, outcome):
         """What each read of a flag has to give, and with an outcome each observed event."""
