@@ -299,7 +299,7 @@ def test_commands(tally, program, room):
     words_of_gallery = ["--test", "SB", "--test", "SB+sc", "--rounds", "2", "--run-rounds", "5", "--wmlab", program]
     page, err, status = ran("gallery", *words_of_gallery, "--out", "-")
     rows = [line for line in page.splitlines() if line.startswith("| `SB")]
-    holds = status == 0 and any("| permitted | `0*" in line for line in rows) and "not found among 6: 6 V5" in page
+    holds = status == 0 and any("| permitted by 6 of 6 | `0*" in line for line in rows) and "not found among 6: 6 V5" in page
     tally.check(holds, "gallery of two tests", page + err)
 
 

@@ -68,9 +68,9 @@ def row_of(test, folder):
 
 
 def judge(row, program):
-    """Asks about the candidates with the cycle's outcome until one is allowed."""
+    """Asks about each candidate with the cycle's outcome."""
     with Stream(program, row.module) as stream:
-        found = ask(Candidates(row.test, outcome=row.test.cycle_values), stream, until_allowed=True)
+        found = ask(Candidates(row.test, outcome=row.test.cycle_values), stream)
     cycle = found[row.test.cycle_values]
     row.answers, row.is_permitted = cycle.answers, cycle.is_permitted
     row.log = judges.completed(program, row.module, cycle.witness or cycle.last)

@@ -35,7 +35,7 @@ def outcome_text(test):
 
 def rules_text(row):
     if row.is_permitted:
-        return "permitted"
+        return f"permitted by {row.answers['allowed']} of {row.asked}"
     answers = ", ".join(f"{count} {answer.removeprefix('broken ')}" for answer, count in sorted(row.answers.items()))
     return f"not found among {row.asked}: {answers}"
 
@@ -104,8 +104,9 @@ Seen on {date} with {version}. {engines}: {rounds} rounds of each test in the mo
 |---|---|
 {counts}
 
-- **Rules**: *permitted* means that `wmlab check` allows a log with this outcome. *Not found among N* means that
-  `wmlab stream` refused all N candidates with it, and by which rules: `V3 case 2` is the second case of coherence.
+- **Rules**: *permitted by M of N* means that `wmlab stream` allows M of the N candidates with this outcome, and
+  `wmlab check` the first of them. *Not found among N* means that it refuses all, and by which rules: `V3 case 2` is the
+  second case of coherence.
 - **Store buffers**: the script with the fewest moves for `wmlab drive`, found by a search; then how often `wmlab run`
   gave the outcome. *no*: a search over all moves of such buffers found none. They make loads in order, and all threads
   see a published store at once. So load buffering (`LB`), and what needs a store that only some threads see (`IRIW`,
