@@ -34,6 +34,9 @@ MOST_EVENTS_OF_ENGINES = 6
 # The rules that a wrong judge leaves out.
 JUDGES = ("V2", "V3", "V5 case 2", "V5 case 3")
 
+# A thread of a cycle; four of them have too many orders.
+LONG_THREAD = "PosRR PosRR PosRR PosRW Rfe"
+
 MISTAKES = {
     "": "no shape has this name",
     " : ": "no shape has this name",
@@ -271,7 +274,7 @@ def test_refusals(tally, room):
         ("candidates", "--wmlab", "/bin/true", "SB"),
         ("candidates", "--wmlab", fake, "SB"),
         ("candidates", "--all-orders", "--wmlab", fake, "3.2W"),
-        ("candidates", "--wmlab", fake, "PosRR PosRR PosRR PosRW Rfe PosRR PosRR PosRR PosRW Rfe PosRR PosRR PosRW Rfe"),
+        ("candidates", "--wmlab", fake, f"{LONG_THREAD} {LONG_THREAD} {LONG_THREAD} {LONG_THREAD}"),
         ("candidates", "--most", "10", "--wmlab", fake, "SB"),
         ("gallery", "--test", "SB", "--wmlab", "/bin/true"),
     ]
@@ -299,7 +302,8 @@ def test_commands(tally, program, room):
     words_of_gallery = ["--test", "SB", "--test", "SB+sc", "--rounds", "2", "--run-rounds", "5", "--wmlab", program]
     page, err, status = ran("gallery", *words_of_gallery, "--out", "-")
     rows = [line for line in page.splitlines() if line.startswith("| `SB")]
-    holds = status == 0 and any("| permitted by 6 of 6 | `0*" in line for line in rows) and "not found among 6: 6 V5" in page
+    is_shown = any("| permitted by 6 of 6 | `0*" in line for line in rows)
+    holds = status == 0 and is_shown and "not found among 6: 6 V5" in page
     tally.check(holds, "gallery of two tests", page + err)
 
 
