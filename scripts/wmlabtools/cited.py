@@ -47,6 +47,7 @@ def known_words():
     """The words of the crates; and those with the words of everything else that a page may speak of."""
     crates = words_below("crates", "docs", "examples", endings=(".rt", ".antt")) | words_of(f"{TOP}/crates.txt")
     crates |= ELSEWHERE | words_of(f"{TOP}/HANDLES") | set(WORD.findall(" ".join(os.listdir(TOP))))
+    crates |= words_of(f"{TOP}/litmus/verdicts.txt")
     tools = ("scripts", "bench", "campaign", "engines", "library", "litmus", ".ci", "tests", "edits")
     endings = (".py", ".sh", ".mjs", ".rs", ".c", ".h", ".txt", "run", "fast")
     return crates, crates | words_below(*tools, endings=endings)
