@@ -1,6 +1,7 @@
 #!/usr/bin/env python3
-"""Lints the scripts: Python with pyflakes and at most 120 columns, shell with shellcheck. The last line is `N passed,
-N failed`.
+"""Lints the scripts: Python with pyflakes and at most 120 columns, shell with shellcheck. Lints the crates and pages:
+a line of a clause has at most 140 characters, and each name that a page on the crates cites is one of theirs. The last
+line is `N passed, N failed`.
 
     scripts/lint.py        it needs Debian's python3-pyflakes and shellcheck; what is missing is named and not counted
 """
@@ -8,7 +9,7 @@ import os
 import shutil
 import subprocess
 
-from wmlabtools import TOP, harness
+from wmlabtools import TOP, cited, clauses, harness
 
 COLUMNS = 120
 
@@ -40,8 +41,17 @@ def long_lines(name):
         return [number for number, line in enumerate(file, 1) if len(line.rstrip("\n")) > COLUMNS]
 
 
+def lint_crates(tally):
+    count, wide = clauses.wide_lines()
+    tally.check(count > 0, "the crates have clauses")
+    tally.check(not wide, f"clauses have lines of more than {clauses.COLUMNS} characters", "\n".join(wide))
+    for page, faults in cited.faults().items():
+        tally.check(not faults, f"{page} cites what is not there", "\n".join(faults))
+
+
 def main():
     tally = harness.Tally()
+    lint_crates(tally)
     by_language = {"python": [], "sh": []}
     for name in tracked():
         language = language_of(name)

@@ -14,9 +14,9 @@ const HEADERS = {
 const PAGES = { '/': 'browser/page.html', '/auto': 'browser/auto.html' };
 const MOST_BYTES = 64 * 2 ** 20;
 
-/** The file of a path, which is a script of the recorder or a page; null if it is neither. */
-function fileOf(path) {
-  const file = PAGES[path] ?? (/^\/(shared|browser)\/\w+\.mjs$/.test(path) ? path.slice(1) : null);
+/** The file of a path, which is a script of the recorder or one of these pages; null if it is neither. */
+function fileOf(path, pages) {
+  const file = pages[path] ?? (/^\/(shared|browser)\/\w+\.mjs$/.test(path) ? path.slice(1) : null);
   if (!file) return null;
   try {
     return { type: TYPES[file.split('.').at(-1)], bytes: readFileSync(fileURLToPath(new URL(`../${file}`, import.meta.url))) };
@@ -41,9 +41,10 @@ const isLocal = ({ host }) => /^(127\.0\.0\.1|localhost)(:\d+)?$/.test(host ?? '
 
 /**
  * Starts a server. `handlers` has for each path, such as `POST /task`, a function of the body and the query, whose answer is sent
- * as JSON. Answers its `origin` and `close`.
+ * as JSON. `morePages` has the files of further pages by their paths. Answers its `origin` and `close`.
  */
-export async function serve(handlers, port = 0) {
+export async function serve(handlers, port = 0, morePages = {}) {
+  const pages = { ...PAGES, ...morePages };
   const send = (response, status, type, body) => response.writeHead(status, { ...HEADERS, 'Content-Type': type }).end(body);
   const answer = async (request, response) => {
     const { pathname, searchParams } = new URL(request.url, 'http://127.0.0.1');
@@ -53,7 +54,7 @@ export async function serve(handlers, port = 0) {
       const value = await handler(await bodyOf(request), searchParams);
       return send(response, 200, 'application/json', JSON.stringify(value));
     }
-    const file = request.method === 'GET' ? fileOf(pathname) : null;
+    const file = request.method === 'GET' ? fileOf(pathname, pages) : null;
     return file ? send(response, 200, file.type, file.bytes) : send(response, 404, 'text/plain', 'not found\n');
   };
   const server = http.createServer((request, response) => {

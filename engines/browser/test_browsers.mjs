@@ -10,6 +10,7 @@ import { openRecorder } from '../node/engines.mjs';
 import { recordWith } from '../shared/rounds.mjs';
 import { parseStart } from '../shared/starts.mjs';
 import { Judge } from '../shared/wmlab.mjs';
+import { isThere, textOf } from '../testing/tally.mjs';
 import { Judges } from './judges.mjs';
 import { findBrowser, openPage } from './launch.mjs';
 import { handlersOf, moduleOf } from './serve.mjs';
@@ -95,6 +96,30 @@ async function testPage({ note, wmlab }, engine, program) {
   }
 }
 
+/** What a user sees who drops a module on the page, downloads a log and asks why. */
+async function testUse({ note, leftOut, wmlab }, engine, program) {
+  const judges = new Judges(wmlab);
+  const used = withResolvers();
+  const handlers = {
+    ...handlersOf(judges, null, () => {}),
+    'GET /dropped': async () => [moduleOf(example('store-buffering'))],
+    'POST /used': async (body) => { used.resolve(JSON.parse(body)); return {}; },
+  };
+  const server = await serve(handlers, 0, { '/test': 'browser/test_page.html' });
+  const page = openPage(engine, program, `${server.origin}/test`);
+  const seen = await Promise.race([used.promise, setTimeout(90_000, { error: 'nothing was posted in 90 s' })]);
+  await page.close();
+  server.close();
+  await judges.close();
+  const shown = JSON.stringify(seen);
+  note(/^store-buffering\.wasm, \d+ bytes; it exports a, b\.$/.test(seen.module), `${engine}: a module that is dropped is taken`, shown);
+  const isLog = /^round-\d+\.json$/.test(seen.file?.name) && seen.file.text.startsWith('["wasm-litmus-log",2,[["a",[],["done",[');
+  note(isLog, `${engine}: a log is downloaded`, shown);
+  note(/^allowed threads=2 events=4/.test(seen.explanation), `${engine}: an explanation is shown`, shown);
+  if (isThere('dot')) note(seen.picture === 'data:image/svg+xml;base64,', `${engine}: a picture is shown`, shown);
+  else leftOut(`${engine}: a picture`, 'dot is not installed');
+}
+
 /** A promise and the function that fulfils it. */
 function withResolvers() {
   const made = {};
@@ -114,6 +139,16 @@ export async function testServer({ note, wmlab }) {
     refused.status === 500 && /Magic|refused|module/i.test((await refused.json()).error),
     'the server reports a module that is not read',
   );
+  const module = moduleOf(example('store-buffering')).bytes;
+  const document = textOf(example('store-buffering').replace(/wasm$/, 'json'));
+  const ask = async (path, value) => (await fetch(`${server.origin}${path}`, { method: 'POST', body: JSON.stringify(value) })).json();
+  const judged = await ask('/judge', { module, ends: '[["done",[0]],["done",[0]]]', document, isOpen: false });
+  const explained = await ask('/explain', { module, document, line: judged.line });
+  note(
+    judged.line === 'allowed threads=2 events=4' && explained.explanation.startsWith(judged.line) && explained.graph.startsWith('digraph'),
+    'the server judges a log, explains it and makes its graph',
+    JSON.stringify([judged, explained]),
+  );
   await judges.close();
   server.close();
 }
@@ -127,5 +162,6 @@ export async function testBrowser(context, engine) {
   }
   await testModes(context, engine);
   await testPage(context, engine, found.program);
+  await testUse(context, engine, found.program);
   await testKill(context, engine);
 }

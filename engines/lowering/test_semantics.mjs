@@ -67,6 +67,20 @@ export async function isTaken(wmlab, bytes, starts = ['run:7:3', 'run:9:2']) {
   }
 }
 
+/** How the changes of the programs here are reported: one for each kind that they need. */
+const REPORTED = [
+  /memory: made shared/, /memory\.copy replaced by a loop/, /memory\.fill replaced by a loop/, /memory\.grow made to fail/,
+  /call_indirect replaced by a chain of calls/, /i64\.extend8_s replaced by shifts/, /i64\.extend16_s replaced by shifts/,
+  /atomic\.fence dropped/, /start function; each exported function calls it first/, /start function of the linker, dropped/,
+  /data segment 0: passive, made active/, /select with a type replaced by select/,
+];
+
+function testReported({ note }, names) {
+  const changes = names.flatMap((name) => lower(readFileSync(`${FOLDER}/${name}`)).changes);
+  const missing = REPORTED.filter((pattern) => !changes.some((line) => pattern.test(line)));
+  note(!missing.length, `${REPORTED.length} kinds of changes are reported`, `not reported: ${missing.join(', ')}`);
+}
+
 export async function testSemantics({ note, wmlab, runs }) {
   const random = randomFrom(7);
   const names = readdirSync(FOLDER).filter((name) => name.endsWith('.wasm')).sort();
@@ -80,5 +94,6 @@ export async function testSemantics({ note, wmlab, runs }) {
     );
     note(await isTaken(wmlab, lower(bytes).bytes), `${name}: wmlab takes and drives the lowered module`);
   }
+  testReported({ note }, names);
   note(names.length > 0, `${names.length} programs, ${names.length * each} runs`);
 }

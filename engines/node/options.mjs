@@ -31,6 +31,7 @@ OPTIONS
     --report FOLDER   write a page there, index.html, with outcomes, verdicts and kept logs; campaigns of several programs,
                       modes and engines with the same FOLDER are on one page
     --out FOLDER      keep every log there, as ROUND.json
+    --answers FILE    write the answer to each round there, as a line ROUND ANSWER, in the order of the answers
     --help            print this text
 
     N is an integer of at least 1. In the modes locked and buffered a seed gives the same log, byte for byte.
@@ -56,7 +57,7 @@ const MOST_THREADS = 16;
 
 const WORDS = {
   engine: TEXT, mode: TEXT, rounds: TEXT, events: TEXT, turn: TEXT, seed: TEXT, seconds: TEXT, wmlab: TEXT, keep: TEXT, kept: TEXT,
-  report: TEXT, out: TEXT, wrong: TEXT, forbid: SEVERAL, want: SEVERAL, ...HELP,
+  report: TEXT, out: TEXT, answers: TEXT, wrong: TEXT, forbid: SEVERAL, want: SEVERAL, ...HELP,
 };
 
 /** Refuses a word that is not one of a list. */
@@ -78,14 +79,14 @@ export function optionsOf(args) {
   if (given.wrong !== null && !WRONG.includes(given.wrong)) {
     throw new UserError(`--wrong ${given.wrong}: expected ${WRONG.join(', ')}`);
   }
-  const { engine, mode, wrong, wmlab, report, out } = given;
+  const { engine, mode, wrong, wmlab, report, out, answers } = given;
   const counts = ['rounds', 'turn', 'seed', 'seconds'].map((name) => [name, countOf(name, given[name])]);
   const events = countOf('events', given.events, MOST_EVENTS);
   const conditions = conditionsOf(given, starts.length);
   const kept = given.kept ?? (report ? `${report}/logs/${campaignName(given, module)}` : conditions.length ? 'recorded' : undefined);
   const keep = given.keep ?? (report ? `${kept}/not-allowed.json` : 'not-allowed.json');
   return {
-    module, starts: starts.map(parseStart), engine, mode, wrong, wmlab, keep, kept, report, out, events, conditions,
+    module, starts: starts.map(parseStart), engine, mode, wrong, wmlab, keep, kept, report, out, answers, events, conditions,
     ...Object.fromEntries(counts),
   };
 }

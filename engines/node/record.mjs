@@ -1,7 +1,7 @@
 #!/usr/bin/env node
 /** Records runs of an engine's WebAssembly, and checks each. The usage is in options.mjs, and printed by `--help`. */
 
-import { accessSync, constants, readFileSync, realpathSync, statSync } from 'node:fs';
+import { accessSync, appendFileSync, constants, readFileSync, realpathSync, statSync } from 'node:fs';
 import { dirname } from 'node:path';
 import { fileURLToPath } from 'node:url';
 import { openRecorder } from './engines.mjs';
@@ -24,10 +24,11 @@ export function progress(rounds, stream = process.stderr) {
 }
 
 /** Refuses, before a round runs, places where nothing can be written. */
-function preparePlaces({ keep: path, out, kept, report }) {
+function preparePlaces({ keep: path, out, answers, kept, report }) {
   [out, kept, report].filter((folder) => folder !== undefined).forEach(prepareFolder);
   if (statSync(path, { throwIfNoEntry: false })?.isDirectory()) throw new UserError(`cannot write ${path}: it is a folder`);
   withFile(`write ${path}`, () => accessSync(dirname(path), constants.W_OK));
+  if (answers !== undefined) writeTo(answers, '');
 }
 
 // A reader of the tables that ends early, as `head` does.
@@ -50,11 +51,12 @@ class Campaign {
   }
 
   async record() {
-    const { rounds, out } = this.options;
+    const { rounds, out, answers } = this.options;
     const show = progress(rounds);
-    const seen = ({ number, document }) => {
+    const seen = ({ number, document, line }) => {
       show();
       if (out !== undefined) writeTo(`${out}/${number}.json`, document);
+      if (answers !== undefined) withFile(`write ${answers}`, () => appendFileSync(answers, `${number} ${line}\n`));
     };
     this.results = await recordWith(this.recorder, this.judge, { ...this.options, seen, stop: this.stop });
   }

@@ -67,6 +67,7 @@ const MISTAKES = [
   [['--wmlab', '/bin/cat', BUFFERS, 'a', 'b'], /--wmlab \/bin\/cat: this is not wmlab/],
   [['--wmlab', 'nothing', BUFFERS, 'a', 'b'], /--wmlab nothing: no program is there/],
   [['--out', '/dev/full', BUFFERS, 'a', 'b'], /cannot write to the folder \/dev\/full/],
+  [['--answers', '/nothing/answers', BUFFERS, 'a', 'b'], /cannot write \/nothing\/answers: no such file or folder/],
   [['--keep', 'nowhere/log.json', BUFFERS, 'a', 'b'], /cannot write nowhere\/log\.json: no such file or folder/],
   [['--keep', '.', BUFFERS, 'a', 'b'], /cannot write \.: it is a folder/],
 ];
@@ -85,13 +86,15 @@ function testMistakes({ note, wmlab, folder }) {
 }
 
 function testSuccess({ note, wmlab, folder }) {
-  const one = record(folder, ['--wmlab', wmlab, '--rounds', '2', '--out', 'logs', BUFFERS, 'a', 'b']);
+  const one = record(folder, ['--wmlab', wmlab, '--rounds', '2', '--out', 'logs', '--answers', 'answers', BUFFERS, 'a', 'b']);
   const kept = [0, 1].map((round) => textOf(join(folder, `logs/${round}.json`)));
   note(
     one.status === 0 && /2 {2}allowed threads=2\n$/.test(one.out) && kept.every(Boolean),
     'two rounds are recorded and kept',
     one,
   );
+  const answers = textOf(join(folder, 'answers')).split('\n').sort().join(' ');
+  note(/^ 0 allowed threads=2 events=4 1 allowed threads=2 events=4$/.test(answers), '--answers has a line for each round', answers);
   const negative = record(
     folder,
     ['--wmlab', wmlab, '--rounds', '1', '--out', 'negative', example('own-store'), 'f:-65536', 'f:0x4'],
@@ -158,11 +161,19 @@ function played(rounds) {
 
 /** How rounds are judged, by a program that answers as the logs' names ask it to. */
 async function testJudgement({ note, folder }) {
-  const program = script(folder, 'played', `log=$(cat)
-[ "$1" = complete ] && { printf '%s' "$log"; exit; }
-case $log in *slow*) sleep 0.3 ;; esac
-case $log in *broken*) echo 'broken V5 case 3 at 0.1'; exit 1 ;; *) echo 'allowed threads=1 events=0' ;; esac`);
-  const judged = (rounds) => recordWith(played(rounds), new Judge(program, 'm.wasm'), { rounds: rounds.length, seed: 0 });
+  const program = script(folder, 'played', `[ "$1" = stream ] || exec cat
+while read -r log; do
+  case $log in *slow*) sleep 0.3 ;; esac
+  case $log in *broken*) echo 'broken V5 case 3 at 0.1' ;; *) echo 'allowed threads=1 events=0' ;; esac
+done`);
+  const judged = async (rounds) => {
+    const judge = new Judge(program, 'm.wasm');
+    try {
+      return await recordWith(played(rounds), judge, { rounds: rounds.length, seed: 0 });
+    } finally {
+      judge.close();
+    }
+  };
   const order = await judged([['good'], ['slow broken'], ['broken']]);
   note(order.bad?.number === 1, 'the first log that is not allowed is the first by round');
   const other = await judged([['broken 1', 'broken 2', 'good']]);

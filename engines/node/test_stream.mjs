@@ -10,12 +10,12 @@ const RECORD = fileURLToPath(new URL('./record.mjs', import.meta.url));
 const BUFFERS = fileURLToPath(new URL('../../examples/store-buffering.wasm', import.meta.url));
 
 /** A program that notes its commands in `commands`; `stream` answers as this shell script, which has each line in `$line`. */
-function program(folder, wmlab, answer) {
+function program(folder, wmlab, answer, help = '    stream MODULE    answer a document on each line') {
   const path = join(folder, 'wmlab');
   writeFileSync(path, `#!/bin/sh
 echo "$1" >>'${join(folder, 'commands')}'
 case $1 in
-help) echo '    stream MODULE    answer a document on each line' ;;
+help) echo '${help}' ;;
 stream) while read -r line; do ${answer}; done ;;
 *) exec '${wmlab}' "$@" ;;
 esac
@@ -50,6 +50,12 @@ export function testStream({ note, wmlab }) {
       ended.status === 2 && /^record\.mjs: \S+ stream ended with status 3 before it answered\n$/.test(ended.err),
       'a stream that ends is reported in one line',
       ended,
+    );
+    const older = record(folder, program(folder, wmlab, 'exit 3', '    check MODULE DOC    check a log'));
+    note(
+      older.status === 2 && /^record\.mjs: \S+ has no command stream: it is older than this recorder; [^\n]+\n$/.test(older.err),
+      'a program without the command is refused in one line',
+      older,
     );
   } finally {
     rmSync(folder, { recursive: true });

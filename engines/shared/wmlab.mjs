@@ -1,7 +1,4 @@
-/**
- * Finds `wmlab`, and asks it. A log is one question: a line for the one process of `wmlab stream`, if the program has that
- * command, and else a process of `wmlab check`.
- */
+/** Finds `wmlab`, and asks it. A log is one question: a line for the one process of `wmlab stream`. */
 
 import { spawn, spawnSync } from 'node:child_process';
 import { accessSync, constants, statSync } from 'node:fs';
@@ -129,19 +126,20 @@ export class Judge {
     Object.assign(this, { program, modulePath, runs: new Map(), stream: null });
   }
 
-  /** A judge after the program was asked whether it reads the module. */
+  /** A judge after the program was asked whether it reads the module, and has the command that judges. */
   static async open(program, modulePath) {
     await examine(program, modulePath);
-    const judge = new Judge(program, modulePath);
     const help = await ask(program, ['help']);
-    if (/^ *stream MODULE /m.test(help.text)) judge.stream = new Stream(program, modulePath);
-    return judge;
+    if (!/^ *stream MODULE /m.test(help.text)) {
+      throw new UserError(`${program} has no command stream: it is older than this recorder; ./wmlab --which builds a current one`);
+    }
+    return new Judge(program, modulePath);
   }
 
-  /** The one question: the verdict's line on a completed document. */
-  async lineOf(document) {
-    if (this.stream) return this.stream.ask(document);
-    return (await ask(this.program, ['check', this.modulePath, '-'], document)).text;
+  /** The one question: the verdict's line on a completed document. The first one starts the process that answers all. */
+  lineOf(document) {
+    this.stream ??= new Stream(this.program, this.modulePath);
+    return this.stream.ask(document);
   }
 
   /** The first line of the program's version. */

@@ -29,20 +29,26 @@ async function runPart(name, options) {
   const { text, passed, failed } = countsOf(name, Buffer.concat(printed).toString(), ending);
   const seconds = ((performance.now() - start) / 1_000).toFixed(1);
   process.stdout.write(`${text}       ${name}: ${passed} passed, ${failed} failed, ${seconds} s\n`);
-  return { passed, failed };
+  return { name, passed, failed, seconds };
 }
 
-/** Runs the parts of these names, at most `jobs` at once. Answers how many tests passed and failed. */
+const sumOf = (parts, count) => parts.reduce((sum, part) => sum + part[count], 0);
+
+/**
+ * Runs the parts of these names, at most `jobs` at once, and then prints how long each took. Answers how many tests passed and
+ * failed.
+ */
 export async function runParts(names, options, jobs) {
+  const start = performance.now();
   const waiting = [...names];
-  const total = { passed: 0, failed: 0 };
+  const parts = [];
   const work = async () => {
-    for (let name = waiting.shift(); name !== undefined; name = waiting.shift()) {
-      const { passed, failed } = await runPart(name, options);
-      total.passed += passed;
-      total.failed += failed;
-    }
+    for (let name = waiting.shift(); name !== undefined; name = waiting.shift()) parts.push(await runPart(name, options));
   };
   await Promise.all(Array.from({ length: jobs }, work));
-  return total;
+  parts.sort((one, other) => other.seconds - one.seconds);
+  for (const { name, seconds } of parts) console.log(`part: ${name} ${seconds} s`);
+  const seconds = ((performance.now() - start) / 1_000).toFixed(1);
+  console.log(`parts: ${parts.length}, at most ${jobs} at once, ${seconds} s`);
+  return { passed: sumOf(parts, 'passed'), failed: sumOf(parts, 'failed') };
 }

@@ -1,10 +1,15 @@
-/** Every import of engines/ is of a file that is there, by a name that it exports; also in the scripts that only browsers load. */
+/**
+ * Every import of engines/ is of a file that is there, by a name that it exports; also in the scripts that only browsers load. And
+ * docs/RECORDING.md names every program in C and Rust, with their counts.
+ */
 
 import { existsSync, readFileSync, readdirSync } from 'node:fs';
 import { dirname, join, relative, resolve } from 'node:path';
 import { fileURLToPath } from 'node:url';
 
 const ENGINES = fileURLToPath(new URL('..', import.meta.url));
+const EXAMPLES = join(ENGINES, '../examples');
+const RECORDING = join(ENGINES, '../docs/RECORDING.md');
 const IMPORT = /^import (?:\{([^}]*)\} from )?'(\.[^']+)';/gm;
 const DYNAMIC = /import\('(\.[^']+)'\)/g;
 const EXPORT = /^export (?:async )?(?:const|let|class|function\*?) (?:\{([^}]*)\}|(\w+))/gm;
@@ -31,7 +36,36 @@ function faultsOf(script) {
   });
 }
 
+/** The rows of a table in the section of docs/RECORDING.md with this title: the names in their first or second column. */
+function namesOfSection(page, title, column) {
+  const section = page.split(`\n## ${title}\n`)[1].split('\n## ')[0];
+  const cells = section.split('\n').filter((line) => line.startsWith('|')).map((line) => line.split('|')[column + 1]);
+  return cells.flatMap((cell) => [...cell.matchAll(/`([^`]+)`/g)].map(([, name]) => name));
+}
+
+/** The programs of a folder, and whether the page states their count and names each once. */
+function testPrograms({ note }, page, { folder, ending, title, column }) {
+  const others = new Set(['mem']);
+  const programs = readdirSync(join(EXAMPLES, folder)).filter((name) => name.endsWith(ending))
+    .map((name) => name.slice(0, -ending.length)).filter((name) => !others.has(name)).sort();
+  const named = namesOfSection(page, title, column).sort();
+  note(
+    page.includes(`\`examples/${folder}\` has ${programs.length} programs`) && named.join() === programs.join(),
+    `RECORDING names the ${programs.length} programs of examples/${folder}`,
+    `named: ${named}; there: ${programs}`,
+  );
+  return programs.length;
+}
+
+function testPage(context) {
+  const page = readFileSync(RECORDING, 'utf8');
+  const c = testPrograms(context, page, { folder: 'c', ending: '.c', title: 'C programs', column: 1 });
+  const rust = testPrograms(context, page, { folder: 'rust', ending: '.rs', title: 'Rust programs', column: 0 });
+  context.note(page.includes(`all ${c + rust} programs in C and Rust`), `RECORDING states that ${c + rust} programs are recorded`);
+}
+
 export function testLinks({ note }) {
+  testPage({ note });
   const scripts = readdirSync(ENGINES, { recursive: true }).filter((name) => name.endsWith('.mjs')).map((name) => join(ENGINES, name));
   for (const script of scripts) {
     const faults = faultsOf(script);

@@ -159,6 +159,9 @@ function testStrippedC({ note, room }) {
   note(marked.status === 2 && !marked.bytes, 'an object that is marked -atomics is refused', marked);
   const silent = buildSource(room, storeBuffering('static'), showing(room));
   note(silent.status === 2 && !silent.bytes, 'an object that states nothing on atomics is refused', silent);
+  const optimizer = join(room, 'optimized');
+  const alone = buildSource(room, storeBuffering('static'), pathWith(room, 'wasm-opt', `touch '${optimizer}'; exit 1`));
+  note(alone.status === 0 && !existsSync(optimizer), 'wasm-opt, which drops fences, is not run', alone);
   const copy = buildSource(room, COPY);
   const copied = copy.bytes && new WebAssembly.Instance(new WebAssembly.Module(copy.bytes)).exports.a(7);
   note(copy.status === 0 && copied === 7, 'a C program that copies and fills large structures is built', copy);

@@ -60,9 +60,9 @@ prove_crates() {
     tool=$!
     # shellcheck disable=SC2064 # this process is meant
     trap "is_stopped=yes; kill $tool 2>/dev/null || true" INT TERM HUP
-    # What an interrupt ends here is no failure.
+    # What an interrupt ends here is no failure, and the shell need not tell of it.
     show_progress "$tool" "$log" || true
-    wait "$tool" || true
+    wait "$tool" 2>/dev/null || true
     trap - INT TERM HUP
     if [ -n "${is_stopped-}" ]; then
         say "stopped; ./wmlab --prove goes on from here"

@@ -16,6 +16,22 @@ class Measured:
         return self.peak / 2**20
 
 
+def best(runs):
+    """The least wall time and the least processor time of some runs, the most memory, and the last line."""
+    return Measured(
+        min(run.wall for run in runs),
+        min(run.processor for run in runs),
+        max(run.peak for run in runs),
+        runs[-1].line,
+    )
+
+
+def measure_both(ours, theirs, runs):
+    """The best of some runs of each, one of each in turn, so that what else runs on the machine slows down either."""
+    pairs = [(measure(ours, runs=1), measure(theirs, runs=1)) for _ in range(runs)]
+    return best([pair[0] for pair in pairs]), best([pair[1] for pair in pairs])
+
+
 def measure(words, runs=5, stdin=None, cwd=None):
     """The least wall time and the least processor time of some runs, and the most memory. `stdin` is the path of a
     file. Standard error is taken with what is printed. A process that is ended by a signal has that as its line."""

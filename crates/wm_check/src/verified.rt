@@ -4,25 +4,24 @@ ghost use Rattle.wm_check.specs.Verified.{Verifies, VerifiesCandidate, VerifiesO
 
 use crate::checker::{Unread, count_events, read_log, read_module};
 use crate::verdict::{Breach, Certificate, Refusal, Verdict};
-use std::alloc::{AllocError, AllocGlobal};
-use std::thread::Threads;
+use std::alloc::{AllocError, Global};
 use wm_event::{Candidate, Judgement, Log, ShapeFault, Witness};
 use wm_replay::{Completion, complete};
-use wm_rules::judge;
+use wm_rules::judge_sequentially;
 use wm_valid::ValidModule;
 
 /// The verdict on a candidate, completed. Its events are those of the completed log, and the memory rules look at nothing
 /// else.
-fn verify_candidate<R: AllocGlobal + Threads + Sync>(
-    rt: &R,
+fn verify_candidate(
+    alloc: Global,
     module: &ValidModule,
     candidate: &Candidate,
 ) -> Result<Verdict, AllocError>
     ensures { IfOk result (VerifiesCandidate «module».now candidate.now) }
 {
-    match complete(rt.alloc(), module, candidate.log())? {
+    match complete(alloc, module, candidate.log())? {
         Completion::NoRun(answer) => Ok(Verdict::Broken(Breach::Replay(answer))),
-        Completion::Completed(_) => match judge(rt, candidate)? {
+        Completion::Completed(_) => match judge_sequentially(alloc, candidate)? {
             Judgement::Broken(fault) => Ok(Verdict::Broken(Breach::Rule(fault))),
             Judgement::Valid => {
                 let threads = candidate.log().threads();
@@ -36,36 +35,36 @@ fn verify_candidate<R: AllocGlobal + Threads + Sync>(
 }
 
 /// The verdict on a log with a witness over the initial memory of a module.
-fn verify_pair<R: AllocGlobal + Threads + Sync>(
-    rt: &R,
+fn verify_pair(
+    alloc: Global,
     module: &ValidModule,
     log: Log,
     witness: Witness,
 ) -> Result<Verdict, AllocError>
     ensures { IfOk result (VerifiesPair «module».now log witness) }
 {
-    match Candidate::new(rt.alloc(), log, witness, module.initial()) {
-        Ok(candidate) => verify_candidate(rt, module, &candidate),
+    match Candidate::new(alloc, log, witness, module.initial()) {
+        Ok(candidate) => verify_candidate(alloc, module, &candidate),
         Err(ShapeFault::OutOfMemory) => Err(AllocError),
         Err(fault) => Ok(Verdict::Refused(Refusal::Shape(fault))),
     }
 }
 
 /// Completes the bytes of a log against a valid module, as [`complete_document`](crate::complete_document) does, and checks
-/// the completed log.
+/// the completed log. It starts no thread, so that many logs can be verified at the same time.
 ///
 /// # Errors
 ///
 /// Only if an allocation fails.
-pub fn verify_log<R: AllocGlobal + Threads + Sync>(
-    rt: &R,
+pub fn verify_log(
+    alloc: Global,
     module: &ValidModule,
     document_bytes: &[u8],
 ) -> Result<Verdict, AllocError>
     ensures { IfOk result (VerifiesOver «module».now document_bytes.now) }
 {
-    match read_log(rt.alloc(), document_bytes) {
-        Ok((log, witness)) => verify_pair(rt, module, log, witness),
+    match read_log(alloc, document_bytes) {
+        Ok((log, witness)) => verify_pair(alloc, module, log, witness),
         Err(Unread::Refused(refusal)) => Ok(Verdict::Refused(refusal)),
         Err(Unread::OutOfMemory) => Err(AllocError),
     }
@@ -78,17 +77,17 @@ pub fn verify_log<R: AllocGlobal + Threads + Sync>(
 /// # Errors
 ///
 /// Only if an allocation fails.
-pub fn verify<R: AllocGlobal + Threads + Sync>(
-    rt: &R,
+pub fn verify(
+    alloc: Global,
     module_bytes: &[u8],
     document_bytes: &[u8],
 ) -> Result<Verdict, AllocError>
     ensures { IfOk result (Verifies module_bytes.now document_bytes.now) }
 {
-    let module = match read_module(rt.alloc(), module_bytes) {
+    let module = match read_module(alloc, module_bytes) {
         Ok(module) => module,
         Err(Unread::Refused(refusal)) => return Ok(Verdict::Refused(refusal)),
         Err(Unread::OutOfMemory) => return Err(AllocError),
     };
-    verify_log(rt, &module, document_bytes)
+    verify_log(alloc, &module, document_bytes)
 }

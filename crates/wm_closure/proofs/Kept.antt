@@ -1,7 +1,9 @@
 -- What is in each `Ok`, place by place.
-use Rattle.std.proofs.Common.{◌≡◌, ℕ, ◌+◌, ◌*◌, ◌<◌, ◌/◌, List, [], ◌∷◌, zero, suc, length, get_or, map, Result, Ok, IfOk, arith, subst, sym, ◌∙◌}
+use Rattle.std.proofs.Common.{◌≡◌, ℕ, ◌+◌, ◌*◌, ◌<◌, ◌≤◌, ◌/◌, List, [], ◌∷◌, ◌++◌, zero, suc, length, get_or, map, Result, Ok, IfOk, arith, subst, sym, ◌∙◌, ⊎_elim}
 use Rattle.std.specs.List.{AllZip, range_with_len}
 use Rattle.std.specs.Prelude.{slice_index_or}
+use Rattle.std.proofs.lemmas.Bool.{cases_lt}
+use Rattle.std.proofs.lemmas.List.{get_or_append_left, get_or_push, length-append}
 use Rattle.std.proofs.lemmas.List.FromFn.{get_or-range_with_len, length-range_with_len}
 use Rattle.wm_closure.specs.Graph.{AreArrivals, AreAllArrivals}
 
@@ -35,3 +37,20 @@ are_all graph lanes width lists h =
           let at : AreArrivals graph lanes width (get_or (range_with_len 0 n) c 0 * 64) (slice_index_or lists c []) = AllZip-at R (range_with_len 0 n) lists c 0 [] h (let e = length-range_with_len 0 n in omega arith) in
           subst (λ k. AreArrivals graph lanes width (k * 64) (slice_index_or lists c [])) (let e = get_or-range_with_len 0 n c 0 inside in omega arith) at,
     )
+
+-- list c is that of the nodes from 64 * c on
+abbrev pub AreArrivalsOf : List (List ℕ) → List ℕ → ℕ → List (List ℕ) → Type 0
+AreArrivalsOf graph lanes width lists = (c : ℕ) → c < length lists → AreArrivals graph lanes width (c * 64) (slice_index_or lists c [])
+
+-- one list more
+pub one_more : (graph : List (List ℕ)) (lanes : List ℕ) (width : ℕ) (lists : List (List ℕ)) (list : List ℕ) (n : ℕ) → length lists ≡ n
+    → AreArrivals graph lanes width (n * 64) list → AreArrivalsOf graph lanes width lists → AreArrivalsOf graph lanes width (lists ++ list ∷ [])
+one_more graph lanes width lists list n size last before c l =
+    ⊎_elim
+    (λ (b : c < length lists). subst (AreArrivals graph lanes width (c * 64)) (sym (get_or_append_left lists (list ∷ []) [] c b)) (before c b))
+    (λ (b : length lists ≤ c).
+    let long : length (lists ++ list ∷ []) ≡ length lists + 1 = length-append lists (list ∷ []) in
+    let at : length lists ≡ c = omega arith in
+    let same : n ≡ c = omega arith in
+    subst (AreArrivals graph lanes width (c * 64)) (sym (get_or_push lists list [] c at)) (subst (λ k. AreArrivals graph lanes width (k * 64) list) same last))
+    (cases_lt c (length lists))

@@ -118,6 +118,24 @@ fn all_arrivals(
         .collect::<Result<Vec<List<usize>>, AllocError>>(rt, alloc)?
 }
 
+/// The arrivals of all nodes, 64 in a list, by this thread alone.
+fn all_arrivals_alone(
+    alloc: Global,
+    graph: &[List<usize>],
+    lanes: &[usize],
+    width: usize,
+) -> Result<Vec<List<usize>>, AllocError>
+    requires ordered { IsOrdered graph.now }
+    requires lanes { AreLanes graph.now lanes.now width }
+    ensures { IfOk result (λ v. AreAllArrivals graph.now lanes.now width v.items) }
+{
+    let mut all = Vec::new(alloc);
+    for index in 0..(graph.len() + 63) / 64 {
+        all.push(arrivals(alloc, graph, lanes, width, index * 64)?)?;
+    }
+    Ok(all)
+}
+
 /// What reaches what in a graph. It reads as the graph: for each node its sources.
 #[derive(Drop)]
 pub struct Closure {
@@ -154,6 +172,26 @@ impl Closure {
         ensures { IfOk result (λ c. c ≡ graph.items) }
     {
         let arrivals = all_arrivals(rt, alloc, graph.as_slice(), lanes.as_slice(), width)?;
+        Ok(Closure {
+            graph,
+            lanes,
+            width,
+            arrivals,
+        })
+    }
+
+    /// The closure that [`Closure::of`] gives, by this thread alone.
+    pub fn sequential(
+        alloc: Global,
+        graph: Vec<List<usize>>,
+        lanes: Vec<usize>,
+        width: usize,
+    ) -> Result<Closure, AllocError>
+        requires ordered { IsOrdered graph.items }
+        requires lanes { AreLanes graph.items lanes.items width }
+        ensures { IfOk result (λ c. c ≡ graph.items) }
+    {
+        let arrivals = all_arrivals_alone(alloc, graph.as_slice(), lanes.as_slice(), width)?;
         Ok(Closure {
             graph,
             lanes,

@@ -32,7 +32,7 @@ abbrev pub Implements : {X Y : Type 0} → (X → Y) → Result X ItemFault → 
 Implements view (Ok x) read = read ≡ Ok (view x)
 Implements view (Err e) read = Fails e read
 
--- both are want of memory, or both stop reading alike
+-- both are allocation failures, or both stop reading alike
 abbrev pub SameStop : ItemFault → ItemFault → Type 0
 SameStop OutOfMemory OutOfMemory = Unit {0}
 SameStop OutOfMemory (WithLeft kind left) = ⊥

@@ -38,7 +38,7 @@ indexed_instr index.GlobalSet n = instr.GlobalSet n
 abbrev pub access_instr : AccessKind → ℕ → ℕ → Instr
 access_instr kind alignment offset = instr.Access kind (record { alignment = alignment; offset = offset })
 
--- The bytes behind an opcode spell the rest of the instruction.
+-- The bytes after an opcode spell the rest of the instruction.
 pub data Immediates : Opcode → List ℕ → Instr → Type 0 where
   alone : {i : Instr} → Immediates (opcode.NoImmediates i) [] i
   indexed : {kind : Indexed} {text : List ℕ} {n : ℕ} → U32 text n → Immediates (opcode.Indexed kind) text (indexed_instr kind n)

@@ -16,7 +16,7 @@ use Rattle.wm_decode.specs.Numbers.{U32}
 use Rattle.wm_decode.specs.Vectors.{Vector, Name, Sized}
 use Rattle.wm_decode.specs.Parts.{FunctionType, SharedLimits, MemoryImport, GlobalEntry, ExportVector, FunctionVector, Segment}
 
--- The bytes spell a name, and anything behind it.
+-- The bytes spell a name, and anything after it.
 pub record Custom (text : List ℕ) (name : List ℕ) : Type 0 where
   pub first : List ℕ
   pub rest : List ℕ
@@ -28,7 +28,7 @@ pub data Customs : List ℕ → Type 0 where
   no_custom : Customs []
   custom : {text rest name : List ℕ} → Sized Custom text name → Customs rest → Customs (0x00 ∷ text ++ rest)
 
--- The bytes spell at most one section of this id, and custom sections behind it.
+-- The bytes spell at most one section of this id, and custom sections after it.
 pub data Section {X : Type 0} (Content : List ℕ → X → Type 0) (id : ℕ) : List ℕ → Option X → Type 0 where
   absent : Section Content id [] None
   present : {text customs : List ℕ} {x : X} → Sized Content text x → Customs customs → Section Content id (id ∷ text ++ customs) (Some x)

@@ -16,7 +16,7 @@ pub data Signed : ℕ → List ℕ → ℕ → Type 0 where
 abbrev pub U32 : List ℕ → ℕ → Type 0
 U32 text n = Unsigned (2 ^ 32 - 1) text n
 
--- The greatest number of so many binary digits.
+-- The greatest number of some number of binary digits.
 abbrev pub IsMost : ℕ → Type 0
 IsMost most = (k : ℕ) × (most + 1 ≡ 2 ^ k)
 

@@ -1,4 +1,4 @@
--- The bytes of types, and of what stands in sections (Core 1.0, sections 5.3 and 5.5; threads proposal, "Limits").
+-- The bytes of types, and of what is in sections (Core 1.0, sections 5.3 and 5.5; threads proposal, "Limits").
 use Rattle.std.specs.Prelude.{◌≡◌, ℕ, zero, suc, ◌-◌, ◌^◌, List, [], ◌∷◌, ◌++◌, Some, None, option_to_list, length}
 use Rattle.wm_ast.specs.Exports.{export_at}
 use Rattle.wm_ast.specs.declared.types.ValType.{ValType}
@@ -97,7 +97,7 @@ pub record ExportVector (text : List ℕ) (es : List (List ℕ × Export)) : Typ
   pub counted : U32 count (length es)
   pub each : Exports [] items es
 
--- so many of one type
+-- this number of items of one type
 abbrev pub locals_of : ℕ → ValType → List ValType
 locals_of zero ty = []
 locals_of (suc n) ty = ty ∷ locals_of n ty

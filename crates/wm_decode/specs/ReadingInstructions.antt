@@ -27,7 +27,7 @@ block_type_at [] = Err bad
 block_type_at (b ∷ bytes) =
     if b == 0x40 then Ok (None, bytes) else (if b == 0x7F then Ok (Some I32, bytes) else (if b == 0x7E then Ok (Some I64, bytes) else Err bad))
 
--- what stands behind an access
+-- what follows an access
 unfoldable pub access_at : AccessKind → List ℕ → InstrAt
 access_at kind bytes = do
   alignment ← u32_at bytes
@@ -42,7 +42,7 @@ abbrev pub zero_at : List ℕ → InstrAt
 zero_at [] = Err bad
 zero_at (b ∷ bytes) = if b == 0x00 then Ok (instr.MemorySize, bytes) else Err bad
 
--- the rest of an instruction, behind its opcode
+-- the rest of an instruction, after its opcode
 unfoldable pub immediates_at : Opcode → List ℕ → InstrAt
 immediates_at (opcode.NoImmediates i) bytes = Ok (i, bytes)
 immediates_at (opcode.Indexed kind) bytes = u32_at bytes >>= λ n. Ok (indexed_instr kind n.0, n.1)
@@ -57,7 +57,7 @@ abbrev pub operands_of : Option Opcode → List ℕ → InstrAt
 operands_of None bytes = Err bad
 operands_of (Some op) bytes = immediates_at op bytes
 
--- an instruction with no block of its own, behind its first byte
+-- an instruction with no block of its own, after its first byte
 unfoldable pub plain_at : ℕ → List ℕ → InstrAt
 plain_at code bytes = operands_of (opcode_at code) bytes
 
@@ -87,7 +87,7 @@ closed_with read depth_left next bytes = do
 unfoldable pub opened_at : ℕ → List ℕ → Result (Option ValType × List ℕ) Stop
 opened_at depth_left bytes = if depth_left == 0 then Err (past limit.Nesting) else block_type_at bytes
 
--- a block or a loop behind its opcode, whose instructions are read by read
+-- a block or a loop after its opcode, whose instructions are read by read
 unfoldable pub framed_with : Reader → ℕ → ℕ → (Option ValType → ℕ → Instr) → List ℕ → Result One Stop
 framed_with read depth_left next make bytes = do
   ty ← opened_at depth_left bytes
@@ -100,7 +100,7 @@ then_one ty next one = record { instr = instr.If ty next (next + 1 + length one.
 abbrev pub else_one : Option ValType → ℕ → Body → Body → One
 else_one ty next one two = record { instr = instr.If ty next (next + 1 + length one.nested) Present; nested = one.instrs ∷ one.nested ++ two.instrs ∷ two.nested; rest = two.rest }
 
--- an `if` behind its opcode
+-- an `if` after its opcode
 unfoldable pub if_with : Reader → ℕ → ℕ → List ℕ → Result One Stop
 if_with read depth_left next bytes = do
   ty ← opened_at depth_left bytes

@@ -18,7 +18,7 @@ use Rattle.wm_decode.specs.declared.module.Declared.{Declared}
 unfoldable pub custom_at : List ℕ → Read (List ℕ)
 custom_at bytes = name_at bytes >>= λ name. Ok (name.0, [])
 
--- behind the custom sections, of which at most fuel are read
+-- after the custom sections, of which at most fuel are read
 unfoldable pub customs_at : ℕ → List ℕ → Result (List ℕ) Stop
 customs_at fuel [] = Ok []
 customs_at zero (b ∷ bytes) = Err bad
@@ -28,7 +28,7 @@ customs_at (suc fuel) (b ∷ bytes) = if b == 0 then (sized_at custom_at bytes >
 abbrev pub customs_in : List ℕ → Result (List ℕ) Stop
 customs_in bytes = customs_at (length bytes) bytes
 
--- the section of this id and the custom sections behind it, if it stands here
+-- the section of this id and the custom sections after it, if it is here
 unfoldable pub section_at : {X : Type 0} → (List ℕ → Read X) → ℕ → List ℕ → Read (Option X)
 section_at content_at id [] = Ok (None, [])
 section_at content_at id (b ∷ bytes) = if b == id then (sized_at content_at bytes >>= λ x. customs_in x.1 >>= λ rest. Ok (Some x.0, rest)) else Ok (None, b ∷ bytes)
@@ -62,7 +62,7 @@ declared_at bounds bytes = do
   elements ← section_at no_items_at 9 exports.1
   Ok (record { types = front.0.types; indices = front.0.indices; memory = memory_of front.0.imported (option_flatten defined.0); globals = items_of globals.0; exports = items_of exports.0 }, elements.1)
 
--- the module of what stands in the sections, where nothing stands behind them and the counts agree
+-- the module of what is in the sections, where nothing is after them and the counts agree
 abbrev pub agreed_module : Declared → Option ℕ → Option (List Func) → Option (List DataSegment) → List ℕ → Result Module Stop
 agreed_module declared count funcs segments rest =
     if length rest == 0 then (

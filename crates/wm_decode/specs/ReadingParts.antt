@@ -1,4 +1,4 @@
--- Reading types, and what stands in sections.
+-- Reading types, and what is in sections.
 use Rattle.std.specs.Prelude.{ℕ, ◌-◌, ◌^◌, List, [], ◌∷◌, ◌++◌, length, Bool, true, Option, Some, None, is_some, Result, Ok, Err, nat_lt, ◌==◌, if◌then◌else◌}
 use Rattle.wm_ast.specs.Exports.{export_at}
 use Rattle.wm_ast.specs.declared.types.ValType.{ValType}
@@ -148,7 +148,7 @@ unfoldable pub body_at : Bounds → List FuncType → ℕ → List ℕ → Read 
 body_at bounds types index bytes =
     if nat_lt bounds.locals (params_of types index) then Err (past Locals) else function_at bounds (bounds.locals - params_of types index) index bytes
 
--- functions of the types of these indices behind the earlier ones, all of them
+-- functions of the types of these indices after the earlier ones, all of them
 unfoldable pub more_functions_at : Bounds → List FuncType → List ℕ → List Func → List ℕ → Read (List Func)
 more_functions_at bounds types [] earlier bytes = Ok (earlier, bytes)
 more_functions_at bounds types (index ∷ indices) earlier bytes = do

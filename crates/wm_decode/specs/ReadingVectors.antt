@@ -7,7 +7,7 @@ use Rattle.wm_decode.specs.Reading.{◌>>=◌, unsigned_at}
 abbrev pub u32_at : List ℕ → Result (ℕ × List ℕ) Stop
 u32_at bytes = unsigned_at (2 ^ 32 - 1) bytes
 
--- so many bytes as are said
+-- as many bytes as are said
 unfoldable pub byte_vector_at : List ℕ → Result (List ℕ × List ℕ) Stop
 byte_vector_at bytes = do
   count ← u32_at bytes
@@ -38,7 +38,7 @@ module _ {X : Type 0} (item_at : List ℕ → Result (X × List ℕ) Stop) where
     value ← item_at content.0
     if length value.1 == 0 then Ok (value.0, content.1) else Err bad
 
--- so many steps from a state, each of which reads what is behind the last
+-- this number of steps from a state, each of which reads what follows the last
 module _ {S : Type 0} (step : S → List ℕ → Result (S × List ℕ) Stop) where
   unfoldable pub more_at : ℕ → S → List ℕ → Result (S × List ℕ) Stop
   more_at zero state bytes = Ok (state, bytes)

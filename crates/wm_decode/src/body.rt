@@ -66,7 +66,7 @@ impl Indexed {
     }
 }
 
-/// Reads what stands behind an access (Core 1.0, section 5.4.4).
+/// Reads what follows an access (Core 1.0, section 5.4.4).
 #[tactic(auto, unfolding(crate::specs::ReadingInstructions::access_at))]
 fn access(kind: AccessKind, bytes: &[u8]) -> Result<(Instr, &[u8]), ItemFault>
     ensures { Implements (λ x. (x.0, x.1.now)) result (access_at kind bytes.now) }
@@ -89,7 +89,7 @@ fn atomic_fault(code: u32) -> FaultKind
     }
 }
 
-/// Reads the rest of an atomic access, behind its prefix, at which its code is faulted.
+/// Reads the rest of an atomic access, after its prefix, at which its code is faulted.
 #[tactic(auto, unfolding(crate::specs::ReadingInstructions::immediates_at))]
 fn atomic(bytes: &[u8]) -> Result<(Instr, &[u8]), ItemFault>
     ensures { Implements (λ x. (x.0, x.1.now)) result (immediates_at Opcode.Atomic bytes.now) }
@@ -158,7 +158,7 @@ fn opcode_fault(code: u8) -> FaultKind
     FaultKind::Unsupported(feature)
 }
 
-/// Reads an instruction that has no block of its own, behind its first byte, at which it is faulted.
+/// Reads an instruction that has no block of its own, after its first byte, at which it is faulted.
 #[tactic(auto, unfolding(crate::specs::ReadingInstructions::plain_at))]
 fn plain(alloc: Global, code: u8, bytes: &[u8]) -> Result<(Instr, &[u8]), ItemFault>
     ensures { Implements (λ x. (x.0, x.1.now)) result (plain_at code bytes.now) }
@@ -246,7 +246,7 @@ fn block_header(depth_left: u32, bytes: &[u8]) -> Result<(BlockType, &[u8]), Ite
     block_type(bytes)
 }
 
-// Reads one instruction behind its opcode, and adds the blocks that begin in it.
+// Reads one instruction after its opcode, and adds the blocks that begin in it.
 #[cycle(body)]
 #[tactic(auto, unfolding(crate::specs::ReadingInstructions::instr_with, crate::specs::ReadingInstructions::framed_with, crate::specs::ReadingInstructions::if_with))]
 fn instr<'a>(
@@ -296,7 +296,7 @@ fn instr<'a>(
     }
 }
 
-/// Reads the instructions of a function and the `end` behind them: its blocks, the body first,
+/// Reads the instructions of a function and the `end` after them: its blocks, the body first,
 /// nested at most `depth_left` deep.
 #[tactic(auto, unfolding(crate::specs::ReadingInstructions::blocks_at))]
 pub(crate) fn blocks(

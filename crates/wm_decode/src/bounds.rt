@@ -12,5 +12,5 @@ pub const MAX_FUNCTIONS: u32 = 1_000;
 /// The most parameters and locals of a function.
 pub const MAX_LOCALS: usize = 1_000;
 
-/// The most blocks in one another in a function's body, which isn't counted itself.
+/// How deep blocks nest at most in a function's body, which isn't counted itself.
 pub const MAX_NESTING: u32 = 64;

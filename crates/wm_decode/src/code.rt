@@ -17,7 +17,7 @@ use std::alloc::{AllocError, Global};
 use wm_ast::{Func, FuncType, ValType};
 use wm_list::List;
 
-/// Adds so many locals of one type.
+/// Adds this number of locals of one type.
 fn add_locals(found: &mut List<ValType>, count: u32, ty: ValType) -> Result<(), AllocError>
     ensures { OnOk result (found.new ≡ found.old ++ locals_of count ty) }
 {
@@ -44,7 +44,7 @@ fn local_entry(
     Ok((count, ty, rest))
 }
 
-/// Reads so many entries of locals, of which there are at most `most` in all.
+/// Reads this number of entries of locals, of which there are at most `most` in all.
 fn more_locals(
     alloc: Global,
     most: usize,
@@ -154,7 +154,7 @@ fn functions<'a>(
     Ok((found, rest))
 }
 
-/// The functions of a module, with what stands before them.
+/// The functions of a module, with what is before them.
 #[derive(Drop)]
 pub(crate) struct Code<'c> {
     pub(crate) types: &'c [FuncType],

@@ -1,4 +1,4 @@
-//! The section of the number of data segments, which stands before the code.
+//! The section of the number of data segments, which is before the code.
 ghost use Rattle.std.specs.Prelude.{◌≡◌};
 ghost use Rattle.wm_decode.specs.ReadingVectors.{u32_at};
 ghost use Rattle.wm_decode.specs.ReadingParts.{agrees};
@@ -8,7 +8,7 @@ use crate::number::unsigned_32;
 use crate::section::Content;
 use std::alloc::Global;
 
-/// The number of data segments, which stands before the code.
+/// The number of data segments, which is before the code.
 #[derive(Drop)]
 pub(crate) struct DataCount;
 

@@ -61,7 +61,7 @@ impl Content for ExportNames {
     }
 }
 
-/// Reads so many exports.
+/// Reads this number of exports.
 fn more_exports(alloc: Global, count: u32, bytes: &[u8]) -> Result<(Exports, &[u8]), ItemFault>
     ensures { Implements (λ x. (x.0, x.1.now)) result (more_at export_step count [] bytes.now) }
 {

@@ -60,7 +60,7 @@ pub enum FaultKind {
     BadNumber,
     /// A name isn't UTF-8.
     BadName,
-    /// A section stands twice, or behind one that it has to stand before.
+    /// A section comes twice, or after one that it has to precede.
     SectionOrder,
     /// An item runs past its section or body, or bytes are left over there.
     SectionSize,
@@ -123,29 +123,29 @@ impl ItemFault {
         }
     }
 
-    /// The fault as the bytes around the part see it, of which `behind` follow the part.
-    pub(crate) fn before(self, behind: usize) -> ItemFault
+    /// The fault as the bytes around the part see it, of which `after` follow the part.
+    pub(crate) fn before(self, after: usize) -> ItemFault
         ensures { SameStop self result }
     {
         match self {
             ItemFault::OutOfMemory => ItemFault::OutOfMemory,
             ItemFault::WithLeft(kind, left) => ItemFault::WithLeft(
                 kind,
-                left.saturating_add(behind),
+                left.saturating_add(after),
             ),
         }
     }
 
-    /// The fault as the bytes around a section's content see it, of which `behind` follow the section:
+    /// The fault as the bytes around a section's content see it, of which `after` follow the section:
     /// what runs past the section's end has the wrong size.
-    pub(crate) fn inside(self, behind: usize) -> ItemFault
+    pub(crate) fn inside(self, after: usize) -> ItemFault
         ensures { SameStop self result }
     {
         match self {
             ItemFault::WithLeft(FaultKind::Truncated, left) => {
-                ItemFault::WithLeft(FaultKind::SectionSize, left.saturating_add(behind))
+                ItemFault::WithLeft(FaultKind::SectionSize, left.saturating_add(after))
             }
-            other => other.before(behind),
+            other => other.before(after),
         }
     }
 

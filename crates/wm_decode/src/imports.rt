@@ -40,7 +40,7 @@ fn import(alloc: Global, bytes: &[u8]) -> Result<(Memory, &[u8]), ItemFault>
     Ok((Memory { limits, import }, rest))
 }
 
-/// Why an import behind a memory can't be read: a second memory is one too many.
+/// Why an import after a memory can't be read: a second memory is one too many.
 fn second_import_fault(bytes: &[u8]) -> ItemFault
     ensures { IsNoLimit result }
 {

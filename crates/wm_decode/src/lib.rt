@@ -22,6 +22,6 @@ mod type_indices;
 mod types;
 mod vectors;
 
-pub use bounds::MAX_MODULE_BYTES;
+pub use bounds::{MAX_FUNCTIONS, MAX_INITIAL_PAGES, MAX_LOCALS, MAX_MODULE_BYTES, MAX_NESTING};
 pub use fault::{DecodeFault, FaultKind, Feature, Limit};
 pub use module::{decode, spelled_once};

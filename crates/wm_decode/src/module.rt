@@ -91,7 +91,7 @@ fn one_memory(imported: Option<Memory>, defined: Option<Limits>) -> Option<Memor
     }
 }
 
-/// What stands in the sections of types, imports and functions.
+/// What is in the sections of types, imports and functions.
 #[derive(Drop)]
 struct Front {
     types: List<FuncType>,
@@ -99,7 +99,7 @@ struct Front {
     indices: List<u32>,
 }
 
-/// What stands in the sections up to that of elements.
+/// What is in the sections up to that of elements.
 #[derive(Drop)]
 struct Declared {
     types: List<FuncType>,
@@ -168,7 +168,7 @@ fn section_fault(id: u8) -> FaultKind
     }
 }
 
-/// The module of what stands in the sections, unless something stands behind them or the counts differ.
+/// The module of what is in the sections, unless something is after them or the counts differ.
 fn agreed_module(
     alloc: Global,
     declared: Declared,

@@ -6,7 +6,7 @@ use wm_access::RmwOperator;
 use wm_ast::{AccessKind, Instr, Narrow, Storage, ValType};
 use wm_num::{BinaryOperator, Comparison, Conversion, UnaryOperator, Width};
 
-/// An instruction with one index behind its opcode.
+/// An instruction with one index after its opcode.
 #[derive(Clone, Copy, Debug, PartialEq, Eq)]
 pub(crate) enum Indexed {
     Br,
@@ -19,7 +19,7 @@ pub(crate) enum Indexed {
     GlobalSet,
 }
 
-/// An opcode, by what stands behind it.
+/// An opcode, by what follows it.
 #[derive(Drop)]
 pub(crate) enum Opcode {
     /// Nothing.
@@ -36,7 +36,7 @@ pub(crate) enum Opcode {
     I32Const,
     /// A signed number of 64 binary digits.
     I64Const,
-    /// The code of an atomic access, and what stands behind an access.
+    /// The code of an atomic access, and what follows an access.
     Atomic,
 }
 

@@ -10,8 +10,8 @@ use crate::vectors::{byte_vector, owned_name};
 use std::alloc::Global;
 use wm_list::Text;
 
-/// Which section it is (Core 1.0, section 5.5.2). The custom sections apart, each stands at most once, in this order but
-/// that the count of data segments stands before the code.
+/// Which section it is (Core 1.0, section 5.5.2). The custom sections apart, each is at most once, in this order but
+/// that the count of data segments is before the code.
 #[derive(Clone, Copy, Debug, PartialEq, Eq)]
 pub(crate) enum SectionId {
     Custom,
@@ -52,7 +52,7 @@ impl SectionId {
     }
 }
 
-/// What stands in a section, with what has to be known to read it.
+/// What is in a section, with what has to be known to read it.
 pub(crate) trait Content {
     ghost use Rattle.std.specs.Prelude.{List, ℕ, Result};
     ghost use Rattle.wm_decode.specs.Stop.{Stop};
@@ -67,7 +67,7 @@ pub(crate) trait Content {
         ensures { Implements (λ x. (x.0, x.1.now)) result (content_at self.now bytes.now) };
 }
 
-/// Reads a size, and a value that takes so many bytes.
+/// Reads a size, and a value that takes this number of bytes.
 #[tactic(auto, unfolding(crate::specs::ReadingVectors::sized_at))]
 fn sized<'a, C: Content>(
     alloc: Global,
@@ -120,7 +120,7 @@ pub(crate) fn customs(alloc: Global, bytes: &[u8]) -> Result<&[u8], ItemFault>
     Ok(rest)
 }
 
-/// Reads the section of this id and skips the custom sections behind it, if it stands here.
+/// Reads the section of this id and skips the custom sections after it, if it is here.
 #[tactic(auto, unfolding(crate::specs::ReadingModule::section_at))]
 pub(crate) fn section<'a, C: Content>(
     alloc: Global,

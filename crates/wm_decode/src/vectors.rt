@@ -9,7 +9,7 @@ use std::alloc::Global;
 use std::str::from_utf8;
 use wm_list::{List, Text};
 
-/// What stands in a vector.
+/// What is in a vector.
 pub(crate) trait Item: Drop {
     ghost use Rattle.std.specs.Prelude.{List, ℕ, Result};
     ghost use Rattle.wm_decode.specs.Stop.{Stop};
@@ -32,7 +32,7 @@ impl Item for u32 {
     }
 }
 
-/// Reads so many items.
+/// Reads this number of items.
 pub(crate) fn items<T: Item>(
     alloc: Global,
     count: u32,

@@ -2,11 +2,14 @@
 
 use crate::feature::Part;
 use crate::module_count::{number_at, parameters_and_locals};
-use crate::survey::Place;
+use crate::survey::Location;
 use crate::unsupported::{UnsupportedSentence, unsupported_reason};
 use std::alloc::{AllocError, Global};
 use std::fmt;
-use wm_decode::{DecodeFault, FaultKind, Limit, MAX_MODULE_BYTES};
+use wm_decode::{
+    DecodeFault, FaultKind, Limit, MAX_FUNCTIONS, MAX_INITIAL_PAGES, MAX_LOCALS, MAX_MODULE_BYTES,
+    MAX_NESTING,
+};
 
 /// How many bytes are shown before a faulty one, and how many from it on.
 const AROUND: usize = 8;
@@ -41,18 +44,20 @@ impl fmt::Display for LimitSentence {
             ),
             Limit::Pages => write!(
                 f,
-                "The memory has {found} initial pages. At most 16 are supported."
+                "The memory has {found} initial pages. At most {MAX_INITIAL_PAGES} are supported."
             ),
             Limit::Functions => write!(
                 f,
-                "The module has {found} functions. At most 1000 are supported."
+                "The module has {found} functions. At most {MAX_FUNCTIONS} are supported."
             ),
             Limit::Locals => write!(
                 f,
-                "A function has {found} parameters and locals up to here. At most 1000 are supported."
+                "A function has {found} parameters and locals up to here. At most {MAX_LOCALS} are supported."
             ),
-            Limit::Nesting => f.write_str(
-                "This block has a nesting depth of 65. At most 64 is supported.",
+            Limit::Nesting => write!(
+                f,
+                "This block has a nesting depth of {}. At most {MAX_NESTING} is supported.",
+                MAX_NESTING + 1
             ),
         }
     }
@@ -94,8 +99,8 @@ impl fmt::Display for DecodeSentence {
                 return write!(f, "No instruction has the opcode {opcode:02x}.");
             }
             FaultKind::Unsupported(feature) => {
-                let (part, place) = (Part::of(feature), Place::Module);
-                return write!(f, "{}", UnsupportedSentence { part, place });
+                let (part, location) = (Part::of(feature), Location::Module);
+                return write!(f, "{}", UnsupportedSentence { part, location });
             }
             FaultKind::Limit(limit) => {
                 let found = Found(self.found);

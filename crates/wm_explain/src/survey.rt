@@ -12,7 +12,7 @@ use wm_decode::Feature;
 
 /// Where a part is used.
 #[derive(Clone, Copy, PartialEq, Eq)]
-pub(crate) enum Place {
+pub(crate) enum Location {
     Module,
     Type(usize),
     Import(usize),
@@ -22,15 +22,15 @@ pub(crate) enum Place {
     Segment(usize),
 }
 
-impl fmt::Display for Place {
+impl fmt::Display for Location {
     fn fmt<W: fmt::Write>(&self, f: &mut fmt::Formatter<W>) -> fmt::Result {
         match self {
-            Place::Module => Ok(()),
-            Place::Type(number) => write!(f, " in type {number}"),
-            Place::Import(number) => write!(f, " (import {number})"),
-            Place::Global(number) => write!(f, " in global {number}"),
-            Place::Function(number) => write!(f, " in function {number}"),
-            Place::Segment(number) => write!(f, " (data segment {number})"),
+            Location::Module => Ok(()),
+            Location::Type(number) => write!(f, " in type {number}"),
+            Location::Import(number) => write!(f, " (import {number})"),
+            Location::Global(number) => write!(f, " in global {number}"),
+            Location::Function(number) => write!(f, " in function {number}"),
+            Location::Segment(number) => write!(f, " (data segment {number})"),
         }
     }
 }
@@ -39,7 +39,7 @@ impl fmt::Display for Place {
 #[derive(Clone, Copy)]
 pub(crate) struct Use {
     pub part: Part,
-    pub place: Place,
+    pub location: Location,
     pub offset: usize,
     pub count: usize,
 }
@@ -48,7 +48,7 @@ impl fmt::Display for Use {
     fn fmt<W: fmt::Write>(&self, f: &mut fmt::Formatter<W>) -> fmt::Result {
         let Use {
             part,
-            place,
+            location,
             offset,
             count,
         } = *self;
@@ -56,7 +56,7 @@ impl fmt::Display for Use {
         if count > 1 {
             write!(f, ", {count} times, first")?;
         }
-        write!(f, "{place} at byte {offset}. {}.", remedy(part.feature))
+        write!(f, "{location} at byte {offset}. {}.", remedy(part.feature))
     }
 }
 
@@ -92,7 +92,7 @@ fn read<T: Drop>(found: Option<T>) -> Result<T, Stop> {
 #[derive(Drop)]
 struct Survey {
     uses: Vec<Use>,
-    place: Place,
+    location: Location,
     imported_functions: usize,
     memories: usize,
 }
@@ -108,7 +108,7 @@ impl Survey {
         }
         self.uses.push(Use {
             part,
-            place: self.place,
+            location: self.location,
             offset,
             count: 1,
         })?;
@@ -137,7 +137,7 @@ impl Survey {
     /// The section of types.
     fn types(&mut self, reader: &mut ByteReader) -> Result<(), Stop> {
         for number in 0..read(reader.number())? {
-            self.place = Place::Type(number);
+            self.location = Location::Type(number);
             if read(reader.byte())? != 0x60 {
                 return Err(Stop::Unread);
             }
@@ -203,7 +203,7 @@ impl Survey {
     /// The section of imports.
     fn imports(&mut self, reader: &mut ByteReader) -> Result<(), Stop> {
         for number in 0..read(reader.number())? {
-            self.place = Place::Import(number);
+            self.location = Location::Import(number);
             read(reader.skip_vector())?;
             read(reader.skip_vector())?;
             self.import(reader)?;
@@ -256,7 +256,7 @@ impl Survey {
     /// The section of globals.
     fn globals(&mut self, reader: &mut ByteReader) -> Result<(), Stop> {
         for number in 0..read(reader.number())? {
-            self.place = Place::Global(number);
+            self.location = Location::Global(number);
             self.value_type(reader)?;
             reader.skip(1);
             self.initial_value(reader)?;
@@ -267,7 +267,7 @@ impl Survey {
     /// The section of data segments.
     fn segments(&mut self, reader: &mut ByteReader) -> Result<(), Stop> {
         for number in 0..read(reader.number())? {
-            self.place = Place::Segment(number);
+            self.location = Location::Segment(number);
             let offset = reader.at;
             match read(reader.byte())? {
                 0x00 => self.initial_value(reader)?,
@@ -332,7 +332,7 @@ impl Survey {
     /// The section of code.
     fn code(&mut self, reader: &mut ByteReader) -> Result<(), Stop> {
         for number in 0..read(reader.number())? {
-            self.place = Place::Function(number.saturating_add(self.imported_functions));
+            self.location = Location::Function(number.saturating_add(self.imported_functions));
             let size = read(reader.number())?;
             let mut body = part_of(reader, size);
             if let Err(Stop::OutOfMemory) = self.body(&mut body) {
@@ -345,7 +345,7 @@ impl Survey {
 
     /// A section, whose number is at an offset.
     fn section(&mut self, number: u8, offset: usize, reader: &mut ByteReader) -> Result<(), Stop> {
-        self.place = Place::Module;
+        self.location = Location::Module;
         match number {
             1 => self.types(reader),
             2 => self.imports(reader),
@@ -379,7 +379,7 @@ fn part_of<'a>(reader: &ByteReader<'a>, size: usize) -> ByteReader<'a> {
 pub(crate) fn unsupported_parts(alloc: Global, bytes: &[u8]) -> Result<Vec<Use>, AllocError> {
     let mut survey = Survey {
         uses: Vec::new(alloc),
-        place: Place::Module,
+        location: Location::Module,
         imported_functions: 0,
         memories: 0,
     };

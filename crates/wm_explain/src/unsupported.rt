@@ -1,7 +1,7 @@
 //! What a module uses that is not supported.
 
 use crate::feature::{Part, remedy};
-use crate::survey::{Place, Use, unsupported_parts};
+use crate::survey::{Location, Use, unsupported_parts};
 use std::alloc::{AllocError, Global};
 use std::fmt;
 use wm_decode::Feature;
@@ -10,16 +10,16 @@ use wm_decode::Feature;
 #[derive(Clone, Copy)]
 pub(crate) struct UnsupportedSentence {
     pub part: Part,
-    pub place: Place,
+    pub location: Location,
 }
 
 impl fmt::Display for UnsupportedSentence {
     fn fmt<W: fmt::Write>(&self, f: &mut fmt::Formatter<W>) -> fmt::Result {
-        let UnsupportedSentence { part, place } = *self;
+        let UnsupportedSentence { part, location } = *self;
         let remedy = remedy(part.feature);
         write!(
             f,
-            "The module uses {}{place}, which isn't supported. {remedy}.",
+            "The module uses {}{location}, which isn't supported. {remedy}.",
             part.name
         )
     }
@@ -31,13 +31,13 @@ fn sentence_at(uses: &[Use], feature: Feature, offset: usize) -> UnsupportedSent
         if one.offset == offset && one.part.feature == feature {
             return UnsupportedSentence {
                 part: one.part,
-                place: one.place,
+                location: one.location,
             };
         }
     }
     UnsupportedSentence {
         part: Part::of(feature),
-        place: Place::Module,
+        location: Location::Module,
     }
 }
 

@@ -7,7 +7,8 @@ use Rattle.wm_event.specs.HappensBefore.{SynchronizesWith}
 use Rattle.wm_event.specs.LoggedRun.{LoggedRun, execution}
 use Rattle.wm_event.specs.Shape.{IsListedAt}
 use Rattle.wm_event.specs.Witness.{writers_in}
-use Rattle.wm_hb.specs.Chain.{IsEdge}
+use Rattle.wm_hb.specs.declared.fault_chain.FaultChain.{FaultChain}
+use Rattle.wm_hb.specs.Chain.{IsEdge, IsShortestChain}
 use Rattle.wm_graph.specs.declared.edges.Edge.{Edge}
 use Rattle.wm_graph.specs.declared.edges.EdgeKind.{EdgeKind}
 use Rattle.wm_graph.specs.declared.edges.EdgeKind.TheVariants.{Sequenced, ReadsFrom, Order, Chain}
@@ -32,6 +33,10 @@ pub record ReadsFromBy (x : LoggedRun) (a : EventId) (b : EventKey) (bytes : Byt
   pub from_writer : (k : ℕ) → bytes.first ≤ k → k ≤ bytes.last → slice_get (writers_in x.witness b) k ≡ Some a
   pub whole : IsTrue bytes.is_whole ↔ ((bytes.first ≡ 0) × (bytes.last + 1 ≡ length (writers_in x.witness b)))
   pub synchronizes : IsTrue bytes.synchronizes ↔ SyncsWith x a b
+
+-- the chain's links lead from its first event to its last one, and no chain has fewer
+abbrev pub IsChainOf : LoggedRun → FaultChain → Type 0
+IsChainOf x chain = IsShortestChain (execution x) chain.from chain.links chain.to
 
 -- an edge of this kind from a to b is right
 abbrev pub States : LoggedRun → EdgeKind → EventId → EventKey → Type 0

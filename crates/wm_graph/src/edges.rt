@@ -1,9 +1,8 @@
 //! The edges of a picture.
 ghost use Rattle.std.specs.Prelude.{◌≡◌, ◌↔◌, ℕ, All, IfOk, IfSome, IsTrue, Some, slice_get};
-ghost use Rattle.wm_event.specs.LoggedRun.{LoggedRun, execution};
+ghost use Rattle.wm_event.specs.LoggedRun.{LoggedRun};
 ghost use Rattle.wm_event.specs.Witness.{writers_in};
-ghost use Rattle.wm_graph.specs.Edges.{IsRight, SyncsWith};
-ghost use Rattle.wm_hb.specs.Chain.{IsShortestChain};
+ghost use Rattle.wm_graph.specs.Edges.{IsChainOf, IsRight, SyncsWith};
 ghost use Rattle.wm_hb.specs.ReadsFrom.{NamesByte};
 
 use std::alloc::{AllocError, Global};
@@ -135,8 +134,7 @@ fn add_thread(
 
 /// Adds the links of a chain.
 fn add_chain(edges: &mut List<Edge>, chain: &FaultChain) -> Result<(), AllocError>
-    ensures { (x : LoggedRun) → IsShortestChain (execution x) chain.now.from chain.now.links chain.now.to
-        → All (IsRight x) edges.old → All (IsRight x) edges.new }
+    ensures { (x : LoggedRun) → IsChainOf x chain.now → All (IsRight x) edges.old → All (IsRight x) edges.new }
 {
     let mut from = chain.from;
     for link in chain.links.as_slice() {

@@ -49,6 +49,18 @@ impl<'c, 'i> HappensBefore<'c, 'i> {
         Ok(HappensBefore { candidate, closure })
     }
 
+    /// Happens-before of an ordered candidate, by this thread alone. An error comes only where memory was refused.
+    pub fn sequential(alloc: Global, ordered: &Ordered<'c, 'i>) -> Result<Self, AllocError>
+        ensures { IfOk result (λ h. h ≡ ordered.now) }
+    {
+        let candidate = ordered.candidate();
+        let log = candidate.log();
+        let steps = graph(alloc, candidate)?;
+        let lanes = threads(alloc, candidate)?;
+        let closure = Closure::sequential(alloc, steps, lanes, log.threads().len())?;
+        Ok(HappensBefore { candidate, closure })
+    }
+
     /// The candidate, whose order agrees with what happens before what.
     pub fn candidate(&self) -> &'c Candidate<'i>
         ensures value { result.now ≡ self.now }

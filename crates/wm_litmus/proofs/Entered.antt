@@ -11,7 +11,7 @@ use Rattle.clap.specs.declared.parser.matches.Found.{Found}
 use Rattle.clap.proofs.WalkLemmas.{first_value-rows}
 use Rattle.wm_litmus.specs.Commands.{Form, HasFields, IsNamed, LacksField, Means, fields_of, forms, name_of}
 use Rattle.wm_litmus.specs.declared.command.Command.{Command}
-use Rattle.wm_litmus.specs.declared.command.Command.TheVariants.{Rules, Check, Migrate, Complete, Drive, Run, Explain, Graph, Help, Version}
+use Rattle.wm_litmus.specs.declared.command.Command.TheVariants.{Rules, Check, Migrate, Complete, Verify, Stream, Drive, Run, Explain, Graph, Help, Version}
 
 -- the first parts of pairs
 first_parts : {X Y Z : Type 0} (f : X → Y) (g : X → Z) (o : Option X) → option_map f o ≡ option_map (λ (p : Y × Z). p.0) (option_map (λ x. (f x, g x)) o)
@@ -60,6 +60,8 @@ fields_are_required (Rules d) = refl
 fields_are_required (Check m d) = refl
 fields_are_required (Migrate d) = refl
 fields_are_required (Complete m d) = refl
+fields_are_required (Verify m d) = refl
+fields_are_required (Stream m) = refl
 fields_are_required (Drive m t) = refl
 fields_are_required (Run m r) = refl
 fields_are_required (Explain m d) = refl

@@ -1,7 +1,6 @@
 pub mod Answering
 pub mod Entered
 pub mod Words
-pub mod Writing
 pub mod Pieces
 pub mod OwnVerdicts
 pub mod Counting
@@ -9,3 +8,4 @@ pub mod Gathering
 pub mod Tabling
 pub mod Padding
 pub mod Explaining
+pub mod Streaming

@@ -42,6 +42,22 @@ complete_is_read : read complete ≡ Some (codes "complete", Some (codes "a.wasm
 unfolding clap_on_literals read complete
 complete_is_read = refl
 
+verify_is_taken : fault_of wmlab_app (codes "verify" ∷ codes "a.wasm" ∷ codes "-" ∷ []) ≡ []
+unfolding clap_on_literals
+verify_is_taken = refl
+
+stream_is_taken : fault_of wmlab_app (codes "stream" ∷ codes "a.wasm" ∷ []) ≡ []
+unfolding clap_on_literals
+stream_is_taken = refl
+
+stream_is_read : read (codes "stream" ∷ codes "a.wasm" ∷ []) ≡ Some (codes "stream", Some (codes "a.wasm"), None)
+unfolding clap_on_literals read
+stream_is_read = refl
+
+stream_takes_no_document : IsNoCommand (codes "stream" ∷ codes "a.wasm" ∷ codes "-" ∷ [])
+unfolding clap_on_literals
+stream_takes_no_document command is = let none = is.taken in cc
+
 explain : List Text
 explain = codes "explain" ∷ codes "a.wasm" ∷ codes "-" ∷ []
 

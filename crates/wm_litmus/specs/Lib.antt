@@ -10,6 +10,7 @@ pub mod Failures
 pub mod Help
 pub mod Input
 pub mod Lines
-pub mod Output
 pub mod Prints
+pub mod Serving
+pub mod Stream
 pub mod Table

@@ -26,15 +26,16 @@ use Rattle.wm_logfile.specs.DocumentBytes.{IsDocumentOf, IsNoDocument}
 use Rattle.wm_logfile.specs.Migration.{IsMigrated, IsMisplaced}
 use Rattle.wm_replay.specs.declared.answer.ReplayAnswer.{ReplayAnswer}
 use Rattle.clap.specs.Words.{Text}
-use Rattle.wm_litmus.specs.declared.command.Command.TheVariants.{Rules, Check, Migrate, Complete, Drive, Run, Explain, Graph, Help, Version}
+use Rattle.wm_litmus.specs.declared.command.Command.TheVariants.{Rules, Check, Migrate, Complete, Verify, Stream, Drive, Run, Explain, Graph, Help, Version}
 use Rattle.wm_litmus.specs.Commands.{IsCommand, IsNoCommand}
 use Rattle.wm_litmus.specs.Drive.{IsScriptAnswer}
 use Rattle.wm_litmus.specs.Explanation.{AnswersExplain, AnswersGraph}
 use Rattle.wm_litmus.specs.Help.{help_text, version_text}
 use Rattle.wm_litmus.specs.Rounds.{IsRoundsAnswer}
 use Rattle.wm_litmus.specs.Input.{IsDocumentRead, IsReadOf}
-use Rattle.wm_litmus.specs.Output.{AppendsFront}
+use Rattle.wm_stream.specs.Output.{AppendsFront}
 use Rattle.wm_litmus.specs.Prints.{ended}
+use Rattle.wm_litmus.specs.Stream.{AnswersFirstLines, AnswersStream, AnswersVerify}
 use Rattle.wm_litmus.specs.Lines.{document_line_text, judgement_status, judgement_text, shape_line_text, verdict_text, words_line_text}
 
 -- ---- the command `rules`
@@ -121,6 +122,13 @@ pub data IsAnswer (given : Given) (status : ℕ) (text : List ℕ) : Type 0 wher
       → IsReadOf (given.files file.now) max_module_bytes module_bytes
       → IsDocumentRead given.files given.input max_document_bytes document.now bytes
       → AnswersComplete module_bytes bytes status text → IsAnswer given status text
+  verify_of : (file document : Bor Text) (module_bytes bytes : List ℕ) → IsCommand given.words (Verify file document)
+      → IsReadOf (given.files file.now) max_module_bytes module_bytes
+      → IsDocumentRead given.files given.input max_document_bytes document.now bytes
+      → AnswersVerify module_bytes bytes status text → IsAnswer given status text
+  stream_of : (file : Bor Text) (module_bytes : List ℕ) → IsCommand given.words (Stream file)
+      → IsReadOf (given.files file.now) max_module_bytes module_bytes
+      → AnswersStream module_bytes given.input status text → IsAnswer given status text
   drive_of : (file turns : Bor Text) → IsCommand given.words (Drive file turns)
       → IsScriptAnswer (given.files file.now) turns.now (drop 3 given.words) status text → IsAnswer given status text
   run_of : (file rounds : Bor Text) → IsCommand given.words (Run file rounds)
@@ -142,8 +150,12 @@ pub record WritesAnswer (given : Given) (old new : Option (List ℕ)) (status : 
   pub answers : IsAnswer given status text
   pub gains : Appends old new text
 
--- the writer gains nothing, or a front of what an answer prints
+-- the writer gains nothing, a front of what an answer prints, or a front of the answers to the first lines of the input
 pub data WritesFront (given : Given) (old new : Option (List ℕ)) : Type 0 where
   nothing : new ≡ old → WritesFront given old new
   front : (status : ℕ) (text : List ℕ) → IsAnswer given status text
+      → AppendsFront old new text → WritesFront given old new
+  first_lines : (file : Bor Text) (module_bytes text : List ℕ) → IsCommand given.words (Stream file)
+      → IsReadOf (given.files file.now) max_module_bytes module_bytes
+      → AnswersFirstLines module_bytes given.input text
       → AppendsFront old new text → WritesFront given old new

@@ -1,7 +1,7 @@
 //! The command line.
 ghost use Rattle.std.specs.Prelude.{◌≡◌, ◌∷◌, [], false, Err, IfOk, IfSome, None, Some, fold, map};
 ghost use Rattle.clap.specs.Words.{app_of, first_of, kind_of, rule_of, subcommand_rows_of};
-ghost use Rattle.wm_litmus.specs.Commands.{AddsAs, HasFields, IsCommand, IsNamed, IsNoCommand, LacksField, Means, any_words_rule, checked_form, document_form, fault_of_kind, form_app, forms, plain_form, rows_in, started_form, with_form, wmlab_app, word_rule};
+ghost use Rattle.wm_litmus.specs.Commands.{AddsAs, HasFields, IsCommand, IsNamed, IsNoCommand, LacksField, Means, any_words_rule, checked_form, document_form, fault_of_kind, form_app, forms, module_form, plain_form, rows_in, started_form, with_form, wmlab_app, word_rule};
 ghost use Rattle.wm_litmus.specs.declared.command.Command.{Command};
 ghost use Rattle.wm_litmus.specs.declared.command.CommandFault.TheVariants.{OutOfMemory, Words};
 
@@ -20,6 +20,10 @@ pub enum Command<'a> {
     Migrate { document: &'a str },
     /// Prints a document with the steps and the ends that its module gives it.
     Complete { module: &'a str, document: &'a str },
+    /// Completes a document against its module, and checks it.
+    Verify { module: &'a str, document: &'a str },
+    /// Verifies each line of the input as a document against a module.
+    Stream { module: &'a str },
     /// Plays a script over a module; the remaining words are what its threads start with.
     Drive { module: &'a str, turns: &'a str },
     /// Makes this number of rounds of a module's threads; the remaining words are what these start with.
@@ -92,6 +96,13 @@ fn document_parser<'a>(alloc: Global, name: &'a str) -> Result<Parser<'a>, Alloc
     Parser::new(alloc, name).arg(word(alloc, "document"))
 }
 
+/// A command of a module.
+fn module_parser<'a>(alloc: Global, name: &'a str) -> Result<Parser<'a>, AllocError>
+    ensures { IfOk result (AddsAs (form_app (module_form name.now))) }
+{
+    Parser::new(alloc, name).arg(word(alloc, "module"))
+}
+
 /// A command of a module and a document.
 fn checked_parser<'a>(alloc: Global, name: &'a str) -> Result<Parser<'a>, AllocError>
     ensures { IfOk result (AddsAs (form_app (checked_form name.now))) }
@@ -133,6 +144,17 @@ fn with_document<'a>(
     parser.subcommand(document_parser(alloc, name)?)
 }
 
+/// Adds a command of a module.
+fn with_module<'a>(
+    alloc: Global,
+    parser: Parser<'a>,
+    name: &'a str,
+) -> Result<Parser<'a>, AllocError>
+    ensures { IfOk result (λ more. app_of more ≡ with_form (app_of parser.entry) (module_form name.now)) }
+{
+    parser.subcommand(module_parser(alloc, name)?)
+}
+
 /// Adds a command of a module and a document.
 fn with_checked<'a>(
     alloc: Global,
@@ -164,6 +186,8 @@ fn with_commands<'a>(alloc: Global, parser: Parser<'a>) -> Result<Parser<'a>, Al
     let parser = with_checked(alloc, parser, "check")?;
     let parser = with_document(alloc, parser, "migrate")?;
     let parser = with_checked(alloc, parser, "complete")?;
+    let parser = with_checked(alloc, parser, "verify")?;
+    let parser = with_module(alloc, parser, "stream")?;
     let parser = with_started(alloc, parser, "drive", "turns")?;
     let parser = with_started(alloc, parser, "run", "rounds")?;
     let parser = with_checked(alloc, parser, "explain")?;
@@ -224,6 +248,14 @@ fn command_of<'a>(name: &str, words: &ArgMatches<'a>) -> Option<Command<'a>>
         "complete" => {
             let (module, document) = two_words(words, "module", "document")?;
             Some(Command::Complete { module, document })
+        }
+        "verify" => {
+            let (module, document) = two_words(words, "module", "document")?;
+            Some(Command::Verify { module, document })
+        }
+        "stream" => {
+            let module = one_word(words, "module")?;
+            Some(Command::Stream { module })
         }
         "drive" => {
             let (module, turns) = two_words(words, "module", "turns")?;

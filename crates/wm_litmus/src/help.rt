@@ -21,6 +21,8 @@ COMMANDS
     graph MODULE DOC              draw a log for Graphviz, with the first violation in red
     rules DOC                     judge a log by the memory rules alone, over 16 pages of zeros
     complete MODULE DOC           print a log with the steps and ends that its module gives it
+    verify MODULE DOC             complete a log, and check it
+    stream MODULE                 verify each line of standard input as a log; answer each by a line
     migrate DOC                   print a log in version 2 of its format
     drive MODULE TURNS START..    run threads by a script; print the outcome and the log
     run MODULE ROUNDS START..     run threads in parallel; check each log and count the outcomes
@@ -41,6 +43,8 @@ EXAMPLES
     wmlab graph store-buffering.wasm store-buffering.json | dot -Tsvg > store-buffering.svg
     wmlab rules - < store-buffering.json
     wmlab complete store-buffering.wasm recorded.json > completed.json
+    wmlab verify store-buffering.wasm recorded.json
+    wmlab stream store-buffering.wasm < recorded.jsonl > answers.txt
     wmlab migrate version-1.json > version-2.json
     wmlab drive store-buffering.wasm 0*3,d0,0*3,1*6 a b
     wmlab run store-buffering.wasm 100 a b

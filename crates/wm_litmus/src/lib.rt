@@ -33,11 +33,11 @@ mod input;
 mod line;
 mod migration;
 mod outcomes;
-mod output;
 mod own;
 mod program;
 mod rounds;
 mod rules;
+mod stream;
 mod table;
 
 pub use files::{FileFault, Files};

@@ -1,7 +1,8 @@
 //! The whole program.
-ghost use Rattle.std.specs.Prelude.{◌≡◌, ◌+◌, ◌^◌, ◌≤◌, ◌<◌, IfErr, IfOk, OnOk, List, ℕ, drop, map, string_bytes};
+ghost use Rattle.std.specs.Prelude.{◌≡◌, ◌+◌, ◌^◌, ◌≤◌, ◌<◌, IfErr, IfOk, OnErr, OnOk, List, ℕ, drop, map, string_bytes};
 ghost use Rattle.wm_decode.specs.Bounds.{max_module_bytes};
-ghost use Rattle.wm_litmus.specs.Replies.{IsAnswer, WritesAnswer, WritesFront, given};
+ghost use Rattle.wm_litmus.specs.Replies.{WritesAnswer, WritesFront, given};
+ghost use Rattle.wm_litmus.specs.Serving.{IsOfLines, IsReply, StreamsAll, StreamsFront};
 ghost use Rattle.wm_litmus.specs.Drive.{IsScriptAnswer};
 ghost use Rattle.wm_litmus.specs.Failures.{IsUnreadFile};
 ghost use Rattle.wm_litmus.specs.Input.{IsDocumentRead, IsReadOf};
@@ -19,15 +20,16 @@ use crate::files::{FileFault, Files};
 use crate::help::{help_answer, version_answer};
 use crate::input::read_limited;
 use crate::migration::migrate_answer;
-use crate::output::write_text;
 use crate::rounds::rounds_answer;
 use crate::rules::rules_answer;
+use crate::stream::{judge_of, verify_answer};
 use std::alloc::{AllocError, Global};
 use std::io::{Read, Write};
 use std::sync::Wait;
 use std::thread::Threads;
 use wm_decode::MAX_MODULE_BYTES;
 use wm_logfile::MAX_DOCUMENT_BYTES;
+use wm_stream::{StreamFault, answer_lines, write_text};
 use wm_words::{read_rounds, read_script};
 
 /// Why there is no answer.
@@ -37,8 +39,20 @@ enum Failure<'a> {
     UnreadFile(&'a str),
     /// The input was not read.
     UnreadInput,
+    /// The answer was not written whole.
+    Unwritten,
     /// Memory was refused.
     OutOfMemory,
+}
+
+impl From<StreamFault> for Failure<'_> {
+    fn from(fault: StreamFault) -> Self {
+        match fault {
+            StreamFault::Read => Failure::UnreadInput,
+            StreamFault::Write => Failure::Unwritten,
+            StreamFault::OutOfMemory => Failure::OutOfMemory,
+        }
+    }
 }
 
 impl From<AllocError> for Failure<'_> {
@@ -191,17 +205,46 @@ fn rounds_of<'a, R: AllocGlobal + Threads + Wait + Sync, F: Files>(
     }
 }
 
-/// The answer to the words.
-fn answer_of<'a, R: AllocGlobal + Threads + Wait + Sync, F: Files, I: Read>(
+/// Answers each line of the input as a document over the module `name`, and returns the status of all answers.
+fn stream_lines<'a, R: AllocGlobal + Threads + Sync, F: Files, I: Read, O: Write>(
+    rt: &R,
+    files: &mut F,
+    name: &'a str,
+    input: &mut I,
+    out: &mut O,
+) -> Result<u8, Failure<'a>>
+    requires { F.failures_of files.old + 1 < 2 ^ 64 }
+    ensures answered { IfOk result (λ status. StreamsAll
+        (F.content_of files.old name.now) (I.remaining input.old) (O.contents out.old) (O.contents out.new) status) }
+    ensures stopped { OnErr result (StreamsFront
+        (F.content_of files.old name.now) (I.remaining input.old) (O.contents out.old) (O.contents out.new)) }
+{
+    let bytes = read_file(files, name, MAX_MODULE_BYTES)?;
+    let judge = judge_of(rt.alloc(), bytes.as_slice())?;
+    let status = answer_lines(rt, input, out, &judge, MAX_DOCUMENT_BYTES + 1)?;
+    Ok(status.code())
+}
+
+/// What answers the words.
+#[derive(Drop)]
+enum Reply<'a> {
+    /// An answer, which is written whole.
+    Answer(Answer),
+    /// An answer to each line of the input, over the module of this name.
+    Lines(&'a str),
+}
+
+/// What answers the words.
+fn reply_to<'a, R: AllocGlobal + Threads + Wait + Sync, F: Files, I: Read>(
     rt: &R,
     words: &'a [&'a str],
     files: &mut F,
     input: &mut I,
-) -> Result<Answer, Failure<'a>>
+) -> Result<Reply<'a>, Failure<'a>>
     requires { F.failures_of files.old + 1 < 2 ^ 64 }
-    ensures answers { IfOk result (λ answer.
-        IsAnswer (given (map (λ word. word.now) words.now) (F.content_of files.old) (I.remaining input.old))
-        answer.status (string_bytes answer.text)) }
+    ensures answers { IfOk result (IsReply
+        (given (map (λ word. word.now) words.now) (F.content_of files.old) (I.remaining input.old))) }
+    ensures kept { IfOk result (λ reply. IsOfLines reply → (files.new ≡ files.old) × (input.new ≡ input.old)) }
     ensures unread { IfErr result (λ stop. IsUnreadFile stop
         → F.failures_of files.old < F.failures_of files.new) }
 {
@@ -209,35 +252,59 @@ fn answer_of<'a, R: AllocGlobal + Threads + Wait + Sync, F: Files, I: Read>(
     match read_command(rt.alloc(), words) {
         Ok(Command::Rules { document }) => {
             let bytes = read_document_bytes(rt, files, input, document)?;
-            Ok(rules_answer(rt, bytes.as_slice())?)
+            Ok(Reply::Answer(rules_answer(rt, bytes.as_slice())?))
         }
         Ok(Command::Check { module, document }) => {
             let read = read_run(rt, files, input, module, document)?;
-            Ok(check_answer(rt, read.0.as_slice(), read.1.as_slice())?)
+            Ok(Reply::Answer(check_answer(rt, read.0.as_slice(), read.1.as_slice())?))
         }
         Ok(Command::Migrate { document }) => {
             let bytes = read_document_bytes(rt, files, input, document)?;
-            Ok(migrate_answer(rt.alloc(), bytes.as_slice())?)
+            Ok(Reply::Answer(migrate_answer(rt.alloc(), bytes.as_slice())?))
         }
         Ok(Command::Complete { module, document }) => {
             let read = read_run(rt, files, input, module, document)?;
-            Ok(completion_answer(rt.alloc(), read.0.as_slice(), read.1.as_slice())?)
+            Ok(Reply::Answer(completion_answer(rt.alloc(), read.0.as_slice(), read.1.as_slice())?))
         }
+        Ok(Command::Verify { module, document }) => {
+            let read = read_run(rt, files, input, module, document)?;
+            Ok(Reply::Answer(verify_answer(rt.alloc(), read.0.as_slice(), read.1.as_slice())?))
+        }
+        Ok(Command::Stream { module }) => Ok(Reply::Lines(module)),
         Ok(Command::Explain { module, document }) => {
             let read = read_run(rt, files, input, module, document)?;
-            Ok(explain_answer(rt, read.0.as_slice(), read.1.as_slice())?)
+            Ok(Reply::Answer(explain_answer(rt, read.0.as_slice(), read.1.as_slice())?))
         }
         Ok(Command::Graph { module, document }) => {
             let read = read_run(rt, files, input, module, document)?;
-            Ok(graph_answer(rt, read.0.as_slice(), read.1.as_slice())?)
+            Ok(Reply::Answer(graph_answer(rt, read.0.as_slice(), read.1.as_slice())?))
         }
-        Ok(Command::Drive { module, turns }) => script_of(rt, files, module, turns, starts),
-        Ok(Command::Run { module, rounds }) => rounds_of(rt, files, module, rounds, starts),
-        Ok(Command::Help) => Ok(help_answer(rt.alloc())?),
-        Ok(Command::Version) => Ok(version_answer(rt.alloc())?),
-        Err(CommandFault::Words) => Ok(Answer::refused_words(rt.alloc())?),
+        Ok(Command::Drive { module, turns }) => {
+            let answer = script_of(rt, files, module, turns, starts)?;
+            Ok(Reply::Answer(answer))
+        }
+        Ok(Command::Run { module, rounds }) => {
+            let answer = rounds_of(rt, files, module, rounds, starts)?;
+            Ok(Reply::Answer(answer))
+        }
+        Ok(Command::Help) => Ok(Reply::Answer(help_answer(rt.alloc())?)),
+        Ok(Command::Version) => Ok(Reply::Answer(version_answer(rt.alloc())?)),
+        Err(CommandFault::Words) => Ok(Reply::Answer(Answer::refused_words(rt.alloc())?)),
         Err(CommandFault::OutOfMemory) => Err(Failure::OutOfMemory),
     }
+}
+
+/// Writes why there is no whole answer, and returns the exit status.
+fn report<E: Write>(err: &mut E, failure: Failure) -> u8
+    ensures { result ≡ 3 }
+{
+    let _ = match failure {
+        Failure::UnreadFile(name) => writeln!(err, "cannot read {name}"),
+        Failure::UnreadInput => writeln!(err, "cannot read -"),
+        Failure::Unwritten => writeln!(err, "cannot write"),
+        Failure::OutOfMemory => writeln!(err, "out of memory"),
+    };
+    3
 }
 
 /// The whole program: answers `words`, those after the program's name, on `out`, and returns the exit status.
@@ -247,6 +314,8 @@ fn answer_of<'a, R: AllocGlobal + Threads + Wait + Sync, F: Files, I: Read>(
 /// then the document, and checks its run against the module and the memory rules. `migrate DOC` reads a document
 /// and prints it in version 2. `complete MODULE DOC` reads both as `check` does, and prints the document in version 2
 /// with the steps and the ends that the module gives its threads on the values that their events read.
+/// `verify MODULE DOC` reads both, and prints the line of `check` for the completed document. `stream MODULE` reads the
+/// module, and then answers each line of `input` by the line of `verify` for it, in their order, as they come.
 /// `explain MODULE DOC` prints the line of `check`, and then explains it in sentences; `graph MODULE DOC` prints
 /// the execution for Graphviz, or the line of a refusal, each with the status of `check`.
 /// `drive MODULE TURNS START..` plays a script over a module, and prints the outcome, the verdict on what was logged, and
@@ -285,25 +354,15 @@ pub fn serve<R: AllocGlobal + Threads + Wait + Sync, F: Files, I: Read, O: Write
         → WritesFront (given (map (λ word. word.now) words.now) (F.content_of files.old) (I.remaining input.old))
         (O.contents out.old) (O.contents out.new) }
 {
-    match answer_of(rt, words, files, input) {
-        Ok(answer) => {
-            if let Err(_) = write_text(out, answer.text.as_str()) {
-                let _ = writeln!(err, "cannot write");
-                return 3;
-            }
-            answer.status
-        }
-        Err(Failure::UnreadFile(name)) => {
-            let _ = writeln!(err, "cannot read {name}");
-            3
-        }
-        Err(Failure::UnreadInput) => {
-            let _ = writeln!(err, "cannot read -");
-            3
-        }
-        Err(Failure::OutOfMemory) => {
-            let _ = writeln!(err, "out of memory");
-            3
-        }
+    match reply_to(rt, words, files, input) {
+        Ok(Reply::Answer(answer)) => match write_text(out, answer.text.as_str()) {
+            Ok(()) => answer.status,
+            Err(_) => report(err, Failure::Unwritten),
+        },
+        Ok(Reply::Lines(module)) => match stream_lines(rt, files, module, input, out) {
+            Ok(status) => status,
+            Err(failure) => report(err, failure),
+        },
+        Err(failure) => report(err, failure),
     }
 }

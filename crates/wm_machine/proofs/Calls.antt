@@ -16,7 +16,7 @@ use Rattle.wm_machine.specs.declared.fault.StepFault.{StepFault}
 use Rattle.wm_machine.specs.declared.fault.StepFault.TheVariants.{Stuck as StuckFault, OutOfMemory}
 use Rattle.wm_ast.specs.Module.{func_type}
 use Rattle.wm_machine.specs.Functions.{callable, continuation}
-use Rattle.wm_machine.specs.Term.{Vars, Term, Here, Frame, Config, Over, Reduced, Next, Ends, Leaves, Returns, Traps, Stuck, Step, Went, NoStep}
+use Rattle.wm_machine.specs.Term.{Vars, Term, Here, Frame, Config, Over, Reduced, Next, Ends, Leaves, Returns, Traps, Stuck, Step, ReducesTo, NoStep}
 use Rattle.wm_machine.specs.Step.{reduce, step, next_config, out_of_call, out_of_thread, returned, carried, carried_by, gives, result_of}
 use Rattle.wm_machine.specs.Configuration.{around, left_of, waiting, under}
 use Rattle.wm_machine.specs.Inside.{out_of_labels, seen, back, Reaches, Refuses, Same, call_step, as_list, ReturnsTo, Called, param_count, vars_of}
@@ -37,7 +37,7 @@ module _ (m : Module) (read : ℕ) where
       ∙ ap (out_of_calls m vars.globals cs c.func) (labels_lift m read (suc (length cs)) c.func (vars_of c vars.globals) c.control_stack.outer (Frame c.control_stack.operands (continuation m c.func c.control_stack.block c.control_stack.at) func vars.locals t))
 
 module _ (m : Module) where
-  pub calls_next : (globals : List TypedValue) (cs : List CallFrame) (func : ℕ) (vars : Vars) (made : Option OpFields) (t : Term) → out_of_calls m globals cs func (Next made vars t) ≡ Went made (under m cs func vars t)
+  pub calls_next : (globals : List TypedValue) (cs : List CallFrame) (func : ℕ) (vars : Vars) (made : Option OpFields) (t : Term) → out_of_calls m globals cs func (Next made vars t) ≡ ReducesTo made (under m cs func vars t)
   calls_next globals [] func vars made t = refl
   calls_next globals (c ∷ cs) func vars made t =
       ap (out_of_calls m globals cs c.func) (labels_next m 0 c.func (vars_of c globals) (vars_of c vars.globals) made c.control_stack.outer (Frame c.control_stack.operands (continuation m c.func c.control_stack.block c.control_stack.at) func vars.locals t))
@@ -48,7 +48,7 @@ module _ (m : Module) where
   calls_stuck globals (c ∷ cs) func =
       ap (out_of_calls m globals cs c.func) (labels_stuck m 0 c.func (vars_of c globals) c.control_stack.outer) ∙ calls_stuck globals cs c.func
 
-  pub calls_traps : (globals : List TypedValue) (cs : List CallFrame) (func : ℕ) (kind : TrapKind) → out_of_calls m globals cs func (Traps kind) ≡ Went None (Over (Trap kind))
+  pub calls_traps : (globals : List TypedValue) (cs : List CallFrame) (func : ℕ) (kind : TrapKind) → out_of_calls m globals cs func (Traps kind) ≡ ReducesTo None (Over (Trap kind))
   calls_traps globals [] func kind = refl
   calls_traps globals (c ∷ cs) func kind =
       ap (out_of_calls m globals cs c.func) (labels_traps m 0 c.func (vars_of c globals) kind c.control_stack.outer) ∙ calls_traps globals cs c.func kind

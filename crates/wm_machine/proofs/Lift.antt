@@ -16,8 +16,8 @@ use Rattle.wm_machine.specs.declared.fault.StepFault.{StepFault}
 use Rattle.wm_machine.specs.declared.fault.StepFault.TheVariants.{Stuck as StuckFault, OutOfMemory}
 use Rattle.wm_machine.specs.Functions.{continuation, from_place}
 use Rattle.wm_machine.specs.Term.{Vars, Term, Here, Label, Reduced, Next, Leaves, Returns, Traps, Stuck}
-use Rattle.wm_machine.specs.Step.{reduce, land, stays, act, after, enter, returned}
-use Rattle.wm_machine.specs.Nest.{Nest, Position, landed, carried_top, joined}
+use Rattle.wm_machine.specs.Step.{reduce, branch_to, continue_with, act, after, enter, returned}
+use Rattle.wm_machine.specs.Nest.{Nest, Position, after_branch, carried_top, joined}
 use Rattle.wm_machine.specs.Action.{does}
 use Rattle.wm_machine.specs.Configuration.{around, left_of}
 use Rattle.wm_machine.specs.Inside.{out_of_labels, seen, back, StepsTo, GivesBack}
@@ -43,9 +43,9 @@ module _ (m : Module) (read : ℕ) where
   labels_stuck func vars [] = refl
   labels_stuck func vars (p ∷ ps) = labels_stuck func vars ps
 
--- an instruction that stays in its place
-pub stays_within : (m : Module) (func block at : ℕ) (vars vars' : Vars) (operands : List TypedValue) (outer : List Position) (made : Option OpFields) (i : Instr) → continuation m func block at ≡ i ∷ continuation m func block (at + 1) → seen m func (out_of_labels m func vars outer (Next made vars' (Here operands (after (continuation m func block at))))) ≡ Next None vars' (around m func outer (Here operands (continuation m func block (at + 1))))
-stays_within m func block at vars vars' operands outer made i h =
+-- an instruction after which the next one of its block comes
+pub continues_within : (m : Module) (func block at : ℕ) (vars vars' : Vars) (operands : List TypedValue) (outer : List Position) (made : Option OpFields) (i : Instr) → continuation m func block at ≡ i ∷ continuation m func block (at + 1) → seen m func (out_of_labels m func vars outer (Next made vars' (Here operands (after (continuation m func block at))))) ≡ Next None vars' (around m func outer (Here operands (continuation m func block (at + 1))))
+continues_within m func block at vars vars' operands outer made i h =
     let e = labels_next m 0 func vars vars' made outer (Here operands (continuation m func block (at + 1))) in
     rw h (ap (seen m func) e)
 
@@ -75,20 +75,20 @@ leaves_func m func vars values (p ∷ ps) zero h = absurd (omega arith)
 leaves_func m func vars values (p ∷ ps) (suc l) h = leaves_func m func vars values ps l (omega arith) ∙ ap (λ k. Leaves k values) (omega arith)
 
 -- a branch to a block round it
-pub leaves_at : (m : Module) (func : ℕ) (vars : Vars) (values : List TypedValue) (outer : List Position) (label : ℕ) (p : Position) → slice_get outer label ≡ Some p → out_of_labels m func vars outer (Leaves label values) ≡ out_of_labels m func vars (drop (label + 1) outer) (land vars p.operands (continuation m func p.block p.at) values)
+pub leaves_at : (m : Module) (func : ℕ) (vars : Vars) (values : List TypedValue) (outer : List Position) (label : ℕ) (p : Position) → slice_get outer label ≡ Some p → out_of_labels m func vars outer (Leaves label values) ≡ out_of_labels m func vars (drop (label + 1) outer) (branch_to vars p.operands (continuation m func p.block p.at) values)
 leaves_at m func vars values [] label p h = cc
-leaves_at m func vars values (q ∷ ps) zero p h = let e : q ≡ p = cc in ap (λ (r : Position). out_of_labels m func vars ps (land vars r.operands (continuation m func r.block r.at) values)) e
+leaves_at m func vars values (q ∷ ps) zero p h = let e : q ≡ p = cc in ap (λ (r : Position). out_of_labels m func vars ps (branch_to vars r.operands (continuation m func r.block r.at) values)) e
 leaves_at m func vars values (q ∷ ps) (suc l) p h =
     let e : suc (l + 1) ≡ suc l + 1 = omega arith in
-    leaves_at m func vars values ps l p h ∙ ap (λ (k : ℕ). out_of_labels m func vars (drop k (q ∷ ps)) (land vars p.operands (continuation m func p.block p.at) values)) e
+    leaves_at m func vars values ps l p h ∙ ap (λ (k : ℕ). out_of_labels m func vars (drop k (q ∷ ps)) (branch_to vars p.operands (continuation m func p.block p.at) values)) e
 
 -- where unwinding leads
-pub landed_at : (label : ℕ) (values : List TypedValue) (outer : List Position) (p : Position) → slice_get outer label ≡ Some p → landed label values outer ≡ Some record { operands = values ++ p.operands; block = p.block; at = p.at; outer = drop (label + 1) outer }
-landed_at label values [] p h = cc
-landed_at zero values (q ∷ ps) p h = let e : q ≡ p = cc in ap (λ (r : Position). Some record { operands = values ++ r.operands; block = r.block; at = r.at; outer = ps }) e
-landed_at (suc l) values (q ∷ ps) p h =
+pub after_branch_at : (label : ℕ) (values : List TypedValue) (outer : List Position) (p : Position) → slice_get outer label ≡ Some p → after_branch label values outer ≡ Some record { operands = values ++ p.operands; block = p.block; at = p.at; outer = drop (label + 1) outer }
+after_branch_at label values [] p h = cc
+after_branch_at zero values (q ∷ ps) p h = let e : q ≡ p = cc in ap (λ (r : Position). Some record { operands = values ++ r.operands; block = r.block; at = r.at; outer = ps }) e
+after_branch_at (suc l) values (q ∷ ps) p h =
     let e : suc (l + 1) ≡ suc l + 1 = omega arith in
-    landed_at l values ps p h ∙ ap (λ (k : ℕ). Some record { operands = values ++ p.operands; block = p.block; at = p.at; outer = drop k (q ∷ ps) }) e
+    after_branch_at l values ps p h ∙ ap (λ (k : ℕ). Some record { operands = values ++ p.operands; block = p.block; at = p.at; outer = drop k (q ∷ ps) }) e
 
 abbrev pub At : List Position → ℕ → ℕ → ℕ → Type 0
 At outer label block at = IfSome (slice_get outer label) (λ p. (block ≡ p.block) × (at ≡ p.at))
@@ -107,29 +107,29 @@ find outer label block at within is =
     record { place = get_or outer label d; found = e; block_is = h.0; at_is = h.1 }
 
 -- the branch and the unwinding agree
-pub branches_to : (m : Module) (func : ℕ) (vars : Vars) (values : List TypedValue) (outer : List Position) (label block at next : ℕ) (carry : Bool) (n : Nest) → label < length outer → At outer label block at → landed label (carried_top carry values) outer ≡ Some n → ((operands : List TypedValue) → land vars operands (continuation m func block at) values ≡ stays vars (carried_top carry values ++ operands) (continuation m func block next)) → seen m func (out_of_labels m func vars outer (Leaves label values)) ≡ Next None vars (around m func n.outer (Here n.operands (continuation m func n.block next)))
-branches_to m func vars values outer label block at next carry n within is h lands =
+pub branches_to : (m : Module) (func : ℕ) (vars : Vars) (values : List TypedValue) (outer : List Position) (label block at next : ℕ) (carry : Bool) (n : Nest) → label < length outer → At outer label block at → after_branch label (carried_top carry values) outer ≡ Some n → ((operands : List TypedValue) → branch_to vars operands (continuation m func block at) values ≡ continue_with vars (carried_top carry values ++ operands) (continuation m func block next)) → seen m func (out_of_labels m func vars outer (Leaves label values)) ≡ Next None vars (around m func n.outer (Here n.operands (continuation m func n.block next)))
+branches_to m func vars values outer label block at next carry n within is h branches =
     let f = find outer label block at within is in
     let p = f.place in
     let cs = carried_top carry values in
     let t1 : continuation m func p.block p.at ≡ continuation m func block at = ap (λ (b : ℕ). continuation m func b p.at) (sym f.block_is) ∙ ap (λ (a : ℕ). continuation m func block a) (sym f.at_is) in
     let e1 = leaves_at m func vars values outer label p f.found in
-    let e2 : land vars p.operands (continuation m func p.block p.at) values ≡ stays vars (cs ++ p.operands) (continuation m func block next) = ap (λ (i : List Instr). land vars p.operands i values) t1 ∙ lands p.operands in
+    let e2 : branch_to vars p.operands (continuation m func p.block p.at) values ≡ continue_with vars (cs ++ p.operands) (continuation m func block next) = ap (λ (i : List Instr). branch_to vars p.operands i values) t1 ∙ branches p.operands in
     let e3 = labels_next m 0 func vars vars None (drop (label + 1) outer) (Here (cs ++ p.operands) (continuation m func block next)) in
-    let e4 = sym (landed_at label cs outer p f.found) ∙ h in
+    let e4 = sym (after_branch_at label cs outer p f.found) ∙ h in
     let r : Nest = record { operands = cs ++ p.operands; block = p.block; at = p.at; outer = drop (label + 1) outer } in
     let inj : r ≡ n = cc in
     let e5 = ap (λ (b : ℕ). Next None vars (around m func (drop (label + 1) outer) (Here (cs ++ p.operands) (continuation m func b next)))) f.block_is in
     ap (seen m func) (e1 ∙ ap (out_of_labels m func vars (drop (label + 1) outer)) e2 ∙ e3)
     ∙ e5 ∙ ap (λ (k : Nest). Next None vars (around m func k.outer (Here k.operands (continuation m func k.block next)))) inj
 
-pub branches_stuck : (m : Module) (func : ℕ) (vars : Vars) (values : List TypedValue) (outer : List Position) (label block at : ℕ) → label < length outer → At outer label block at → ((operands : List TypedValue) → land vars operands (continuation m func block at) values ≡ Stuck) → seen m func (out_of_labels m func vars outer (Leaves label values)) ≡ Stuck
-branches_stuck m func vars values outer label block at within is lands =
+pub branches_stuck : (m : Module) (func : ℕ) (vars : Vars) (values : List TypedValue) (outer : List Position) (label block at : ℕ) → label < length outer → At outer label block at → ((operands : List TypedValue) → branch_to vars operands (continuation m func block at) values ≡ Stuck) → seen m func (out_of_labels m func vars outer (Leaves label values)) ≡ Stuck
+branches_stuck m func vars values outer label block at within is branches =
     let f = find outer label block at within is in
     let p = f.place in
     let t1 : continuation m func p.block p.at ≡ continuation m func block at = ap (λ (b : ℕ). continuation m func b p.at) (sym f.block_is) ∙ ap (λ (a : ℕ). continuation m func block a) (sym f.at_is) in
     let e1 = leaves_at m func vars values outer label p f.found in
-    let e2 : land vars p.operands (continuation m func p.block p.at) values ≡ Stuck = ap (λ (i : List Instr). land vars p.operands i values) t1 ∙ lands p.operands in
+    let e2 : branch_to vars p.operands (continuation m func p.block p.at) values ≡ Stuck = ap (λ (i : List Instr). branch_to vars p.operands i values) t1 ∙ branches p.operands in
     ap (seen m func) (e1 ∙ ap (out_of_labels m func vars (drop (label + 1) outer)) e2 ∙ labels_stuck m 0 func vars (drop (label + 1) outer))
 
 -- a branch past the function
@@ -148,14 +148,14 @@ branches_out m func vars values outer label h =
     ap (seen m func) (leaves_func m func vars values outer label le ∙ ap (λ (j : ℕ). Leaves j values) e)
 
 -- what a function gives back
-pub gives_back_goes : (m : Module) (depth : ℕ) (r : Reduced) (old : CallFrame) (globals : List TypedValue) (values : Option (List TypedValue)) (result : Result Flow StepFault) → seen m old.func r ≡ back values → GivesBack values result → StepsTo m depth r old globals old globals result
-gives_back_goes m depth r old globals values (Ok (Left v)) e g = (e ∙ ap back g, (refl, refl))
-gives_back_goes m depth r old globals values (Ok Within) e g = absurd g
-gives_back_goes m depth r old globals values (Ok (Trapped kind)) e g = absurd g
-gives_back_goes m depth r old globals values (Ok (Calling f)) e g = absurd g
-gives_back_goes m depth r old globals values (Ok (Asking op)) e g = absurd g
-gives_back_goes m depth r old globals values (Err StuckFault) e g = (e ∙ ap back g, (refl, refl))
-gives_back_goes m depth r old globals values (Err OutOfMemory) e g = absurd g
+pub gives_back_steps : (m : Module) (depth : ℕ) (r : Reduced) (old : CallFrame) (globals : List TypedValue) (values : Option (List TypedValue)) (result : Result Flow StepFault) → seen m old.func r ≡ back values → GivesBack values result → StepsTo m depth r old globals old globals result
+gives_back_steps m depth r old globals values (Ok (Left v)) e g = (e ∙ ap back g, (refl, refl))
+gives_back_steps m depth r old globals values (Ok Within) e g = absurd g
+gives_back_steps m depth r old globals values (Ok (Trapped kind)) e g = absurd g
+gives_back_steps m depth r old globals values (Ok (Calling f)) e g = absurd g
+gives_back_steps m depth r old globals values (Ok (Asking op)) e g = absurd g
+gives_back_steps m depth r old globals values (Err StuckFault) e g = (e ∙ ap back g, (refl, refl))
+gives_back_steps m depth r old globals values (Err OutOfMemory) e g = absurd g
 
 after_from : (o : Option (List Instr)) (at : ℕ) → after (from_place o at) ≡ from_place o (at + 1)
 after_from None at = refl
@@ -175,7 +175,7 @@ closes_within m read depth func vars operands block at (p ∷ ps) n h e =
     let inj : r ≡ n = cc in
     let e1 = labels_lift m read depth func vars (p ∷ ps) (Here operands (continuation m func block at)) in
     let e2 = ap (λ (i : List Instr). out_of_labels m func vars (p ∷ ps) (reduce m read depth func vars (Here operands i))) h in
-    let e3 = ap (λ (i : List Instr). out_of_labels m func vars ps (stays vars (operands ++ p.operands) i)) (after_from (block_in m.funcs func p.block) p.at) in
+    let e3 = ap (λ (i : List Instr). out_of_labels m func vars ps (continue_with vars (operands ++ p.operands) i)) (after_from (block_in m.funcs func p.block) p.at) in
     let e4 = labels_next m 0 func vars vars None ps (Here (operands ++ p.operands) (continuation m func p.block (p.at + 1))) in
     ap (seen m func) (e1 ∙ e2 ∙ e3 ∙ e4) ∙ ap (λ (k : Nest). Next None vars (around m func k.outer (Here k.operands (continuation m func k.block (k.at + 1))))) inj
 

@@ -12,7 +12,7 @@ use Rattle.wm_machine.specs.declared.action.Action.{Action}
 use Rattle.wm_machine.specs.declared.action.Action.TheVariants as action
 use Rattle.wm_machine.specs.Functions.{Callable, callable, continuation}
 use Rattle.wm_machine.specs.Term.{Vars, Here, Reduced, Next, Ends, Leaves, Returns, Traps, Stuck}
-use Rattle.wm_machine.specs.Step.{reduce, act, step, access_of, out_of_label, out_of_call, out_of_thread, land, gives, carried, returned, ended, enter, begin, invoke}
+use Rattle.wm_machine.specs.Step.{reduce, act, step, access_of, out_of_label, out_of_call, out_of_thread, branch_to, gives, carried, returned, ended, enter, begin, invoke}
 use Rattle.wm_machine.specs.Nest.{Position}
 use Rattle.wm_machine.specs.Action.{does, op_of}
 use Rattle.wm_machine.specs.Configuration.{left_of}
@@ -24,16 +24,16 @@ made_gives : (vars : Vars) (operands : List TypedValue) (rest : List Instr) (o :
 made_gives vars operands rest None = refl
 made_gives vars operands rest (Some v) = refl
 
-made_land : (vars : Vars) (operands values : List TypedValue) (instrs : List Instr) → made_of (land vars operands instrs values) ≡ None
-made_land vars operands values (Loop t n ∷ rest) = refl
-made_land vars operands values (Block t n ∷ rest) = made_gives vars operands rest (carried t values)
-made_land vars operands values (If t a b e ∷ rest) = made_gives vars operands rest (carried t values)
-made_land vars operands values _ = refl
+made_branch_to : (vars : Vars) (operands values : List TypedValue) (instrs : List Instr) → made_of (branch_to vars operands instrs values) ≡ None
+made_branch_to vars operands values (Loop t n ∷ rest) = refl
+made_branch_to vars operands values (Block t n ∷ rest) = made_gives vars operands rest (carried t values)
+made_branch_to vars operands values (If t a b e ∷ rest) = made_gives vars operands rest (carried t values)
+made_branch_to vars operands values _ = refl
 
 made_label : (vars : Vars) (operands : List TypedValue) (instrs : List Instr) (r : Reduced) → made_of (out_of_label vars operands instrs r) ≡ made_of r
 made_label vars operands instrs (Next made l t) = refl
 made_label vars operands instrs (Ends v) = refl
-made_label vars operands instrs (Leaves zero v) = made_land vars operands v instrs
+made_label vars operands instrs (Leaves zero v) = made_branch_to vars operands v instrs
 made_label vars operands instrs (Leaves (suc l) v) = refl
 made_label vars operands instrs (Returns v) = refl
 made_label vars operands instrs (Traps k) = refl

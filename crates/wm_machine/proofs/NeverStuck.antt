@@ -32,7 +32,7 @@ use Rattle.wm_machine.specs.Configuration.{under, waiting}
 use Rattle.wm_event.specs.declared.op.Reply.{Reply}
 use Rattle.wm_machine.specs.State.{State, Sound, RepliesTo, need_in, need_of, config_of, config_from}
 use Rattle.wm_machine.specs.declared.thread.Need.TheVariants.{Local}
-use Rattle.wm_machine.proofs.Running.{going}
+use Rattle.wm_machine.proofs.Running.{not_ended}
 use Rattle.wm_machine.proofs.Calls.{running_in}
 use Rattle.wm_machine.specs.Fits.{val_type, types_of, global_type, IsFunc, here, Carries, Fine, FitsConfig}
 use Rattle.wm_machine.proofs.TypeLists.{typed_as, zeros_are}
@@ -99,52 +99,52 @@ started_fits m valid func args c e = typed (func_type m func) refl
         subst (FitsConfig m) t.1 fits
 
 -- there is a next configuration, and it fits
-abbrev pub GoesOn : Module → ℕ → Config → Type 0
-GoesOn m read c = (next : Config) × (next_config (step m read c) ≡ Some next) × FitsConfig m next
+abbrev pub HasNextConfig : Module → ℕ → Config → Type 0
+HasNextConfig m read c = (next : Config) × (next_config (step m read c) ≡ Some next) × FitsConfig m next
 
 module _ (m : Module) (func : ℕ) (f : Func) (ty : FuncType) (is : IsFunc m func f ty) where
   abbrev StepsTo : Reduced → Type 0
   StepsTo r = (next : Config) × (next_config (out_of_thread m func r) ≡ Some next) × FitsConfig m next
 
-  ended_goes : (values : List TypedValue) → Carries ty.result values → (next : Config) × (next_config (ended (returned m func values)) ≡ Some next) × FitsConfig m next
-  ended_goes values c =
+  ended_has_next : (values : List TypedValue) → Carries ty.result values → (next : Config) × (next_config (ended (returned m func values)) ≡ Some next) × FitsConfig m next
+  ended_has_next values c =
       let v = carries ty.result values c in
       let e : returned m func values ≡ Some v.0 = ap (λ (o : Option FuncType). carried_by o values) (type_in m func f ty is) ∙ v.1 in
       (Over (Done (result_of v.0)), ap (λ (o : Option (List TypedValue)). next_config (ended o)) e, tt)
 
-  thread_goes : (r : Reduced) → Fine m f ty (ty.result ∷ []) ty.result r → StepsTo r
-  thread_goes (Next made vars body) h = (Running func vars body, refl, record { function = f; type = ty; is_there = is; variables = h.1; left = h.0 })
-  thread_goes (Ends values) h = ended_goes values (ends_carry ty.result values h)
-  thread_goes (Leaves zero values) h = ended_goes values (subst (λ (x : Option ValType). Carries x values) (sym (some_is ty.result h.0 h.1)) h.2)
-  thread_goes (Leaves (suc l) values) h = absurd (cc h.1)
-  thread_goes (Returns values) h = ended_goes values h
-  thread_goes (Traps kind) h = (_, refl, tt)
-  thread_goes Stuck h = absurd h
+  thread_has_next : (r : Reduced) → Fine m f ty (ty.result ∷ []) ty.result r → StepsTo r
+  thread_has_next (Next made vars body) h = (Running func vars body, refl, record { function = f; type = ty; is_there = is; variables = h.1; left = h.0 })
+  thread_has_next (Ends values) h = ended_has_next values (ends_carry ty.result values h)
+  thread_has_next (Leaves zero values) h = ended_has_next values (subst (λ (x : Option ValType). Carries x values) (sym (some_is ty.result h.0 h.1)) h.2)
+  thread_has_next (Leaves (suc l) values) h = absurd (cc h.1)
+  thread_has_next (Returns values) h = ended_has_next values h
+  thread_has_next (Traps kind) h = (_, refl, tt)
+  thread_has_next Stuck h = absurd h
 
-pub never_stuck : (m : Module) → Valid m → (c : Config) → FitsConfig m c → ((end : End) → c ≡ Over end → ⊥) → (read : ℕ) → GoesOn m read c
+pub never_stuck : (m : Module) → Valid m → (c : Config) → FitsConfig m c → ((end : End) → c ≡ Over end → ⊥) → (read : ℕ) → HasNextConfig m read c
 never_stuck m valid (Running func vars body) fits not read =
-    thread_goes m func fits.function fits.type fits.is_there _ (step_fine m valid read 1 func fits.function fits.type (fits.type.result ∷ []) fits.type.result vars body fits.is_there fits.variables fits.left)
+    thread_has_next m func fits.function fits.type fits.is_there _ (step_fine m valid read 1 func fits.function fits.type (fits.type.result ∷ []) fits.type.result vars body fits.is_there fits.variables fits.left)
 never_stuck m valid (Over end) fits not read = absurd (not end refl)
 
-under_goes : (m : Module) (cs : List CallFrame) (func : ℕ) (vars : Vars) (t : Term) (end : End) → under m cs func vars t ≡ Over end → ⊥
-under_goes m [] func vars t end e = cc
-under_goes m (c ∷ cs) func vars t end e = under_goes m cs c.func (record vars { locals = c.locals }) (waiting m c func vars.locals t) end e
+under_is_not_over : (m : Module) (cs : List CallFrame) (func : ℕ) (vars : Vars) (t : Term) (end : End) → under m cs func vars t ≡ Over end → ⊥
+under_is_not_over m [] func vars t end e = cc
+under_is_not_over m (c ∷ cs) func vars t end e = under_is_not_over m cs c.func (record vars { locals = c.locals }) (waiting m c func vars.locals t) end e
 
-is_going : (o : Option End) (s : State) → o ≡ None → (end : End) → config_from o s ≡ Over end → ⊥
-is_going None s h end e = under_goes s.module s.call_stack _ _ _ end e
-is_going (Some x) s h end e = cc
+is_not_over : (o : Option End) (s : State) → o ≡ None → (end : End) → config_from o s ≡ Over end → ⊥
+is_not_over None s h end e = under_is_not_over s.module s.call_stack _ _ _ end e
+is_not_over (Some x) s h end e = cc
 
 -- the thread as contracts see it
 abbrev state : Module → Option End → CallFrame → List CallFrame → List TypedValue → State
 state m o a cs globals = record { «module» = m; ended = o; running = a; call_stack = cs; globals = globals }
 
-pub goes_on : (s : State) → Sound s → s.ended ≡ None → (read : ℕ) → GoesOn s.module read (config_of s)
-goes_on s sound h read = never_stuck s.module sound.valid (config_of s) sound.fits (is_going s.ended s h) read
+pub has_next_config : (s : State) → Sound s → s.ended ≡ None → (read : ℕ) → HasNextConfig s.module read (config_of s)
+has_next_config s sound h read = never_stuck s.module sound.valid (config_of s) sound.fits (is_not_over s.ended s h) read
 
 module _ (m : Module) (read : ℕ) (a : CallFrame) (cs : List CallFrame) (globals : List TypedValue) where
   pub has_step : (o : Option End) → o ≡ None → Sound (state m o a cs globals) → next_config (step m read (running_in m globals cs a)) ≡ None → ⊥
   has_step None h sound e =
-      let g = goes_on (state m None a cs globals) sound refl read in
+      let g = has_next_config (state m None a cs globals) sound refl read in
       let q : None ≡ Some g.0 = sym e ∙ g.1 in
       cc
   has_step (Some end) h sound e = absurd cc
@@ -152,20 +152,20 @@ module _ (m : Module) (read : ℕ) (a : CallFrame) (cs : List CallFrame) (global
   -- what a step makes of a sound thread is sound
   pub sound_after : (o : Option End) (a' : CallFrame) (cs' : List CallFrame) (globals' : List TypedValue) → o ≡ None → Sound (state m o a cs globals) → next_config (step m read (running_in m globals cs a)) ≡ Some (running_in m globals' cs' a') → Sound (state m o a' cs' globals')
   sound_after None a' cs' globals' h sound e =
-      let g = goes_on (state m None a cs globals) sound refl read in
+      let g = has_next_config (state m None a cs globals) sound refl read in
       record { valid = sound.valid; fits = subst (FitsConfig m) (some_is g.0 (running_in m globals' cs' a') (sym g.1 ∙ e)) g.2 }
   sound_after (Some end) a' cs' globals' h sound e = absurd cc
 
-goes_none : (o : Option End) (s : State) (read : ℕ) → need_in o read s ≡ Local → o ≡ None
-goes_none None s read h = refl
-goes_none (Some end) s read h = cc
+not_ended_of_need : (o : Option End) (s : State) (read : ℕ) → need_in o read s ≡ Local → o ≡ None
+not_ended_of_need None s read h = refl
+not_ended_of_need (Some end) s read h = cc
 
 pub steps_on : (s old : State) → Sound s → s ≡ old → (read : ℕ) → need_of read old ≡ Local → (c : Config) × (next_config (step old.module read (config_of old)) ≡ Some c)
 steps_on s old sound e read needs =
-    let g = goes_on old (subst Sound e sound) (goes_none old.ended old read needs) read in
+    let g = has_next_config old (subst Sound e sound) (not_ended_of_need old.ended old read needs) read in
     (g.0, g.1)
 
 pub advances : (s old : State) (reply : Option Reply) → Sound s → s ≡ old → RepliesTo (need_of 0 old) reply → (read : ℕ) → (c : Config) × (next_config (step old.module read (config_of old)) ≡ Some c)
 advances s old reply sound e answers read =
-    let g = goes_on old (subst Sound e sound) (going old reply answers) read in
+    let g = has_next_config old (subst Sound e sound) (not_ended old reply answers) read in
     (g.0, g.1)

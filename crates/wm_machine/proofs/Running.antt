@@ -4,9 +4,9 @@ use Rattle.wm_event.specs.declared.log.End.{End}
 use Rattle.wm_event.specs.declared.op.Reply.{Reply}
 use Rattle.wm_machine.specs.State.{State, need_in, need_of, RepliesTo}
 
-going_in : (e : Option End) (s : State) (reply : Option Reply) → RepliesTo (need_in e 0 s) reply → e ≡ None
-going_in (Some end) s reply h = absurd h
-going_in None s reply h = refl
+not_ended_in : (e : Option End) (s : State) (reply : Option Reply) → RepliesTo (need_in e 0 s) reply → e ≡ None
+not_ended_in (Some end) s reply h = absurd h
+not_ended_in None s reply h = refl
 
-pub going : (s : State) (reply : Option Reply) → RepliesTo (need_of 0 s) reply → s.ended ≡ None
-going s reply h = going_in s.ended s reply h
+pub not_ended : (s : State) (reply : Option Reply) → RepliesTo (need_of 0 s) reply → s.ended ≡ None
+not_ended s reply h = not_ended_in s.ended s reply h

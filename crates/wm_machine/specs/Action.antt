@@ -11,18 +11,18 @@ use Rattle.wm_machine.specs.declared.action.Action.TheVariants as action
 use Rattle.wm_machine.specs.Functions.{callable}
 use Rattle.wm_machine.specs.Accesses.{loaded}
 use Rattle.wm_machine.specs.Term.{Vars, Here, Reduced, Next, Leaves, Returns, Traps, Stuck}
-use Rattle.wm_machine.specs.Step.{stays, after, enter, invoke, push_optional, act}
+use Rattle.wm_machine.specs.Step.{continue_with, after, enter, invoke, push_optional, act}
 
 -- what the action makes of the innermost place
 abbrev pub does : Module → ℕ → ℕ → ℕ → Vars → List TypedValue → List Instr → Action → Reduced
 does m depth read func vars operands instrs action.Stuck = Stuck
 does m depth read func vars operands instrs (action.Trap kind) = Traps kind
 does m depth read func vars operands instrs (action.Replace popped pushed) =
-    stays vars (push_optional pushed (drop popped operands)) (after instrs)
+    continue_with vars (push_optional pushed (drop popped operands)) (after instrs)
 does m depth read func vars operands instrs (action.SetLocal x v popped) =
-    stays (record vars { locals = slice_set vars.locals x v }) (drop popped operands) (after instrs)
+    continue_with (record vars { locals = slice_set vars.locals x v }) (drop popped operands) (after instrs)
 does m depth read func vars operands instrs (action.SetGlobal x v) =
-    stays (record vars { globals = slice_set vars.globals x v }) (drop 1 operands) (after instrs)
+    continue_with (record vars { globals = slice_set vars.globals x v }) (drop 1 operands) (after instrs)
 does m depth read func vars operands instrs (action.Access op kind popped) =
     Next (Some op) vars (Here (push_optional (loaded kind read) (drop popped operands)) (after instrs))
 does m depth read func vars operands instrs (action.Enter block popped) =

@@ -1,4 +1,4 @@
--- How a stack of values under marks stands for the operands of each block.
+-- How a stack of values under marks represents the operands of each block.
 use Rattle.std.specs.Prelude.{ℕ, List, [], ◌∷◌, take, drop, reverse, ◌≤◌, ◌<◌, ◌+◌, ◌^◌, All, ⊤}
 use Rattle.wm_machine.specs.declared.value.TypedValue.{TypedValue}
 use Rattle.wm_machine.specs.declared.control_stack.ControlFrame.{ControlFrame}
@@ -23,6 +23,6 @@ abbrev pub Bases : ℕ → List ControlFrame → Type 0
 Bases top [] = ⊤
 Bases top (l ∷ ls) = (l.base ≤ top) × Bases l.base ls
 
--- the instruction behind each of them has a position too
+-- the instruction after each of them has a position too
 abbrev pub AreFollowed : List ControlFrame → Type 0
 AreFollowed ls = All (λ l. l.at + 1 < 2 ^ 64) ls

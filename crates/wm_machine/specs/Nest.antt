@@ -38,12 +38,12 @@ carried_top false operands = []
 abbrev pub given_up : Bool → Nest → Option Nest
 given_up carry n = joined (carried_top carry n.operands) n.outer
 
--- the block round so many more, which takes over what is carried
-abbrev pub landed : ℕ → List TypedValue → List Position → Option Nest
-landed label values [] = None
-landed zero values (p ∷ ps) =
+-- the block this number of labels further out, which takes over what is carried
+abbrev pub after_branch : ℕ → List TypedValue → List Position → Option Nest
+after_branch label values [] = None
+after_branch zero values (p ∷ ps) =
     Some record { operands = values ++ p.operands; block = p.block; at = p.at; outer = ps }
-landed (suc label) values (p ∷ ps) = landed label values ps
+after_branch (suc label) values (p ∷ ps) = after_branch label values ps
 
 abbrev pub unwound : ℕ → Bool → Nest → Option Nest
-unwound label carry n = landed label (carried_top carry n.operands) n.outer
+unwound label carry n = after_branch label (carried_top carry n.operands) n.outer

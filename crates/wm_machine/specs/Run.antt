@@ -8,11 +8,11 @@ use Rattle.wm_event.specs.declared.log.End.TheVariants.{Cut}
 use Rattle.wm_event.specs.declared.op.OpFields.{OpFields}
 use Rattle.wm_event.specs.Op.{kind_finds, event_made}
 use Rattle.wm_machine.specs.declared.fault.StartFault.{StartFault}
-use Rattle.wm_machine.specs.Term.{Config, Running, Over, Step, Went, NoStep}
+use Rattle.wm_machine.specs.Term.{Config, Running, Over, Step, ReducesTo, NoStep}
 use Rattle.wm_machine.specs.Step.{step, access_of}
 use Rattle.wm_machine.specs.Start.{started}
 
--- how far a run has come: its events, where it stands, and the values that are still to be read
+-- how far a run has come: its events, where it is, and the values that are still to be read
 pub record Ran : Type 0 where
   pub events : List Event
   pub config : Config
@@ -44,7 +44,7 @@ noted thread number (Some op) read = event_made record { thread = thread; number
 
 abbrev pub ran_on : ℕ → Ran → Taken → Step → Option Ran
 ran_on thread ran taken NoStep = None
-ran_on thread ran taken (Went made config) =
+ran_on thread ran taken (ReducesTo made config) =
     Some record { events = ran.events ++ noted thread (length ran.events) made taken.read; config = config; reads = taken.others }
 
 abbrev pub ran_with : Module → ℕ → Ran → Option Taken → Option Ran
@@ -59,7 +59,7 @@ abbrev pub and_run_on : Module → ℕ → Option Ran → Option Ran
 and_run_on m thread None = None
 and_run_on m thread (Some ran) = run_on m thread ran
 
--- n steps of a thread from a configuration, the reads given in turn
+-- n steps of a thread from a configuration, the reads given in order
 abbrev pub steps : Module → ℕ → Config → List ℕ → ℕ → Option Ran
 steps m thread config reads zero = Some record { events = []; config = config; reads = reads }
 steps m thread config reads (suc n) = and_run_on m thread (steps m thread config reads n)

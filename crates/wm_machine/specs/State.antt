@@ -45,7 +45,7 @@ pub record Sound (s : State) : Type 0 where
   pub valid : Valid s.module
   pub fits : FitsConfig s.module (config_of s)
 
--- where the innermost call stands: the code that it has still to run there is `continuation` of these
+-- where the innermost call is: the code that it has still to run there is `continuation` of these
 abbrev pub position_of : State → CodePosition
 position_of s = record { func = s.running.func; block = s.running.control_stack.block; at = s.running.control_stack.at }
 

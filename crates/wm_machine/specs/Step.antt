@@ -24,7 +24,7 @@ use Rattle.wm_machine.specs.declared.value.TypedValue.{TypedValue}
 use Rattle.wm_machine.specs.declared.value.TypedValue.TheVariants.{I32, I64}
 use Rattle.wm_machine.specs.Values.{typed, number_at, bits_of, zero_of}
 use Rattle.wm_machine.specs.Functions.{Callable, callable}
-use Rattle.wm_machine.specs.Term.{Vars, Term, Here, Label, Frame, Config, Running, Over, Reduced, Next, Ends, Leaves, Returns, Traps, Stuck, Step, Went, NoStep}
+use Rattle.wm_machine.specs.Term.{Vars, Term, Here, Label, Frame, Config, Running, Over, Reduced, Next, Ends, Leaves, Returns, Traps, Stuck, Step, ReducesTo, NoStep}
 use Rattle.wm_machine.specs.Accesses.{Asked, asked, loaded, access_trap, op_at}
 
 -- what a branch carries: a result's value, if there is one to be
@@ -42,23 +42,23 @@ abbrev pub after : List Instr → List Instr
 after [] = []
 after (i ∷ rest) = rest
 
--- goes on in its place
-abbrev pub stays : Vars → List TypedValue → List Instr → Reduced
-stays vars operands rest = Next None vars (Here operands rest)
+-- the next instruction of the block comes next
+abbrev pub continue_with : Vars → List TypedValue → List Instr → Reduced
+continue_with vars operands rest = Next None vars (Here operands rest)
 
 -- a value on the operands, if there is one
 abbrev pub push_optional : Option TypedValue → List TypedValue → List TypedValue
 push_optional None operands = operands
 push_optional (Some v) operands = v ∷ operands
 
--- goes on with a value or a number, if there is one
+-- continues with a value or a number, if there is one
 abbrev pub with_value : Option TypedValue → (TypedValue → Reduced) → Reduced
-with_value None go = Stuck
-with_value (Some v) go = go v
+with_value None next = Stuck
+with_value (Some v) next = next v
 
 abbrev pub with_number : Option ℕ → (ℕ → Reduced) → Reduced
-with_number None go = Stuck
-with_number (Some n) go = go n
+with_number None next = Stuck
+with_number (Some n) next = next n
 
 -- the choice of an i32: the second where it is 0
 abbrev pub chosen : {A : Type 0} → ℕ → A → A → A
@@ -71,7 +71,7 @@ trap_of num.Overflow = Overflow
 
 -- the result of an operator that may trap
 abbrev pub computed : Vars → List TypedValue → List Instr → Width → Result ℕ NumTrap → Reduced
-computed vars below rest width (Ok n) = stays vars (typed width n ∷ below) rest
+computed vars below rest width (Ok n) = continue_with vars (typed width n ∷ below) rest
 computed vars below rest width (Err trap) = Traps (trap_of trap)
 
 abbrev pub truth : Bool → ℕ
@@ -95,11 +95,15 @@ begin f callee vars operands rest =
     Next None vars (Frame (drop (length f.params) operands) rest callee
     (reverse (take (length f.params) operands) ++ map zero_of f.locals) (Here [] f.body))
 
--- a call where so many calls are active
+-- the most active calls of a thread
+abbrev pub max_calls : ℕ
+max_calls = 256
+
+-- a call where this number of calls is active
 abbrev pub invoke : Option Callable → ℕ → ℕ → Vars → List TypedValue → List Instr → Reduced
 invoke None depth callee vars operands rest = Stuck
 invoke (Some f) depth callee vars operands rest =
-    if nat_lt depth 256 then begin f callee vars operands rest else Traps Exhausted
+    if nat_lt depth max_calls then begin f callee vars operands rest else Traps Exhausted
 
 -- an access, or its trap
 abbrev pub make : Option TrapKind → AccessKind → ℕ → ℕ → Asked → Vars → List Instr → Reduced
@@ -113,28 +117,28 @@ access m kind offset read None vars rest = Stuck
 access m kind offset read (Some a) vars rest =
     make (access_trap m kind (a.base + offset)) kind (a.base + offset) read a vars rest
 
--- what the first instruction does where it stands
+-- what the first instruction does in its place
 abbrev pub act : Module → ℕ → ℕ → ℕ → Vars → List TypedValue → Instr → List Instr → Reduced
 act m depth read func vars operands instr.Unreachable rest = Traps Unreachable
-act m depth read func vars operands instr.Nop rest = stays vars operands rest
+act m depth read func vars operands instr.Nop rest = continue_with vars operands rest
 act m depth read func vars operands instr.Drop rest =
-    with_value (slice_get operands 0) (λ _. stays vars (drop 1 operands) rest)
+    with_value (slice_get operands 0) (λ _. continue_with vars (drop 1 operands) rest)
 act m depth read func vars operands instr.Select rest =
     with_value (slice_get operands 2) (λ first. with_value (slice_get operands 1) (λ second.
-    with_number (number_at W32 operands 0) (λ c. stays vars (chosen c first second ∷ drop 3 operands) rest)))
+    with_number (number_at W32 operands 0) (λ c. continue_with vars (chosen c first second ∷ drop 3 operands) rest)))
 act m depth read func vars operands (instr.LocalGet x) rest =
-    with_value (slice_get vars.locals x) (λ v. stays vars (v ∷ operands) rest)
+    with_value (slice_get vars.locals x) (λ v. continue_with vars (v ∷ operands) rest)
 act m depth read func vars operands (instr.LocalSet x) rest =
     with_value (slice_get operands 0) (λ v. with_value (slice_get vars.locals x) (λ _.
-    stays (record vars { locals = slice_set vars.locals x v }) (drop 1 operands) rest))
+    continue_with (record vars { locals = slice_set vars.locals x v }) (drop 1 operands) rest))
 act m depth read func vars operands (instr.LocalTee x) rest =
     with_value (slice_get operands 0) (λ v. with_value (slice_get vars.locals x) (λ _.
-    stays (record vars { locals = slice_set vars.locals x v }) operands rest))
+    continue_with (record vars { locals = slice_set vars.locals x v }) operands rest))
 act m depth read func vars operands (instr.GlobalGet x) rest =
-    with_value (slice_get vars.globals x) (λ v. stays vars (v ∷ operands) rest)
+    with_value (slice_get vars.globals x) (λ v. continue_with vars (v ∷ operands) rest)
 act m depth read func vars operands (instr.GlobalSet x) rest =
     with_value (slice_get operands 0) (λ v. with_value (slice_get vars.globals x) (λ _.
-    stays (record vars { globals = slice_set vars.globals x v }) (drop 1 operands) rest))
+    continue_with (record vars { globals = slice_set vars.globals x v }) (drop 1 operands) rest))
 act m depth read func vars operands (instr.Block t n) rest =
     enter (block_in m.funcs func n) vars operands (instr.Block t n ∷ rest)
 act m depth read func vars operands (instr.Loop t n) rest =
@@ -144,7 +148,7 @@ act m depth read func vars operands (instr.If t first other e) rest =
     enter (block_in m.funcs func (chosen c first other)) vars (drop 1 operands) (instr.If t first other e ∷ rest))
 act m depth read func vars operands (instr.Br l) rest = Leaves l operands
 act m depth read func vars operands (instr.BrIf l) rest =
-    with_number (number_at W32 operands 0) (λ c. chosen c (Leaves l (drop 1 operands)) (stays vars (drop 1 operands) rest))
+    with_number (number_at W32 operands 0) (λ c. chosen c (Leaves l (drop 1 operands)) (continue_with vars (drop 1 operands) rest))
 act m depth read func vars operands (instr.BrTable labels default) rest =
     with_number (number_at W32 operands 0) (λ i. Leaves (label_of_index (slice_get labels i) default) (drop 1 operands))
 act m depth read func vars operands instr.Return rest = Returns operands
@@ -152,36 +156,36 @@ act m depth read func vars operands (instr.Call callee) rest =
     invoke (callable m callee) depth callee vars operands rest
 act m depth read func vars operands (instr.Access kind o) rest =
     access m kind o.offset read (asked kind operands) vars rest
-act m depth read func vars operands instr.MemorySize rest = stays vars (I32 (pages_of m.memory) ∷ operands) rest
-act m depth read func vars operands (instr.I32Const n) rest = stays vars (I32 n ∷ operands) rest
-act m depth read func vars operands (instr.I64Const n) rest = stays vars (I64 n ∷ operands) rest
+act m depth read func vars operands instr.MemorySize rest = continue_with vars (I32 (pages_of m.memory) ∷ operands) rest
+act m depth read func vars operands (instr.I32Const n) rest = continue_with vars (I32 n ∷ operands) rest
+act m depth read func vars operands (instr.I64Const n) rest = continue_with vars (I64 n ∷ operands) rest
 act m depth read func vars operands (instr.Eqz width) rest =
     with_number (number_at width operands 0) (λ n.
-    stays vars (I32 (truth (comparison_meaning Eq width n 0)) ∷ drop 1 operands) rest)
+    continue_with vars (I32 (truth (comparison_meaning Eq width n 0)) ∷ drop 1 operands) rest)
 act m depth read func vars operands (instr.Compare op width) rest =
     with_number (number_at width operands 1) (λ a. with_number (number_at width operands 0) (λ b.
-    stays vars (I32 (truth (comparison_meaning op width a b)) ∷ drop 2 operands) rest))
+    continue_with vars (I32 (truth (comparison_meaning op width a b)) ∷ drop 2 operands) rest))
 act m depth read func vars operands (instr.Unary op width) rest =
     with_number (number_at width operands 0) (λ n.
-    stays vars (typed width (unary_meaning op width n) ∷ drop 1 operands) rest)
+    continue_with vars (typed width (unary_meaning op width n) ∷ drop 1 operands) rest)
 act m depth read func vars operands (instr.Binary op width) rest =
     with_number (number_at width operands 1) (λ a. with_number (number_at width operands 0) (λ b.
     computed vars (drop 2 operands) rest width (binary_meaning op width a b)))
 act m depth read func vars operands (instr.Convert op) rest =
     with_number (number_at (source_of op) operands 0) (λ n.
-    stays vars (typed (target_of op) (conversion_meaning op n) ∷ drop 1 operands) rest)
+    continue_with vars (typed (target_of op) (conversion_meaning op n) ∷ drop 1 operands) rest)
 
--- goes on after a block or a call with what it carries
+-- continues after a block or a call with what it carries
 abbrev pub gives : Vars → List TypedValue → List Instr → Option (List TypedValue) → Reduced
 gives vars operands rest None = Stuck
-gives vars operands rest (Some values) = stays vars (values ++ operands) rest
+gives vars operands rest (Some values) = continue_with vars (values ++ operands) rest
 
 -- a branch to the label of the first instruction: on after it, but of a loop to the loop itself
-abbrev pub land : Vars → List TypedValue → List Instr → List TypedValue → Reduced
-land vars operands (instr.Loop t n ∷ rest) values = stays vars operands (instr.Loop t n ∷ rest)
-land vars operands (instr.Block t n ∷ rest) values = gives vars operands rest (carried t values)
-land vars operands (instr.If t first other e ∷ rest) values = gives vars operands rest (carried t values)
-land vars operands _ values = Stuck
+abbrev pub branch_to : Vars → List TypedValue → List Instr → List TypedValue → Reduced
+branch_to vars operands (instr.Loop t n ∷ rest) values = continue_with vars operands (instr.Loop t n ∷ rest)
+branch_to vars operands (instr.Block t n ∷ rest) values = gives vars operands rest (carried t values)
+branch_to vars operands (instr.If t first other e ∷ rest) values = gives vars operands rest (carried t values)
+branch_to vars operands _ values = Stuck
 
 abbrev pub carried_by : Option FuncType → List TypedValue → Option (List TypedValue)
 carried_by None values = None
@@ -194,8 +198,8 @@ returned m func values = carried_by (func_type m func) values
 -- a step inside a label, seen from outside
 abbrev pub out_of_label : Vars → List TypedValue → List Instr → Reduced → Reduced
 out_of_label vars operands instrs (Next made vars' inner) = Next made vars' (Label operands instrs inner)
-out_of_label vars operands instrs (Ends values) = stays vars (values ++ operands) (after instrs)
-out_of_label vars operands instrs (Leaves zero values) = land vars operands instrs values
+out_of_label vars operands instrs (Ends values) = continue_with vars (values ++ operands) (after instrs)
+out_of_label vars operands instrs (Leaves zero values) = branch_to vars operands instrs values
 out_of_label vars operands instrs (Leaves (suc l) values) = Leaves l values
 out_of_label vars operands instrs (Returns values) = Returns values
 out_of_label vars operands instrs (Traps kind) = Traps kind
@@ -224,15 +228,15 @@ reduce m read depth func vars (Frame operands rest callee mine inner) =
 -- the thread's end, with what its function gives back
 abbrev pub ended : Option (List TypedValue) → Step
 ended None = NoStep
-ended (Some values) = Went None (Over (Done (result_of values)))
+ended (Some values) = ReducesTo None (Over (Done (result_of values)))
 
 abbrev pub out_of_thread : Module → ℕ → Reduced → Step
-out_of_thread m func (Next made vars body) = Went made (Running func vars body)
+out_of_thread m func (Next made vars body) = ReducesTo made (Running func vars body)
 out_of_thread m func (Ends values) = ended (returned m func values)
 out_of_thread m func (Leaves zero values) = ended (returned m func values)
 out_of_thread m func (Leaves (suc l) values) = NoStep
 out_of_thread m func (Returns values) = ended (returned m func values)
-out_of_thread m func (Traps kind) = Went None (Over (Trap kind))
+out_of_thread m func (Traps kind) = ReducesTo None (Over (Trap kind))
 out_of_thread m func Stuck = NoStep
 
 -- one step of a thread, where read is the value read if it is an access that reads
@@ -242,10 +246,10 @@ step m read (Running func vars body) = out_of_thread m func (reduce m read 1 fun
 
 -- the configuration after a step
 abbrev pub next_config : Step → Option Config
-next_config (Went made c) = Some c
+next_config (ReducesTo made c) = Some c
 next_config NoStep = None
 
 -- the access of a step
 abbrev pub access_of : Step → Option OpFields
-access_of (Went made c) = made
+access_of (ReducesTo made c) = made
 access_of NoStep = None

@@ -1,6 +1,5 @@
 -- What the calls that make a step say: of a call's frame, and of a thread.
-use Rattle.std.specs.Prelude.{◌≡◌, ◌⊎◌, ◌++◌, ◌<◌, ℕ, List, [], Option, Some, None, Bool, true, Result, Ok, Err, drop, length, option_map}
-use Rattle.wm_access.specs.AccessWidth.{bytes_of}
+use Rattle.std.specs.Prelude.{◌≡◌, ◌⊎◌, ◌++◌, ◌<◌, ℕ, List, [], Option, Some, Bool, true, Result, Ok, Err, drop, length, option_map}
 use Rattle.wm_num.specs.Conversion.{low_part}
 use Rattle.wm_ast.specs.declared.access.Storage.{Storage}
 use Rattle.wm_ast.specs.declared.module.Module.{Module}
@@ -24,7 +23,7 @@ use Rattle.wm_machine.specs.Functions.{continuation}
 use Rattle.wm_machine.specs.Inside.{StepsTo, asked_for, asking, call_step, made_of, unanswered}
 use Rattle.wm_machine.specs.Nest.{carried_top}
 use Rattle.wm_machine.specs.State.{State, config_of, need_of, value_or_zero}
-use Rattle.wm_machine.specs.Step.{access_of, land, next_config, push_optional, stays, step}
+use Rattle.wm_machine.specs.Step.{access_of, branch_to, next_config, push_optional, continue_with, step}
 use Rattle.wm_machine.specs.Term.{Config, Stuck, Vars}
 use Rattle.wm_machine.specs.Values.{number_at}
 
@@ -39,19 +38,19 @@ abbrev pub replaced : ℕ → Option TypedValue → CallFrame → CallFrame
 replaced popped pushed a =
     record a { control_stack = record a.control_stack { operands = push_optional pushed (drop popped a.control_stack.operands) } }
 
--- a branch to the instruction at this place goes on at place next of its block, with the topmost operand if it carries one
-abbrev pub LandsAt : Module → ℕ → ℕ → ℕ → Bool → ℕ → Type 0
-LandsAt m func block at carry next = (vars : Vars) → (operands values : List TypedValue) → (carry ≡ true → 0 < length values)
-    → land vars operands (continuation m func block at) values ≡ stays vars (carried_top carry values ++ operands) (continuation m func block next)
+-- a branch to the instruction at this place continues at place next of its block, with the topmost operand if it carries one
+abbrev pub BranchContinuesAt : Module → ℕ → ℕ → ℕ → Bool → ℕ → Type 0
+BranchContinuesAt m func block at carry next = (vars : Vars) → (operands values : List TypedValue) → (carry ≡ true → 0 < length values)
+    → branch_to vars operands (continuation m func block at) values ≡ continue_with vars (carried_top carry values ++ operands) (continuation m func block next)
 
 -- a branch that carries an operand is stuck without one
-abbrev pub LandsWithOperand : Module → ℕ → ℕ → ℕ → Bool → Type 0
-LandsWithOperand m func block at carry =
-    (vars : Vars) → (operands : List TypedValue) → carry ≡ true → land vars operands (continuation m func block at) [] ≡ Stuck
+abbrev pub BranchNeedsOperand : Module → ℕ → ℕ → ℕ → Bool → Type 0
+BranchNeedsOperand m func block at carry =
+    (vars : Vars) → (operands : List TypedValue) → carry ≡ true → branch_to vars operands (continuation m func block at) [] ≡ Stuck
 
--- no branch goes to the instruction at this place
-abbrev pub LandsNowhere : Module → ℕ → ℕ → ℕ → Type 0
-LandsNowhere m func block at = (vars : Vars) → (operands values : List TypedValue) → land vars operands (continuation m func block at) values ≡ Stuck
+-- the instruction at this place is not the target of a branch
+abbrev pub IsNoBranchTarget : Module → ℕ → ℕ → ℕ → Type 0
+IsNoBranchTarget m func block at = (vars : Vars) → (operands values : List TypedValue) → branch_to vars operands (continuation m func block at) values ≡ Stuck
 
 -- the step within the call, however many calls are active, if its access reads the value given
 abbrev pub StepsAs : Module → Option ℕ → CallFrame → List TypedValue → CallFrame → List TypedValue → Result Flow StepFault → Type 0

@@ -27,11 +27,11 @@ pub data Config : Type 0 where
 
 -- What becomes of a term by one step of its innermost place.
 pub data Reduced : Type 0 where
-  -- it goes on, after an access if there was one
+  -- it continues as this term, after an access if there was one
   Next : (made : Option OpFields) (vars : Vars) (term : Term) → Reduced
   -- it is at its end
   Ends : (operands : List TypedValue) → Reduced
-  -- it branches out of so many labels more
+  -- it branches out of this number of labels more
   Leaves : (labels : ℕ) (operands : List TypedValue) → Reduced
   -- it returns from its function
   Returns : (operands : List TypedValue) → Reduced
@@ -41,5 +41,5 @@ pub data Reduced : Type 0 where
 
 -- A step of a thread.
 pub data Step : Type 0 where
-  Went : (made : Option OpFields) (after : Config) → Step
+  ReducesTo : (made : Option OpFields) (after : Config) → Step
   NoStep : Step

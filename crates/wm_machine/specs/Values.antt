@@ -10,19 +10,19 @@ use Rattle.wm_ast.specs.Types.{width_of}
 use Rattle.wm_machine.specs.declared.value.TypedValue.{TypedValue}
 use Rattle.wm_machine.specs.declared.value.TypedValue.TheVariants.{I32, I64}
 
--- the value that is this number, of so many bits
+-- the value of this width that is this number
 abbrev pub typed : Width → ℕ → TypedValue
 typed W32 n = I32 n
 typed W64 n = I64 n
 
--- the number that a value of so many bits is
+-- the number that a value of this width is
 abbrev pub number : Width → TypedValue → Option ℕ
 number W32 (I32 n) = Some n
 number W32 (I64 n) = None
 number W64 (I32 n) = None
 number W64 (I64 n) = Some n
 
--- the operand at a depth, counted from the top, as a number of so many bits
+-- the operand at a depth, counted from the top, as a number of this width
 abbrev pub number_at : Width → List TypedValue → ℕ → Option ℕ
 number_at width operands depth = option_and_then (number width) (slice_get operands depth)
 

@@ -14,11 +14,11 @@ use Rattle.wm_machine.specs.Inside.{Called, StepsTo, out_of_labels, vars_of}
 use Rattle.wm_machine.specs.Step.{invoke}
 use Rattle.wm_machine.specs.Term.{Leaves}
 
--- the instruction is the one where the call stands
+-- the instruction is the one where the call is
 abbrev pub StandsAt : Module → CallFrame → Instr → Type 0
 StandsAt m a i = continuation m a.func a.control_stack.block a.control_stack.at ≡ i ∷ continuation m a.func a.control_stack.block (a.control_stack.at + 1)
 
--- the action of the instruction where the call stands, in each of the labels round it
+-- the action of the instruction where the call is, in each of the labels round it
 abbrev pub Performs : Module → ℕ → Action → CallFrame → List TypedValue → CallFrame → List TypedValue → Result Flow StepFault → Type 0
 Performs m read action old globals new globals' result =
     (depth : ℕ) → (i : Instr) → continuation m old.func old.control_stack.block old.control_stack.at ≡ i ∷ continuation m old.func old.control_stack.block (old.control_stack.at + 1)
@@ -27,13 +27,13 @@ Performs m read action old globals new globals' result =
     (does m depth read old.func (vars_of old globals) old.control_stack.operands (continuation m old.func old.control_stack.block old.control_stack.at) action))
     old globals new globals' result
 
--- the way out of so many labels, with the operands below the topmost ones
+-- the way out of this number of labels, with the operands below the topmost ones
 abbrev pub Branches : Module → ℕ → ℕ → CallFrame → CallFrame → Result Flow StepFault → Type 0
 Branches m label popped old new result =
     (depth : ℕ) → (globals : List TypedValue)
     → StepsTo m depth (out_of_labels m old.func (vars_of old globals) old.control_stack.outer (Leaves label (drop popped old.control_stack.operands))) old globals new globals result
 
--- a call of a function where so many calls are active
+-- a call of a function while this number of calls is active
 abbrev pub Calls : Module → ℕ → CallFrame → List CallFrame → CallFrame → List CallFrame → ℕ → Result Invocation StepFault → Type 0
 Calls m callee old call_stack new callers' depth result =
     (globals : List TypedValue)

@@ -14,15 +14,15 @@ pub enum Action {
     Trap(TrapKind),
     /// Puts a value in the place of the topmost operands.
     Replace(usize, Option<TypedValue>),
-    /// Sets a local, and takes so many operands.
+    /// Sets a local, and takes this number of operands.
     SetLocal(u32, TypedValue, usize),
     /// Moves the topmost operand into a global.
     SetGlobal(u32, TypedValue),
     /// An access, the instruction that it is of, and how many operands this takes.
     Access(Op, AccessKind, usize),
-    /// Enters a block, and takes so many operands first.
+    /// Enters a block, and takes this number of operands first.
     Enter { block: usize, popped: usize },
-    /// Branches out of blocks, and takes so many operands first.
+    /// Branches out of blocks, and takes this number of operands first.
     Branch { label: u32, popped: usize },
     Return,
     Call(u32),

@@ -25,7 +25,7 @@ pub enum ReturnTo {
 #[derive(Clone, Copy)]
 pub enum Invocation {
     Entered,
-    /// So many calls are active that it traps.
+    /// As many calls are active as may be: it traps.
     TooDeep,
 }
 
@@ -45,8 +45,8 @@ pub enum Flow {
     Trapped(TrapKind),
     /// It has left the call, and gives this back.
     Left(Option<TypedValue>),
-    /// It stands before a call of this function.
+    /// It is before a call of this function.
     Calling(u32),
-    /// It stands before this access, whose value it wasn't given.
+    /// It is before this access, whose value it wasn't given.
     Asking(Op),
 }

@@ -15,7 +15,7 @@ use wm_ast::ValType;
 /// wait, the innermost first.
 #[derive(Drop)]
 pub struct CallStack<'m> {
-    /// The outermost first; those that were left stand behind those that wait.
+    /// The outermost first; those that were left come after those that wait.
     calls: Vec<CallFrame<'m>>,
     /// How many of them wait.
     depth: usize,
@@ -50,7 +50,7 @@ impl<'m> CallStack<'m> {
         self.depth
     }
 
-    /// Enters a function, which takes so many operands of the running call as its arguments; this now waits. An `Err` changes
+    /// Enters a function, which takes this number of operands of the running call as its arguments; this now waits. An `Err` changes
     /// nothing.
     pub fn enter(
         &mut self,
@@ -114,7 +114,7 @@ fn make_room(alloc: Global, calls: &mut Vec<CallFrame>, place: usize) -> Result<
     Ok(())
 }
 
-/// Moves the running call to a place where it waits, and makes what was there a call of a function, with so many operands of
+/// Moves the running call to a place where it waits, and makes what was there a call of a function, with this number of operands of
 /// the other as its arguments and zeros of these types. An `Err` leaves the running call as it was.
 fn hand_over<'m>(
     running: &mut CallFrame<'m>,

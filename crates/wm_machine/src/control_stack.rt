@@ -6,7 +6,7 @@ use crate::value::TypedValue;
 use std::alloc::{AllocError, Global};
 use std::marker::Model;
 
-/// Where one block stands: the next instruction, and where its operands begin.
+/// Where one block is: the next instruction, and where its operands begin.
 #[derive(Clone, Copy, Debug)]
 struct ControlFrame {
     block: usize,
@@ -169,7 +169,7 @@ impl ControlStack {
         self.outer.len()
     }
 
-    /// The block and the instruction where a block round the innermost one stands.
+    /// The block and the instruction where a block round the innermost one is.
     pub fn place(&self, label: usize) -> (usize, usize)
         requires { label < length self.now.outer }
         ensures place { IfSome (slice_get self.now.outer label) (λ p. (result.0 ≡ p.block) × (result.1 ≡ p.at)) }

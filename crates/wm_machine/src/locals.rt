@@ -11,7 +11,7 @@ use wm_ast::ValType;
 /// How many locals are held in their order, besides the arguments: most functions have no more.
 const DENSE_LOCALS: usize = 16;
 
-/// The locals of a call: the arguments and the first of the others, of which the zeros behind the last one that was set aren't
+/// The locals of a call: the arguments and the first of the others, of which the zeros after the last one that was set aren't
 /// held, and the later ones, of which only those that were set are held. So a call costs no more than its arguments and what
 /// it sets.
 #[derive(Drop)]
@@ -112,14 +112,14 @@ fn split(types: &[ValType]) -> (&[ValType], &[ValType])
     types.split_at(types.len().min(DENSE_LOCALS))
 }
 
-/// Whether there is a local of this index behind those that are held.
+/// Whether there is a local of this index after those that are held.
 fn has_unheld(unset: &[ValType], sparse_locals: &SparseLocals, index: usize) -> bool
     ensures { result ≡ nat_lt index (length unset.now + length sparse_locals.now) }
 {
     index < unset.len() || sparse_locals.has(index - unset.len())
 }
 
-/// The local of this index behind those that are held.
+/// The local of this index after those that are held.
 #[tactic(auto, using(crate::proofs::Held::get_near, crate::proofs::Held::get_late))]
 fn get_unheld(unset: &[ValType], sparse_locals: &SparseLocals, index: usize) -> Option<TypedValue>
     ensures { result ≡ slice_get (map zero_of unset.now ++ sparse_locals.now) index }
@@ -130,7 +130,7 @@ fn get_unheld(unset: &[ValType], sparse_locals: &SparseLocals, index: usize) -> 
     }
 }
 
-/// Puts zeros of these types behind the values. An `Err` changes nothing.
+/// Puts zeros of these types after the values. An `Err` changes nothing.
 fn hold(values: &mut Vec<TypedValue>, types: &[ValType]) -> Result<(), AllocError>
     ensures ok { OnOk result (values.new.items ≡ values.old.items ++ map zero_of types.now) }
     ensures err { OnErr result (values.new.items ≡ values.old.items) }

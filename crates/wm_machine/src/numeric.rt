@@ -19,7 +19,7 @@ use wm_num::{
     convert, unary,
 };
 
-/// The operand at `depth`, counted from the top, where it is a number of so many bits.
+/// The operand at `depth`, counted from the top, where it is a number of this width.
 #[inline(always)]
 pub fn number(control_stack: &ControlStack, depth: usize, width: Width) -> Option<u64>
     ensures value { result ≡ number_at width control_stack.now.operands depth }

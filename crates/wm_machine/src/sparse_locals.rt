@@ -17,7 +17,7 @@ struct Kept {
     value: TypedValue,
 }
 
-/// Locals of which those that were set are held, one behind the other as they came, so that the others cost nothing. A slot
+/// Locals of which those that were set are held, one after the other as they came, so that the others cost nothing. A slot
 /// holds a local only where what is held there says so: slots that were used before need no clearing.
 #[derive(Drop)]
 pub struct SparseLocals<'m> {

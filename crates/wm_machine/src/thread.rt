@@ -60,7 +60,7 @@ impl StepOutcome {
     }
 }
 
-/// Where a thread stands in its module's code.
+/// Where a thread is in its module's code.
 #[derive(Clone, Copy, Debug, PartialEq, Eq)]
 pub struct CodePosition {
     /// The function of the innermost call, by its index.
@@ -131,7 +131,7 @@ impl<'m> Thread<'m> {
     }
 
     /// A thread that starts with the exported function of this name and these arguments, in which an i32 is a number
-    /// below 2^32. Want of memory can come at any point.
+    /// below 2^32. An allocation failure can come at any point.
     ///
     /// # Errors
     ///
@@ -171,7 +171,7 @@ impl<'m> Thread<'m> {
     }
 
     /// Where the next step is made: the next instruction of the innermost call, or the end of its innermost block. A thread
-    /// that has ended stands where it made its last step.
+    /// that has ended is where it made its last step.
     pub fn position(&self) -> CodePosition
         ensures { result ≡ position_of self.now }
     {
@@ -188,7 +188,7 @@ impl<'m> Thread<'m> {
         requires { self.old.ended ≡ None }
         ensures asks { IfOk result (NamesNextAccess given self.old) }
         ensures made { IfOk result (MakesStep given self.old self.new) }
-        ensures stays { IfOk result (KeepsThread self.old self.new) }
+        ensures kept { IfOk result (KeepsThread self.old self.new) }
         ensures err { OnErr result (self.new ≡ self.old) }
         ensures same { self.new.module ≡ self.old.module }
     {

@@ -16,7 +16,7 @@ impl TypedValue {
     ghost use Rattle.wm_machine.specs.Values.{typed, bits_of, zero_of, constant_of};
     ghost use Rattle.wm_machine.specs.Values.{number as number_of};
 
-    /// The value that is this number, of so many bits.
+    /// The value of this width that is this number.
     #[inline(always)]
     pub fn of(width: Width, number: u64) -> Self
         requires { IsOperand width number }
@@ -28,7 +28,7 @@ impl TypedValue {
         }
     }
 
-    /// The number, where the value has so many bits.
+    /// The number, if the value has this width.
     #[inline(always)]
     pub fn number(self, width: Width) -> Option<u64>
         ensures value { result ≡ number_of width self }

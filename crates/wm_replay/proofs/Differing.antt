@@ -34,10 +34,10 @@ whole_of m k t start is run =
 no_step : (m : Module) (k : ℕ) (ran : Ran) → step m 0 ran.config ≡ NoStep → run_on m k ran ≡ None
 no_step m k ran e = rw (e) (rw (e) refl)
 
--- the run goes on by one step from there
-goes_on : (m : Module) (k : ℕ) (t : ThreadLog) (start : Config) (w : Whole m k t start) (j : ℕ) (ran : Ran) → steps m k start (reads_of t.events) j ≡ Some ran → j < t.steps
+-- one step more of the run
+one_step_more : (m : Module) (k : ℕ) (t : ThreadLog) (start : Config) (w : Whole m k t start) (j : ℕ) (ran : Ran) → steps m k start (reads_of t.events) j ≡ Some ran → j < t.steps
     → (next : Ran) × (run_on m k ran ≡ Some next) × ((es : List Event) × (t.events ≡ next.events ++ es))
-goes_on m k t start w j ran so lt =
+one_step_more m k t start w j ran so lt =
     let i = t.steps - suc j in
     let split : steps m k start (reads_of t.events) t.steps ≡ more m k i (steps m k start (reads_of t.events) (suc j)) =
     steps_more m k start (reads_of t.events) i (suc j) t.steps (omega (arith, lt)) in
@@ -58,7 +58,7 @@ get_behind (x ∷ xs) e es = get_behind xs e es
 not_access : (m : Module) (k : ℕ) (t : ThreadLog) (j n : ℕ) (ran : Ran) (a : OpFields) → (r : Reaches m k t j n ran) → j < t.steps
     → ((v : ℕ) → access_of (step m v ran.config) ≡ Some a) → MakesNo record { thread = k; number = n } a (slice_get t.events n) → Whole m k t r.start → ⊥
 not_access m k t j n ran a r lt is none w =
-    let next = goes_on m k t r.start w j ran r.ran_so lt in
+    let next = one_step_more m k t r.start w j ran r.ran_so lt in
     let made = next_event m k ran a next.0 is next.1 in
     let count : length ran.events ≡ n = ap length r.made ∙ length-take-le n t.events r.listed in
     let all : t.events ≡ (ran.events ++ event_made record { thread = k; number = length ran.events } a made.0 ∷ []) ++ next.2.0 =
@@ -73,7 +73,7 @@ at_end m k t j n ran r e w = same_Some w.ran ran (sym w.ran_so ∙ ap (steps m k
 
 not_stopped : (m : Module) (k : ℕ) (t : ThreadLog) (j n : ℕ) (ran : Ran) (r : Reaches m k t j n ran) → j < t.steps → step m 0 ran.config ≡ NoStep → Whole m k t r.start → ⊥
 not_stopped m k t j n ran r lt e w =
-    let next = goes_on m k t r.start w j ran r.ran_so lt in
+    let next = one_step_more m k t r.start w j ran r.ran_so lt in
     none-some next.0 (sym (no_step m k ran e) ∙ next.1)
 
 not_left : (m : Module) (k : ℕ) (t : ThreadLog) (j n : ℕ) (ran : Ran) (r : Reaches m k t j n ran) → n < length t.events → j ≡ t.steps → Whole m k t r.start → ⊥

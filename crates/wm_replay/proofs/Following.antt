@@ -13,7 +13,7 @@ use Rattle.wm_event.specs.declared.op.OpKind.TheVariants.{Read, Write, Rmw, CmpX
 use Rattle.wm_event.specs.Event.{key_of, kind_reads, reads}
 use Rattle.wm_event.specs.Op.{event_made, kind_finds, made_kind, made_read}
 use Rattle.wm_access.specs.AccessWidth.{bytes_of, Fits}
-use Rattle.wm_machine.specs.Term.{Config, Went}
+use Rattle.wm_machine.specs.Term.{Config, ReducesTo}
 use Rattle.wm_machine.specs.Step.{access_of, step}
 use Rattle.wm_machine.specs.Run.{Ran, and_run_on, ran_on, ran_with, run_on, steps, take_read, take_where}
 use Rattle.wm_replay.specs.Replay.{reads_of}
@@ -23,14 +23,14 @@ abbrev pub so_far : Config → List Event → ℕ → Ran
 so_far c es n = record { events = take n es; config = c; reads = reads_of (drop n es) }
 
 -- a step without an access
-pub local_step : (m : Module) (k : ℕ) (ran : Ran) (c : Config) → step m 0 ran.config ≡ Went None c → run_on m k ran ≡ Some record { events = ran.events; config = c; reads = ran.reads }
+pub local_step : (m : Module) (k : ℕ) (ran : Ran) (c : Config) → step m 0 ran.config ≡ ReducesTo None c → run_on m k ran ≡ Some record { events = ran.events; config = c; reads = ran.reads }
 local_step m k ran c e =
     let taken : take_read (access_of (step m 0 ran.config)) ran.reads ≡ Some record { read = 0; others = ran.reads } = ap (λ s. take_read (access_of s) ran.reads) e in
     ap (ran_with m k ran) taken ∙ ap (ran_on k ran record { read = 0; others = ran.reads }) e
     ∙ ap (λ es. Some (record { events = es; config = c; reads = ran.reads })) (append-nil ran.events)
 
 pub local_on : (m : Module) (k : ℕ) (start old new : Config) (es : List Event) (j n : ℕ) → steps m k start (reads_of es) j ≡ Some (so_far old es n)
-    → step m 0 old ≡ Went None new → steps m k start (reads_of es) (suc j) ≡ Some (so_far new es n)
+    → step m 0 old ≡ ReducesTo None new → steps m k start (reads_of es) (suc j) ≡ Some (so_far new es n)
 local_on m k start old new es j n so e = ap (and_run_on m k) so ∙ local_step m k (so_far old es n) new e
 
 -- ---- an access
@@ -61,10 +61,10 @@ taken_so a true e rest fits zero = ap (λ b. cond b (Some record { read = e.read
 
 -- a step with the access that makes the event
 pub access_step : (m : Module) (k : ℕ) (ran : Ran) (a : OpFields) (e : Event) (c : Config) (rest : List ℕ) → event_made (key_of e) a e.read ≡ e → Fits a.width e.read
-    → access_of (step m 0 ran.config) ≡ Some a → step m e.read ran.config ≡ Went (Some a) c → e.thread ≡ k → e.number ≡ length ran.events
+    → access_of (step m 0 ran.config) ≡ Some a → step m e.read ran.config ≡ ReducesTo (Some a) c → e.thread ≡ k → e.number ≡ length ran.events
     → ran.reads ≡ cond (reads e) (e.read ∷ rest) rest
     → run_on m k ran ≡ Some record { events = ran.events ++ e ∷ []; config = c; reads = rest }
-access_step m k ran a e c rest made fits is goes thread number given =
+access_step m k ran a e c rest made fits is next thread number given =
     let finds : reads e ≡ kind_finds a.kind = ap reads (sym made) ∙ made_reads a.kind e.read in
     let zero : kind_finds a.kind ≡ false → e.read ≡ 0 = λ none. ap (λ (x : Event). x.read) (sym made) ∙ no_read a.kind e.read none in
     let values : ran.reads ≡ cond (kind_finds a.kind) (e.read ∷ rest) rest = given ∙ ap (λ b. cond b (e.read ∷ rest) rest) finds in
@@ -72,19 +72,19 @@ access_step m k ran a e c rest made fits is goes thread number given =
     ap (λ o. take_read o ran.reads) is ∙ ap (take_where (kind_finds a.kind) a) values ∙ taken_so a (kind_finds a.kind) e rest fits zero in
     let event : event_made record { thread = k; number = length ran.events } a e.read ≡ e =
     ap (λ i. event_made record { thread = k; number = i } a e.read) (sym number) ∙ ap (λ i. event_made record { thread = i; number = e.number } a e.read) (sym thread) ∙ made in
-    ap (ran_with m k ran) taken ∙ ap (ran_on k ran record { read = e.read; others = rest }) goes
+    ap (ran_with m k ran) taken ∙ ap (ran_on k ran record { read = e.read; others = rest }) next
     ∙ ap (λ x. Some (record { events = ran.events ++ x ∷ []; config = c; reads = rest })) event
 
 pub access_on : (m : Module) (k : ℕ) (start old new : Config) (es : List Event) (j n : ℕ) (a : OpFields) (e : Event)
     → steps m k start (reads_of es) j ≡ Some (so_far old es n) → slice_get es n ≡ Some e
-    → event_made (key_of e) a e.read ≡ e → Fits a.width e.read → access_of (step m 0 old) ≡ Some a → step m e.read old ≡ Went (Some a) new
+    → event_made (key_of e) a e.read ≡ e → Fits a.width e.read → access_of (step m 0 old) ≡ Some a → step m e.read old ≡ ReducesTo (Some a) new
     → e.thread ≡ k → e.number ≡ n → steps m k start (reads_of es) (suc j) ≡ Some (so_far new es (n + 1))
-access_on m k start old new es j n a e so there made fits is goes thread number =
+access_on m k start old new es j n a e so there made fits is next thread number =
     let lt : n < length es = slice_get_within es n e there in
     let here = get_or_from_slice_get es n e e there in
     let count : length (take n es) ≡ n = length-take-le n es (omega (arith, lt)) in
     let behind : drop n es ≡ e ∷ drop (n + 1) es = drop_more es n e lt ∙ ap (λ x. x ∷ drop (n + 1) es) here in
     let front : take (n + 1) es ≡ take n es ++ e ∷ [] = take_more es n e lt ∙ ap (λ x. take n es ++ x ∷ []) here in
     ap (and_run_on m k) so
-    ∙ access_step m k (so_far old es n) a e new (reads_of (drop (n + 1) es)) made fits is goes thread (number ∙ sym count) (ap reads_of behind)
+    ∙ access_step m k (so_far old es n) a e new (reads_of (drop (n + 1) es)) made fits is next thread (number ∙ sym count) (ap reads_of behind)
     ∙ ap (λ xs. Some (record { events = xs; config = new; reads = reads_of (drop (n + 1) es) })) (sym front)

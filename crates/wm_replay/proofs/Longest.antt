@@ -1,5 +1,5 @@
 -- A thread that is run as long as it makes its log's events.
-use Rattle.std.proofs.Common.{◌≡◌, ℕ, ◌+◌, ◌-◌, ◌<◌, ◌≤◌, inr, Bool, true, false, nat_lt, ◌++◌, length, Some, refl, sym, ap, subst, ◌∙◌, length-take-le, arith}
+use Rattle.std.proofs.Common.{◌≡◌, ℕ, ◌+◌, ◌-◌, ◌<◌, ◌≤◌, Bool, true, false, nat_lt, ◌++◌, length, Some, refl, sym, ap, ◌∙◌, length-take-le, arith}
 use Rattle.std.proofs.lemmas.Bool.{ltb-false, ltb-true}
 use Rattle.std.proofs.lemmas.List.{length-append}
 use Rattle.wm_ast.specs.declared.module.Module.{Module}

@@ -12,7 +12,7 @@ use Rattle.wm_machine.specs.Run.{end_of}
 use Rattle.wm_machine.specs.State.{State, as_need, config_from, config_of, need_in, need_of}
 use Rattle.wm_machine.specs.Step.{access_of, step, next_config}
 use Rattle.wm_replay.specs.Following.{Accesses, MakesEvent, MakesNotEvent}
-use Rattle.wm_machine.specs.Term.{Config, Over, Step, Term, Vars, Went, NoStep}
+use Rattle.wm_machine.specs.Term.{Config, Over, Step, Term, Vars, ReducesTo, NoStep}
 use Rattle.wm_machine.specs.Configuration.{left_of, under, waiting}
 use Rattle.wm_machine.specs.Inside.{vars_of}
 use Rattle.wm_machine.specs.declared.call_frame.CallFrame.{CallFrame}
@@ -57,40 +57,40 @@ pub no_step_of_need : (s : State) (r : ℕ) (end : End) → need_of r s ≡ need
 no_step_of_need s r end e = ap (step s.module 0) (ended_of_need s r end e)
 
 -- a step that is made, by its access
-pub made_access : (s : Step) (op : OpFields) (c : Config) → access_of s ≡ Some op → next_config s ≡ Some c → s ≡ Went (Some op) c
-made_access NoStep op c is goes = absurd (none-some op is)
-made_access (Went made after) op c is goes = ap (λ o. Went o after) is ∙ ap (Went (Some op)) (same_Some after c goes)
+pub made_access : (s : Step) (op : OpFields) (c : Config) → access_of s ≡ Some op → next_config s ≡ Some c → s ≡ ReducesTo (Some op) c
+made_access NoStep op c is next = absurd (none-some op is)
+made_access (ReducesTo made after) op c is next = ap (λ o. ReducesTo o after) is ∙ ap (ReducesTo (Some op)) (same_Some after c next)
 
-pub made_local : (s : Step) (c : Config) → access_of s ≡ None → next_config s ≡ Some c → s ≡ Went None c
-made_local NoStep c is goes = absurd (none-some c goes)
-made_local (Went made after) c is goes = ap (λ o. Went o after) is ∙ ap (Went None) (same_Some after c goes)
+pub made_local : (s : Step) (c : Config) → access_of s ≡ None → next_config s ≡ Some c → s ≡ ReducesTo None c
+made_local NoStep c is next = absurd (none-some c next)
+made_local (ReducesTo made after) c is next = ap (λ o. ReducesTo o after) is ∙ ap (ReducesTo None) (same_Some after c next)
 
 pub no_step : (s : Step) → next_config s ≡ None → s ≡ NoStep
 no_step NoStep e = refl
-no_step (Went made after) e = absurd (none-some after (sym e))
+no_step (ReducesTo made after) e = absurd (none-some after (sym e))
 
 -- a step that makes an access is one
-pub access_goes : (s : Step) (op : OpFields) → access_of s ≡ Some op → next_config s ≡ None → ⊥
-access_goes NoStep op is e = none-some op is
-access_goes (Went made after) op is e = none-some after (sym e)
+pub access_has_next : (s : Step) (op : OpFields) → access_of s ≡ Some op → next_config s ≡ None → ⊥
+access_has_next NoStep op is e = none-some op is
+access_has_next (ReducesTo made after) op is e = none-some after (sym e)
 
--- calls under their callers haven't ended
-under_goes : (m : Module) (cs : List CallFrame) (func : ℕ) (vars : Vars) (t : Term) → end_of (under m cs func vars t) ≡ Cut
-under_goes m [] func vars t = refl
-under_goes m (c ∷ cs) func vars t = under_goes m cs c.func (record vars { locals = c.locals }) (waiting m c func vars.locals t)
+-- a thread in the midst of its calls is cut
+under_is_cut : (m : Module) (cs : List CallFrame) (func : ℕ) (vars : Vars) (t : Term) → end_of (under m cs func vars t) ≡ Cut
+under_is_cut m [] func vars t = refl
+under_is_cut m (c ∷ cs) func vars t = under_is_cut m cs c.func (record vars { locals = c.locals }) (waiting m c func vars.locals t)
 
-going_in : (o : Option End) (s : State) (r : ℕ) (n : Need) → need_in o r s ≡ n → ((end : End) → n ≢ need.Ended end) → end_of (config_from o s) ≡ Cut
-going_in None s r n is none = under_goes s.module s.call_stack s.running.func (vars_of s.running s.globals) (left_of s.module s.running.func s.running.control_stack)
-going_in (Some end) s r n is none = absurd (none end (sym is))
+is_cut_in : (o : Option End) (s : State) (r : ℕ) (n : Need) → need_in o r s ≡ n → ((end : End) → n ≢ need.Ended end) → end_of (config_from o s) ≡ Cut
+is_cut_in None s r n is none = under_is_cut s.module s.call_stack s.running.func (vars_of s.running s.globals) (left_of s.module s.running.func s.running.control_stack)
+is_cut_in (Some end) s r n is none = absurd (none end (sym is))
 
--- a thread that needs something hasn't ended
-pub going_of_need : (s : State) (r : ℕ) (n : Need) → need_of r s ≡ n → ((end : End) → n ≢ need.Ended end) → end_of (config_of s) ≡ Cut
-going_of_need s r n is none = going_in s.ended s r n is none
+-- a thread that needs something is cut
+pub cut_of_need : (s : State) (r : ℕ) (n : Need) → need_of r s ≡ n → ((end : End) → n ≢ need.Ended end) → end_of (config_of s) ≡ Cut
+cut_of_need s r n is none = is_cut_in s.ended s r n is none
 
 -- what needs no step or an access hasn't ended
-pub still_goes : (n : Need) → (n ≡ need.Local) ⊎ ((op : OpFields) × (n ≡ need.Access op)) → (end : End) → n ≢ need.Ended end
-still_goes n (inl e) end f = absurd (cc (e, f))
-still_goes n (inr e) end f = absurd (cc (e.1, f))
+pub is_not_ended : (n : Need) → (n ≡ need.Local) ⊎ ((op : OpFields) × (n ≡ need.Access op)) → (end : End) → n ≢ need.Ended end
+is_not_ended n (inl e) end f = absurd (cc (e, f))
+is_not_ended n (inr e) end f = absurd (cc (e.1, f))
 
 -- ---- an event by its number
 
@@ -101,11 +101,11 @@ other_at op es n d other e is = subst (MakesNotEvent op) (get_or_from_slice_get 
 -- the step makes the access that is the event of this number
 pub access_at : (m : Module) (old new : Config) (op : OpFields) (es : List Event) (n : ℕ) (d : Event) → n < length es → MakesEvent op (get_or es n d)
     → ((r : ℕ) → access_of (step m r old) ≡ Some op) → next_config (step m (get_or es n d).read old) ≡ Some new → Accesses m old new es n
-access_at m old new op es n d lt made asks goes = record {
+access_at m old new op es n d lt made asks next = record {
   op = op;
   event = get_or es n d;
   listed = slice_get-get_or es n d lt;
   makes = made;
   asks = asks;
-  steps_to = made_access (step m (get_or es n d).read old) op new (asks (get_or es n d).read) goes;
+  steps_to = made_access (step m (get_or es n d).read old) op new (asks (get_or es n d).read) next;
 }

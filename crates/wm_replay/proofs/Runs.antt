@@ -1,4 +1,4 @@
--- A run goes through what it has done after fewer steps.
+-- A run has done after fewer steps a prefix of what it has done after more.
 use Rattle.std.proofs.Common.{◌≡◌, ℕ, suc, zero, ◌+◌, ◌*◌, ◌^◌, Bool, true, false, cond, nat_lt, List, [], ◌∷◌, ◌++◌, length, Option, Some, None, refl, sym, ap, subst, ◌∙◌, append_assoc, arith}
 use Rattle.std.proofs.lemmas.Option.{none-some, same_Some}
 use Rattle.std.proofs.lemmas.Bool.{ltb-true}
@@ -10,7 +10,7 @@ use Rattle.wm_ast.specs.declared.module.Module.{Module}
 use Rattle.wm_event.specs.declared.event.Event.{Event}
 use Rattle.wm_event.specs.declared.op.OpFields.{OpFields}
 use Rattle.wm_event.specs.Op.{event_made, kind_finds}
-use Rattle.wm_machine.specs.Term.{Config, Step, Went, NoStep}
+use Rattle.wm_machine.specs.Term.{Config, Step, ReducesTo, NoStep}
 use Rattle.wm_machine.specs.Step.{access_of, step}
 use Rattle.wm_machine.specs.Run.{Ran, Taken, Outcome, and_run_on, end_of, noted, outcome_of, outcome_with, ran_on, ran_with, run_on, steps, take_read, take_where}
 
@@ -18,7 +18,7 @@ use Rattle.wm_machine.specs.Run.{Ran, Taken, Outcome, and_run_on, end_of, noted,
 
 pub grows_on : (k : ℕ) (ran : Ran) (taken : Taken) (s : Step) (ran' : Ran) → ran_on k ran taken s ≡ Some ran' → (es : List Event) × (ran'.events ≡ ran.events ++ es)
 grows_on k ran taken NoStep ran' e = absurd (none-some ran' e)
-grows_on k ran taken (Went made c) ran' e =
+grows_on k ran taken (ReducesTo made c) ran' e =
     (noted k (length ran.events) made taken.read, ap (λ (r : Ran). r.events) (sym (same_Some _ _ e)))
 
 pub grows_with : (m : Module) (k : ℕ) (ran : Ran) (taken : Option Taken) (ran' : Ran) → ran_with m k ran taken ≡ Some ran' → (es : List Event) × (ran'.events ≡ ran.events ++ es)
@@ -68,7 +68,7 @@ fits_zero Eight = omega arith
 made_event : (k : ℕ) (ran : Ran) (taken : Taken) (a : OpFields) (s : Step) (ran' : Ran) → access_of s ≡ Some a → ran_on k ran taken s ≡ Some ran'
     → ran'.events ≡ ran.events ++ event_made record { thread = k; number = length ran.events } a taken.read ∷ []
 made_event k ran taken a NoStep ran' is e = absurd (none-some a is)
-made_event k ran taken a (Went made c) ran' is e =
+made_event k ran taken a (ReducesTo made c) ran' is e =
     ap (λ (r : Ran). r.events) (sym (same_Some _ _ e)) ∙ ap (λ o. ran.events ++ noted k (length ran.events) o taken.read) is
 
 -- the event of one step more that makes the access a

@@ -1,5 +1,5 @@
 -- How a thread that was run by its log, and stopped, compares with it.
-use Rattle.std.proofs.Common.{◌≡◌, ℕ, ◌<◌, ◌≤◌, inl, inr, length, Some, None, sym, ap, subst, ◌∙◌, arith}
+use Rattle.std.proofs.Common.{◌≡◌, ℕ, ◌<◌, ◌≤◌, inl, inr, length, None, sym, ap, subst, ◌∙◌, arith}
 use Rattle.std.specs.Prelude.{◌⊎◌}
 use Rattle.std.proofs.lemmas.Option.{none-some}
 use Rattle.wm_ast.specs.declared.module.Module.{Module}
@@ -8,16 +8,15 @@ use Rattle.wm_event.specs.declared.log.ThreadLog.{ThreadLog}
 use Rattle.wm_event.specs.declared.op.OpFields.{OpFields}
 use Rattle.wm_machine.specs.declared.thread.Need.{Need}
 use Rattle.wm_machine.specs.declared.thread.Need.TheVariants as need
-use Rattle.wm_machine.specs.Run.{end_of}
 use Rattle.wm_machine.specs.State.{State, config_of, need_of}
 use Rattle.wm_machine.specs.Step.{access_of, step}
-use Rattle.wm_machine.specs.Term.{Config, NoStep}
+use Rattle.wm_machine.specs.Term.{Config}
 use Rattle.wm_replay.specs.Following.{HasPlaces, RunsByLog, Stops}
 use Rattle.wm_replay.specs.Following.Stops.{at_limit, at_other, at_end}
-use Rattle.wm_replay.specs.Replay.{DiffersAt, IsRun}
+use Rattle.wm_replay.specs.Replay.{DiffersAt}
 use Rattle.wm_replay.specs.Replay.DiffersAt.{left_over, end}
 use Rattle.wm_replay.specs.declared.answer.Place.TheVariants as place
-use Rattle.wm_replay.proofs.Comparing.{Follows, end_differs, is_run, left_differs, other_differs, reaches}
+use Rattle.wm_replay.proofs.Comparing.{Follows, left_differs, other_differs, reaches}
 use Rattle.wm_replay.proofs.Needs.{access_of_need, local_of_need, no_step_of_need}
 
 pub follows : (m : Module) (k : ℕ) (t : ThreadLog) (limit : ℕ) (c : Config) (j n : ℕ) → HasPlaces k t.events → (r : RunsByLog m k t limit c j n)

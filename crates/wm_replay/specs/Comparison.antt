@@ -11,7 +11,7 @@ use Rattle.wm_replay.specs.Replay.{AreRuns, DiffersAt, IsRun, start_of}
 
 -- ---- a thread
 
--- where a thread that makes no further step differs from its log, of whose events it has made so many
+-- where a thread that makes no further step differs from its log, after this number of its events
 abbrev pub end_place : ℕ → ℕ → Place
 end_place made stated = if nat_lt made stated then place.Event made else place.End
 

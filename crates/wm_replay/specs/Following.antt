@@ -1,5 +1,5 @@
 -- How a thread runs by its log, on the values that its events read.
-use Rattle.std.specs.Prelude.{◌≡◌, ◌≢◌, ℕ, ◌+◌, ◌<◌, ◌≤◌, ◌⊎◌, List, drop, length, take, Option, Some, None, Result, Ok, Err, slice_get, ⊤}
+use Rattle.std.specs.Prelude.{◌≡◌, ◌≢◌, ℕ, ◌+◌, ◌<◌, ◌≤◌, ◌⊎◌, List, drop, length, take, Some, None, Result, Ok, Err, slice_get, ⊤}
 use Rattle.wm_access.specs.AccessWidth.{Fits}
 use Rattle.wm_ast.specs.declared.module.Module.{Module}
 use Rattle.wm_event.specs.declared.event.Event.{Event}
@@ -12,7 +12,7 @@ use Rattle.wm_machine.specs.declared.fault.StartFault.TheVariants.{OutOfMemory}
 use Rattle.wm_machine.specs.Run.{steps}
 use Rattle.wm_machine.specs.State.{config_of}
 use Rattle.wm_machine.specs.Step.{access_of, step}
-use Rattle.wm_machine.specs.Term.{Config, Went, NoStep}
+use Rattle.wm_machine.specs.Term.{Config, ReducesTo, NoStep}
 use Rattle.wm_replay.specs.declared.by_log.Followed.{Followed}
 use Rattle.wm_replay.specs.declared.by_log.StepByLog.{StepByLog}
 use Rattle.wm_replay.specs.declared.by_log.StepByLog.TheVariants as by_log
@@ -35,7 +35,7 @@ pub record Accesses (m : Module) (old new : Config) (events : List Event) (n : �
   pub listed : slice_get events n ≡ Some event
   pub makes : MakesEvent op event
   pub asks : (r : ℕ) → access_of (step m r old) ≡ Some op
-  pub steps_to : step m event.read old ≡ Went (Some op) new
+  pub steps_to : step m event.read old ≡ ReducesTo (Some op) new
 
 -- the step would make an access that isn't the log's event n
 pub record AccessesOther (m : Module) (old : Config) (events : List Event) (n : ℕ) : Type 0 where
@@ -45,15 +45,15 @@ pub record AccessesOther (m : Module) (old : Config) (events : List Event) (n : 
 
 -- a step of a thread that has made the log's events below n
 abbrev pub Steps : Module → Config → Config → List Event → ℕ → StepByLog → Type 0
-Steps m old new events n (by_log.Stepped now) = ((now ≡ n) × (step m 0 old ≡ Went None new)) ⊎ ((now ≡ n + 1) × Accesses m old new events n)
+Steps m old new events n (by_log.Stepped now) = ((now ≡ n) × (step m 0 old ≡ ReducesTo None new)) ⊎ ((now ≡ n + 1) × Accesses m old new events n)
 Steps m old new events n by_log.OtherAccess = AccessesOther m old events n
 Steps m old new events n by_log.Ended = step m 0 old ≡ NoStep
 
--- a step that isn't made changes nothing
-abbrev pub Stays : Config → Config → StepByLog → Type 0
-Stays old new (by_log.Stepped now) = ⊤
-Stays old new by_log.OtherAccess = new ≡ old
-Stays old new by_log.Ended = new ≡ old
+-- without a step nothing changes
+abbrev pub KeepsUnstepped : Config → Config → StepByLog → Type 0
+KeepsUnstepped old new (by_log.Stepped now) = ⊤
+KeepsUnstepped old new by_log.OtherAccess = new ≡ old
+KeepsUnstepped old new by_log.Ended = new ≡ old
 
 -- ---- a thread
 

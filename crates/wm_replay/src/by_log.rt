@@ -4,7 +4,7 @@ ghost use Rattle.wm_event.specs.Op.{kind_finds};
 ghost use Rattle.wm_event.specs.Reply.{ReadAnswers};
 ghost use Rattle.wm_machine.specs.Run.{end_of as config_end};
 ghost use Rattle.wm_machine.specs.State.{config_of, need_of, value_or_zero};
-ghost use Rattle.wm_replay.specs.Following.{FollowsLog, HasPlaces, MakesEvent, MakesNotEvent, RunsByLog, Stays, Steps};
+ghost use Rattle.wm_replay.specs.Following.{FollowsLog, HasPlaces, MakesEvent, MakesNotEvent, RunsByLog, KeepsUnstepped, Steps};
 ghost use Rattle.wm_replay.specs.Replay.{start_of};
 
 use std::alloc::{AllocError, Global};
@@ -76,7 +76,7 @@ fn access_by_log(
 ) -> Result<StepByLog, AllocError>
     requires { (read : ℕ) → need_of read thread.old ≡ Need.Access op.now }
     ensures steps { IfOk result (Steps thread.old.module (config_of thread.old) (config_of thread.new) stated.now events) }
-    ensures stays { IfOk result (Stays (config_of thread.old) (config_of thread.new)) }
+    ensures kept { IfOk result (KeepsUnstepped (config_of thread.old) (config_of thread.new)) }
     ensures same { thread.new.module ≡ thread.old.module }
 {
     if events >= stated.len() {
@@ -101,7 +101,7 @@ fn step_by_log(
     events: usize,
 ) -> Result<StepByLog, AllocError>
     ensures steps { IfOk result (Steps thread.old.module (config_of thread.old) (config_of thread.new) stated.now events) }
-    ensures stays { IfOk result (Stays (config_of thread.old) (config_of thread.new)) }
+    ensures kept { IfOk result (KeepsUnstepped (config_of thread.old) (config_of thread.new)) }
     ensures same { thread.new.module ≡ thread.old.module }
 {
     let stepped = match thread.step() {
@@ -116,7 +116,7 @@ fn step_by_log(
 }
 
 /// The end of a thread that makes no further step here.
-pub(crate) fn end_of(thread: &Thread) -> End
+pub fn end_of(thread: &Thread) -> End
     ensures { result ≡ config_end (config_of thread.now) }
 {
     match thread.next() {

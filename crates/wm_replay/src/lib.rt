@@ -9,6 +9,6 @@ mod completing;
 mod parallel;
 
 pub use answer::{Place, ReplayAnswer};
-pub use by_log::{Followed, follow};
+pub use by_log::{Followed, end_of, follow};
 pub use compare::replay;
 pub use completing::{Completion, complete};

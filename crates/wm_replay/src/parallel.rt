@@ -14,10 +14,10 @@ use wm_valid::ValidModule;
 /// How a thread compares with its log, or that memory was refused.
 type Comparison = Result<Option<ReplayAnswer>, AllocError>;
 
-/// From so many steps on a thread is worth a processor of its own.
+/// From this number of steps on a thread is worth a processor of its own.
 const LONG_STEPS: u32 = 20_000;
 
-/// Whether some thread has so many steps that the replay is worked in parallel. The answer is the same either way.
+/// Whether some thread has enough steps for a replay in parallel. The answer is the same either way.
 pub(crate) fn is_long(threads: &[ThreadLog]) -> bool {
     threads.iter().any(|stated: &ThreadLog| -> bool { stated.steps >= LONG_STEPS })
 }

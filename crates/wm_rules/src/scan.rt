@@ -35,7 +35,7 @@ fn value_fault_in_thread(candidate: &Candidate, thread: usize) -> Option<RuleFau
 }
 
 /// The first fault by V1.
-fn first_value_fault(candidate: &Candidate) -> Option<RuleFault>
+pub(crate) fn first_value_fault(candidate: &Candidate) -> Option<RuleFault>
     ensures { Finds (execution candidate.now) (1 ∷ []) result }
 {
     for thread in 0..candidate.log().threads().len() {
@@ -49,14 +49,14 @@ fn first_value_fault(candidate: &Candidate) -> Option<RuleFault>
 
 /// The rules that speak of an order that agrees with happens-before.
 #[derive(Clone, Copy)]
-enum LateRule {
+pub(crate) enum LateRule {
     Coherence,
     NoTearing,
     SequentialConsistency,
 }
 
 /// Those rules, in the order in which they are judged.
-const LATE_RULES: [LateRule; 3] = [
+pub(crate) const LATE_RULES: [LateRule; 3] = [
     LateRule::Coherence,
     LateRule::NoTearing,
     LateRule::SequentialConsistency,
@@ -102,7 +102,11 @@ fn first_faulty(
 }
 
 /// The first fault in a thread by a rule.
-fn fault_in_thread(relation: &HappensBefore, rule: LateRule, thread: usize) -> Option<RuleFault>
+pub(crate) fn fault_in_thread(
+    relation: &HappensBefore,
+    rule: LateRule,
+    thread: usize,
+) -> Option<RuleFault>
     requires { thread < length relation.now.log }
     ensures { Finds (execution relation.now) (late_number rule ∷ thread ∷ []) result }
 {
@@ -165,7 +169,7 @@ fn first_fault(rt: &(impl Threads + Sync), relation: &HappensBefore) -> Option<R
 }
 
 /// The fault of an edge that the order doesn't agree with.
-fn fault_of_edge(edge: Edge) -> RuleFault
+pub(crate) fn fault_of_edge(edge: Edge) -> RuleFault
     ensures { result ≡ fault_of edge }
 {
     RuleFault {

@@ -1,5 +1,5 @@
 -- What the turns of a script leave is the scripted run, and an own run of the module.
-use Rattle.std.proofs.Common.{◌≡◌, ℕ, ◌<◌, ◌≤◌, List, [], Some, refl, sym, ap, subst, ◌∙◌, arith, length, reverse, slice_get, map, All, get_or}
+use Rattle.std.proofs.Common.{◌≡◌, ℕ, ◌<◌, List, [], Some, refl, sym, ap, subst, ◌∙◌, arith, length, reverse, slice_get, map, All, get_or}
 use Rattle.std.specs.Prelude.{unwrap_or}
 use Rattle.std.proofs.lemmas.List.{length-map}
 use Rattle.std.proofs.lemmas.Option.{same_Some, slice_get-get_or, slice_get_within}

@@ -26,7 +26,7 @@ use Rattle.wm_machine.specs.declared.value.TypedValue.TheVariants.{I32}
 use Rattle.wm_machine.specs.Accesses.{Asked, access_trap, asked, is_outside, is_unaligned}
 use Rattle.wm_machine.specs.Functions.{Callable, callable}
 use Rattle.wm_machine.specs.Inside.{made_of}
-use Rattle.wm_machine.specs.Step.{access, access_of, act, begin, carried, chosen, computed, ended, enter, gives, invoke, label_of_index, land, make, out_of_call, out_of_label, out_of_thread, reduce, returned, stays, step, truth, with_number, with_value}
+use Rattle.wm_machine.specs.Step.{access, access_of, act, begin, carried, chosen, computed, ended, enter, gives, invoke, label_of_index, branch_to, make, out_of_call, out_of_label, out_of_thread, reduce, returned, continue_with, step, truth, with_number, with_value}
 use Rattle.wm_machine.specs.Values.{number_at, typed}
 use Rattle.wm_machine.specs.Term.{Config, Ends, Frame, Running, Here, Label, Leaves, Next, Over, Reduced, Returns, Stuck, Term, Traps, Vars}
 
@@ -87,22 +87,22 @@ gives_within m vars operands rest (Some values) = tt
 act_within : (m : Module) (depth read func : ℕ) (vars : Vars) (operands : List TypedValue) (i : Instr) (rest : List Instr) → Within m (made_of (act m depth read func vars operands i rest))
 act_within m depth read func vars operands instr.Unreachable rest = tt
 act_within m depth read func vars operands instr.Nop rest = tt
-act_within m depth read func vars operands instr.Drop rest = value_within m (slice_get operands 0) (λ _. stays vars (drop 1 operands) rest) (λ v. tt)
+act_within m depth read func vars operands instr.Drop rest = value_within m (slice_get operands 0) (λ _. continue_with vars (drop 1 operands) rest) (λ v. tt)
 act_within m depth read func vars operands instr.Select rest =
-    value_within m (slice_get operands 2) (λ first. with_value (slice_get operands 1) (λ second. with_number (number_at W32 operands 0) (λ c. stays vars (chosen c first second ∷ drop 3 operands) rest)))
-    (λ first. value_within m (slice_get operands 1) (λ second. with_number (number_at W32 operands 0) (λ c. stays vars (chosen c first second ∷ drop 3 operands) rest)) (λ second.
-    number_within m (number_at W32 operands 0) (λ c. stays vars (chosen c first second ∷ drop 3 operands) rest) (λ n. tt)))
-act_within m depth read func vars operands (instr.LocalGet x) rest = value_within m (slice_get vars.locals x) (λ v. stays vars (v ∷ operands) rest) (λ v. tt)
+    value_within m (slice_get operands 2) (λ first. with_value (slice_get operands 1) (λ second. with_number (number_at W32 operands 0) (λ c. continue_with vars (chosen c first second ∷ drop 3 operands) rest)))
+    (λ first. value_within m (slice_get operands 1) (λ second. with_number (number_at W32 operands 0) (λ c. continue_with vars (chosen c first second ∷ drop 3 operands) rest)) (λ second.
+    number_within m (number_at W32 operands 0) (λ c. continue_with vars (chosen c first second ∷ drop 3 operands) rest) (λ n. tt)))
+act_within m depth read func vars operands (instr.LocalGet x) rest = value_within m (slice_get vars.locals x) (λ v. continue_with vars (v ∷ operands) rest) (λ v. tt)
 act_within m depth read func vars operands (instr.LocalSet x) rest =
-    value_within m (slice_get operands 0) (λ v. with_value (slice_get vars.locals x) (λ _. stays (record vars { locals = slice_set vars.locals x v }) (drop 1 operands) rest))
-    (λ v. value_within m (slice_get vars.locals x) (λ _. stays (record vars { locals = slice_set vars.locals x v }) (drop 1 operands) rest) (λ w. tt))
+    value_within m (slice_get operands 0) (λ v. with_value (slice_get vars.locals x) (λ _. continue_with (record vars { locals = slice_set vars.locals x v }) (drop 1 operands) rest))
+    (λ v. value_within m (slice_get vars.locals x) (λ _. continue_with (record vars { locals = slice_set vars.locals x v }) (drop 1 operands) rest) (λ w. tt))
 act_within m depth read func vars operands (instr.LocalTee x) rest =
-    value_within m (slice_get operands 0) (λ v. with_value (slice_get vars.locals x) (λ _. stays (record vars { locals = slice_set vars.locals x v }) operands rest))
-    (λ v. value_within m (slice_get vars.locals x) (λ _. stays (record vars { locals = slice_set vars.locals x v }) operands rest) (λ w. tt))
-act_within m depth read func vars operands (instr.GlobalGet x) rest = value_within m (slice_get vars.globals x) (λ v. stays vars (v ∷ operands) rest) (λ v. tt)
+    value_within m (slice_get operands 0) (λ v. with_value (slice_get vars.locals x) (λ _. continue_with (record vars { locals = slice_set vars.locals x v }) operands rest))
+    (λ v. value_within m (slice_get vars.locals x) (λ _. continue_with (record vars { locals = slice_set vars.locals x v }) operands rest) (λ w. tt))
+act_within m depth read func vars operands (instr.GlobalGet x) rest = value_within m (slice_get vars.globals x) (λ v. continue_with vars (v ∷ operands) rest) (λ v. tt)
 act_within m depth read func vars operands (instr.GlobalSet x) rest =
-    value_within m (slice_get operands 0) (λ v. with_value (slice_get vars.globals x) (λ _. stays (record vars { globals = slice_set vars.globals x v }) (drop 1 operands) rest))
-    (λ v. value_within m (slice_get vars.globals x) (λ _. stays (record vars { globals = slice_set vars.globals x v }) (drop 1 operands) rest) (λ w. tt))
+    value_within m (slice_get operands 0) (λ v. with_value (slice_get vars.globals x) (λ _. continue_with (record vars { globals = slice_set vars.globals x v }) (drop 1 operands) rest))
+    (λ v. value_within m (slice_get vars.globals x) (λ _. continue_with (record vars { globals = slice_set vars.globals x v }) (drop 1 operands) rest) (λ w. tt))
 act_within m depth read func vars operands (instr.Block t n) rest = enter_within m (block_in m.funcs func n) vars operands (instr.Block t n ∷ rest)
 act_within m depth read func vars operands (instr.Loop t n) rest = enter_within m (block_in m.funcs func n) vars operands (instr.Loop t n ∷ rest)
 act_within m depth read func vars operands (instr.If t first other e) rest =
@@ -110,8 +110,8 @@ act_within m depth read func vars operands (instr.If t first other e) rest =
     (λ c. enter_within m (block_in m.funcs func (chosen c first other)) vars (drop 1 operands) (instr.If t first other e ∷ rest))
 act_within m depth read func vars operands (instr.Br l) rest = tt
 act_within m depth read func vars operands (instr.BrIf l) rest =
-    number_within m (number_at W32 operands 0) (λ c. chosen c (Leaves l (drop 1 operands)) (stays vars (drop 1 operands) rest))
-    (λ c. either_within m c (Leaves l (drop 1 operands)) (stays vars (drop 1 operands) rest) tt tt)
+    number_within m (number_at W32 operands 0) (λ c. chosen c (Leaves l (drop 1 operands)) (continue_with vars (drop 1 operands) rest))
+    (λ c. either_within m c (Leaves l (drop 1 operands)) (continue_with vars (drop 1 operands) rest) tt tt)
 act_within m depth read func vars operands (instr.BrTable labels default) rest =
     number_within m (number_at W32 operands 0) (λ i. Leaves (label_of_index (slice_get labels i) default) (drop 1 operands)) (λ c. tt)
 act_within m depth read func vars operands instr.Return rest = tt
@@ -121,29 +121,29 @@ act_within m depth read func vars operands instr.MemorySize rest = tt
 act_within m depth read func vars operands (instr.I32Const n) rest = tt
 act_within m depth read func vars operands (instr.I64Const n) rest = tt
 act_within m depth read func vars operands (instr.Eqz width) rest =
-    number_within m (number_at width operands 0) (λ n. stays vars (I32 (truth (comparison_meaning Eq width n 0)) ∷ drop 1 operands) rest) (λ n. tt)
+    number_within m (number_at width operands 0) (λ n. continue_with vars (I32 (truth (comparison_meaning Eq width n 0)) ∷ drop 1 operands) rest) (λ n. tt)
 act_within m depth read func vars operands (instr.Compare op width) rest =
-    number_within m (number_at width operands 1) (λ a. with_number (number_at width operands 0) (λ b. stays vars (I32 (truth (comparison_meaning op width a b)) ∷ drop 2 operands) rest))
-    (λ a. number_within m (number_at width operands 0) (λ b. stays vars (I32 (truth (comparison_meaning op width a b)) ∷ drop 2 operands) rest) (λ b. tt))
+    number_within m (number_at width operands 1) (λ a. with_number (number_at width operands 0) (λ b. continue_with vars (I32 (truth (comparison_meaning op width a b)) ∷ drop 2 operands) rest))
+    (λ a. number_within m (number_at width operands 0) (λ b. continue_with vars (I32 (truth (comparison_meaning op width a b)) ∷ drop 2 operands) rest) (λ b. tt))
 act_within m depth read func vars operands (instr.Unary op width) rest =
-    number_within m (number_at width operands 0) (λ n. stays vars (typed width (unary_meaning op width n) ∷ drop 1 operands) rest) (λ n. tt)
+    number_within m (number_at width operands 0) (λ n. continue_with vars (typed width (unary_meaning op width n) ∷ drop 1 operands) rest) (λ n. tt)
 act_within m depth read func vars operands (instr.Binary op width) rest =
     number_within m (number_at width operands 1) (λ a. with_number (number_at width operands 0) (λ b. computed vars (drop 2 operands) rest width (binary_meaning op width a b)))
     (λ a. number_within m (number_at width operands 0) (λ b. computed vars (drop 2 operands) rest width (binary_meaning op width a b))
     (λ b. computed_within m vars (drop 2 operands) rest width (binary_meaning op width a b)))
 act_within m depth read func vars operands (instr.Convert op) rest =
-    number_within m (number_at (source_of op) operands 0) (λ n. stays vars (typed (target_of op) (conversion_meaning op n) ∷ drop 1 operands) rest) (λ n. tt)
+    number_within m (number_at (source_of op) operands 0) (λ n. continue_with vars (typed (target_of op) (conversion_meaning op n) ∷ drop 1 operands) rest) (λ n. tt)
 
-land_within : (m : Module) (vars : Vars) (operands values : List TypedValue) (instrs : List Instr) → Within m (made_of (land vars operands instrs values))
-land_within m vars operands values (instr.Loop t n ∷ rest) = tt
-land_within m vars operands values (instr.Block t n ∷ rest) = gives_within m vars operands rest (carried t values)
-land_within m vars operands values (instr.If t a b e ∷ rest) = gives_within m vars operands rest (carried t values)
-land_within m vars operands values _ = tt
+branch_to_within : (m : Module) (vars : Vars) (operands values : List TypedValue) (instrs : List Instr) → Within m (made_of (branch_to vars operands instrs values))
+branch_to_within m vars operands values (instr.Loop t n ∷ rest) = tt
+branch_to_within m vars operands values (instr.Block t n ∷ rest) = gives_within m vars operands rest (carried t values)
+branch_to_within m vars operands values (instr.If t a b e ∷ rest) = gives_within m vars operands rest (carried t values)
+branch_to_within m vars operands values _ = tt
 
 label_within : (m : Module) (vars : Vars) (operands : List TypedValue) (instrs : List Instr) (r : Reduced) → Within m (made_of r) → Within m (made_of (out_of_label vars operands instrs r))
 label_within m vars operands instrs (Next made l t) h = h
 label_within m vars operands instrs (Ends v) h = tt
-label_within m vars operands instrs (Leaves zero v) h = land_within m vars operands v instrs
+label_within m vars operands instrs (Leaves zero v) h = branch_to_within m vars operands v instrs
 label_within m vars operands instrs (Leaves (suc l) v) h = tt
 label_within m vars operands instrs (Returns v) h = tt
 label_within m vars operands instrs (Traps k) h = tt

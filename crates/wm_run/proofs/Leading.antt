@@ -1,4 +1,4 @@
--- A worker's thread goes on: the events so far are those of its steps.
+-- A worker's thread makes a further step: the events so far are those of its steps.
 use Rattle.std.proofs.Common.{◌≡◌, ℕ, suc, ◌+◌, Bool, true, false, cond, List, [], ◌∷◌, ◌++◌, length, Option, Some, None, unwrap_or, refl, sym, ap, subst, ◌∙◌, arith}
 use Rattle.std.specs.Prelude.{Result, Ok, Err}
 use Rattle.std.proofs.lemmas.List.{append-nil}
@@ -23,7 +23,7 @@ use Rattle.wm_machine.specs.Run.{Ran, and_run_on, end_of, outcome_of, run_from, 
 use Rattle.wm_machine.specs.Start.{started}
 use Rattle.wm_machine.specs.State.{State, config_of, need_of, read_in, value_or_zero}
 use Rattle.wm_machine.specs.Step.{access_of, step, next_config}
-use Rattle.wm_machine.specs.Term.{Config, Went}
+use Rattle.wm_machine.specs.Term.{Config, ReducesTo}
 use Rattle.wm_replay.specs.Replay.{IsRun, reads_of}
 use Rattle.wm_replay.proofs.Following.{access_step, local_step}
 use Rattle.wm_replay.proofs.Needs.{access_of_need, local_of_need, made_access, made_local}
@@ -54,22 +54,22 @@ leads_at_once m k first behind = refl
 
 pub leads_by_local : (s : State) (k : ℕ) (first new : Config) (es : List Event) (n : ℕ) → LeadsTo s.module k first es n (config_of s) → need_of 0 s ≡ need.Local
     → next_config (step s.module 0 (config_of s)) ≡ Some new → LeadsTo s.module k first es (n + 1) new
-leads_by_local s k first new es n so is goes behind =
+leads_by_local s k first new es n so is next behind =
     let m = s.module in
-    let made : step m 0 (config_of s) ≡ Went None new = made_local (step m 0 (config_of s)) new (local_of_need s 0 is) goes in
+    let made : step m 0 (config_of s) ≡ ReducesTo None new = made_local (step m 0 (config_of s)) new (local_of_need s 0 is) next in
     let ran : Ran = record { events = es; config = config_of s; reads = behind } in
     next_number m k first (reads_of es ++ behind) n ∙ (ap (and_run_on m k) (so behind) ∙ local_step m k ran new made)
 
 leads_by_access : (m : Module) (k : ℕ) (first old new : Config) (es : List Event) (n : ℕ) (a : OpFields) (e : Event) → LeadsTo m k first es n old
-    → event_made (key_of e) a e.read ≡ e → Fits a.width e.read → access_of (step m 0 old) ≡ Some a → step m e.read old ≡ Went (Some a) new
+    → event_made (key_of e) a e.read ≡ e → Fits a.width e.read → access_of (step m 0 old) ≡ Some a → step m e.read old ≡ ReducesTo (Some a) new
     → e.thread ≡ k → e.number ≡ length es → LeadsTo m k first (es ++ e ∷ []) (n + 1) new
-leads_by_access m k first old new es n a e so made fits asks goes thread number behind =
+leads_by_access m k first old new es n a e so made fits asks next thread number behind =
     let values : List ℕ = cond (reads e) (e.read ∷ behind) behind in
     let ran : Ran = record { events = es; config = old; reads = values } in
     next_number m k first (reads_of (es ++ e ∷ []) ++ behind) n
     ∙ (ap (λ vs. and_run_on m k (steps m k first vs n)) (reads_of-more es e behind)
     ∙ (ap (and_run_on m k) (so values)
-    ∙ access_step m k ran a e new behind made fits asks goes thread number refl))
+    ∙ access_step m k ran a e new behind made fits asks next thread number refl))
 
 -- ---- the event of a reply
 
@@ -102,7 +102,7 @@ pub leads_by_reply : (s : State) (k : ℕ) (first new : Config) (es fs : List Ev
     → ((r : ℕ) → need_of r s ≡ need.Access a) → ReadAnswers (kind_finds a.kind) a.width reply.read → read ≡ value_or_zero reply.read
     → e ≡ event_made (record { thread = k; number = length es }) a read → fs ≡ es ++ e ∷ [] → next_config (step s.module (read_in (Some reply)) (config_of s)) ≡ Some new
     → LeadsTo s.module k first fs (n + 1) new
-leads_by_reply s k first new es fs n a reply e read so asks answers is made more goes =
+leads_by_reply s k first new es fs n a reply e read so asks answers is made more next =
     let m = s.module in
     let key : EventKey = record { thread = k; number = length es } in
     let value : ℕ = value_or_zero reply.read in
@@ -111,9 +111,9 @@ leads_by_reply s k first new es fs n a reply e read so asks answers is made more
     let again : event_made (key_of e) a e.read ≡ e = ap (λ (x : Event). event_made (key_of x) a e.read) event ∙ (ap (event_made key a) found ∙ sym event) in
     let fits : Fits a.width e.read = subst (Fits a.width) (sym found) (fits_found (kind_finds a.kind) a.width reply.read answers) in
     let asked : access_of (step m value (config_of s)) ≡ Some a = access_of_need s value a (asks value) in
-    let went_on : step m e.read (config_of s) ≡ Went (Some a) new = ap (λ r. step m r (config_of s)) found ∙ made_access (step m value (config_of s)) a new asked goes in
+    let stepped : step m e.read (config_of s) ≡ ReducesTo (Some a) new = ap (λ r. step m r (config_of s)) found ∙ made_access (step m value (config_of s)) a new asked next in
     subst (λ xs. LeadsTo m k first xs (n + 1) new) (sym more)
-    (leads_by_access m k first (config_of s) new es n a e so again fits (access_of_need s 0 a (asks 0)) went_on (ap (λ (x : Event). x.thread) event) (ap (λ (x : Event). x.number) event))
+    (leads_by_access m k first (config_of s) new es n a e so again fits (access_of_need s 0 a (asks 0)) stepped (ap (λ (x : Event). x.thread) event) (ap (λ (x : Event). x.number) event))
 
 -- ---- where it stands
 

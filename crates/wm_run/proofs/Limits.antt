@@ -1,5 +1,5 @@
 -- No thread of a script makes more steps than it may.
-use Rattle.std.proofs.Common.{◌≡◌, ℕ, suc, ◌<◌, ◌≤◌, List, [], ◌∷◌, length, Some, slice_get, inl, inr, arith, subst}
+use Rattle.std.proofs.Common.{◌≡◌, ℕ, ◌<◌, ◌≤◌, List, [], ◌∷◌, length, Some, slice_get, arith, subst}
 use Rattle.std.proofs.lemmas.Option.{slice_get_within}
 use Rattle.wm_event.specs.declared.log.Start.{Start}
 use Rattle.wm_memory.specs.declared.history_step.HistoryStep.{HistoryStep}
@@ -21,8 +21,8 @@ first_within g starts state f t thread at =
     omega (arith, none)
 
 step_within : (g : Setting) (h : List HistoryStep) (t : ℕ) (old new : ThreadState) (items : List HistoryStep) → StepsTo g h t old new items → new.made ≤ g.limit
-step_within g h t old _ _ (local lt goes) = lt
-step_within g h t old _ _ (access lt few asks goes) = lt
+step_within g h t old _ _ (local lt leads) = lt
+step_within g h t old _ _ (access lt few asks leads) = lt
 
 turn_within : (g : Setting) (old new : ScriptState) (turn : Turn) → TurnLeads g old turn new → AllWithin g old → AllWithin g new
 turn_within g old _ _ (steps_on {t = u} {thread = thread} {next = next} {items = items} at st) within t z of_z =

@@ -1,15 +1,14 @@
 -- A script has one run.
-use Rattle.std.proofs.Common.{◌≡◌, ℕ, suc, ◌<◌, ◌≤◌, List, [], ◌∷◌, ◌++◌, Option, Some, None, Ok, refl, sym, ap, ap₂, subst, ◌∙◌, arith, length, slice_get, get_or}
+use Rattle.std.proofs.Common.{◌≡◌, ℕ, suc, ◌<◌, List, [], ◌∷◌, ◌++◌, Some, None, Ok, refl, sym, ap, ap₂, subst, ◌∙◌, arith, length, slice_get, get_or}
 use Rattle.std.specs.Prelude.{slice_set}
 use Rattle.std.proofs.lemmas.List.{same_lists}
-use Rattle.std.proofs.lemmas.Option.{get_or_from_slice_get, none-some, same_Some, slice_get-get_or, slice_get_within}
+use Rattle.std.proofs.lemmas.Option.{get_or_from_slice_get, none-some, same_Some, slice_get-get_or}
 use Rattle.wm_ast.specs.declared.module.Module.{Module}
 use Rattle.wm_event.specs.declared.log.Start.{Start}
 use Rattle.wm_event.specs.declared.log.ThreadLog.{ThreadLog}
 use Rattle.wm_event.specs.declared.op.OpFields.{OpFields}
 use Rattle.wm_machine.specs.Step.{access_of, step}
-use Rattle.wm_machine.specs.Start.{started}
-use Rattle.wm_machine.specs.Term.{Config, Step as Outcome, Went, NoStep}
+use Rattle.wm_machine.specs.Term.{Config, Step as Outcome, ReducesTo, NoStep}
 use Rattle.wm_memory.specs.declared.history_step.HistoryStep.{HistoryStep}
 use Rattle.wm_memory.specs.Memory.{drains_first}
 use Rattle.wm_memory.specs.Visibility.{Step}
@@ -20,37 +19,37 @@ use Rattle.wm_run.specs.declared.turn.Turn.{Turn}
 use Rattle.wm_run.specs.declared.turn.Turn.TheVariants as turn
 use Rattle.wm_run.specs.Run.{Record}
 use Rattle.wm_run.specs.Script.{MayDrain, TurnsLead, Rests, ScriptState, Setting, ThreadState, StepsTo, TurnLeads, access, done, drain_of, drains, ended, full, keeps, local, rests, spent, steps_on, value_read}
-use Rattle.wm_run.specs.Scripted.{Begins, IsFirstState, IsLogOf, IsScripted, thread_log}
+use Rattle.wm_run.specs.Scripted.{IsFirstState, IsLogOf, IsScripted, thread_log}
 use Rattle.wm_run.proofs.Logging.{get_some}
 use Rattle.wm_run.proofs.Runs.{turns_count}
 
 -- ---- a turn leads to one state
 
-no_access : (op : OpFields) (next : Config) (s : Outcome) → s ≡ Went None next → access_of s ≡ Some op → ⊥
+no_access : (op : OpFields) (next : Config) (s : Outcome) → s ≡ ReducesTo None next → access_of s ≡ Some op → ⊥
 no_access op next s local_step asks = none-some op (sym (ap access_of local_step) ∙ asks)
 
 one_step : (g : Setting) (h : List HistoryStep) (t : ℕ) (old a b : ThreadState) (is js : List HistoryStep) → StepsTo g h t old a is → StepsTo g h t old b js → (a ≡ b) × (is ≡ js)
-one_step g h t old _ _ _ _ (local {next = c} lt goes) (local {next = d} lt' goes') =
-    let same : Went None c ≡ Went None d = sym goes ∙ goes' in
+one_step g h t old _ _ _ _ (local {next = c} lt leads) (local {next = d} lt' leads') =
+    let same : ReducesTo None c ≡ ReducesTo None d = sym leads ∙ leads' in
     let next : c ≡ d = cc in
     (ap (λ x. record { config = x; made = suc old.made }) next, refl)
-one_step g h t old _ _ _ _ (local {next = c} lt goes) (access {op = op} lt' few asks goes') = absurd (no_access op c (step g.program 0 old.config) goes (asks 0))
-one_step g h t old _ _ _ _ (access {op = op} lt few asks goes) (local {next = c} lt' goes') = absurd (no_access op c (step g.program 0 old.config) goes' (asks 0))
-one_step g h t old _ _ _ _ (access {op = p} {next = c} lt few asks goes) (access {op = q} {next = d} lt' few' asks' goes') =
+one_step g h t old _ _ _ _ (local {next = c} lt leads) (access {op = op} lt' few asks leads') = absurd (no_access op c (step g.program 0 old.config) leads (asks 0))
+one_step g h t old _ _ _ _ (access {op = op} lt few asks leads) (local {next = c} lt' leads') = absurd (no_access op c (step g.program 0 old.config) leads' (asks 0))
+one_step g h t old _ _ _ _ (access {op = p} {next = c} lt few asks leads) (access {op = q} {next = d} lt' few' asks' leads') =
     let same_op : p ≡ q = same_Some p q (sym (asks 0) ∙ asks' 0) in
-    let next_config : step g.program (value_read g h t q) old.config ≡ Went (Some q) c = subst (λ o. step g.program (value_read g h t o) old.config ≡ Went (Some o) c) same_op goes in
-    let same : Went (Some q) c ≡ Went (Some q) d = sym next_config ∙ goes' in
+    let next_config : step g.program (value_read g h t q) old.config ≡ ReducesTo (Some q) c = subst (λ o. step g.program (value_read g h t o) old.config ≡ ReducesTo (Some o) c) same_op leads in
+    let same : ReducesTo (Some q) c ≡ ReducesTo (Some q) d = sym next_config ∙ leads' in
     let next : c ≡ d = cc in
     (ap (λ x. record { config = x; made = suc old.made }) next, ap (λ o. access_items (drains_first (done g h) t o) t o) same_op)
 
 -- a thread that rests makes no step
 no_rest : (g : Setting) (h : List HistoryStep) (t : ℕ) (old next : ThreadState) (items : List HistoryStep) → StepsTo g h t old next items → Rests g h old → ⊥
-no_rest g h t old _ _ (local lt goes) (ended end over) = let none : NoStep ≡ Went None _ = sym (ap (step g.program 0) over) ∙ goes in absurd cc
-no_rest g h t old _ _ (local lt goes) (spent all) = omega (arith, lt, all)
-no_rest g h t old _ _ (local {next = c} lt goes) (full op asks much) = no_access op c (step g.program 0 old.config) goes (asks 0)
-no_rest g h t old _ _ (access {op = op} lt few asks goes) (ended end over) = none-some op (sym (ap (λ c. access_of (step g.program 0 c)) over) ∙ asks 0)
-no_rest g h t old _ _ (access lt few asks goes) (spent all) = omega (arith, lt, all)
-no_rest g h t old _ _ (access lt few asks goes) (full op asks' much) = omega (arith, few, much)
+no_rest g h t old _ _ (local lt leads) (ended end over) = let none : NoStep ≡ ReducesTo None _ = sym (ap (step g.program 0) over) ∙ leads in absurd cc
+no_rest g h t old _ _ (local lt leads) (spent all) = omega (arith, lt, all)
+no_rest g h t old _ _ (local {next = c} lt leads) (full op asks much) = no_access op c (step g.program 0 old.config) leads (asks 0)
+no_rest g h t old _ _ (access {op = op} lt few asks leads) (ended end over) = none-some op (sym (ap (λ c. access_of (step g.program 0 c)) over) ∙ asks 0)
+no_rest g h t old _ _ (access lt few asks leads) (spent all) = omega (arith, lt, all)
+no_rest g h t old _ _ (access lt few asks leads) (full op asks' much) = omega (arith, few, much)
 
 -- the state behind a step of thread t
 abbrev pub behind : ScriptState → ℕ → ThreadState → List HistoryStep → ScriptState

@@ -1,9 +1,9 @@
 -- The numbers of an own run are in the ranges of a document.
-use Rattle.std.proofs.Common.{◌≡◌, ℕ, zero, suc, ◌+◌, ◌*◌, ◌^◌, ◌<◌, ◌≤◌, List, [], ◌∷◌, Bool, true, false, Option, Some, None, Ok, Err, Result, refl, sym, ap, subst, ◌∙◌, arith, length, slice_get, get_or, All, nat_le}
+use Rattle.std.proofs.Common.{◌≡◌, ℕ, zero, suc, ◌^◌, ◌<◌, ◌≤◌, List, [], ◌∷◌, Bool, true, false, Option, Some, None, Ok, Err, Result, refl, ap, subst, ◌∙◌, arith, length, slice_get, get_or, All, nat_le}
 use Rattle.std.specs.Prelude.{◌||◌, ◌==◌, IsSome, if◌then◌else◌, option_and_then, unwrap_or}
 use Rattle.std.proofs.lemmas.Bool.{eqb-true, leb-false}
 use Rattle.std.proofs.lemmas.List.Sums.{get_or-le-sum_by}
-use Rattle.std.proofs.lemmas.Option.{get_or_from_slice_get, none-some, option_and_then_some, slice_get-get_or, slice_get_within}
+use Rattle.std.proofs.lemmas.Option.{get_or_from_slice_get, option_and_then_some, slice_get-get_or, slice_get_within}
 use Rattle.wm_access.specs.declared.AccessWidth.{AccessWidth}
 use Rattle.wm_access.specs.declared.AccessWidth.TheVariants.{One, Two, Four, Eight}
 use Rattle.wm_access.specs.AccessWidth.{Fits, bytes_of}
@@ -33,7 +33,7 @@ use Rattle.wm_machine.specs.Start.{any_past, func_of, started, started_at, start
 use Rattle.wm_machine.specs.Term.{Config}
 use Rattle.wm_num.specs.Number.{bits_of}
 use Rattle.wm_ast.specs.Types.{width_of}
-use Rattle.wm_replay.specs.Replay.{AreRuns, IsRun, reads_of}
+use Rattle.wm_replay.specs.Replay.{AreRuns, reads_of}
 use Rattle.wm_valid.specs.Valid.{GoodLimits, IsInit, Valid}
 use Rattle.wm_run.specs.Own.{IsWithinPlan}
 use Rattle.wm_run.specs.Run.{Record, over}

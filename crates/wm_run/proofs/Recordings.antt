@@ -11,7 +11,8 @@ use Rattle.wm_memory.specs.Visibility.{Passes, events, waiting}
 use Rattle.wm_memory.proofs.Listed.{length-order_of}
 use Rattle.wm_memory.proofs.Lists.{passes_first}
 use Rattle.wm_recorder.specs.Recorder.{Adds, IsFull, IsRecording, Recording, initial_of, steps_of, threads_of}
-use Rattle.wm_run.specs.Runner.{DrainsBy, MayDrainFrom, leaves, stays}
+use Rattle.wm_run.specs.Runner.{DrainsBy, MayDrainFrom}
+use Rattle.wm_run.specs.Runner as runner
 
 -- as many events are held as the order lists
 held : (r : Recording) → IsRecording r → length r.order ≡ length (events (steps_of r))
@@ -58,10 +59,10 @@ no_drain_at r t k keeps cannot may = may_not r t k keeps cannot may.0 may.1 may.
 
 pub drains : (t : ℕ) (b : Bool) (old new : Recording) → IsRecording old → IsRecording new → MatchBool b (Adds (Drain t ∷ []) old new) ((new ≡ old) × CannotLeave t 0 old.memory)
     → DrainsBy (Drain t) old new
-drains t true old new k k' h = leaves (last_follows old new (Drain t) h k') h
-drains t false old new k k' h = stays (no_drain old t k h.1) h.0
+drains t true old new k k' h = runner.drains (last_follows old new (Drain t) h k') h
+drains t false old new k k' h = runner.keeps (no_drain old t k h.1) h.0
 
 pub drains_at : (t k : ℕ) (b : Bool) (old new : Recording) → IsRecording old → IsRecording new → MatchBool b (Adds (DrainAt t k ∷ []) old new) ((new ≡ old) × CannotLeave t k old.memory)
     → DrainsBy (DrainAt t k) old new
-drains_at t k true old new r r' h = leaves (last_follows old new (DrainAt t k) h r') h
-drains_at t k false old new r r' h = stays (no_drain_at old t k r h.1) h.0
+drains_at t k true old new r r' h = runner.drains (last_follows old new (DrainAt t k) h r') h
+drains_at t k false old new r r' h = runner.keeps (no_drain_at old t k r h.1) h.0

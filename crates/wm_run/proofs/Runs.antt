@@ -14,7 +14,7 @@ use Rattle.wm_event.specs.Op.{event_made, kind_finds}
 use Rattle.wm_machine.specs.Run.{Ran, Taken, and_run_on, outcome_of, ran_on, ran_with, run_from, steps, take_read, take_where}
 use Rattle.wm_machine.specs.Start.{started}
 use Rattle.wm_machine.specs.Step.{access_of, step}
-use Rattle.wm_machine.specs.Term.{Config, Went}
+use Rattle.wm_machine.specs.Term.{Config, ReducesTo}
 use Rattle.wm_memory.specs.declared.history_step.HistoryStep.{HistoryStep}
 use Rattle.wm_memory.specs.declared.history_step.HistoryStep.TheVariants as item
 use Rattle.wm_memory.specs.Memory.{drains_first, ready}
@@ -61,15 +61,15 @@ reads_last es e more =
     ∙ append_assoc (reads_of es) (own_read e) more
 
 -- a step without an access
-pub ran_local : (m : Module) (t : ℕ) (start : Start) (thread : ThreadState) (es : List Event) (next : Config) → HasRun m t start thread es → step m 0 thread.config ≡ Went None next
+pub ran_local : (m : Module) (t : ℕ) (start : Start) (thread : ThreadState) (es : List Event) (next : Config) → HasRun m t start thread es → step m 0 thread.config ≡ ReducesTo None next
     → HasRun m t start (record { config = next; made = suc thread.made }) es
-ran_local m t start thread es next h goes = record {
+ran_local m t start thread es next h leads = record {
   first = h.first;
   is_first = h.is_first;
   ran = λ more.
       ap (and_run_on m t) (h.ran more)
-      ∙ ap (λ s. ran_with m t (record { events = es; config = thread.config; reads = more }) (take_read (access_of s) more)) goes
-      ∙ ap (ran_on t (record { events = es; config = thread.config; reads = more }) (record { read = 0; others = more })) goes
+      ∙ ap (λ s. ran_with m t (record { events = es; config = thread.config; reads = more }) (take_read (access_of s) more)) leads
+      ∙ ap (ran_on t (record { events = es; config = thread.config; reads = more }) (record { read = 0; others = more })) leads
       ∙ ap (λ fs. Some (record { events = fs; config = next; reads = more })) (append-nil es);
 }
 
@@ -86,9 +86,9 @@ taken op e more false finds_so reads_so fits none = ap (λ v. Some (record { rea
 
 -- an access that makes this event
 pub ran_access : (m : Module) (t : ℕ) (start : Start) (thread : ThreadState) (es : List Event) (op : OpFields) (e : Event) (next : Config) → HasRun m t start thread es
-    → access_of (step m 0 thread.config) ≡ Some op → step m e.read thread.config ≡ Went (Some op) next → reads e ≡ kind_finds op.kind → Fits op.width e.read → (kind_finds op.kind ≡ false → e.read ≡ 0)
+    → access_of (step m 0 thread.config) ≡ Some op → step m e.read thread.config ≡ ReducesTo (Some op) next → reads e ≡ kind_finds op.kind → Fits op.width e.read → (kind_finds op.kind ≡ false → e.read ≡ 0)
     → event_made (record { thread = t; number = length es }) op e.read ≡ e → HasRun m t start (record { config = next; made = suc thread.made }) (es ++ e ∷ [])
-ran_access m t start thread es op e next h asks goes reads_so fits none is = record {
+ran_access m t start thread es op e next h asks leads reads_so fits none is = record {
   first = h.first;
   is_first = h.is_first;
   ran = λ more.
@@ -99,7 +99,7 @@ ran_access m t start thread es op e next h asks goes reads_so fits none is = rec
       ∙ ap (and_run_on m t) (h.ran (own_read e ++ more))
       ∙ ap (λ o. ran_with m t before (take_read o (own_read e ++ more))) asks
       ∙ ap (ran_with m t before) takes
-      ∙ ap (ran_on t before (record { read = e.read; others = more })) goes
+      ∙ ap (ran_on t before (record { read = e.read; others = more })) leads
       ∙ ap (λ f. Some (record { events = es ++ f ∷ []; config = next; reads = more })) is;
 }
 
@@ -162,21 +162,21 @@ drain_events g h t (turn.DrainAt u k) drain is =
 -- a step of thread u
 stepped_run : (g : Setting) (h : List HistoryStep) (u : ℕ) (start : Start) (thread next : ThreadState) (items : List HistoryStep) → All (λ b. b < 256) g.initial → StepsTo g h u thread next items
     → HasRun g.program u start thread (events_of (done g h) u) → HasRun g.program u start next (events_of (done g (h ++ items)) u)
-stepped_run g h u start thread _ _ bytes (local {next = next} lt goes) run =
-    subst (λ k. HasRun g.program u start (record { config = next; made = suc thread.made }) (events_of (done g k) u)) (sym (append-nil h)) (ran_local g.program u start thread (events_of (done g h) u) next run goes)
-stepped_run g h u start thread _ _ bytes (access {op = op} {next = next} lt few asks goes) run =
+stepped_run g h u start thread _ _ bytes (local {next = next} lt leads) run =
+    subst (λ k. HasRun g.program u start (record { config = next; made = suc thread.made }) (events_of (done g k) u)) (sym (append-nil h)) (ran_local g.program u start thread (events_of (done g h) u) next run leads)
+stepped_run g h u start thread _ _ bytes (access {op = op} {next = next} lt few asks leads) run =
     let s = ready (done g h) u op in
     let e = event_after g h u op in
     let count : length (events_of (done g h) u) ≡ accesses s u = ap length (sym (ready_events (done g h) u u op)) ∙ length-events_of s u in
     let is : event_made (record { thread = u; number = length (events_of (done g h) u) }) op e.read ≡ e =
     ap (λ n. event_made (record { thread = u; number = n }) op e.read) count ∙ made_again (record { thread = u; number = accesses s u }) op _ in
     subst (HasRun g.program u start (record { config = next; made = suc thread.made })) (sym (own_events g h u op))
-    (ran_access g.program u start thread (events_of (done g h) u) op e next run (asks 0) goes (finds op.kind _) (fits_after g.initial s u op bytes) (no_read g.initial s u op) is)
+    (ran_access g.program u start thread (events_of (done g h) u) op e next run (asks 0) leads (finds op.kind _) (fits_after g.initial s u op bytes) (no_read g.initial s u op) is)
 
 others_run : (g : Setting) (h : List HistoryStep) (u t : ℕ) (start : Start) (thread next z : ThreadState) (items : List HistoryStep) → (t ≡ u → ⊥) → StepsTo g h u thread next items
     → HasRun g.program t start z (events_of (done g h) t) → HasRun g.program t start z (events_of (done g (h ++ items)) t)
-others_run g h u t start thread _ z _ not (local lt goes) run = subst (λ k. HasRun g.program t start z (events_of (done g k) t)) (sym (append-nil h)) run
-others_run g h u t start thread _ z _ not (access {op = op} lt few asks goes) run = subst (HasRun g.program t start z) (sym (same_events g h u t op not)) run
+others_run g h u t start thread _ z _ not (local lt leads) run = subst (λ k. HasRun g.program t start z (events_of (done g k) t)) (sym (append-nil h)) run
+others_run g h u t start thread _ z _ not (access {op = op} lt few asks leads) run = subst (HasRun g.program t start z) (sym (same_events g h u t op not)) run
 
 -- a turn
 pub turn_run : (g : Setting) (starts : List Start) (old new : ScriptState) (turn : Turn) → All (λ b. b < 256) g.initial → TurnLeads g old turn new → AllRun g starts old → AllRun g starts new

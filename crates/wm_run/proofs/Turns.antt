@@ -14,15 +14,15 @@ use Rattle.wm_run.specs.declared.runner.Moved.TheVariants.{Rested}
 use Rattle.wm_run.specs.declared.runner.Runner.{Runner}
 use Rattle.wm_run.specs.declared.turn.Turn.{Turn}
 use Rattle.wm_run.specs.declared.turn.Turn.TheVariants.{Step}
-use Rattle.wm_run.specs.Runner.{Advances, DrainsBy, Goes, IsSet, MayDrainFrom, Moves, TakesTurn, goes, leaves, script_state, setting_of, runner_state}
+use Rattle.wm_run.specs.Runner.{Advances, DrainsBy, IsSet, MayDrainFrom, Moves, RunnerStep, TakesTurn, script_state, setting_of, runner_state}
 use Rattle.wm_run.specs.Runner as runner
 use Rattle.wm_run.specs.Script.{Rests, TurnLeads, drain_of, drains, keeps, rests, steps_on}
 
--- a thread that rests stays as it was
+-- a thread that rests is as it was
 pub rested : (t limit : ℕ) (old : Runner) (r : Recording) (new : State) (r' : Recording) → Advances t old.thread r new r' Rested
     → Moves t limit old r (record { thread = new; made = old.made }) r'
 rested t limit old r new r' h =
-    runner.stays (ap (λ (thread : State). record { thread = thread; made = old.made }) h.0) h.1 (h.2 old.made limit)
+    runner.rests (ap (λ (thread : State). record { thread = thread; made = old.made }) h.0) h.1 (h.2 old.made limit)
 
 abbrev pub IsOf : Module → Runner → Type 0
 IsOf m x = x.thread.module ≡ m
@@ -44,9 +44,9 @@ set_same xs t x is = ap (set xs t) (sym (get_or_from_slice_get xs t x x is)) ∙
 -- a step of thread t
 pub turn_stepped : (m : Module) (limit t : ℕ) (xs : List Runner) (r r' : Recording) (old new : Runner) → IsSet m xs r → slice_get xs t ≡ Some old
     → All (IsOf m) (set xs t new) → Moves t limit old r new r' → TakesTurn m limit (Step t) xs r (set xs t new) r'
-turn_stepped m limit t xs r r' old new is-set at all (runner.goes g) =
+turn_stepped m limit t xs r r' old new is-set at all (runner.steps_on g) =
     let is = program_at m xs t old is-set.programs at in
-    let g' : Goes m t limit (runner_state old) r (runner_state new) r' = subst (λ p. Goes p t limit (runner_state old) r (runner_state new) r') is g in
+    let g' : RunnerStep m t limit (runner_state old) r (runner_state new) r' = subst (λ p. RunnerStep p t limit (runner_state old) r (runner_state new) r') is g in
     let count : length (set xs t new) ≡ length xs = length-set xs t new in
     let state : record { threads = set (map runner_state xs) t (runner_state new); history = r.history ++ g'.items } ≡ script_state (set xs t new) r' =
     ap (λ ths. record { threads = ths; history = r.history ++ g'.items }) (sym (map-set runner_state xs t new))
@@ -57,7 +57,7 @@ turn_stepped m limit t xs r r' old new is-set at all (runner.goes g) =
       count = count;
       initial = g'.adds.initial;
     }
-turn_stepped m limit t xs r r' old new is-set at all (runner.stays same same' rest) =
+turn_stepped m limit t xs r r' old new is-set at all (runner.rests same same' rest) =
     let is = program_at m xs t old is-set.programs at in
     let unchanged : set xs t new ≡ xs = ap (set xs t) same ∙ set_same xs t old at in
     let state : script_state xs r ≡ script_state (set xs t new) r' =
@@ -73,7 +73,7 @@ turn_stepped m limit t xs r r' old new is-set at all (runner.stays same same' re
 -- a drain
 pub turn_drained : (m : Module) (limit : ℕ) (turn : Turn) (drain : HistoryStep) (xs : List Runner) (r r' : Recording) → IsSet m xs r → drain_of turn ≡ Some drain
     → DrainsBy drain r r' → TakesTurn m limit turn xs r xs r'
-turn_drained m limit turn drain xs r r' is-set is (runner.leaves may adds) =
+turn_drained m limit turn drain xs r r' is-set is (runner.drains may adds) =
     let count : threads_of r ≡ length (map runner_state xs) = is-set.count ∙ sym (length-map xs runner_state) in
     let may' = subst (λ n. MayFollow n (length (initial_of r)) (steps_of r) drain) count may in
     record {
@@ -82,7 +82,7 @@ turn_drained m limit turn drain xs r r' is-set is (runner.leaves may adds) =
       count = refl;
       initial = adds.initial;
     }
-turn_drained m limit turn drain xs r r' is-set is (runner.stays cannot same) =
+turn_drained m limit turn drain xs r r' is-set is (runner.keeps cannot same) =
     let count : length (map runner_state xs) ≡ threads_of r = length-map xs runner_state ∙ sym is-set.count in
     record {
       takes = subst (λ x. TurnLeads (setting_of m r limit) (script_state xs r) turn (script_state xs x)) (sym same)

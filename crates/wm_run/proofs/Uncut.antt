@@ -15,7 +15,7 @@ use Rattle.wm_machine.specs.Reach.{HasEnded}
 use Rattle.wm_machine.specs.Run.{Ran, Taken, end_of, ran_on, ran_with, steps, take_read}
 use Rattle.wm_machine.specs.Start.{any_past, func_of, started_at, started_by, started_in, started_with}
 use Rattle.wm_machine.specs.Step.{access_of, ended, out_of_thread, reduce, returned, step, next_config}
-use Rattle.wm_machine.specs.Term.{Config, Running, Over, Reduced, Next, Ends, Leaves, Returns, Traps, Stuck, Step, Went, NoStep}
+use Rattle.wm_machine.specs.Term.{Config, Running, Over, Reduced, Next, Ends, Leaves, Returns, Traps, Stuck, Step, ReducesTo, NoStep}
 use Rattle.wm_replay.proofs.Runs.{and_some}
 use Rattle.wm_run.specs.Reached.{HasRun}
 
@@ -64,7 +64,7 @@ uncut_at m (Some x) args c e = uncut_by m (func_of x) args c e
 
 uncut_on : (k : ℕ) (old : Ran) (taken : Taken) (m : Module) (s : Step) (ran : Ran) → step m taken.read old.config ≡ s → ran_on k old taken s ≡ Some ran → IsUncut ran.config
 uncut_on k old taken m NoStep ran is e = absurd (none-some ran e)
-uncut_on k old taken m (Went made c) ran is e =
+uncut_on k old taken m (ReducesTo made c) ran is e =
     subst (λ (r : Ran). IsUncut r.config) (same_Some _ ran e) (uncut_step m taken.read old.config c (ap next_config is))
 
 uncut_with : (m : Module) (k : ℕ) (old : Ran) (o : Option Taken) (ran : Ran) → ran_with m k old o ≡ Some ran → IsUncut ran.config

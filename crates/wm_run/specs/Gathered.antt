@@ -16,7 +16,7 @@ use Rattle.wm_run.specs.Run.{Record}
 abbrev pub log_by : ThreadEnd → ThreadLog
 log_by e = thread_log e.start e.end e.steps e.events
 
--- the logs of so many threads, each by its end
+-- the logs of this number of threads, each by its end
 pub record AreLogsBy (threads : ℕ) (ends : List ThreadEnd) (logs : List ThreadLog) : Type 0 where
   pub count : length logs ≡ threads
   pub each : (t : ℕ) (e : ThreadEnd) → t < threads → IsEndIn ends t e → slice_get logs t ≡ Some (log_by e)

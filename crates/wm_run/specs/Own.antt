@@ -25,7 +25,7 @@ pub record IsOwnRun (m : Module) (run : Record) : Type 0 where
   pub records : Records (length run.log) initial (steps initial history) (over initial run)
   pub runs : AreRuns m run.log
 
--- at most so many threads and steps as a document has, and results of 64 bits
+-- at most this number of threads and steps as a document has, and results of 64 bits
 pub record IsWithinPlan (run : Record) : Type 0 where
   pub threads : length run.log ≤ max_threads
   pub steps : (t : ℕ) (thread : ThreadLog) → slice_get run.log t ≡ Some thread → thread.steps ≤ max_steps

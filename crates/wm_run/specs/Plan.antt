@@ -19,11 +19,11 @@ pub record HasThreads (plan : Plan) : Type 0 where
   pub some : 0 < length plan.starts
   pub few : length plan.starts ≤ max_threads
 
--- each turn is that of one of so many threads
+-- each turn is that of one of this number of threads
 abbrev pub AreTurnsOf : ℕ → List Turn → Type 0
 AreTurnsOf threads turns = (k : ℕ) (turn : Turn) → slice_get turns k ≡ Some turn → thread_of turn < threads
 
--- some turn is that of thread t, which isn't among so many, and t is the least of those
+-- some turn is that of thread t, which isn't among this number of threads, and t is the least of those
 pub record IsLeastAbsent (threads : ℕ) (turns : List Turn) (t : ℕ) : Type 0 where
   pub absent : threads ≤ t
   pub listed : (k : ℕ) × ((turn : Turn) × (slice_get turns k ≡ Some turn) × (thread_of turn ≡ t))

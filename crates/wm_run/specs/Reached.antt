@@ -1,4 +1,4 @@
--- Where a thread stands behind some of its steps.
+-- Where a thread is after some of its steps.
 use Rattle.std.specs.Prelude.{◌≡◌, ◌+◌, ℕ, List, ◌++◌, Bool, true, false, Result, Ok, Err, Option, Some, None}
 use Rattle.wm_ast.specs.declared.module.Module.{Module}
 use Rattle.wm_event.specs.declared.event.Event.{Event}
@@ -21,7 +21,7 @@ abbrev pub ran_from : Module → ℕ → Result Config StartFault → List ℕ �
 ran_from m k (Err fault) reads n = None
 ran_from m k (Ok first) reads n = steps m k first reads n
 
--- how far thread k is behind the steps of its log, on the values that its events read
+-- how far thread k is after the steps of its log, on the values that its events read
 abbrev pub ran_by : Module → ℕ → ThreadLog → Option Ran
 ran_by m k t = ran_from m k (started m t.start.name t.start.args) (reads_of t.events) t.steps
 
@@ -37,11 +37,11 @@ abbrev pub ran_before_access : Module → Option Ran → Bool
 ran_before_access m None = false
 ran_before_access m (Some ran) = is_before_access m ran.config
 
--- behind the steps of its log thread k stands before an access
+-- after the steps of its log thread k is before an access
 abbrev pub stands_before_access : Module → ℕ → ThreadLog → Bool
 stands_before_access m k t = ran_before_access m (ran_by m k t)
 
--- n steps of thread k make these events, on the values that they read, and lead to there, whatever values come behind
+-- n steps of thread k make these events, on the values that they read, and lead to there, whatever values come after
 abbrev pub LeadsTo : Module → ℕ → Config → List Event → ℕ → Config → Type 0
 LeadsTo m k first events n c =
     (behind : List ℕ) → steps m k first (reads_of events ++ behind) n ≡ Some (record { events = events; config = c; reads = behind })

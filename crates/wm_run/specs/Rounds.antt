@@ -49,11 +49,11 @@ IsRoundPlanFault plan fault.Steps = HasThreads plan × (max_steps < plan.steps)
 IsRoundPlanFault plan fault.Turns = HasThreads plan × (plan.steps ≤ max_steps) × (max_turns < plan.drains)
 IsRoundPlanFault plan (fault.Turn t) = ⊥
 
--- the thread stands before an access, and the gate isn't open or the log is full
+-- the thread is before an access, and the gate isn't open or the log is full
 abbrev pub IsHeld : Bool → Module → Record → ℕ → ThreadLog → Type 0
 IsHeld is_open m run t thread = (stands_before_access m t thread ≡ true) × ((is_open ≡ false) ⊎ (max_events ≤ length run.witness.order))
 
--- the log of a round: it has the plan's starts, each thread is its run of at most so many steps, log and witness are what one
+-- the log of a round: it has the plan's starts, each thread is its run of at most this number of steps, log and witness are what one
 -- legal history over the initial memory records, and they are allowed; a thread that is cut before its last step is held
 pub record IsRound (is_open : Bool) (m : Module) (plan : Plan) (run : Record) : Type 0 where
   pub starts : map (λ (thread : ThreadLog). thread.start) run.log ≡ plan.starts

@@ -30,8 +30,8 @@ pub record IsSet (m : Module) (runners : List Runner) (recorder : Recording) : T
   pub count : threads_of recorder ≡ length runners
   pub initial : IsInit m (initial_of recorder)
 
--- a step of thread t led from the one to the other
-pub record Goes (m : Module) (t limit : ℕ) (old : ThreadState) (recorder : Recording) (new : ThreadState) (recorder' : Recording) : Type 0 where
+-- a step of thread t, from the one state to the other
+pub record RunnerStep (m : Module) (t limit : ℕ) (old : ThreadState) (recorder : Recording) (new : ThreadState) (recorder' : Recording) : Type 0 where
   pub items : List HistoryStep
   pub steps : StepsTo (setting_of m recorder limit) recorder.history t old new items
   pub adds : Adds items recorder recorder'
@@ -39,15 +39,14 @@ pub record Goes (m : Module) (t limit : ℕ) (old : ThreadState) (recorder : Rec
 -- whatever limit it is below, and however many steps it made
 abbrev pub Advances : ℕ → State → Recording → State → Recording → Moved → Type 0
 Advances t old recorder new recorder' Stepped =
-    (made limit : ℕ) → suc made ≤ limit → Goes old.module t limit (thread_state old made) recorder (thread_state new (suc made)) recorder'
+    (made limit : ℕ) → suc made ≤ limit → RunnerStep old.module t limit (thread_state old made) recorder (thread_state new (suc made)) recorder'
 Advances t old recorder new recorder' Rested =
     (new ≡ old) × (recorder' ≡ recorder) × ((made limit : ℕ) → Rests (setting_of old.module recorder limit) recorder.history (thread_state old made))
 
--- it made a step, or rests as it was
--- a step of thread t, or none where it rests
+-- a step of thread t; or it rests, and is as it was
 pub data Moves (t limit : ℕ) (old : Runner) (recorder : Recording) (new : Runner) (recorder' : Recording) : Type 0 where
-  goes : Goes old.thread.module t limit (runner_state old) recorder (runner_state new) recorder' → Moves t limit old recorder new recorder'
-  stays : new ≡ old → recorder' ≡ recorder → Rests (setting_of old.thread.module recorder limit) recorder.history (runner_state old) → Moves t limit old recorder new recorder'
+  steps_on : RunnerStep old.thread.module t limit (runner_state old) recorder (runner_state new) recorder' → Moves t limit old recorder new recorder'
+  rests : new ≡ old → recorder' ≡ recorder → Rests (setting_of old.thread.module recorder limit) recorder.history (runner_state old) → Moves t limit old recorder new recorder'
 
 -- the drain may follow what the recorder holds
 abbrev pub MayDrainFrom : Recording → HistoryStep → Type 0
@@ -55,10 +54,10 @@ MayDrainFrom recorder drain = MayFollow (threads_of recorder) (length (initial_o
 
 -- the drain was added where it may follow, else nothing changed
 pub data DrainsBy (drain : HistoryStep) (old new : Recording) : Type 0 where
-  leaves : MayDrainFrom old drain → Adds (drain ∷ []) old new → DrainsBy drain old new
-  stays : (MayDrainFrom old drain → ⊥) → new ≡ old → DrainsBy drain old new
+  drains : MayDrainFrom old drain → Adds (drain ∷ []) old new → DrainsBy drain old new
+  keeps : (MayDrainFrom old drain → ⊥) → new ≡ old → DrainsBy drain old new
 
--- the turn was taken, and as many threads go on over the same memory
+-- the turn was taken, by as many threads over the same memory
 pub record TakesTurn (m : Module) (limit : ℕ) (turn : Turn) (old : List Runner) (recorder : Recording) (new : List Runner) (recorder' : Recording) : Type 0 where
   pub takes : TurnLeads (setting_of m recorder limit) (script_state old recorder) turn (script_state new recorder')
   pub set : IsSet m new recorder'

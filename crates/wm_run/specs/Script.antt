@@ -4,7 +4,7 @@ use Rattle.wm_ast.specs.declared.module.Module.{Module}
 use Rattle.wm_event.specs.Limits.{max_events}
 use Rattle.wm_event.specs.declared.log.End.{End}
 use Rattle.wm_event.specs.declared.op.OpFields.{OpFields}
-use Rattle.wm_machine.specs.Term.{Config, Over, Went}
+use Rattle.wm_machine.specs.Term.{Config, Over, ReducesTo}
 use Rattle.wm_machine.specs.Step.{access_of, step}
 use Rattle.wm_memory.specs.declared.history_step.HistoryStep.{HistoryStep}
 use Rattle.wm_memory.specs.declared.history_step.HistoryStep.TheVariants as item
@@ -21,7 +21,7 @@ pub record Setting : Type 0 where
   pub initial : List ℕ
   pub limit : ℕ
 
--- where a thread stands, behind so many steps
+-- where a thread is, after this number of steps
 pub record ThreadState : Type 0 where
   pub config : Config
   pub made : ℕ
@@ -35,7 +35,7 @@ pub record ScriptState : Type 0 where
 abbrev pub done : Setting → List HistoryStep → List Done
 done g history = steps g.initial (reverse history)
 
--- the thread makes no further step: it has ended, has made its steps, or stands before an access where the log is full
+-- the thread makes no further step: it has ended, has made its steps, or is before an access where the log is full
 pub data Rests (g : Setting) (history : List HistoryStep) (thread : ThreadState) : Type 0 where
   ended : (end : End) → thread.config ≡ Over end → Rests g history thread
   spent : g.limit ≤ thread.made → Rests g history thread
@@ -48,10 +48,10 @@ value_read g history t op = (made_after g.initial (ready (done g history) t op) 
 
 -- the next step of thread t leads to there, and adds these items to the history
 pub data StepsTo (g : Setting) (history : List HistoryStep) (t : ℕ) (thread : ThreadState) : ThreadState → List HistoryStep → Type 0 where
-  local : {next : Config} → thread.made < g.limit → step g.program 0 thread.config ≡ Went None next
+  local : {next : Config} → thread.made < g.limit → step g.program 0 thread.config ≡ ReducesTo None next
       → StepsTo g history t thread (record { config = next; made = suc thread.made }) []
   access : {op : OpFields} {next : Config} → thread.made < g.limit → length (events (done g history)) < max_events
-      → ((read : ℕ) → access_of (step g.program read thread.config) ≡ Some op) → step g.program (value_read g history t op) thread.config ≡ Went (Some op) next
+      → ((read : ℕ) → access_of (step g.program read thread.config) ≡ Some op) → step g.program (value_read g history t op) thread.config ≡ ReducesTo (Some op) next
       → StepsTo g history t thread (record { config = next; made = suc thread.made }) (access_items (drains_first (done g history) t op) t op)
 
 -- the drain of a turn

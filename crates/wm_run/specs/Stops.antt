@@ -14,7 +14,7 @@ is_own Own = true
 is_own Gate = false
 is_own Memory = false
 
--- why a thread that stands there makes no step under a gate that is open or not
+-- why a thread that is there makes no step under a gate that is open or not
 abbrev pub StopsFor : Bool → Module → Config → Stop → Type 0
 StopsFor is_open m c Own = HasEnded c
 StopsFor is_open m c Gate = (is_before_access m c ≡ true) × (is_open ≡ false)

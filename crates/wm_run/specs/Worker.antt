@@ -11,7 +11,7 @@ use Rattle.wm_run.specs.declared.ended.ThreadEnd.{ThreadEnd}
 use Rattle.wm_run.specs.declared.fault.RunFault.{RunFault}
 use Rattle.wm_run.specs.declared.fault.RunFault.TheVariants as run
 
--- a run of at most so many steps of this thread and start, which is cut by itself only behind all of them, and by the
+-- a run of at most this number of steps of this thread and start, which is cut by itself only after all of them, and by the
 -- gate only where that isn't open; its result is of 64 bits
 pub record IsEndOf (is_open : Bool) (m : Module) (thread : ℕ) (start : Start) (steps : ℕ) (e : ThreadEnd) : Type 0 where
   pub of_module : e.program.value ≡ m

@@ -23,7 +23,7 @@ pub enum Stop {
 }
 
 /// A run of a thread of the module `program`: its events and its end are those of the steps from its start, on the values
-/// that the events read. Where the gate or the memory stopped it, it stands before an access.
+/// that the events read. Where the gate or the memory stopped it, it is before an access.
 #[derive(Drop)]
 pub struct ThreadEnd {
     /// The module, which only contracts see.

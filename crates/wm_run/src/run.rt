@@ -1,10 +1,9 @@
 //! What a run recorded.
-ghost use Rattle.std.specs.Prelude.{◌≡◌, ◌≤◌, IfOk, length, string_bytes};
+ghost use Rattle.std.specs.Prelude.{◌≡◌, IfOk, string_bytes};
 ghost use Rattle.serde_json.specs.Written.{compact_text};
 ghost use Rattle.wm_event.specs.Fitting.{FitsLog};
-ghost use Rattle.wm_logfile.specs.Document.{IsWithinLimits, document_2};
-ghost use Rattle.wm_logfile.specs.DocumentBytes.{IsDocumentOf};
-ghost use Rattle.wm_logfile.specs.Limits.{max_document_bytes};
+ghost use Rattle.wm_logfile.specs.Document.{document_2};
+ghost use Rattle.wm_run.specs.Run.{IsReadAs};
 
 use std::alloc::{AllocError, Global};
 use std::marker::Model;
@@ -64,8 +63,7 @@ pub fn write_run(alloc: Global, run: &Run) -> Result<String, AllocError>
     ensures text { IfOk result (λ s. string_bytes s ≡ compact_text (document_2 run.now.log run.now.witness)) }
 
     // Within the limits it is read as the same pair.
-    ensures again { IfOk result (λ s. length (string_bytes s) ≤ max_document_bytes
-        → IsWithinLimits run.now.log run.now.witness → IsDocumentOf (string_bytes s) run.now.log run.now.witness) }
+    ensures again { IfOk result (λ s. IsReadAs (string_bytes s) run.now) }
 {
     write_document(alloc, run.log(), run.witness())
 }

@@ -32,15 +32,12 @@ pub enum Moved {
     Rested,
 }
 
-/// How a thread ends that makes no further step.
+/// How a thread ends that makes no further step. Its result fits a document.
 pub fn end_of(thread: &Thread) -> End
     ensures end { result ≡ config_end (config_of thread.now) }
     ensures fits { EndFits result }
 {
-    match thread.next() {
-        Need::Ended(end) => end,
-        Need::Local | Need::Access(_) => End::Cut,
-    }
+    wm_replay::end_of(thread)
 }
 
 /// Makes the access that a thread needs, where the log isn't full.
@@ -69,7 +66,7 @@ fn access(
     }
 }
 
-/// Makes the next step of a thread, where it has one: not where it has ended, nor where it stands before an access and the
+/// Makes the next step of a thread, where it has one: not where it has ended, nor where it is before an access and the
 /// log is full.
 fn advance(thread: &mut Thread, number: u32, recorder: &mut Recorder) -> Result<Moved, AllocError>
     requires there { number < threads_of recorder.old }

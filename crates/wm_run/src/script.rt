@@ -86,7 +86,7 @@ fn finish(
 }
 
 /// The scripted run: the threads of the plan take the turns over one memory, whose store buffers drain where the script
-/// says so. A step of a thread that has ended, has made its steps, or stands before an access where the log holds 16,384
+/// says so. A step of a thread that has ended, has made its steps, or is before an access where the log holds 16,384
 /// events does nothing; a drain does nothing where no such store waits, or where it would pass an older one that it
 /// overlaps. A thread that hasn't ended after the last turn is cut.
 ///

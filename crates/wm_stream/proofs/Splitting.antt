@@ -1,26 +1,28 @@
 -- What a byte adds to the lines that precede it.
-use Rattle.std.proofs.Common.{◌≡◌, ℕ, zero, suc, ◌+◌, ◌<◌, ◌≤◌, List, [], ◌∷◌, ◌++◌, length, get_or, map, take, Option, None, Some, IfSome, nat_eq, nat_lt, true, false, if◌then◌else◌, refl, sym, ap, ◌∙◌, subst, append_assoc, length-append, ⊎_elim, arith}
+use Rattle.std.proofs.Common.{◌≡◌, ℕ, zero, suc, ◌+◌, ◌-◌, ◌<◌, ◌≤◌, Bool, List, [], ◌∷◌, ◌++◌, length, get_or, map, take, Option, None, Some, IfSome, nat_eq, nat_lt, true, false, if◌then◌else◌, refl, sym, ap, ◌∙◌, subst, append_assoc, length-append, ⊎_elim, arith}
 use Rattle.std.specs.Io.KnownBytes.{Consumes, IsAtEnd}
 use Rattle.std.proofs.KnownBytes.{Consumes-whole}
-use Rattle.std.proofs.lemmas.Bool.{cases_lt, le-ltb, lt-ltb}
-use Rattle.std.proofs.lemmas.List.{append-nil, length-take, take-append-le, take_all, take_more}
-use Rattle.wm_stream.specs.Lines.{Splits, cut_lines, grown, last_line, lines_after}
+use Rattle.std.proofs.lemmas.Bool.{cases_lt}
+use Rattle.std.proofs.Math.Seq.{take-append-add}
+use Rattle.std.proofs.lemmas.List.{append-nil, get_or-take, length-drop, length-take-le, take-append-drop, take-append-le, take_all, take_more}
+use Rattle.std.specs.Prelude.{◌==◌, ⊤, drop}
+use Rattle.memchr.specs.Find.{Nowhere, Passes, is_byte}
+use Rattle.wm_stream.specs.Lines.{Splits, cut_lines, extended, last_line, lines_after}
 
-grown_within : (limit : ℕ) (line : List ℕ) (byte : ℕ) → length line < limit → grown limit (take limit line) byte ≡ take limit (line ++ byte ∷ [])
-grown_within limit line byte lt =
-    let whole : take limit line ≡ line = take_all limit line (omega (arith, lt)) in
-    let more : take limit (line ++ byte ∷ []) ≡ line ++ byte ∷ [] = take_all limit (line ++ byte ∷ []) (omega (arith, lt, length-append line (byte ∷ []))) in
-    rw (whole, more, lt-ltb (length line) limit lt) refl
+extended_within : (limit : ℕ) (line bytes : List ℕ) → length line ≤ limit → extended limit (take limit line) bytes ≡ take limit (line ++ bytes)
+extended_within limit line bytes le =
+    let whole : take limit line ≡ line = take_all limit line le in
+    let room : limit ≡ length line + (limit - length line) = omega (arith, le) in
+    ap (λ first. extended limit first bytes) whole ∙ sym (ap (λ n. take n (line ++ bytes)) room ∙ take-append-add line bytes (limit - length line))
 
-grown_past : (limit : ℕ) (line : List ℕ) (byte : ℕ) → limit ≤ length line → grown limit (take limit line) byte ≡ take limit (line ++ byte ∷ [])
-grown_past limit line byte le =
-    let full : limit ≤ length (take limit line) = grind (arith, le, length-take limit line) in
-    let more : take limit (line ++ byte ∷ []) ≡ take limit line = take-append-le limit line (byte ∷ []) le in
-    rw (more, le-ltb (length (take limit line)) limit full) refl
+extended_past : (limit : ℕ) (line bytes : List ℕ) → limit ≤ length line → extended limit (take limit line) bytes ≡ take limit (line ++ bytes)
+extended_past limit line bytes le =
+    let full : limit - length (take limit line) ≡ 0 = grind (arith, le, length-take-le limit line le) in
+    ap (λ n. take limit line ++ take n bytes) full ∙ append-nil (take limit line) ∙ sym (take-append-le limit line bytes le)
 
--- the kept bytes of a line with one more byte
-pub grown_is : (limit : ℕ) (line : List ℕ) (byte : ℕ) → grown limit (take limit line) byte ≡ take limit (line ++ byte ∷ [])
-grown_is limit line byte = ⊎_elim (grown_within limit line byte) (grown_past limit line byte) (cases_lt (length line) limit)
+-- the kept bytes of a line with more bytes
+pub extended_is : (limit : ℕ) (line bytes : List ℕ) → extended limit (take limit line) bytes ≡ take limit (line ++ bytes)
+extended_is limit line bytes = ⊎_elim (λ (l : length line < limit). extended_within limit line bytes (omega (arith, l))) (extended_past limit line bytes) (cases_lt (length line) limit)
 
 -- ---- the lines of a text that grows
 
@@ -42,15 +44,25 @@ after_newline limit bytes lines begun is = record {
 other_byte : (line : List ℕ) (byte : ℕ) (rest : List ℕ) → nat_eq byte 10 ≡ false → lines_after line (byte ∷ rest) ≡ lines_after (line ++ byte ∷ []) rest
 other_byte line byte rest other = rw other refl
 
-pub after_byte : (limit : ℕ) (bytes : List ℕ) (lines : List (List ℕ)) (begun : List ℕ) (byte : ℕ) → nat_eq byte 10 ≡ false → Splits limit bytes lines begun
-    → Splits limit (bytes ++ byte ∷ []) lines (grown limit begun byte)
-after_byte limit bytes lines begun byte other is = record {
-  line = is.line ++ byte ∷ [];
-  kept = ap (λ k. grown limit k byte) is.kept ∙ grown_is limit is.line byte;
+-- no byte of these is a newline
+abbrev pub HasNoNewline : List ℕ → Type 0
+HasNoNewline [] = ⊤
+HasNoNewline (byte ∷ bytes) = (nat_eq byte 10 ≡ false) × HasNoNewline bytes
+
+other_bytes : (line bytes rest : List ℕ) → HasNoNewline bytes → lines_after line (bytes ++ rest) ≡ lines_after (line ++ bytes) rest
+other_bytes line [] rest none = ap (λ first. lines_after first rest) (sym (append-nil line))
+other_bytes line (byte ∷ bytes) rest none =
+    other_byte line byte (bytes ++ rest) none.0 ∙ other_bytes (line ++ byte ∷ []) bytes rest none.1 ∙ ap (λ first. lines_after first rest) (append_assoc line (byte ∷ []) bytes)
+
+pub after_bytes : (limit : ℕ) (bytes : List ℕ) (lines : List (List ℕ)) (begun more : List ℕ) → HasNoNewline more → Splits limit bytes lines begun
+    → Splits limit (bytes ++ more) lines (extended limit begun more)
+after_bytes limit bytes lines begun more none is = record {
+  line = is.line ++ more;
+  kept = ap (λ k. extended limit k more) is.kept ∙ extended_is limit is.line more;
   splits = λ rest.
-      ap (cut_lines limit) (append_assoc bytes (byte ∷ []) rest)
-      ∙ is.splits (byte ∷ rest)
-      ∙ ap (λ (more : List (List ℕ)). lines ++ map (take limit) more) (other_byte is.line byte rest other);
+      ap (cut_lines limit) (append_assoc bytes more rest)
+      ∙ is.splits (more ++ rest)
+      ∙ ap (λ (all : List (List ℕ)). lines ++ map (take limit) all) (other_bytes is.line more rest none);
 }
 
 -- ---- its end
@@ -70,21 +82,42 @@ pub goes_on : (limit : ℕ) (bytes : List ℕ) (lines : List (List ℕ)) (begun 
     → (others : List (List ℕ)) × (cut_lines limit (bytes ++ rest) ≡ lines ++ others)
 goes_on limit bytes lines begun rest is = (map (take limit) (lines_after is.line rest), is.splits rest)
 
--- ---- byte by byte
+-- ---- line by line
 
-one_more : (bytes part : List ℕ) (i : ℕ) → i < length part → bytes ++ take (i + 1) part ≡ (bytes ++ take i part) ++ get_or part i 0 ∷ []
-one_more bytes part i lt = ap (λ more. bytes ++ more) (take_more part i 0 lt) ∙ sym (append_assoc bytes (take i part) (get_or part i 0 ∷ []))
+pub no_newline : (bytes : List ℕ) → ((k : ℕ) → k < length bytes → (get_or bytes k 0 == 10) ≡ true → ⊥) → HasNoNewline bytes
+no_newline [] none = tt
+no_newline (byte ∷ bytes) none = (not_true (nat_eq byte 10) (none 0 (omega arith)), no_newline bytes (λ k l. none (suc k) (omega (arith, l))))
+  where
+    not_true : (b : Bool) → (b ≡ true → ⊥) → b ≡ false
+    not_true true never = absurd (never refl)
+    not_true false never = refl
 
-pub newline_next : (limit : ℕ) (bytes part : List ℕ) (i : ℕ) (before lines : List (List ℕ)) (begun : List ℕ) → i < length part → get_or part i 0 ≡ 10
-    → Splits limit (bytes ++ take i part) (before ++ lines) begun → Splits limit (bytes ++ take (i + 1) part) (before ++ (lines ++ begun ∷ [])) []
-newline_next limit bytes part i before lines begun lt is splits =
-    let more : bytes ++ take (i + 1) part ≡ (bytes ++ take i part) ++ 10 ∷ [] = one_more bytes part i lt ∙ ap (λ byte. (bytes ++ take i part) ++ byte ∷ []) is in
-    subst (λ all. Splits limit all (before ++ (lines ++ begun ∷ [])) []) (sym more)
-    (subst (λ all. Splits limit ((bytes ++ take i part) ++ 10 ∷ []) all []) (append_assoc before lines (begun ∷ []))
-    (after_newline limit (bytes ++ take i part) (before ++ lines) begun splits))
+-- the bytes up to a newline, and the newline
+pub line_next : (limit : ℕ) (bytes done more : List ℕ) (before lines : List (List ℕ)) (begun : List ℕ) → HasNoNewline more
+    → Splits limit (bytes ++ done) (before ++ lines) begun
+    → Splits limit (bytes ++ (done ++ (more ++ 10 ∷ []))) (before ++ (lines ++ extended limit begun more ∷ [])) []
+line_next limit bytes done more before lines begun none is =
+    let more_is = after_bytes limit (bytes ++ done) (before ++ lines) begun more none is in
+    let line_is = after_newline limit ((bytes ++ done) ++ more) (before ++ lines) (extended limit begun more) more_is in
+    let text : ((bytes ++ done) ++ more) ++ 10 ∷ [] ≡ bytes ++ (done ++ (more ++ 10 ∷ [])) =
+    append_assoc (bytes ++ done) more (10 ∷ []) ∙ append_assoc bytes done (more ++ 10 ∷ []) in
+    subst (λ all. Splits limit all (before ++ (lines ++ extended limit begun more ∷ [])) []) text
+    (subst (λ all. Splits limit (((bytes ++ done) ++ more) ++ 10 ∷ []) all []) (append_assoc before lines (extended limit begun more ∷ [])) line_is)
 
-pub byte_next : (limit : ℕ) (bytes part : List ℕ) (i : ℕ) (lines : List (List ℕ)) (begun : List ℕ) → i < length part → nat_eq (get_or part i 0) 10 ≡ false
-    → Splits limit (bytes ++ take i part) lines begun → Splits limit (bytes ++ take (i + 1) part) lines (grown limit begun (get_or part i 0))
-byte_next limit bytes part i lines begun lt other splits =
-    subst (λ all. Splits limit all lines (grown limit begun (get_or part i 0))) (sym (one_more bytes part i lt))
-    (after_byte limit (bytes ++ take i part) lines begun (get_or part i 0) other splits)
+-- the bytes after the last newline
+pub last_next : (limit : ℕ) (bytes done more : List ℕ) (lines : List (List ℕ)) (begun : List ℕ) → HasNoNewline more → Splits limit (bytes ++ done) lines begun
+    → Splits limit (bytes ++ (done ++ more)) lines (extended limit begun more)
+last_next limit bytes done more lines begun none is =
+    subst (λ all. Splits limit all lines (extended limit begun more)) (append_assoc bytes done more) (after_bytes limit (bytes ++ done) lines begun more none is)
+
+-- a newline, with what precedes it and what follows
+pub at_newline : (left : List ℕ) (e : ℕ) → e < length left → get_or left e 0 ≡ 10 → (take e left ++ 10 ∷ []) ++ take (length left - (e + 1)) (drop (e + 1) left) ≡ left
+at_newline left e l is =
+    let rest : take (length left - (e + 1)) (drop (e + 1) left) ≡ drop (e + 1) left = take_all (length left - (e + 1)) (drop (e + 1) left) (omega (arith, length-drop (e + 1) left)) in
+    let first : take e left ++ 10 ∷ [] ≡ take (e + 1) left = sym (take_more left e 0 l ∙ ap (λ byte. take e left ++ byte ∷ []) is) in
+    ap (λ more. (take e left ++ 10 ∷ []) ++ more) rest ∙ ap (λ most. most ++ drop (e + 1) left) first ∙ take-append-drop (e + 1) left
+
+pub none_before : (left : List ℕ) (e : ℕ) → e ≤ length left → Nowhere (Passes (is_byte 10) left) 0 e → HasNoNewline (take e left)
+none_before left e le none = no_newline (take e left) (λ k l is.
+    let below : k < e = omega (arith, l, length-take-le e left le) in
+    none k (omega arith) below (subst (λ byte. (byte == 10) ≡ true) (get_or-take e left k 0 below) is))

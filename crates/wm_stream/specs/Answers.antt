@@ -1,7 +1,8 @@
 -- Answers to lines, and what a writer gains of them.
-use Rattle.std.specs.Prelude.{◌≡◌, ℕ, List, [], ◌∷◌, ◌++◌, Option, IfSome, take}
+use Rattle.std.specs.Prelude.{◌≡◌, ℕ, List, [], ◌∷◌, ◌++◌, Option, IfSome, string_bytes, take}
 use Rattle.std.specs.Io.KnownBytes.{Appends}
 use Rattle.std.specs.List.{AllZip}
+use Rattle.wm_stream.specs.declared.answer.LineAnswer.{LineAnswer}
 use Rattle.wm_stream.specs.declared.answer.LineStatus.{LineStatus}
 use Rattle.wm_stream.specs.declared.answer.LineStatus.TheVariants.{Allowed, Broken, Refused}
 use Rattle.wm_stream.specs.Output.{AppendsFront}
@@ -24,6 +25,9 @@ pub record Answered : Type 0 where
   pub status : LineStatus
   pub text : List ℕ
 
+abbrev pub answered : LineAnswer → Answered
+answered answer = record { status = answer.status; text = string_bytes answer.text }
+
 abbrev pub overall : List Answered → LineStatus
 overall [] = Allowed
 overall (answer ∷ answers) = worse answer.status (overall answers)
@@ -31,6 +35,11 @@ overall (answer ∷ answers) = worse answer.status (overall answers)
 abbrev pub text_of : List Answered → List ℕ
 text_of [] = []
 text_of (answer ∷ answers) = answer.text ++ text_of answers
+
+-- an answer has the texts of all of these, in their order, and the status of all
+pub record Joins (answers : List Answered) (all : LineAnswer) : Type 0 where
+  pub text_is : string_bytes all.text ≡ text_of answers
+  pub status_is : all.status ≡ overall answers
 
 -- each line has the answer at its place
 abbrev pub AreAnswers : (List ℕ → LineStatus → List ℕ → Type 0) → List (List ℕ) → List Answered → Type 0

@@ -1,5 +1,5 @@
 -- The lines of a text.
-use Rattle.std.specs.Prelude.{◌≡◌, ℕ, ◌<◌, List, [], ◌∷◌, ◌++◌, length, map, nat_eq, nat_lt, take, if◌then◌else◌}
+use Rattle.std.specs.Prelude.{◌≡◌, ℕ, ◌-◌, List, [], ◌∷◌, ◌++◌, length, map, nat_eq, take, if◌then◌else◌}
 
 -- what follows the last newline is a line too, if it is not empty
 abbrev pub last_line : List ℕ → List (List ℕ)
@@ -19,9 +19,9 @@ lines_of = lines_after []
 abbrev pub cut_lines : ℕ → List ℕ → List (List ℕ)
 cut_lines limit bytes = map (take limit) (lines_of bytes)
 
--- with one more byte, if it is within the limit
-abbrev pub grown : ℕ → List ℕ → ℕ → List ℕ
-grown limit bytes byte = if nat_lt (length bytes) limit then bytes ++ byte ∷ [] else bytes
+-- with more bytes, as far as they are within the limit
+abbrev pub extended : ℕ → List ℕ → List ℕ → List ℕ
+extended limit bytes more = bytes ++ take (limit - length bytes) more
 
 -- these bytes are whole lines, and `line` begins after them; of each the first `limit` bytes are kept
 pub record Splits (limit : ℕ) (bytes : List ℕ) (lines : List (List ℕ)) (begun : List ℕ) : Type 0 where

@@ -3,8 +3,7 @@ ghost use Rattle.std.specs.Prelude.{◌≡◌, ℕ, IfOk, List, string_bytes};
 ghost use Rattle.wm_stream.specs.declared.answer.LineStatus.{LineStatus};
 ghost use Rattle.wm_stream.specs.Answers.{status_code, worse};
 
-use std::alloc::{AllocError, AllocGlobal};
-use std::thread::Threads;
+use std::alloc::{AllocError, Global};
 
 /// What kind of answer a line got.
 #[derive(Clone, Copy, Debug, PartialEq, Eq)]
@@ -51,15 +50,11 @@ pub trait AnswersLines: Sync {
     // Whether a status and a text answer a line.
     ghost says: { Self → List ℕ → LineStatus → List ℕ → Type 0 };
 
-    /// The answer to a line, which is given without its newline.
+    /// The answer to a line, which is given without its newline. Lines are answered at the same time, each by one thread.
     ///
     /// # Errors
     ///
     /// Only if an allocation fails.
-    fn answer<R: AllocGlobal + Threads + Sync>(
-        &self,
-        rt: &R,
-        line: &[u8],
-    ) -> Result<LineAnswer, AllocError>
+    fn answer(&self, alloc: Global, line: &[u8]) -> Result<LineAnswer, AllocError>
         ensures { IfOk result (λ answer. says self.now line.now answer.status (string_bytes answer.text)) };
 }

@@ -1,15 +1,18 @@
 //! Lines that are answered at the same time.
 ghost use Rattle.std.specs.Prelude.{IfOk, OnErr, map, string_bytes};
 ghost use Rattle.std.specs.List.{AllZip};
-ghost use Rattle.wm_stream.specs.Answers.{Prints, PrintsFront};
+ghost use Rattle.wm_stream.specs.Answers.{Joins, Prints, PrintsFront, answered};
 
 use crate::answer::{AnswersLines, LineAnswer, LineStatus};
 use crate::output::write_text;
 use crate::stream::StreamFault;
 use rayon::prelude::*;
-use std::alloc::{AllocError, AllocGlobal};
+use std::alloc::{AllocError, AllocGlobal, Global};
 use std::io::Write;
 use std::thread::Threads;
+
+/// How many lines a thread answers at least. A line costs a thread's start a hundred times over, or a tenth of it.
+const LINES_OF_A_THREAD: usize = 4;
 
 /// The answer to each line, in their order; they are found on as many threads as there are processors.
 fn answers_to<R: AllocGlobal + Threads + Sync, J: AnswersLines>(
@@ -20,17 +23,32 @@ fn answers_to<R: AllocGlobal + Threads + Sync, J: AnswersLines>(
     ensures { IfOk result (λ answers. AllZip
         (λ line answer. J.says judge.now line.items answer.status (string_bytes answer.text)) lines.now answers.items) }
 {
+    let alloc = rt.alloc();
     lines
         .par_iter()
+        .with_min_len(LINES_OF_A_THREAD)
         .map(
             |line: &Vec<u8>| -> Result<LineAnswer, AllocError>
                 ensures { IfOk result (λ a. J.says judge.entry.now line.now.items a.status (string_bytes a.text)) }
-            { judge.answer(rt, line.as_slice()) },
+            { judge.answer(alloc, line.as_slice()) },
         )
-        .collect::<Result<Vec<LineAnswer>, AllocError>>(rt, rt.alloc())?
+        .collect::<Result<Vec<LineAnswer>, AllocError>>(rt, alloc)?
 }
 
-/// Prints the answers to lines, in their order, and returns their status together.
+/// The texts of answers as one, in their order, with the status of all.
+fn joined(alloc: Global, answers: &[LineAnswer]) -> Result<LineAnswer, AllocError>
+    ensures { IfOk result (Joins (map answered answers.now)) }
+{
+    let mut text = String::new(alloc);
+    let mut status = LineStatus::Allowed;
+    for answer in answers {
+        text.push_str(answer.text.as_str())?;
+        status = status.worse(answer.status);
+    }
+    Ok(LineAnswer { text, status })
+}
+
+/// Prints the answers to lines, in their order and by one write if the writer takes it, and returns their status together.
 ///
 /// # Errors
 ///
@@ -47,12 +65,9 @@ pub(crate) fn print_answers<R: AllocGlobal + Threads + Sync, O: Write, J: Answer
         (PrintsFront (J.says judge.now) (map (λ line. line.items) lines.now) (O.contents out.old) (O.contents out.new)) }
 {
     let answers = answers_to(rt, judge, lines)?;
-    let mut status = LineStatus::Allowed;
-    for answer in answers {
-        if write_text(out, answer.text.as_str()).is_err() {
-            return Err(StreamFault::Write);
-        }
-        status = status.worse(answer.status);
+    let all = joined(rt.alloc(), answers.as_slice())?;
+    match write_text(out, all.text.as_str()) {
+        Ok(()) => Ok(all.status),
+        Err(_) => Err(StreamFault::Write),
     }
-    Ok(status)
 }

@@ -1,21 +1,20 @@
 //! Bytes that come in parts, as lines.
 ghost use Rattle.std.specs.Prelude.{◌≡◌, ◌++◌, IfOk, List, OnOk, ℕ, map};
-ghost use Rattle.wm_stream.specs.Lines.{Splits, grown, last_line};
+ghost use Rattle.wm_stream.specs.Lines.{Splits, extended, last_line};
 
+use memchr::memchr;
 use std::alloc::{AllocError, Global};
 use std::mem;
 
 /// What ends a line.
 const NEWLINE: u8 = b'\n';
 
-/// Adds a byte to a line that has begun, of which `limit` bytes are kept.
-fn push_cut(begun: &mut Vec<u8>, limit: usize, byte: u8) -> Result<(), AllocError>
-    ensures { OnOk result (begun.new.items ≡ grown limit begun.old.items byte) }
+/// Adds bytes to a line that has begun, of which `limit` bytes are kept.
+fn extend_cut(begun: &mut Vec<u8>, limit: usize, bytes: &[u8]) -> Result<(), AllocError>
+    ensures { OnOk result (begun.new.items ≡ extended limit begun.old.items bytes.now) }
 {
-    if begun.len() < limit {
-        begun.push(byte)?;
-    }
-    Ok(())
+    let room = limit.saturating_sub(begun.len());
+    begun.extend_from_slice(&bytes[..room.min(bytes.len())])
 }
 
 /// The lines that a part of a text ends, without their newlines. `begun` is what precedes the part in its line, and
@@ -30,14 +29,14 @@ pub(crate) fn split_lines(
         → Splits limit (bytes ++ part.now) (before ++ map (λ line. line.items) lines.items) begun.new.items) }
 {
     let mut lines = Vec::new(alloc);
-    for byte in part {
-        if *byte == NEWLINE {
-            let line = mem::replace(begun, Vec::new(alloc));
-            lines.push(line)?;
-        } else {
-            push_cut(begun, limit, *byte)?;
-        }
+    let mut left = part;
+    while let Some(end) = memchr(NEWLINE, left) {
+        extend_cut(begun, limit, &left[..end])?;
+        let line = mem::replace(begun, Vec::new(alloc));
+        lines.push(line)?;
+        left = &left[end + 1..];
     }
+    extend_cut(begun, limit, left)?;
     Ok(lines)
 }
 

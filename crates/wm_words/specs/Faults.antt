@@ -3,7 +3,7 @@ use Rattle.std.specs.Prelude.{◌≡◌, Option, None, ⊤}
 use Rattle.wm_words.specs.declared.fault.WordFault.{WordFault}
 use Rattle.wm_words.specs.declared.fault.WordFault.TheVariants.{OutOfMemory}
 
--- the fault has this cause, and then nothing is spelled. Want of memory says nothing of the words
+-- the fault has this cause, and then nothing is spelled. An allocation failure says nothing of the words
 abbrev pub Misses : {A : Type 0} → WordFault → Option A → WordFault → Type 0
 Misses cause spelled OutOfMemory = ⊤
 Misses cause spelled fault = (fault ≡ cause) × (spelled ≡ None)

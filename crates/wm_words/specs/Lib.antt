@@ -1,5 +1,6 @@
 pub mod Each
 pub mod Faults
+pub mod Limits
 pub mod Numbers
 pub mod Starts
 pub mod Turns

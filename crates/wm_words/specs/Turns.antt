@@ -4,6 +4,7 @@ use Rattle.std.specs.Option.{option_map}
 use Rattle.wm_run.specs.declared.turn.Turn.{Turn}
 use Rattle.wm_run.specs.declared.turn.Turn.TheVariants.{Step, Drain, DrainAt}
 use Rattle.wm_words.specs.Each.{each}
+use Rattle.wm_words.specs.Limits.{kept_turns}
 use Rattle.wm_words.specs.Numbers.{number_below, pieces}
 
 -- a thread, or how many: a number of 32 bits
@@ -25,7 +26,7 @@ abbrev pub turn_of : List ℕ → Option Turn
 turn_of [] = None
 turn_of (first ∷ rest) = if first == 100 then drain_of (pieces 47 rest) else option_map Step (small (first ∷ rest))
 
--- the turn so many times over, at least once
+-- the turn repeated this number of times, at least once
 abbrev pub repeated : Option Turn → Option ℕ → Option (List Turn)
 repeated (Some turn) (Some (suc times)) = Some (replicate (suc times) turn)
 repeated _ _ = None
@@ -45,4 +46,4 @@ turns_of word = option_map (flat_map (λ turns. turns)) (each item_turns (pieces
 
 -- the turns of which one more than a script may have are kept, so that it is refused for them
 abbrev pub kept : List Turn → List Turn
-kept turns = take 1000001 turns
+kept turns = take kept_turns turns

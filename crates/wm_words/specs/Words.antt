@@ -1,5 +1,5 @@
 -- What words spell as a script or as rounds, and which of them spells nothing.
-use Rattle.std.specs.Prelude.{◌≡◌, ℕ, suc, List, Option, Some, None, IsSome, ⊤}
+use Rattle.std.specs.Prelude.{◌≡◌, ℕ, suc, ◌+◌, List, Option, Some, None, IsSome, ⊤}
 use Rattle.std.specs.Option.{option_map}
 use Rattle.wm_event.specs.Limits.{max_steps}
 use Rattle.wm_run.specs.declared.plan.Plan.{Plan}
@@ -7,6 +7,7 @@ use Rattle.wm_words.specs.declared.fault.WordFault.{WordFault}
 use Rattle.wm_words.specs.declared.fault.WordFault.TheVariants as fault
 use Rattle.wm_words.specs.declared.words.Rounds.{Rounds}
 use Rattle.wm_words.specs.declared.words.Script.{Script}
+use Rattle.wm_words.specs.Limits.{drainer_turns, max_rounds}
 use Rattle.wm_words.specs.Numbers.{number_below}
 use Rattle.wm_words.specs.Starts.{starts_of}
 use Rattle.wm_words.specs.Turns.{kept, turns_of}
@@ -17,9 +18,9 @@ not_zero _ = None
 
 -- how many rounds a word spells: 1 to 10,000
 abbrev pub rounds_of : List ℕ → Option ℕ
-rounds_of word = not_zero (number_below 10001 word)
+rounds_of word = not_zero (number_below (max_rounds + 1) word)
 
--- a plan for the threads that these words start, of 1,000,000 steps each, with so many drains
+-- a plan for the threads that these words start, of 1,000,000 steps each, with this number of drains
 pub record IsPlanOf (starts : List (List ℕ)) (drains : ℕ) (plan : Plan) : Type 0 where
   pub starts_are : starts_of starts ≡ Some plan.starts
   pub steps_are : plan.steps ≡ max_steps
@@ -33,9 +34,9 @@ pub record IsScriptOf (turns : List ℕ) (starts : List (List ℕ)) (script : Sc
 -- the rounds that a word of their number and the words of the starts spell
 pub record IsRoundsOf (count : List ℕ) (starts : List (List ℕ)) (rounds : Rounds) : Type 0 where
   pub count_is : rounds_of count ≡ Some rounds.count
-  pub plan_is : IsPlanOf starts 256 rounds.plan
+  pub plan_is : IsPlanOf starts drainer_turns rounds.plan
 
--- the words spell no script, since the first or then one of the starts spells nothing. Want of memory says nothing of them
+-- the words spell no script, since the first or then one of the starts spells nothing. An allocation failure says nothing of them
 abbrev pub SpellNoScript : List ℕ → List (List ℕ) → WordFault → Type 0
 SpellNoScript turns starts fault.Turns = turns_of turns ≡ None
 SpellNoScript turns starts fault.Rounds = ⊥

@@ -1,6 +1,7 @@
 //! The turns that a word spells.
 ghost use Rattle.std.specs.Prelude.{◌≡◌, ◌≤◌, ◌++◌, None, Some, IfErr, IfOk, OnOk, MatchOption, replicate, vec_len};
 ghost use Rattle.std.specs.Option.{option_map};
+ghost use Rattle.wm_words.specs.Limits.{kept_turns};
 ghost use Rattle.wm_words.specs.Numbers.{pieces};
 ghost use Rattle.wm_words.specs.Turns.{drain_of, item_turns, kept, turn_of, turns_of};
 ghost use Rattle.wm_words.specs.Faults.{Misses};
@@ -62,7 +63,7 @@ fn read_item(word: &str) -> Option<Item>
 
 /// Appends the turns of an item, up to one more than a script may have.
 fn push_item(turns: &mut Vec<Turn>, item: Item) -> Result<(), AllocError>
-    requires { vec_len turns.old ≤ 1000001 }
+    requires { vec_len turns.old ≤ kept_turns }
     ensures { OnOk result (turns.new.items ≡ kept (turns.old.items ++ replicate item.times item.turn)) }
 {
     let length = (turns.len() + item.times as usize).min(MAX_TURNS + 1);

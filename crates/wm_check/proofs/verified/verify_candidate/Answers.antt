@@ -36,12 +36,12 @@ judged m run log completed answer verdict same completes is judges mb db modules
     }
 
 pub returns-in-Broken : goal.returns-in-Broken
-returns-in-Broken g c =
+returns-in-Broken c =
     judged c.args.module.now c.args.candidate.now c.log.result.now c.in-Completed.field-0 c.in_ok-answer.field-0 (Broken (Rule c.in-Broken.fault)) c.log.ensures.value c.in_ok-answer.ensures
     c.in-Completed.is (subst (Judges (execution c.args.candidate.now)) c.in-Broken.is c.in_ok-fault-in-Completed.ensures.judged)
 
 pub returns : goal.returns
-returns g c =
+returns c =
     let threads : c.threads-threads.result.now ≡ c.args.candidate.now.log = c.threads-threads.ensures.value ∙ c.log-in-Valid.ensures.value in
     judged c.args.module.now c.args.candidate.now c.log.result.now c.in-Completed.field-0 c.in_ok-answer.field-0 _ c.log.ensures.value c.in_ok-answer.ensures
     c.in-Completed.is (subst (Judges (execution c.args.candidate.now)) c.in-Valid.is c.in_ok-fault-in-Completed.ensures.judged, (ap length threads, c.count_events.ensures ∙ ap event_count threads))

@@ -4,7 +4,7 @@ use Rattle.wm_event.specs.declared.shape_fault.ShapeFault.TheVariants.{OutOfMemo
 use Rattle.wm_check.proofs.verified.verify_pair.Goals as goal
 
 pub returns-in-Err : goal.returns-in-Err
-returns-in-Err g c = λ module_bytes document_bytes is_module is_document.
+returns-in-Err c = λ module_bytes document_bytes is_module is_document.
     let no_want : c.in-Err.fault ≢ OutOfMemory = search rules in
     record {
       «module» = c.args.module.now;

@@ -20,6 +20,14 @@ pub returns-in_err-module-in-complete-clause-none : goal.returns-in_err-module-i
 returns-in_err-module-in-complete-clause-none c = λ _.
     no_command c.args.name.now (rows_of (found_of c.args.words.now)) (codes "module" ∷ codes "document" ∷ []) (ap (required_in forms) c.in-complete.is) (c.in_err-module-in-complete.ensures.none refl)
 
+pub returns-in_err-module-in-verify-clause-none : goal.returns-in_err-module-in-verify-clause-none
+returns-in_err-module-in-verify-clause-none c = λ _.
+    no_command c.args.name.now (rows_of (found_of c.args.words.now)) (codes "module" ∷ codes "document" ∷ []) (ap (required_in forms) c.in-verify.is) (c.in_err-module-in-verify.ensures.none refl)
+
+pub returns-in_err-module-in-stream-clause-none : goal.returns-in_err-module-in-stream-clause-none
+returns-in_err-module-in-stream-clause-none c = λ _.
+    no_command c.args.name.now (rows_of (found_of c.args.words.now)) (codes "module" ∷ []) (ap (required_in forms) c.in-stream.is) (c.in_err-module-in-stream.ensures.none refl)
+
 pub returns-in_err-module-in-drive-clause-none : goal.returns-in_err-module-in-drive-clause-none
 returns-in_err-module-in-drive-clause-none c = λ _.
     no_command c.args.name.now (rows_of (found_of c.args.words.now)) (codes "module" ∷ codes "turns" ∷ []) (ap (required_in forms) c.in-drive.is) (c.in_err-module-in-drive.ensures.none refl)

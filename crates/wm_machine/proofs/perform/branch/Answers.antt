@@ -2,9 +2,9 @@ use Rattle.std.proofs.Common.{arith, refl, ◌≡◌, ◌<◌, length, drop, [],
 use Rattle.wm_machine.specs.Step.{returned}
 use Rattle.wm_machine.specs.Term.{Leaves}
 use Rattle.wm_machine.specs.Inside.{out_of_labels, vars_of}
-use Rattle.wm_machine.proofs.Lift.{branches_to, branches_stuck, branches_past, branches_out, gives_back_goes}
+use Rattle.wm_machine.proofs.Lift.{branches_to, branches_stuck, branches_past, branches_out, gives_back_steps}
 use Rattle.wm_machine.proofs.Continuations.{drop_past}
-use Rattle.wm_machine.specs.Nest.{landed, carried_top}
+use Rattle.wm_machine.specs.Nest.{after_branch, carried_top}
 use Rattle.wm_machine.proofs.perform.branch.Goals as goal
 use Rattle.wm_machine.proofs.perform.branch.Goals.{else-carry-via-then-carry+else-count-popped, else-carry-via-else-carry}
 
@@ -15,7 +15,7 @@ pub returns-then-depth-label-2-clause-leads : goal.returns-then-depth-label-2-cl
 returns-then-depth-label-2-clause-leads c = λ depth globals.
     let a = c.args.running.now in
     let vs = drop c.args.popped a.control_stack.operands in
-    gives_back_goes c.args.module.now depth (out_of_labels c.args.module.now a.func (vars_of a globals) a.control_stack.outer (Leaves c.args.label vs)) a globals (returned c.args.module.now a.func vs) c.give_back.result (branches_out c.args.module.now a.func (vars_of a globals) vs a.control_stack.outer c.args.label (omega arith)) c.give_back.ensures.gives
+    gives_back_steps c.args.module.now depth (out_of_labels c.args.module.now a.func (vars_of a globals) a.control_stack.outer (Leaves c.args.label vs)) a globals (returned c.args.module.now a.func vs) c.give_back.result (branches_out c.args.module.now a.func (vars_of a globals) vs a.control_stack.outer c.args.label (omega arith)) c.give_back.ensures.gives
 
 pub returns-then-count-popped-clause-leads : goal.returns-then-count-popped-clause-leads
 returns-then-count-popped-clause-leads c = λ depth globals.
@@ -40,6 +40,6 @@ returns-else-carry-clause-leads c = λ depth globals.
       | else-carry-via-then-carry+else-count-popped w ↦ λ _. omega (arith, length-drop c.args.popped a.control_stack.operands, w.count.ensures, w.if-count-popped.false)
       | else-carry-via-else-carry w ↦ λ h. absurd (let e : true ≡ false = sym h ∙ w.if-carry.false in cc)
     ] in
-    let u : landed c.args.label (carried_top c.in-Some.carry ops) a.control_stack.outer ≡ Some c.unwind.new.self = rw c.pop.ensures at c.unwind.ensures in
+    let u : after_branch c.args.label (carried_top c.in-Some.carry ops) a.control_stack.outer ≡ Some c.unwind.new.self = rw c.pop.ensures at c.unwind.ensures in
     let e = branches_to c.args.module.now a.func (vars_of a globals) ops a.control_stack.outer c.args.label _ _ c.in-Some.next c.in-Some.carry c.unwind.new.self lt c.place-block.ensures.place u (λ operands. c.in-Some.ensures.some (vars_of a globals) operands ops pos) in
     rw c.set_at.ensures (e, refl)

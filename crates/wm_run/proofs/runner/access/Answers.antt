@@ -28,12 +28,12 @@ returns-in-Ok-advance-clause-moves c made limit below =
     let asks = λ (read : ℕ). access_of_need thread read op (sym (c.requires.needed read)) in
     let brings : value_or_zero c.in-Ok.reply.read ≡ v =
     ap (λ given. value_or_zero given.read) c.in-Ok.ensures.ok.reply ∙ reply_value (initial_of r) (ready (steps_of r) c.args.number op) c.args.number op in
-    let goes = made_access (step thread.module v (config_of thread)) op (config_of c.advance.new.self) (asks v)
+    let leads = made_access (step thread.module v (config_of thread)) op (config_of c.advance.new.self) (asks v)
     (subst (λ read. next_config (step thread.module read (config_of thread)) ≡ Some (config_of c.advance.new.self)) brings c.in-Ok-advance.ensures.ok) in
     let few : length (events (steps_of r)) < 16384 = not_full r c.recorded_log_is_valid.ensures.recording c.in-Ok.ensures.fault.2 in
     record {
       items = access_items (drains_first (steps_of r) c.args.number op) c.args.number op;
-      steps = access (let lt : made < limit = omega (arith, below) in lt) few asks goes;
+      steps = access (let lt : made < limit = omega (arith, below) in lt) few asks leads;
       adds = c.in-Ok.ensures.ok.adds;
     }
 

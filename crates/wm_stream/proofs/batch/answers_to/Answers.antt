@@ -9,7 +9,7 @@ use Rattle.wm_stream.proofs.batch.answers_to.Goals as goal
 
 pub returns : goal.returns
 returns g c =
-    let slice = ap (λ it. it.slice.now) c.map.ensures.base ∙ c.par_iter.ensures in
+    let slice = ap (λ it. it.base.slice.now) c.map.ensures.base ∙ ap (λ it. it.slice.now) c.with_min_len.ensures.base ∙ c.par_iter.ensures in
     let judge : c.map.result.f.0 ≡ c.args.judge = ap (λ f. f.0) c.map.ensures.f in
     let h = c.in_ok-collect.ensures in
     let chain = h.1 in

@@ -244,7 +244,7 @@ invariant_of-self-in-Asking c =
     let h = rw c.in-Asking.is at (c.in-Ok.ensures.stepped 0) in
     rw (h.1.0, h.1.1) c.self.invariant
 
-pub returns-in-Asking-clause-stays : goal.returns-in-Asking-clause-stays
-returns-in-Asking-clause-stays c = λ op _.
+pub returns-in-Asking-clause-kept : goal.returns-in-Asking-clause-kept
+returns-in-Asking-clause-kept c = λ op _.
     let h = rw c.in-Asking.is at (c.in-Ok.ensures.stepped 0) in
     rw (h.1.0, h.1.1) c.self.view_is

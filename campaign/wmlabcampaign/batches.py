@@ -1,0 +1,176 @@
+"""The work of a campaign, cut into batches. A batch is named by the SHA-256 of its module and content."""
+import bz2
+import gzip
+import hashlib
+import json
+import lzma
+import os
+import zlib
+from dataclasses import dataclass
+
+from .faults import Fault
+from .plan import Logs, Module
+
+try:
+    from compression import zstd
+except ImportError:  # before Python 3.14
+    zstd = None
+
+# The most bytes of a document. The program reads one more of a line, and refuses it.
+DOCUMENT_BYTES = 8_388_608
+# A batch has at most so many bytes of logs, unless one log alone has more.
+BATCH_BYTES = 4 * 2**20
+LOG_ENDINGS = (".json", ".jsonl", ".ndjson")
+OPENERS = {".gz": gzip.open, ".xz": lzma.open, ".bz2": bz2.open, ".zst": zstd and zstd.open}
+BAD_CONTENT = (OSError, EOFError, zlib.error, lzma.LZMAError, *([zstd.ZstdError] if zstd else []))
+
+
+@dataclass(frozen=True)
+class Batch:
+    """A batch of either kind: its number, from 1 in the order of the campaign, its name, and how many logs it has."""
+
+    number: int
+    name: str
+    module: Module
+    logs: int
+
+
+@dataclass(frozen=True)
+class LogBatch(Batch):
+    """Logs that are there, compressed; `origins` has, for each file, the number of its first line here and how many."""
+
+    packed_lines: bytes
+    origins: tuple
+
+    def origin(self, number):
+        for path, first, count in self.origins:
+            if number < count:
+                return f"{path} line {first + number}"
+            number -= count
+        raise IndexError(number)
+
+
+@dataclass(frozen=True)
+class RoundBatch(Batch):
+    """Rounds to record, the first of which has this seed."""
+
+    options: tuple
+    starts: tuple
+    seed: int
+
+    def words(self):
+        return [*self.options, f"--seed={self.seed}", f"--rounds={self.logs}"], list(self.starts)
+
+    def origin(self, number):
+        words = [*self.options, f"--seed={self.seed + number}", "--rounds=1", self.module.path, *self.starts]
+        return f"engines/node/record.mjs {' '.join(words)}"
+
+
+# ---- lines of files
+
+
+def is_log_file(name):
+    plain, ending = os.path.splitext(name)
+    return (plain if ending in OPENERS else name).endswith(LOG_ENDINGS)
+
+
+def files_in(place):
+    """A file as it is; of a folder and its folders the files whose names end as those of logs, in order."""
+    if not os.path.isdir(place):
+        return [place]
+    found = []
+    for folder, folders, names in os.walk(place):
+        folders.sort()
+        found += [os.path.join(folder, name) for name in sorted(names) if is_log_file(name)]
+    return found
+
+
+def opened(path):
+    ending = os.path.splitext(path)[1]
+    opener = OPENERS.get(ending, open)
+    if not opener:
+        raise Fault(f"cannot read {path}: this Python has no zstd (3.14 has); unpack it by zstd -d")
+    return opener(path, "rb")
+
+
+def lines_of(file):
+    """The lines of a file without their newlines, as `wmlab stream` counts them. Of a line that is too long, as many
+    bytes as show that."""
+    while line := file.readline(DOCUMENT_BYTES + 1):
+        if line.endswith(b"\n"):
+            yield line[:-1]
+            continue
+        rest = line
+        while rest and not rest.endswith(b"\n"):
+            rest = file.readline(2**20)
+        yield line
+
+
+def placed_lines(places):
+    """Each line of some places with its file and number."""
+    for place in places:
+        for path in files_in(place):
+            try:
+                with opened(path) as file:
+                    yield from ((path, number, line) for number, line in enumerate(lines_of(file), 1))
+            except BAD_CONTENT as error:
+                raise Fault(f"cannot read {path}: {getattr(error, 'strerror', None) or error}") from error
+
+
+# ---- batches
+
+
+def named(kind, module, content):
+    return hashlib.sha256(f"{kind} {module.digest} ".encode() + content).hexdigest()
+
+
+class LineCutter:
+    """Puts lines together until a batch is full."""
+
+    def __init__(self, module, most_logs):
+        self.module, self.most_logs = module, most_logs
+        self.lines, self.size, self.origins = [], 0, []
+
+    def is_full_for(self, line):
+        return self.lines and (len(self.lines) == self.most_logs or self.size + len(line) >= BATCH_BYTES)
+
+    def add(self, path, number, line):
+        self.lines.append(line)
+        self.size += len(line) + 1
+        if self.origins and self.origins[-1][0] == path:
+            self.origins[-1][2] += 1
+        else:
+            self.origins.append([path, number, 1])
+
+    def cut(self, number):
+        content = b"".join(line + b"\n" for line in self.lines)
+        name = named("logs", self.module, content)
+        batch = LogBatch(number, name, self.module, len(self.lines), zlib.compress(content, 1), tuple(self.origins))
+        self.lines, self.size, self.origins = [], 0, []
+        return batch
+
+
+def log_batches(part, most_logs, number):
+    cutter = LineCutter(part.module, most_logs)
+    for path, line_number, line in placed_lines(part.places):
+        if cutter.is_full_for(line):
+            yield cutter.cut(number)
+            number += 1
+        cutter.add(path, line_number, line)
+    if cutter.lines:
+        yield cutter.cut(number)
+
+
+def round_batches(part, most_logs, number):
+    for first in range(0, part.rounds, most_logs):
+        rounds, seed = min(most_logs, part.rounds - first), part.seed + first
+        content = json.dumps([part.options, part.starts, seed, rounds]).encode()
+        name = named("record", part.module, content)
+        yield RoundBatch(number, name, part.module, rounds, part.options, part.starts, seed)
+        number += 1
+
+
+def batches_of(part, most_logs, number):
+    """The batches of a part, numbered from `number`."""
+    cut = log_batches if isinstance(part, Logs) else round_batches
+    return cut(part, most_logs, number)

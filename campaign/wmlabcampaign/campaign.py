@@ -1,0 +1,120 @@
+"""One campaign: its batches in waves, their results, and the table."""
+import sys
+
+from .batches import batches_of
+from .faults import FAILED, Fault
+from .table import Table
+
+# The batches that the scheduler has at once, so that its memory and ours stay bounded.
+WAVE_BATCHES = 1_000
+WAVE_BYTES = 64 * 2**20
+MOST_FAILURES_SHOWN = 10
+
+
+class Wave:
+    """Batches that are sent and not finished. Batches of the same name are one piece of work."""
+
+    def __init__(self):
+        self.batches, self.futures, self.bytes = {}, {}, 0
+
+    def add(self, batch, submit):
+        if batch.name not in self.batches:
+            self.futures[submit(batch)] = batch.name
+            self.bytes += len(getattr(batch, "packed_lines", b""))
+        self.batches.setdefault(batch.name, []).append(batch)
+
+    def take(self, future):
+        return self.batches.pop(self.futures.pop(future))
+
+    @property
+    def is_full(self):
+        return len(self.batches) >= WAVE_BATCHES or self.bytes >= WAVE_BYTES
+
+
+class Campaign:
+    """Counts each batch once, by its number, from the one result of its name."""
+
+    def __init__(self, parts, folder, most_logs):
+        self.parts, self.folder, self.most_logs = parts, folder, most_logs
+        self.table = Table(dict.fromkeys(part.module.path for part in parts))
+        self.kept, self.failures, self.judged = set(), [], set()
+        self.batches = self.finished = self.from_before = 0
+        self.is_cut = False
+
+    def numbered_batches(self):
+        for part in self.parts:
+            first = self.batches + 1
+            for batch in batches_of(part, self.most_logs, first):
+                self.batches = batch.number
+                yield batch
+            if self.batches < first:
+                print(f"campaign: no logs: {' '.join(part.places)}", file=sys.stderr)
+        self.is_cut = True
+
+    def count(self, batch, result):
+        self.table.add(batch.module.path, result["counts"])
+        self.kept.update(result["kept"])
+        self.finished += 1
+
+    def take_results(self, wave, cluster, is_waited_for):
+        for future in cluster.completed(list(wave.futures), is_waited_for):
+            result, batches = cluster.result_of(future), wave.take(future)
+            if "failure" in result:
+                self.fail(batches, result["failure"])
+                continue
+            written = self.folder.finish(batches[0], result)
+            self.judged.add(batches[0].name)
+            for batch in batches:
+                self.count(batch, written)
+
+    def fail(self, batches, reason):
+        self.failures += batches
+        if len(self.failures) <= MOST_FAILURES_SHOWN:
+            batch = batches[0]
+            print(f"campaign: batch {batch.number} ({batch.origin(0)}) failed: {reason}", file=sys.stderr)
+
+    def finish_wave(self, wave, cluster):
+        with cluster.progress(list(wave.futures)):
+            self.take_results(wave, cluster, is_waited_for=True)
+
+    def run(self, cluster):
+        wave = Wave()
+        for batch in self.numbered_batches():
+            written = self.folder.finished(batch)
+            if written:
+                self.count(batch, written)
+                self.from_before += batch.name not in self.judged
+                continue
+            wave.add(batch, cluster.submit)
+            if wave.is_full:
+                self.finish_wave(wave, cluster)
+                wave = Wave()
+            else:
+                self.take_results(wave, cluster, is_waited_for=False)
+        self.finish_wave(wave, cluster)
+
+    @property
+    def status(self):
+        return FAILED if self.failures else self.table.status
+
+    def text(self):
+        """The table, and below it how far the campaign is and what is kept."""
+        lines = list(self.table.lines())
+        of = f" of {self.batches:,}" if self.is_cut else ", and there are more"
+        before = f", {self.from_before:,} of them by an earlier run" if self.from_before else ""
+        lines.append(f"batches finished: {self.finished:,}{of}{before}")
+        if self.failures:
+            lines.append(f"batches that failed and are not counted: {len(self.failures):,}; --resume tries them again")
+        if self.kept:
+            lines.append(f"kept: {len(self.kept):,} logs with their explanations in {self.folder.place('kept')}")
+        return "\n".join(lines) + "\n"
+
+    def report(self):
+        """Prints the table and writes it beside the results."""
+        text = self.text()
+        sys.stdout.write(text)
+        sys.stdout.flush()
+        try:
+            self.folder.write_table(text)
+        except Fault as fault:
+            print(f"campaign: {fault}", file=sys.stderr)

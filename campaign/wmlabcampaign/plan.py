@@ -1,0 +1,129 @@
+"""What a campaign is asked for: its parts, each of which is logs of a module, or rounds of a module to record."""
+import hashlib
+import os
+import shlex
+from dataclasses import asdict, dataclass
+from functools import cached_property
+
+from .faults import Fault, WrongWords
+
+MODES = ("locked", "buffered", "free")
+MOST_NUMBER = 999_999_999
+
+
+def read_file(path):
+    try:
+        with open(path, "rb") as file:
+            return file.read()
+    except OSError as error:
+        raise Fault(f"cannot read {path}: {error.strerror}") from error
+
+
+@dataclass(frozen=True)
+class Module:
+    """A module by the path that the user gave."""
+
+    path: str
+
+    @cached_property
+    def data(self):
+        return read_file(self.path)
+
+    @cached_property
+    def digest(self):
+        return hashlib.sha256(self.data).hexdigest()
+
+    @property
+    def name(self):
+        """Its file among the materials of a worker."""
+        return f"modules/{self.digest}.wasm"
+
+
+@dataclass(frozen=True)
+class Logs:
+    """Logs of a module, one a line, in files or folders."""
+
+    module: Module
+    places: tuple
+
+    @property
+    def description(self):
+        return {"logs": list(self.places), "module": self.module.path, "sha256": self.module.digest}
+
+
+@dataclass(frozen=True)
+class Recording:
+    """Rounds of a module to record in node."""
+
+    module: Module
+    starts: tuple
+    options: tuple
+    rounds: int
+    seed: int
+
+    @property
+    def description(self):
+        return {**asdict(self), "module": self.module.path, "sha256": self.module.digest}
+
+
+# ---- the words of a part
+
+
+def positive(text):
+    """An integer from 1, as the recorder takes it."""
+    if not text.isascii() or not text.isdigit() or not 1 <= int(text) <= MOST_NUMBER:
+        raise ValueError(text)
+    return int(text)
+
+
+# What complaints call it.
+positive.__name__ = "integer from 1"
+
+
+def add_parts(commands):
+    """The words of a part, as commands of a parser."""
+    logs = commands.add_parser("logs", help="judge logs that are there", description="Judges logs, one a line.")
+    logs.add_argument("module", metavar="MODULE")
+    logs.add_argument("places", metavar="PLACE", nargs="+", help="a file of logs, or a folder with such files")
+    record = commands.add_parser("record", help="record rounds in node, and judge them", description="Records rounds.")
+    record.add_argument("module", metavar="MODULE")
+    record.add_argument("starts", metavar="START", nargs="+", help="an export and its arguments, such as f:0:7")
+    record.add_argument("--mode", choices=MODES, default="locked", help="how accesses are recorded (locked)")
+    for name, default, shows in (
+        ("rounds", 1_000, "the number of runs"),
+        ("seed", 1, "of the first run; the next one has the seed N + 1"),
+        ("events", 128, "the most events of a run"),
+        ("turn", 4, "the most accesses of a thread in one turn"),
+        ("seconds", 20, "the longest search for a witness, or for a smaller run"),
+    ):
+        record.add_argument(f"--{name}", metavar="N", type=positive, default=default, help=f"{shows} ({default:,})")
+    record.add_argument("--wrong", metavar="HOW", help="be an engine that is wrong on purpose, as record.mjs has it")
+
+
+def part_of(options):
+    """The part that the words of a command name."""
+    module = Module(options.module)
+    if options.command == "logs":
+        return Logs(module, tuple(options.places))
+    words = [f"--{name}={getattr(options, name)}" for name in ("mode", "events", "turn", "seconds")]
+    if options.wrong:
+        words.append(f"--wrong={options.wrong}")
+    return Recording(module, tuple(options.starts), tuple(words), options.rounds, options.seed)
+
+
+def parts_of(options, parser):
+    """The parts that a command line asks for. `parser` takes the words of a single part."""
+    if options.command != "plan":
+        return [part_of(options)]
+    parts = []
+    for number, line in enumerate(read_file(options.file).decode(errors="replace").split("\n"), 1):
+        try:
+            words = shlex.split(line, comments=True)
+        except ValueError as error:
+            raise WrongWords(f"{options.file} line {number}: {error}") from error
+        if words:
+            parser.prog = f"{os.path.basename(options.file)} line {number}"
+            parts.append(part_of(parser.parse_args(words)))
+    if not parts:
+        raise WrongWords(f"{options.file} has no line `logs ..` or `record ..`")
+    return parts

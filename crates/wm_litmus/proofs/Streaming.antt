@@ -1,0 +1,74 @@
+-- The answers to the lines of a stream, over the module that was read.
+use Rattle.std.proofs.Common.{◌≡◌, ℕ, ◌+◌, List, [], ◌∷◌, Option, OnErr, Result, Ok, Err, ap, refl, ◌∙◌}
+use Rattle.std.specs.Borrow.{Bor}
+use Rattle.wm_decode.specs.Bounds.{max_module_bytes}
+use Rattle.wm_logfile.specs.Limits.{max_document_bytes}
+use Rattle.wm_stream.specs.declared.answer.LineStatus.{LineStatus}
+use Rattle.wm_stream.specs.Answers.{Answered, AreAnswers, status_code, text_of}
+use Rattle.wm_stream.specs.Stream.{AnswersAll, AnswersFirst}
+use Rattle.clap.specs.Words.{Text}
+use Rattle.wm_litmus.specs.declared.command.Command.TheVariants.{Stream}
+use Rattle.wm_litmus.specs.declared.stream.Judge.{Judge}
+use Rattle.wm_litmus.specs.Commands.{IsCommand}
+use Rattle.wm_litmus.specs.Input.{IsReadOf}
+use Rattle.wm_litmus.specs.Replies.{Given, WritesAnswer, WritesFront}
+use Rattle.wm_litmus.specs.Replies.IsAnswer.{stream_of}
+use Rattle.wm_litmus.specs.Replies.WritesFront.{nothing as written_nothing, first_lines}
+use Rattle.wm_litmus.specs.Serving.{StreamsAll, StreamsFront}
+use Rattle.wm_litmus.specs.Serving.StreamsFront.{nothing as streamed_nothing, front as streamed_front}
+use Rattle.wm_litmus.specs.Stream.{AnswersLine, IsJudgeOf, JudgesLine}
+
+-- what a judge of the module answers to lines are their answers
+pub answers_lines : (module_bytes : List ℕ) (judge : Judge) → IsJudgeOf module_bytes judge → (lines : List (List ℕ)) (answers : List Answered)
+    → AreAnswers (JudgesLine judge) lines answers → AreAnswers (AnswersLine module_bytes) lines answers
+answers_lines module_bytes judge is [] [] h = tt
+answers_lines module_bytes judge is [] (answer ∷ answers) h = absurd h
+answers_lines module_bytes judge is (line ∷ lines) [] h = absurd h
+answers_lines module_bytes judge is (line ∷ lines) (answer ∷ answers) h = (h.0 module_bytes is, answers_lines module_bytes judge is lines answers h.1)
+
+module _ (file input old new : Option (List ℕ)) (module_bytes : List ℕ) (judge : Judge) where
+  pub streams_all : (status : LineStatus) (code : ℕ) → IsReadOf file max_module_bytes module_bytes → IsJudgeOf module_bytes judge
+      → AnswersAll (JudgesLine judge) (max_document_bytes + 1) input status old new → code ≡ status_code status → StreamsAll file input old new code
+  streams_all status code read is all code_is = record {
+    module_bytes = module_bytes;
+    read = read;
+    text = text_of all.prints.answers;
+    answers = record {
+      lines = all.lines;
+      are_lines = all.are_lines;
+      answers = all.prints.answers;
+      are_answers = answers_lines module_bytes judge is all.lines all.prints.answers all.prints.are_answers;
+      status_is = code_is ∙ ap status_code all.prints.status_is;
+      text_is = refl;
+    };
+    gains = all.prints.gains;
+  }
+
+  pub streams_front : IsReadOf file max_module_bytes module_bytes → IsJudgeOf module_bytes judge
+      → AnswersFirst (JudgesLine judge) (max_document_bytes + 1) input old new → StreamsFront file input old new
+  streams_front read is first = streamed_front module_bytes (text_of first.prints.answers) read (record {
+    lines = first.lines;
+    are_lines = first.are_lines;
+    count = first.prints.count;
+    answers = first.prints.answers;
+    are_answers = answers_lines module_bytes judge is _ first.prints.answers first.prints.are_answers;
+    text_is = refl;
+  }) first.prints.gains
+
+-- ---- what the program writes of a stream
+
+module _ (given : Given) (name : Bor Text) (old new : Option (List ℕ)) (command : IsCommand given.words (Stream name)) where
+  pub writes_all : (status : ℕ) → StreamsAll (given.files name.now) given.input old new status → WritesAnswer given old new status
+  writes_all status all = record {
+    text = all.text;
+    answers = stream_of name all.module_bytes command all.read all.answers;
+    gains = all.gains;
+  }
+
+  pub writes_front : StreamsFront (given.files name.now) given.input old new → WritesFront given old new
+  writes_front (streamed_nothing same) = written_nothing same
+  writes_front (streamed_front module_bytes text read answers gains) = first_lines name module_bytes text command read answers gains
+
+pub on_err : {T E P : Type 0} (r : Result T E) → P → OnErr r P
+on_err (Ok value) p = tt
+on_err (Err error) p = p

@@ -1,0 +1,21 @@
+use Rattle.std.proofs.Common.{◌≡◌, subst}
+use Rattle.wm_litmus.specs.Stream.{IsJudgeOf}
+use Rattle.wm_litmus.proofs.Streaming.{on_err, streams_all, streams_front}
+use Rattle.wm_litmus.proofs.program.stream_lines.Goals as goal
+
+pub returns-in_err-status-clause-stopped : goal.returns-in_err-status-clause-stopped
+returns-in_err-status-clause-stopped g c =
+    let bytes = c.in_ok-bytes.bytes.items in
+    let slice : c.as_slice.result.now ≡ bytes = c.as_slice.ensures.value in
+    let is = subst (λ b. IsJudgeOf b c.in_ok-judge.judge) slice c.in_ok-judge.ensures in
+    on_err c.from_residual-in_err-status.result
+    (streams_front (g.F.Files.content_of c.args.files.now c.args.name.now) (g.I.Read.remaining c.args.input.now) (g.O.Write.contents c.args.out.now) (g.O.Write.contents c.answer_lines.new.out)
+    bytes c.in_ok-judge.judge c.in_ok-bytes.ensures.known is c.in_err-status.ensures.stopped)
+
+pub returns-clause-answered : goal.returns-clause-answered
+returns-clause-answered g c =
+    let bytes = c.in_ok-bytes.bytes.items in
+    let slice : c.as_slice.result.now ≡ bytes = c.as_slice.ensures.value in
+    let is = subst (λ b. IsJudgeOf b c.in_ok-judge.judge) slice c.in_ok-judge.ensures in
+    streams_all (g.F.Files.content_of c.args.files.now c.args.name.now) (g.I.Read.remaining c.args.input.now) (g.O.Write.contents c.args.out.now) (g.O.Write.contents c.answer_lines.new.out)
+    bytes c.in_ok-judge.judge c.in_ok-status.status c.code.result c.in_ok-bytes.ensures.known is c.in_ok-status.ensures.answered c.code.ensures

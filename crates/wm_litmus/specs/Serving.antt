@@ -1,0 +1,35 @@
+-- What the parts of the program answer.
+use Rattle.std.specs.Prelude.{◌≡◌, ℕ, List, Option, string_bytes, ⊤}
+use Rattle.wm_decode.specs.Bounds.{max_module_bytes}
+use Rattle.wm_litmus.specs.declared.command.Command.TheVariants.{Stream}
+use Rattle.wm_litmus.specs.declared.program.Reply.{Reply}
+use Rattle.wm_litmus.specs.declared.program.Reply.TheVariants as reply
+use Rattle.wm_litmus.specs.Commands.{IsCommand}
+use Rattle.wm_litmus.specs.Input.{IsReadOf}
+use Rattle.wm_litmus.specs.Replies.{Given, IsAnswer}
+use Rattle.wm_litmus.specs.Stream.{AnswersFirstLines, AnswersStream}
+use Rattle.std.specs.Io.KnownBytes.{Appends}
+use Rattle.wm_stream.specs.Output.{AppendsFront}
+
+-- an answer of the program, or the name of the module whose lines are to be answered
+abbrev pub IsReply : Given → Reply → Type 0
+IsReply given (reply.Answer answer) = IsAnswer given answer.status (string_bytes answer.text)
+IsReply given (reply.Lines name) = IsCommand given.words (Stream name)
+
+abbrev pub IsOfLines : Reply → Type 0
+IsOfLines (reply.Answer answer) = ⊥
+IsOfLines (reply.Lines name) = ⊤
+
+-- the writer gains the answers to all lines of the input, over what was read of the module's file
+pub record StreamsAll (file input old new : Option (List ℕ)) (status : ℕ) : Type 0 where
+  pub module_bytes : List ℕ
+  pub read : IsReadOf file max_module_bytes module_bytes
+  pub text : List ℕ
+  pub answers : AnswersStream module_bytes input status text
+  pub gains : Appends old new text
+
+-- the writer gains nothing, or a front of the answers to the first lines of the input
+pub data StreamsFront (file input old new : Option (List ℕ)) : Type 0 where
+  nothing : new ≡ old → StreamsFront file input old new
+  front : (module_bytes text : List ℕ) → IsReadOf file max_module_bytes module_bytes → AnswersFirstLines module_bytes input text
+      → AppendsFront old new text → StreamsFront file input old new

@@ -1,0 +1,64 @@
+-- What the commands `verify` and `stream` answer.
+use Rattle.std.specs.Prelude.{◌≡◌, ℕ, ◌+◌, List, ◌++◌, Option, IfSome, take}
+use Rattle.wm_check.specs.declared.verdict.Verdict.{Verdict}
+use Rattle.wm_check.specs.declared.verdict.Verdict.TheVariants.{Refused}
+use Rattle.wm_check.specs.declared.verdict.Refusal.{Refusal}
+use Rattle.wm_check.specs.Reading.{IsModuleRefusal}
+use Rattle.wm_check.specs.Run.{IsModuleOf}
+use Rattle.wm_check.specs.Verified.{Verifies}
+use Rattle.wm_logfile.specs.Limits.{max_document_bytes}
+use Rattle.wm_stream.specs.declared.answer.LineStatus.{LineStatus}
+use Rattle.wm_stream.specs.Answers.{Answered, AreAnswers, overall, status_code, text_of}
+use Rattle.wm_stream.specs.Lines.{cut_lines}
+use Rattle.wm_litmus.specs.declared.stream.Judge.{Judge}
+use Rattle.wm_litmus.specs.declared.stream.Judge.TheVariants as judge
+use Rattle.wm_litmus.specs.Lines.{verdict_status, verdict_text}
+use Rattle.wm_litmus.specs.Prints.{ended}
+
+-- ---- the command `verify`
+
+-- the status and the text that answer a module and a document: those of the verdict on its completed log
+pub record AnswersVerify (module_bytes document_bytes : List ℕ) (status : ℕ) (text : List ℕ) : Type 0 where
+  pub verdict : Verdict
+  pub verifies : Verifies module_bytes document_bytes verdict
+  pub status_is : status ≡ verdict_status verdict
+  pub text_is : text ≡ ended (verdict_text verdict)
+
+-- ---- the command `stream`
+
+-- the answer to a line is that of `verify` to the line as a document
+abbrev pub AnswersLine : List ℕ → List ℕ → LineStatus → List ℕ → Type 0
+AnswersLine module_bytes line status text = AnswersVerify module_bytes line (status_code status) text
+
+-- the lines of the input, each with its first bytes, as many as a document may have and one more
+abbrev pub input_lines : List ℕ → List (List ℕ)
+input_lines bytes = cut_lines (max_document_bytes + 1) bytes
+
+-- the status and the text that answer the input: an answer to each line, in their order
+pub record AnswersStream (module_bytes : List ℕ) (input : Option (List ℕ)) (status : ℕ) (text : List ℕ) : Type 0 where
+  pub lines : List (List ℕ)
+  pub are_lines : IfSome input (λ all. lines ≡ input_lines all)
+  pub answers : List Answered
+  pub are_answers : AreAnswers (AnswersLine module_bytes) lines answers
+  pub status_is : status ≡ status_code (overall answers)
+  pub text_is : text ≡ text_of answers
+
+-- the text that answers some first lines of the input
+pub record AnswersFirstLines (module_bytes : List ℕ) (input : Option (List ℕ)) (text : List ℕ) : Type 0 where
+  pub lines : List (List ℕ)
+  pub are_lines : IfSome input (λ all. (others : List (List ℕ)) × (input_lines all ≡ lines ++ others))
+  pub count : ℕ
+  pub answers : List Answered
+  pub are_answers : AreAnswers (AnswersLine module_bytes) (take count lines) answers
+  pub text_is : text ≡ text_of answers
+
+-- ---- who answers a line
+
+-- the bytes spell the module, or are refused with this verdict
+abbrev pub IsJudgeOf : List ℕ → Judge → Type 0
+IsJudgeOf module_bytes (judge.Module «module») = IsModuleOf module_bytes «module»
+IsJudgeOf module_bytes (judge.Refused verdict) = (refusal : Refusal) × (verdict ≡ Refused refusal) × IsModuleRefusal module_bytes refusal
+
+-- what a judge answers to a line, whichever bytes it is made of
+abbrev pub JudgesLine : Judge → List ℕ → LineStatus → List ℕ → Type 0
+JudgesLine judge line status text = (module_bytes : List ℕ) → IsJudgeOf module_bytes judge → AnswersLine module_bytes line status text

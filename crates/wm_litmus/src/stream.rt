@@ -1,0 +1,90 @@
+//! The commands `verify` and `stream`: documents are completed against a module, and checked.
+ghost use Rattle.std.specs.Prelude.{◌≡◌, IfOk, string_bytes};
+ghost use Rattle.wm_stream.specs.Answers.{status_code};
+ghost use Rattle.wm_litmus.specs.Lines.{verdict_status, verdict_text};
+ghost use Rattle.wm_litmus.specs.Prints.{ended};
+ghost use Rattle.wm_litmus.specs.Stream.{AnswersVerify, IsJudgeOf, JudgesLine};
+
+use crate::answer::Answer;
+use std::alloc::{AllocError, Global};
+use wm_check::{Unread, Verdict, read_module, verify, verify_log};
+use wm_stream::{AnswersLines, LineAnswer, LineStatus};
+use wm_valid::ValidModule;
+
+/// The answer to the bytes of a module and of a document, which is completed and checked.
+///
+/// # Errors
+///
+/// Only if an allocation fails.
+pub(crate) fn verify_answer(
+    alloc: Global,
+    module_bytes: &[u8],
+    document_bytes: &[u8],
+) -> Result<Answer, AllocError>
+    ensures { IfOk result (λ answer.
+        AnswersVerify module_bytes.now document_bytes.now answer.status (string_bytes answer.text)) }
+{
+    let verdict = verify(alloc, module_bytes, document_bytes)?;
+    Answer::of_verdict(alloc, &verdict)
+}
+
+/// Who answers the lines of a stream.
+#[derive(Drop)]
+pub(crate) enum Judge {
+    /// The module that the lines are verified against.
+    Module(ValidModule),
+    /// The refusal of the module, which answers each line.
+    Refused(Verdict),
+}
+
+/// The status of a line that a verdict answers.
+fn line_status(verdict: &Verdict) -> LineStatus
+    ensures { status_code result ≡ verdict_status verdict.now }
+{
+    match verdict {
+        Verdict::Allowed(_) => LineStatus::Allowed,
+        Verdict::Broken(_) => LineStatus::Broken,
+        Verdict::Refused(_) => LineStatus::Refused,
+    }
+}
+
+/// The answer to a line that a verdict is.
+fn line_answer(alloc: Global, verdict: &Verdict) -> Result<LineAnswer, AllocError>
+    ensures { IfOk result (λ answer. (status_code answer.status ≡ verdict_status verdict.now)
+        × (string_bytes answer.text ≡ ended (verdict_text verdict.now))) }
+{
+    let answer = Answer::of_verdict(alloc, verdict)?;
+    Ok(LineAnswer {
+        text: answer.text,
+        status: line_status(verdict),
+    })
+}
+
+impl AnswersLines for Judge {
+    ghost says = { JudgesLine };
+
+    fn answer(&self, alloc: Global, line: &[u8]) -> Result<LineAnswer, AllocError> {
+        match self {
+            Judge::Module(module) => {
+                let verdict = verify_log(alloc, module, line)?;
+                line_answer(alloc, &verdict)
+            }
+            Judge::Refused(verdict) => line_answer(alloc, verdict),
+        }
+    }
+}
+
+/// Who answers the lines of a stream over the bytes of a module.
+///
+/// # Errors
+///
+/// Only if an allocation fails.
+pub(crate) fn judge_of(alloc: Global, module_bytes: &[u8]) -> Result<Judge, AllocError>
+    ensures { IfOk result (IsJudgeOf module_bytes.now) }
+{
+    match read_module(alloc, module_bytes) {
+        Ok(module) => Ok(Judge::Module(module)),
+        Err(Unread::Refused(refusal)) => Ok(Judge::Refused(Verdict::Refused(refusal))),
+        Err(Unread::OutOfMemory) => Err(AllocError),
+    }
+}

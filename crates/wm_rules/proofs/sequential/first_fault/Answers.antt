@@ -1,0 +1,12 @@
+-- The rules in turn.
+use Rattle.std.proofs.Common.{◌+◌, ℕ, [], ◌∷◌, rules, subst}
+use Rattle.wm_event.specs.LoggedRun.{execution}
+use Rattle.wm_hb.specs.Scan.{Finds}
+use Rattle.wm_rules.proofs.CaseLemmas.{late_at, rule_found}
+use Rattle.wm_rules.proofs.sequential.first_fault.Goals as goal
+
+pub returns-then-is_some : goal.returns-then-is_some
+returns-then-is_some c =
+    let number = late_at c.loop-rule.rule-index (search rules) in
+    rule_found (execution c.args.relation.now) (c.loop-rule.rule-index + 3) c.fault_by_rule-fault.result (search rules)
+    (subst (λ (n : ℕ). Finds (execution c.args.relation.now) (n ∷ []) c.fault_by_rule-fault.result) number c.fault_by_rule-fault.ensures) c.loop-rule.invariant

@@ -1,0 +1,61 @@
+"""What the commands of litmus/ share: their words, and how they end."""
+import argparse
+import os
+import sys
+
+from . import harness
+from .accesses import BadCycle
+from .judges import Failed, has_stream
+from .names import cycle_named, named
+from .tests import test_of
+
+
+def arguments(description):
+    """A parser of the words of a command that asks the program."""
+    return harness.arguments(description)
+
+
+def program_of(options):
+    """The program that the options name, or the one that ./wmlab runs; it has to have `stream`."""
+    program = harness.program_of(options)
+    if not has_stream(program):
+        raise Failed(f"{program}: this program has no command stream")
+    return program
+
+
+def positive(word):
+    """An integer of at least 1."""
+    if not word.isdecimal() or int(word) < 1:
+        raise argparse.ArgumentTypeError(f"{word}: expected an integer of at least 1")
+    return int(word)
+
+
+def test_named(text):
+    """The test of a name, or of the text of a cycle."""
+    name, form = named(cycle_named(text))
+    return test_of(form, name)
+
+
+def folder_for(path):
+    """A folder to write to."""
+    os.makedirs(path, exist_ok=True)
+    return path
+
+
+def write(path, data):
+    with open(path, "wb") as file:
+        file.write(data if isinstance(data, bytes) else data.encode())
+
+
+def ending(main):
+    """Runs a command. A mistake of its user, or a program that fails, is one line and status 2; Ctrl-C is 130."""
+    try:
+        sys.exit(main())
+    except (BadCycle, Failed) as error:
+        fault = str(error)
+    except OSError as error:
+        fault = f"{error.filename or 'output'}: {error.strerror}"
+    except KeyboardInterrupt:
+        sys.exit(130)
+    print(f"{os.path.basename(sys.argv[0])}: {fault}", file=sys.stderr)
+    sys.exit(2)

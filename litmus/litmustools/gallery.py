@@ -1,0 +1,125 @@
+"""What came of each test: by the rules, by the store buffers of `drive` and `run`, and in an engine."""
+import json
+import os
+import subprocess
+from collections import Counter
+from dataclasses import dataclass, field
+
+from . import TOP, judges
+from .buffers import Machine, outcomes, script
+from .candidates import Candidates, ask
+from .judges import Failed, Stream
+from .modules import bytes_of
+from .tests import LitmusTest
+
+ROUNDS_COMMAND = os.path.join(TOP, "litmus/rounds.mjs")
+
+
+@dataclass
+class Seen:
+    """What an engine gave in its rounds of a test: how often each outcome and each verdict came."""
+
+    outcomes: dict
+    verdicts: dict
+
+
+@dataclass
+class Row:
+    """What came of a test. `log` is the first allowed candidate with the cycle's outcome, or one that is refused.
+    `engines` has what each engine gave that ran it."""
+
+    test: LitmusTest
+    module: str
+    is_permitted: bool = False
+    answers: Counter = field(default_factory=Counter)
+    log: str = ""
+    script: str | None = None
+    runs: int = 0
+    engines: dict = field(default_factory=dict)
+
+    @property
+    def asked(self):
+        return sum(self.answers.values())
+
+    def times(self, engine):
+        """How often an engine gave the cycle's outcome."""
+        return self.engines[engine].outcomes.get(self.test.outcome, 0) if engine in self.engines else 0
+
+    @property
+    def finds(self):
+        """What an engine or the program showed that no candidate permits, in sentences."""
+        found = []
+        for engine, seen in self.engines.items():
+            if self.times(engine) and not self.is_permitted:
+                found.append(f"{self.test.name}: {engine} gave the cycle's outcome, which no candidate permits")
+            others = [line for line in seen.verdicts if not line.startswith("allowed")]
+            found += [f"{self.test.name}: a log of {engine} is answered by: {line}" for line in others]
+        if (self.script or self.runs) and not self.is_permitted:
+            found.append(f"{self.test.name}: the store buffers gave the cycle's outcome, which no candidate permits")
+        return found
+
+
+def row_of(test, folder):
+    """The row of a test, whose module is written to a folder."""
+    module = os.path.join(folder, f"{test.name}.wasm")
+    with open(module, "wb") as file:
+        file.write(bytes_of(test))
+    return Row(test, module)
+
+
+def judge(row, program):
+    """Asks about each candidate with the cycle's outcome."""
+    with Stream(program, row.module) as stream:
+        found = ask(Candidates(row.test, outcome=row.test.cycle_values), stream)
+    cycle = found[row.test.cycle_values]
+    row.answers, row.is_permitted = cycle.answers, cycle.is_permitted
+    row.log = judges.completed(program, row.module, cycle.witness or cycle.last)
+    if row.is_permitted:
+        check(row, program)
+
+
+def printed(program, words, given=None):
+    ran = subprocess.run([program, *words], input=given, stdout=subprocess.PIPE, text=True, check=False)
+    return ran.stdout
+
+
+def check(row, program):
+    """The witness has to be allowed by `check` too."""
+    answer = printed(program, ["check", row.module, "-"], row.log)
+    if not answer.startswith("allowed"):
+        raise Failed(f"{row.test.name}: check answers {answer.strip()}")
+
+
+def find_script(row, program):
+    """The script with the fewest moves by which the store buffers give the cycle's outcome, tried by `drive`."""
+    found = outcomes(Machine(row.test))
+    if row.test.cycle_values not in found:
+        return
+    turns = script(row.test, found[row.test.cycle_values])
+    lines = printed(program, ["drive", row.module, turns, *row.test.starts]).split("\n")
+    if lines[0] != f"outcome {row.test.outcome}" or not lines[1].startswith("allowed"):
+        raise Failed(f"{row.test.name}: drive {turns} prints {lines[:2]}")
+    row.script = turns
+
+
+def run_rounds(row, program, rounds):
+    """How often the cycle's outcome came in rounds of `run`."""
+    lines = printed(program, ["run", row.module, str(rounds), *row.test.starts]).split("\n")
+    if f"allowed rounds={rounds}" not in lines:
+        raise Failed(f"{row.test.name}: run prints {lines[-2:]}")
+    counts = {line.strip().split("  ")[1]: int(line.split()[0]) for line in lines if line.startswith(" ")}
+    row.runs = counts.get(row.test.outcome, 0)
+
+
+def engine_rounds(rows, program, engine, rounds):
+    """Has an engine run each test in the mode free. Answers the engine's version."""
+    command = [ROUNDS_COMMAND, "--engine", engine, "--rounds", str(rounds), "--wmlab", program]
+    questions = "".join(json.dumps([row.test.name, row.module, row.test.starts]) + "\n" for row in rows)
+    ran = subprocess.run(command, input=questions, capture_output=True, text=True, check=False)
+    lines = ran.stdout.split("\n")[:-1]
+    if ran.returncode or len(lines) != len(rows) + 1:
+        raise Failed(f"rounds.mjs ended with status {ran.returncode}: {ran.stderr.strip()[-200:]}")
+    for row, line in zip(rows, lines[1:], strict=True):
+        _, outcomes_seen, verdicts = json.loads(line)
+        row.engines[engine] = Seen(dict(outcomes_seen), dict(verdicts))
+    return json.loads(lines[0])

@@ -1,0 +1,84 @@
+"""Who answers for candidates: the program's `stream`, one process for a module."""
+import subprocess
+import tempfile
+
+BATCH = 500
+
+
+class Failed(Exception):
+    """The program did not answer as it should, in a sentence."""
+
+
+class Stream:
+    """`wmlab stream` on a module. Used in a `with` statement."""
+
+    def __init__(self, program, module):
+        self.program, self.module = program, module
+
+    def __enter__(self):
+        self.errors = tempfile.TemporaryFile()
+        try:
+            self.process = subprocess.Popen(
+                [self.program, "stream", self.module],
+                stdin=subprocess.PIPE,
+                stdout=subprocess.PIPE,
+                stderr=self.errors,
+            )
+        except OSError as error:
+            raise Failed(f"{self.program}: {error.strerror}") from error
+        return self
+
+    def __exit__(self, *_):
+        self.process.stdin.close()
+        self.process.stdout.close()
+        self.process.wait()
+        self.errors.close()
+
+    def failure(self):
+        status = self.process.wait()
+        self.errors.seek(0)
+        said = self.errors.read(200).decode(errors="replace").strip()
+        return Failed(f"{self.program} stream ended with status {status} before it answered: {said}")
+
+    def answers(self, lines):
+        """The answer to each line, which is the text of a log. At most a batch is under way, so that neither side
+        waits for the other to read."""
+        found = []
+        for start in range(0, len(lines), BATCH):
+            batch = lines[start : start + BATCH]
+            try:
+                self.process.stdin.write(("\n".join(batch) + "\n").encode())
+                self.process.stdin.flush()
+            except BrokenPipeError:
+                raise self.failure() from None
+            for _ in batch:
+                answer = self.process.stdout.readline()
+                if not answer.endswith(b"\n"):
+                    raise self.failure()
+                found.append(answer[:-1].decode())
+        return found
+
+
+def has_stream(program):
+    """Whether the program has the command `stream`."""
+    ran = subprocess.run([program, "help"], stdout=subprocess.PIPE, stderr=subprocess.DEVNULL, text=True, check=False)
+    return "stream MODULE" in ran.stdout
+
+
+def completed(program, module, document):
+    """The log with its steps and ends, as `wmlab complete` prints it."""
+    ran = subprocess.run(
+        [program, "complete", module, "-"], input=document, stdout=subprocess.PIPE, text=True, check=False
+    )
+    if ran.returncode:
+        raise Failed(f"{program} complete: {ran.stdout.strip()}")
+    return ran.stdout.strip()
+
+
+def graph(program, module, document):
+    """The execution for Graphviz, with what is violated in red."""
+    whole = completed(program, module, document)
+    ran = subprocess.run([program, "graph", module, "-"], input=whole, stdout=subprocess.PIPE, text=True, check=False)
+    if not ran.stdout.startswith("digraph"):
+        raise Failed(f"{program} graph: {ran.stdout.strip()}")
+    return ran.stdout

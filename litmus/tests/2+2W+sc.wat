@@ -1,0 +1,33 @@
+;; 2+2W+sc
+;; PodWW Coe PodWW Coe : sc sc sc sc
+(module
+  (memory 1 1 shared)
+  (func (export "a")
+    i32.const 0
+    i32.const 2
+    i32.atomic.store
+    i32.const 16
+    i32.const 1
+    i32.atomic.store
+    i32.const 64
+    i32.const 1
+    i32.atomic.store)
+  (func (export "b") (result i32)
+    i32.const 16
+    i32.const 2
+    i32.atomic.store
+    i32.const 0
+    i32.const 1
+    i32.atomic.store
+    i32.const 64
+    i32.atomic.load
+    i32.const 10
+    i32.mul
+    i32.const 0
+    i32.load
+    i32.add
+    i32.const 10
+    i32.mul
+    i32.const 16
+    i32.load
+    i32.add))

@@ -1,0 +1,16 @@
+;; CoRR
+;; Rfe PosRR Fre
+(module
+  (memory 1 1 shared)
+  (func (export "a")
+    i32.const 0
+    i32.const 1
+    i32.store)
+  (func (export "b") (result i32)
+    i32.const 0
+    i32.load
+    i32.const 10
+    i32.mul
+    i32.const 0
+    i32.load
+    i32.add))

@@ -1,0 +1,16 @@
+;; SB
+;; PodWR Fre PodWR Fre
+(module
+  (memory 1 1 shared)
+  (func (export "a") (result i32)
+    i32.const 0
+    i32.const 1
+    i32.store
+    i32.const 16
+    i32.load)
+  (func (export "b") (result i32)
+    i32.const 16
+    i32.const 1
+    i32.store
+    i32.const 0
+    i32.load))

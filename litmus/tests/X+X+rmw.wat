@@ -1,0 +1,12 @@
+;; X+X+rmw
+;; Fre Fre : rmw rmw
+(module
+  (memory 1 1 shared)
+  (func (export "a") (result i32)
+    i32.const 0
+    i32.const 1
+    i32.atomic.rmw.xchg)
+  (func (export "b") (result i32)
+    i32.const 0
+    i32.const 2
+    i32.atomic.rmw.xchg))

@@ -1,0 +1,39 @@
+#!/usr/bin/env python3
+"""Assembles the modules whose text is beside them, NAME.wat to NAME.wasm, in the examples and the recorders, by wabt's
+wat2wasm. A text that is not valid begins with a comment that says so, with the word --no-check.
+
+    scripts/assemble.py [--check]        it needs wat2wasm (Debian's wabt)
+
+--check asks whether the modules are current, and writes nothing. The last line is `N passed, N failed`.
+"""
+import glob
+import os
+import subprocess
+import tempfile
+
+from wmlabtools import TOP, generated
+
+FOLDERS = ("examples", "engines/testing", "engines/lowering/programs")
+
+
+def assembled(path):
+    """The bytes of the module that a file has the text of."""
+    with open(path, encoding="utf-8") as file:
+        is_valid = "--no-check" not in file.readline()
+    with tempfile.TemporaryDirectory() as folder:
+        words = ["wat2wasm", "--enable-threads", path, "-o", f"{folder}/it.wasm"]
+        subprocess.run(words if is_valid else [*words, "--no-check"], check=True)
+        with open(f"{folder}/it.wasm", "rb") as file:
+            return file.read()
+
+
+def main():
+    options = generated.words_of(__doc__)
+    generated.need("wat2wasm")
+    texts = [path for folder in FOLDERS for path in sorted(glob.glob(f"{TOP}/{folder}/*.wat"))]
+    modules = {os.path.relpath(path, TOP).removesuffix(".wat") + ".wasm": assembled(path) for path in texts}
+    generated.write_or_check(modules, options.check)
+
+
+if __name__ == "__main__":
+    main()
