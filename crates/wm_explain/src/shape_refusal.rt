@@ -237,7 +237,11 @@ pub(crate) fn shape_reason(
     misshapen: &Misshapen,
     memory: usize,
 ) -> Result<String, AllocError> {
-    let Misshapen { log, witness, fault } = misshapen;
+    let Misshapen {
+        log,
+        witness,
+        fault,
+    } = misshapen;
     let mut text = String::new(alloc);
     let Some(key) = event_of(*fault) else {
         add_log_fault(alloc, &mut text, *fault, log, witness)?;
