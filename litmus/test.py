@@ -1,7 +1,7 @@
 #!/usr/bin/env python3
 """Tests of the litmus suite. The last line is `N passed, N failed`.
 
-    litmus/test.py             the tests of litmus/tests, half a minute with the proved program
+    litmus/test.py             the tests of litmus/tests, seconds with the proved program
     litmus/test.py --all       each test of the suite
     litmus/test.py --plain     what asks no program
 """

@@ -27,4 +27,4 @@ mod type_stack;
 mod unsupported;
 mod valid_refusal;
 
-pub use reasons::{explain_refusal, explain_run};
+pub use reasons::{explain_refusal, explain_run, explain_shape};

@@ -3,7 +3,7 @@
 use crate::phrase::{Count, EventPhrase};
 use std::alloc::{AllocError, Global};
 use std::fmt;
-use wm_event::{Event, EventId, EventKey, Log, MAX_EVENTS, ShapeFault, Witness};
+use wm_event::{Event, EventId, EventKey, Log, MAX_EVENTS, Misshapen, ShapeFault, Witness};
 
 /// What is wrong with the order of the events.
 #[derive(Clone, Copy, Debug, PartialEq, Eq)]
@@ -234,14 +234,17 @@ fn add_log_fault(
 /// Only if an allocation fails.
 pub(crate) fn shape_reason(
     alloc: Global,
-    fault: ShapeFault,
-    log: &Log,
-    witness: &Witness,
+    misshapen: &Misshapen,
     memory: usize,
 ) -> Result<String, AllocError> {
+    let Misshapen {
+        log,
+        witness,
+        fault,
+    } = misshapen;
     let mut text = String::new(alloc);
-    let Some(key) = event_of(fault) else {
-        add_log_fault(alloc, &mut text, fault, log, witness)?;
+    let Some(key) = event_of(*fault) else {
+        add_log_fault(alloc, &mut text, *fault, log, witness)?;
         return Ok(text);
     };
     let Some(event) = log.event(key) else {
@@ -251,6 +254,6 @@ pub(crate) fn shape_reason(
     if let ShapeFault::WriterMissing(_) = fault {
         add_missing_writer(&mut text, log, key, writers)?;
     }
-    add_event_fault(&mut text, fault, key, event, writers, memory)?;
+    add_event_fault(&mut text, *fault, key, event, writers, memory)?;
     Ok(text)
 }

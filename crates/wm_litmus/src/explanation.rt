@@ -9,7 +9,7 @@ use crate::answer::Answer;
 use std::alloc::{AllocError, Global};
 use std::thread::Threads;
 use wm_check::{CheckedLog, Refusal, Unread, Verdict, check_log, read_module};
-use wm_explain::{explain_refusal, explain_run};
+use wm_explain::{explain_refusal, explain_run, explain_shape};
 use wm_graph::draw;
 use wm_valid::ValidModule;
 
@@ -21,12 +21,13 @@ fn reasons_of<R: AllocGlobal + Threads + Sync>(
     module_bytes: &[u8],
     document_bytes: &[u8],
 ) -> Result<String, AllocError> {
-    match (&checked.candidate, &checked.verdict) {
-        (Some(candidate), verdict) => explain_run(rt, verdict, module, candidate),
-        (None, Verdict::Refused(refusal)) => {
+    match (&checked.candidate, &checked.misshapen, &checked.verdict) {
+        (Some(candidate), _, verdict) => explain_run(rt, verdict, module, candidate),
+        (None, Some(misshapen), _) => explain_shape(rt.alloc(), misshapen, module),
+        (None, None, Verdict::Refused(refusal)) => {
             explain_refusal(rt.alloc(), refusal, module_bytes, document_bytes)
         }
-        (None, _) => Ok(String::new(rt.alloc())),
+        (None, None, _) => Ok(String::new(rt.alloc())),
     }
 }
 
