@@ -68,6 +68,11 @@ def write_lines(path, lines, opener=open):
 # ---- processes
 
 
+def heeds_interrupts():
+    """A child is stopped by SIGINT also if these tests run in the background, where a shell has it ignored."""
+    signal.signal(signal.SIGINT, signal.SIG_DFL)
+
+
 class Room:
     """A folder for the results and logs of the tests, and the program that they run."""
 
@@ -87,6 +92,7 @@ class Room:
     def start(self, *words, wmlab=None, **streams):
         command = [HERE / "run", "--out", self.folder / words[0], "--wmlab", wmlab or self.wmlab, *words[1:]]
         streams = {"stdout": subprocess.PIPE, "stderr": subprocess.PIPE, "text": True, **streams}
+        streams["preexec_fn"] = heeds_interrupts
         return subprocess.Popen(command, cwd=TOP, stdin=subprocess.DEVNULL, start_new_session=True, **streams)
 
     def run(self, *words, **more):
