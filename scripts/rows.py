@@ -234,6 +234,7 @@ def run(row, program):
     start = time.monotonic()
     with tempfile.TemporaryDirectory() as folder:
         os.symlink(f"{TOP}/examples", f"{folder}/examples")
+        os.symlink(f"{TOP}/litmus", f"{folder}/litmus")
         os.symlink(f"{TOP}/tests/files", f"{folder}/files")
         os.symlink(f"{TOP}/scripts", f"{folder}/scripts")
         write_files(row, folder)

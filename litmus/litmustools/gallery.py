@@ -3,6 +3,7 @@ import json
 import os
 import subprocess
 from collections import Counter
+from concurrent.futures import ThreadPoolExecutor
 from dataclasses import dataclass, field
 
 from . import TOP, judges
@@ -13,6 +14,8 @@ from .modules import bytes_of
 from .tests import LitmusTest
 
 ROUNDS_COMMAND = os.path.join(TOP, "litmus/rounds.mjs")
+# How many processes record tests of an engine at the same time.
+PROCESSES = 3
 
 
 @dataclass
@@ -111,15 +114,24 @@ def run_rounds(row, program, rounds):
     row.runs = counts.get(row.test.outcome, 0)
 
 
-def engine_rounds(rows, program, engine, rounds):
-    """Has an engine run each test in the mode free. Answers the engine's version."""
+def recorded(rows, program, engine, rounds):
+    """The version of an engine, and what it gave of each test in the mode free."""
     command = [ROUNDS_COMMAND, "--engine", engine, "--rounds", str(rounds), "--wmlab", program]
     questions = "".join(json.dumps([row.test.name, row.module, row.test.starts]) + "\n" for row in rows)
     ran = subprocess.run(command, input=questions, capture_output=True, text=True, check=False)
     lines = ran.stdout.split("\n")[:-1]
     if ran.returncode or len(lines) != len(rows) + 1:
         raise Failed(f"rounds.mjs ended with status {ran.returncode}: {ran.stderr.strip()[-200:]}")
-    for row, line in zip(rows, lines[1:], strict=True):
-        _, outcomes_seen, verdicts = json.loads(line)
-        row.engines[engine] = Seen(dict(outcomes_seen), dict(verdicts))
-    return json.loads(lines[0])
+    answers = [json.loads(line) for line in lines]
+    return answers[0], [Seen(dict(outcomes_seen), dict(verdicts)) for _, outcomes_seen, verdicts in answers[1:]]
+
+
+def engine_rounds(rows, program, engine, rounds):
+    """Has an engine run each test in the mode free, in some processes at the same time. Answers its version."""
+    pieces = [rows[first::PROCESSES] for first in range(min(PROCESSES, len(rows)))]
+    with ThreadPoolExecutor(PROCESSES) as pool:
+        answers = list(pool.map(lambda piece: recorded(piece, program, engine, rounds), pieces))
+    for piece, (_, seen) in zip(pieces, answers, strict=True):
+        for row, each in zip(piece, seen, strict=True):
+            row.engines[engine] = each
+    return answers[0][0]

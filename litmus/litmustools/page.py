@@ -98,7 +98,7 @@ What came of each test of [litmus/](../litmus/README.md), where names, outcomes 
 who compare this model with another one, or an engine with the model. `litmus/gallery` writes this page.
 
 Seen on {date} with {version}. {engines}: {rounds} rounds of each test in the mode free. {run_rounds} rounds of
-`wmlab run`. {asked} candidates were asked in {seconds:.0f} s. Browsers ran the tests of `litmus/tests` alone.
+`wmlab run`. {asked} candidates were asked in {seconds:.0f} s.
 
 | | Tests |
 |---|---|
