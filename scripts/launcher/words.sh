@@ -8,11 +8,20 @@ usage_of() {
         line=${line#./}
         line=${line#wmlab }
         line=${line%%  *}
-        if [[ $line =~ ^$1(\ [A-Z]+(\.\.\.?)?)+$ ]]; then
+        if [[ $line =~ ^$1(\ \[[A-Z]+\])?(\ [A-Z]+(\.\.\.?)?)+$ ]]; then
             printf '%s\n' "$line"
             return
         fi
     done <"$help"
+}
+
+# The same for so many words, the command among them: with the word in brackets, if there is room for it, or without.
+usage_for() {
+    local usage words
+    usage=$(usage_of "$1")
+    read -ra words <<<"$usage"
+    if [ "$2" -lt "${#words[@]}" ]; then usage=${usage/ \[*\]/}; fi
+    printf '%s\n' "${usage//[\[\]]/}"
 }
 
 # Refuses the command line, and says why. The answer is the program's.
@@ -32,7 +41,7 @@ look_at_words() {
     [ -f "$help" ] || return 0
     local usage word least=0
     [[ ${1-} =~ ^[a-z]+$ ]] || refuse_words
-    usage=$(usage_of "$1")
+    usage=$(usage_for "$1" $#)
     [ -n "$usage" ] || refuse_words
     for word in $usage; do
         case $word in *..) ;; *) least=$((least + 1)) ;; esac

@@ -78,7 +78,7 @@ impl Exports {
         Some(name.as_str())
     }
 
-    /// Adds an export under a new name behind the others. Nothing is changed where memory is refused.
+    /// Adds an export under a new name after the others. Nothing is changed where memory is refused.
     pub fn push(&mut self, name: String, export: Export) -> Result<(), AllocError>
         requires { export_at (string_bytes name) self.old ≡ None }
         ensures ok { OnOk result (self.new ≡ self.old ++ (string_bytes name, export) ∷ []) }

@@ -30,7 +30,7 @@ pub struct MemArg {
 pub enum Instr {
     Unreachable,
     Nop,
-    /// A block, whose label is behind its end.
+    /// A block, whose label is after its end.
     Block(BlockType, usize),
     /// A loop, whose label is before its first instruction.
     Loop(BlockType, usize),

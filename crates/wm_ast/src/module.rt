@@ -11,7 +11,7 @@ use wm_list::{List, Text};
 pub struct Func {
     /// The index of its type among the types of the module.
     pub type_index: u32,
-    /// The types of the locals behind the parameters, one for each local.
+    /// The types of the locals after the parameters, one for each local.
     pub locals: List<ValType>,
     /// The blocks: the body is block 0, and the others follow in the order in which they begin in the bytes.
     /// An `if` has two; an absent else part is an empty block that begins at the `end`.

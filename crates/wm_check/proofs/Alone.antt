@@ -19,7 +19,7 @@ use Rattle.wm_event.specs.declared.shape_fault.ShapeFault.TheVariants.{WriterCou
 use Rattle.wm_event.specs.declared.witness.Witness.{Witness}
 use Rattle.wm_event.specs.Byte.{byte_of}
 use Rattle.wm_event.specs.Execution.{Execution, byte_by, place}
-use Rattle.wm_event.specs.Faults.{BreaksCoherence, BreaksNoTearing, BreaksOrder, BreaksRule, BreaksWrittenValues, in_thread, not_written, other_value, reads_future, reads_itself, synchronized, written_between}
+use Rattle.wm_event.specs.Faults.{BreaksCoherence, BreaksOrder, BreaksRule, BreaksWrittenValues, in_thread, not_written, other_value, reads_future, reads_itself, synchronized, written_between}
 use Rattle.wm_event.specs.Log.{IsLog}
 use Rattle.wm_event.specs.LoggedRun.{LoggedRun, execution}
 use Rattle.wm_event.specs.HappensBefore.{HappensBefore}
@@ -57,7 +57,7 @@ no_shape_fault run (WriterMissing key) good bad = bad.2 (good.good key bad.0 bad
 no_shape_fault run OrderNotPermutation good bad = bad good.order
 no_shape_fault run OutOfMemory good bad = bad
 
-no_replay_fault : (m : Module) (log : List ThreadLog) (answer : ReplayAnswer) → answer ≢ replay.Same → AreRuns m log → Replays m log answer → ⊥
+pub no_replay_fault : (m : Module) (log : List ThreadLog) (answer : ReplayAnswer) → answer ≢ replay.Same → AreRuns m log → Replays m log answer → ⊥
 no_replay_fault m log replay.Same differs runs first = differs refl
 no_replay_fault m log (replay.StartRefused k fault) differs runs first = first.no_run (runs k first.thread first.is_thread)
 no_replay_fault m log (replay.Differs k at) differs runs first = first.no_run (runs k first.thread first.is_thread)
@@ -96,7 +96,7 @@ pub record AreSpelledOnce : Type 0 where
   pub modules : (bytes : List ℕ) (m n : Module) → spells bytes m → spells bytes n → m ≡ n
   pub pairs : (d : Data) → (log : List ThreadLog) → (other : List ThreadLog) → (v : Witness) → (w : Witness) → IsLog log → IsLog other → IsDocument d log v → IsDocument d other w → (log ≡ other) × (v ≡ w)
 
-one_module : AreSpelledOnce → (bytes : List ℕ) (m n : Module) → SpellsWithin bytes m → SpellsWithin bytes n → m ≡ n
+pub one_module : AreSpelledOnce → (bytes : List ℕ) (m n : Module) → SpellsWithin bytes m → SpellsWithin bytes n → m ≡ n
 one_module once bytes m n first second = once.modules bytes m n (profile.nesting, first.spelled) (profile.nesting, second.spelled)
 
 one_document : AreSpelledOnce → (bytes : List ℕ) (log other : List ThreadLog) (v w : Witness) → IsDocumentOf bytes log v → IsDocumentOf bytes other w → (log ≡ other) × (v ≡ w)
@@ -128,7 +128,7 @@ none_refused once mb db m run (refusal.Shape fault) is says =
     let same = one_run once mb db m says.«module» run says.run is.is_run says.is_run in
     no_shape_fault says.run fault (subst IsWellShaped same.1 is.shape) says.first.holds
 
-none_broken : AreSpelledOnce → (mb db : List ℕ) (m : Module) (run : LoggedRun) (reason : Breach) → IsPermitted mb db m run → IsBrokenBy mb db reason → ⊥
+pub none_broken : AreSpelledOnce → (mb db : List ℕ) (m : Module) (run : LoggedRun) (reason : Breach) → IsPermitted mb db m run → IsBrokenBy mb db reason → ⊥
 none_broken once mb db m run (breach.Replay answer) permitted says =
     let same = one_run once mb db m says.«module» run says.run permitted.candidate.is_run says.candidate.is_run in
     let runs = subst (λ n. AreRuns n says.run.log) same.0 (subst (λ r. AreRuns m r.log) same.1 permitted.threads_are_runs) in
@@ -137,7 +137,7 @@ none_broken once mb db m run (breach.Rule fault) permitted says =
     let same = one_run once mb db m says.«module» run says.run permitted.candidate.is_run says.candidate.is_run in
     no_rule_fault (execution says.run) fault fault.rule (subst (λ r. IsValid (execution r)) same.1 permitted.execution_is_valid) says.first.holds
 
-counted : AreSpelledOnce → (mb db : List ℕ) (m : Module) (run : LoggedRun) (certificate : Certificate) → IsPermitted mb db m run → IsAllowed mb db certificate → Counts run certificate
+pub counted : AreSpelledOnce → (mb db : List ℕ) (m : Module) (run : LoggedRun) (certificate : Certificate) → IsPermitted mb db m run → IsAllowed mb db certificate → Counts run certificate
 counted once mb db m run certificate permitted says =
     let same = one_run once mb db m says.«module» run says.run permitted.candidate.is_run says.candidate.is_run in
     (says.threads ∙ ap (λ (r : LoggedRun). length r.log) (sym same.1), says.events ∙ ap (λ (r : LoggedRun). event_count r.log) (sym same.1))
@@ -153,7 +153,7 @@ pub too_large : AreSpelledOnce → (mb db : List ℕ) (m : Module) (verdict : Ve
 too_large once mb db m (Allowed certificate) modules large says = let small = says.candidate.is_run.document.small in absurd (omega (arith, large, small))
 too_large once mb db m (Refused (refusal.Decode fault)) modules large says = absurd (says.no_module m modules.spelled)
 too_large once mb db m (Refused (refusal.Valid fault)) modules large says = absurd (says.invalid (subst Valid (one_module once mb m says.«module» modules.spelled says.spelled) modules.valid))
-too_large once mb db m (Refused (refusal.Document fault)) modules large says = ap (λ f. Refused (refusal.Document f)) (says.1.large large)
+too_large once mb db m (Refused (refusal.Document fault)) modules large says = ap (λ f. Refused (refusal.Document f)) (says.1.too_large (inl large))
 too_large once mb db m (Refused (refusal.Shape fault)) modules large says = let small = says.is_run.document.small in absurd (omega (arith, large, small))
 too_large once mb db m (Broken (breach.Replay answer)) modules large says = let small = says.candidate.is_run.document.small in absurd (omega (arith, large, small))
 too_large once mb db m (Broken (breach.Rule fault)) modules large says = let small = says.candidate.is_run.document.small in absurd (omega (arith, large, small))

@@ -1,5 +1,7 @@
 pub mod Invalid
 pub mod Alone
+pub mod FirstFaults
+pub mod SameVerdict
 pub mod CompletedFits
 pub mod Candidates
 pub mod SameEvents

@@ -4,4 +4,5 @@ pub mod Reading
 pub mod Checked
 pub mod Completed
 pub mod Alone
+pub mod SameVerdict
 pub mod Verified

@@ -1,11 +1,12 @@
 -- What the parts of a check find.
-use Rattle.std.specs.Prelude.{◌≡◌, ℕ, List, Option, Some, None}
+use Rattle.std.specs.Prelude.{◌≡◌, ℕ, List, Option, Some, None, length, ⊤}
 use Rattle.wm_ast.specs.declared.module.Module.{Module}
 use Rattle.wm_event.specs.declared.log.ThreadLog.{ThreadLog}
 use Rattle.wm_event.specs.declared.misshapen.Misshapen.{Misshapen}
 use Rattle.wm_event.specs.declared.witness.Witness.{Witness}
-use Rattle.wm_event.specs.LoggedRun.{LoggedRun}
-use Rattle.wm_event.specs.Shape.{IsWellShaped}
+use Rattle.wm_event.specs.LoggedRun.{LoggedRun, execution}
+use Rattle.wm_event.specs.Rules.{IsValid}
+use Rattle.wm_event.specs.Shape.{IsWellShaped, event_count}
 use Rattle.wm_logfile.specs.DocumentBytes.{IsDocumentOf, IsNoDocument}
 use Rattle.wm_check.specs.declared.checker.Unread.{Unread}
 use Rattle.wm_check.specs.declared.checker.Unread.TheVariants.{Refused, OutOfMemory}
@@ -74,6 +75,17 @@ abbrev pub IsJudged : Verdict → Type 0
 IsJudged (verdict.Refused refusal) = ⊥
 IsJudged (verdict.Allowed certificate) = Unit {0}
 IsJudged (verdict.Broken breach) = Unit {0}
+
+-- an allowed run keeps the memory rules, and the certificate counts its threads and events
+pub record IsCertifiedBy (run : LoggedRun) (certificate : Certificate) : Type 0 where
+  pub valid : IsValid (execution run)
+  pub threads : certificate.threads ≡ length run.log
+  pub events : certificate.events ≡ event_count run.log
+
+abbrev pub IsCertified : LoggedRun → Verdict → Type 0
+IsCertified run (verdict.Allowed certificate) = IsCertifiedBy run certificate
+IsCertified run (verdict.Refused refusal) = ⊤
+IsCertified run (verdict.Broken breach) = ⊤
 
 -- there is a candidate just where the verdict is no refusal
 abbrev pub HasCandidate : {X : Type 0} → Verdict → Option X → Type 0

@@ -5,7 +5,7 @@ ghost use Rattle.wm_event.specs.Shape.{event_count};
 ghost use Rattle.wm_event.specs.Shape.{IsWellShaped};
 ghost use Rattle.wm_logfile.specs.DocumentBytes.{IsDocumentOf};
 ghost use Rattle.wm_check.specs.Run.{IsModuleOf};
-ghost use Rattle.wm_check.specs.Reading.{ComparesLog, ComparesOver, HasCandidate, IsCandidateOver, IsJudged, IsRecordedOver, IsUnreadDocument, IsUnreadModule, KeepsMisshapen, SaysOver};
+ghost use Rattle.wm_check.specs.Reading.{ComparesLog, ComparesOver, HasCandidate, IsCandidateOver, IsCertified, IsJudged, IsRecordedOver, IsUnreadDocument, IsUnreadModule, KeepsMisshapen, SaysOver};
 ghost use Rattle.wm_check.specs.Checked.{RefusesShape};
 ghost use Rattle.wm_check.specs.Verdicts.{IfAllowed, IfBroken, IfRefused, IsAllowed, IsBrokenBy, IsRefusedFor, Says};
 ghost use Rattle.wm_check.specs.declared.checker.Unread.TheVariants.{OutOfMemory};
@@ -58,7 +58,7 @@ pub(crate) fn read_log(alloc: Global, bytes: &[u8]) -> Result<(Log, Witness), Un
 }
 
 /// How many events the threads have.
-pub(crate) fn count_events(threads: &[ThreadLog]) -> usize
+pub fn count_events(threads: &[ThreadLog]) -> usize
     requires { event_count threads.now ≤ max_events }
     ensures { result ≡ event_count threads.now }
 {
@@ -77,6 +77,7 @@ fn compare<R: AllocGlobal + Threads + Sync>(
 ) -> Result<Verdict, AllocError>
     ensures says { IfOk result (ComparesLog «module».now candidate.now) }
     ensures judged { IfOk result IsJudged }
+    ensures certified { IfOk result (IsCertified candidate.now) }
 {
     let answer = replay(rt, module, candidate.log())?;
     if answer != ReplayAnswer::Same {
@@ -127,6 +128,7 @@ fn compare_log<'m, R: AllocGlobal + Threads + Sync>(
 ) -> Result<CheckedLog<'m>, AllocError>
     ensures verdict { IfOk result (λ checked. ComparesOver «module».now log witness checked.verdict) }
     ensures candidate { IfOk result (λ checked. IfSome checked.candidate (IsCandidateOver «module».now log witness)) }
+    ensures certified { IfOk result (λ checked. IfSome checked.candidate (λ run. IsCertified run checked.verdict)) }
     ensures refused { IfOk result (λ checked. HasCandidate checked.verdict checked.candidate) }
     ensures misshapen { IfOk result (λ checked.
         KeepsMisshapen (λ l w. (l ≡ log) × (w ≡ witness)) checked.verdict checked.misshapen) }
@@ -154,6 +156,7 @@ pub fn check_log<'m, R: AllocGlobal + Threads + Sync>(
 ) -> Result<CheckedLog<'m>, AllocError>
     ensures verdict { IfOk result (λ checked. SaysOver «module».now document_bytes.now checked.verdict) }
     ensures candidate { IfOk result (λ checked. IfSome checked.candidate (IsRecordedOver «module».now document_bytes.now)) }
+    ensures certified { IfOk result (λ checked. IfSome checked.candidate (λ run. IsCertified run checked.verdict)) }
     ensures refused { IfOk result (λ checked. HasCandidate checked.verdict checked.candidate) }
     ensures misshapen { IfOk result (λ checked.
         KeepsMisshapen (IsDocumentOf document_bytes.now) checked.verdict checked.misshapen) }

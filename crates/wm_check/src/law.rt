@@ -1,5 +1,6 @@
 //! What is said of a run that is allowed, of a document that is too large, and of a completed one.
 ghost use Rattle.wm_check.specs.Alone.{AllowedAlone, TooLargeAlone};
+ghost use Rattle.wm_check.specs.SameVerdict.{OneExactVerdict, OnePart, OneStatus, OneThread};
 ghost use Rattle.wm_check.specs.Verified.{VerifiesAsCheck};
 
 use wm_decode::spelled_once;
@@ -12,6 +13,23 @@ use wm_logfile::one_pair;
 pub fn one_verdict()
     ensures allowed { AllowedAlone }
     ensures too_large { TooLargeAlone }
+{
+    spelled_once();
+    one_pair();
+}
+
+/// A verdict is a function of the bytes, but for the kind and the place of what is wrong with bytes that cannot be read, and
+/// for the place where a thread differs from its log. Of any two verdicts on the same bytes:
+///
+/// - both are `Allowed`, or both `Refused`, or both `Broken`;
+/// - if one is `Allowed`, or refuses a shape, or names a refused start or a rule, the other is equal to it;
+/// - if both are refusals, both are of the same part: the module's bytes, its rules, the document's bytes, or the shape;
+/// - if both are breaches, both name the same thread, or both name a rule.
+pub fn same_verdict()
+    ensures status { OneStatus }
+    ensures exact { OneExactVerdict }
+    ensures part { OnePart }
+    ensures thread { OneThread }
 {
     spelled_once();
     one_pair();

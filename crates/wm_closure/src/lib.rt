@@ -157,7 +157,7 @@ impl Model for Closure {
 }
 
 impl Closure {
-    /// The closure of a graph whose nodes stand behind their sources, and whose nodes each have one of `width` lanes, in which
+    /// The closure of a graph whose nodes stand after their sources, and whose nodes each have one of `width` lanes, in which
     /// each node reaches the later ones. A word has a bit for each of 64 sources; they go along the nodes in one pass, and the
     /// passes are worked in parallel. An error comes only where memory was refused.
     pub fn of(

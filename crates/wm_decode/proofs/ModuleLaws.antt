@@ -23,13 +23,13 @@ use Rattle.wm_decode.specs.Module.{Customs, Section, AtMostOne, NoItems, header,
 use Rattle.wm_decode.specs.Reading.{◌>>=◌}
 use Rattle.wm_decode.specs.ReadingVectors.{u32_at, vector_at}
 use Rattle.wm_decode.specs.ReadingParts.{func_type_at, imports_at, memories_at, indices_at, no_items_at, global_at, exports_at, code_at, segments_at, agrees}
-use Rattle.wm_decode.specs.ReadingModule.{customs_in, section_at, behind, header_at, front_at, declared_at, module_at}
+use Rattle.wm_decode.specs.ReadingModule.{customs_in, section_at, header_at, one_at, front_at, declared_at, module_at}
 use Rattle.wm_decode.proofs.Steps.{bound, met, ok_is, pair_is, fits_behind, answered}
 use Rattle.wm_decode.proofs.Lawful.{Lawful, number_lawful, vector_lawful}
 use Rattle.wm_decode.proofs.TypeLaws.{func_type_lawful, LimitedImport}
 use Rattle.wm_decode.proofs.ContentLaws.{imports_lawful, Defined, memories_lawful, Indices, indices_lawful, no_items_lawful, global_lawful, exports_lawful, Segments, segments_lawful, agreed, agrees_again}
 use Rattle.wm_decode.proofs.CodeLaws.{Code, code_lawful}
-use Rattle.wm_decode.proofs.SectionLaws.{customs_in_take, customs_in_again, section_takes, section_again, StartsIn, begins_else, starts_section, behind_takes}
+use Rattle.wm_decode.proofs.SectionLaws.{customs_in_take, customs_in_again, section_takes, section_again, StartsIn, begins_else, starts_section, header_takes}
 
 u32_lawful : Lawful U32 u32_at
 u32_lawful = number_lawful (2 ^ 32 - 1)
@@ -57,15 +57,15 @@ module _ (bounds : Bounds) where
     pub front_is : (let k : Front = record { types = items_of types; imported = option_flatten imported; indices = items_of indices } in k) ≡ f
 
   front_takes : (bytes : List ℕ) (f : Front) (rest : List ℕ) → IsBytes bytes → front_at bounds bytes ≡ Ok (f, rest) → FrontTook bytes f rest
-  unfolding front_at header_at
+  unfolding front_at
   front_takes bytes f rest fits e =
       let made = λ (ts : Option (List FuncType)) (m : Option (Option Memory)) (is : Option (List ℕ)). let k : Front = record { types = items_of ts; imported = option_flatten m; indices = items_of is } in k in
       let third = λ (ts : Option (List FuncType)) (m : Option (Option Memory)) (is : Option (List ℕ) × List ℕ). answered {X = Front} (made ts m is.0) is.1 in
       let second = λ (ts : Option (List FuncType)) (m : Option (Option Memory) × List ℕ). section_at (indices_at bounds) 3 m.1 >>= third ts m.0 in
       let first = λ (ts : Option (List FuncType) × List ℕ). section_at (imports_at bounds) 2 ts.1 >>= second ts.0 in
       let start = λ (s : List ℕ). section_at (vector_at func_type_at) 1 s >>= first in
-      let h = bound (behind header bytes) (λ r. customs_in r >>= start) (f, rest) e in
-      let head = behind_takes header bytes h.0 h.1 in
+      let h = bound (header_at bytes) (λ r. customs_in r >>= start) (f, rest) e in
+      let head = header_takes bytes h.0 h.1 in
       let fits0 = fits_behind bytes header h.0 fits head in
       let c = bound (customs_in h.0) start (f, rest) h.2 in
       let t0 = customs_in_take h.0 c.0 fits0 c.1 in
@@ -101,7 +101,7 @@ module _ (bounds : Bounds) where
   pub front_again : {ct tt1 it ft : List ℕ} {types : Option (List FuncType)} {imported : Option (Option Memory)} {indices : Option (List ℕ)} → Customs ct → Section (Vector FunctionType) 1 tt1 types
       → Section (AtMostOne (LimitedImport bounds)) 2 it imported → Section (Indices bounds) 3 ft indices → (rest : List ℕ) → StartsIn after_front rest
       → front_at bounds (header ++ (ct ++ (tt1 ++ (it ++ (ft ++ rest))))) ≡ Ok (let k : Front = record { types = items_of types; imported = option_flatten imported; indices = items_of indices } in k, rest)
-  unfolding front_at header_at
+  unfolding front_at header_at one_at
   front_again {ct = ct} {tt1 = t1} {it = t2} {ft = t3} c s1 s2 s3 rest starts =
       let r2 = starts_section s3 after_front rest starts in
       let r1 = starts_section s2 (3 ∷ after_front) (t3 ++ rest) r2 in

@@ -1,14 +1,14 @@
 -- Sections are read as they are spelled.
-use Rattle.std.proofs.Common.{◌≡◌, ℕ, zero, suc, ◌≤◌, Bool, true, false, cond, eqb, List, [], ◌∷◌, ◌++◌, length, Option, Some, None, Result, Ok, refl, sym, ap, subst, ◌∙◌, append_assoc, arith, inl, inr, length-append}
+use Rattle.std.proofs.Common.{◌≡◌, ℕ, zero, suc, ◌≤◌, Bool, true, false, cond, eqb, List, [], ◌∷◌, ◌++◌, length, Option, Some, None, Result, Ok, Err, refl, sym, ap, subst, ◌∙◌, append_assoc, arith, inl, inr, length-append}
 use Rattle.std.proofs.lemmas.List.{append-nil}
 use Rattle.std.proofs.lemmas.Bool.{eqb-true, eq-eqb, ne_eqb}
-use Rattle.wm_decode.specs.Stop.{Stop}
+use Rattle.wm_decode.specs.Stop.{Stop, other_magic, other_version}
 use Rattle.wm_decode.specs.Numbers.{IsBytes}
 use Rattle.wm_decode.specs.Vectors.{Sized}
-use Rattle.wm_decode.specs.Module.{Custom, Customs, no_custom, custom, Section, absent, present}
+use Rattle.wm_decode.specs.Module.{Custom, Customs, no_custom, custom, Section, absent, header, magic, present, version}
 use Rattle.wm_decode.specs.Reading.{◌>>=◌}
 use Rattle.wm_decode.specs.ReadingVectors.{name_at, sized_at}
-use Rattle.wm_decode.specs.ReadingModule.{custom_at, customs_at, customs_in, section_at, behind}
+use Rattle.wm_decode.specs.ReadingModule.{behind, custom_at, customs_at, customs_in, header_at, one_at, section_at}
 use Rattle.wm_decode.proofs.Steps.{bound, met, chosen, ok_is, pair_is, fits_behind, answered}
 use Rattle.wm_decode.proofs.Lawful.{Lawful, sized_law, sized_lawful}
 use Rattle.wm_decode.proofs.TypeLaws.{name_lawful}
@@ -153,13 +153,24 @@ pub section_fact : {X : Type 0} {A : List ℕ → X → Type 0} {id : ℕ} {text
 section_fact absent P f x e = absurd cc
 section_fact (present {x = y} s c) P f x e = let same : y ≡ x = cc in subst P same (f s.content y s.spelled)
 
-pub behind_takes : (ps bytes rest : List ℕ) → behind ps bytes ≡ Ok rest → bytes ≡ ps ++ rest
-behind_takes [] bytes rest e = ok_is bytes rest e
-behind_takes (p ∷ ps) [] rest e = absurd cc
-behind_takes (p ∷ ps) (b ∷ bytes) rest e =
-    let m = met (eqb b p) (behind ps bytes) rest e in
-    ap (λ (k : ℕ). k ∷ bytes) (eqb-true b p m.0) ∙ ap (λ (l : List ℕ). p ∷ l) (behind_takes ps bytes rest m.1)
+one_takes : (other : Stop) (p : ℕ) (bytes rest : List ℕ) → one_at other p bytes ≡ Ok rest → bytes ≡ p ∷ rest
+unfolding one_at
+one_takes other p [] rest e = absurd cc
+one_takes other p (b ∷ bytes) rest e =
+    let m = chosen (eqb b p) (Ok bytes) (Err other) (Ok rest) e in
+    elim m [
+      | inl is ↦ ap (λ (k : ℕ). k ∷ bytes) (eqb-true b p is.0) ∙ ap (λ (l : List ℕ). p ∷ l) (ok_is bytes rest is.1)
+      | inr is ↦ absurd (let no_answer : ◌≡◌ {A = Result (List ℕ) Stop} (Err other) (Ok rest) = is.1 in cc)
+    ]
 
-pub behind_again : (ps rest : List ℕ) → behind ps (ps ++ rest) ≡ Ok rest
-behind_again [] rest = refl
-behind_again (p ∷ ps) rest = rw (eq-eqb p p refl) (behind_again ps rest)
+behind_takes : (other : Stop) (ps bytes rest : List ℕ) → behind other ps bytes ≡ Ok rest → bytes ≡ ps ++ rest
+behind_takes other [] bytes rest e = ok_is bytes rest e
+behind_takes other (p ∷ ps) bytes rest e =
+    let one = bound (one_at other p bytes) (behind other ps) rest e in
+    one_takes other p bytes one.0 one.1 ∙ ap (λ (l : List ℕ). p ∷ l) (behind_takes other ps one.0 rest one.2)
+
+pub header_takes : (bytes rest : List ℕ) → header_at bytes ≡ Ok rest → bytes ≡ header ++ rest
+unfolding header_at
+header_takes bytes rest e =
+    let one = bound (behind other_magic magic bytes) (behind other_version version) rest e in
+    behind_takes other_magic magic bytes one.0 one.1 ∙ ap (λ (l : List ℕ). magic ++ l) (behind_takes other_version version one.0 rest one.2)

@@ -1,5 +1,5 @@
 -- What a function returned, seen by view, is what reading gives, unless memory was refused.
-use Rattle.std.specs.Prelude.{◌≡◌, ℕ, Result, Ok, Err}
+use Rattle.std.specs.Prelude.{◌≡◌, ◌≤◌, ℕ, Result, Ok, Err}
 use Rattle.wm_decode.specs.declared.fault.Limit.{Limit}
 use Rattle.wm_decode.specs.declared.fault.FaultKind.{FaultKind}
 use Rattle.wm_decode.specs.declared.fault.FaultKind.TheVariants as kind
@@ -7,13 +7,13 @@ use Rattle.wm_decode.specs.declared.fault.ItemFault.{ItemFault}
 use Rattle.wm_decode.specs.declared.fault.ItemFault.TheVariants.{OutOfMemory, WithLeft}
 use Rattle.wm_decode.specs.declared.fault.DecodeFault.{DecodeFault}
 use Rattle.wm_decode.specs.declared.fault.DecodeFault.TheVariants as decode
-use Rattle.wm_decode.specs.Stop.{Stop, bad, past}
+use Rattle.wm_decode.specs.Stop.{Stop, bad, other_magic, other_version, past}
 
--- a limit is named only past it
+-- magic, version and a limit are named only where they are what stops reading
 abbrev pub stop_of : FaultKind → Stop
 stop_of (kind.Limit limit) = past limit
-stop_of kind.Magic = bad
-stop_of kind.Version = bad
+stop_of kind.Magic = other_magic
+stop_of kind.Version = other_version
 stop_of kind.Truncated = bad
 stop_of kind.BadNumber = bad
 stop_of kind.BadName = bad
@@ -61,6 +61,11 @@ SameFault OutOfMemory decode.OutOfMemory = Unit {0}
 SameFault OutOfMemory (decode.At kind offset) = ⊥
 SameFault (WithLeft kind left) decode.OutOfMemory = ⊥
 SameFault (WithLeft kind left) (decode.At kind2 offset) = kind2 ≡ kind
+
+-- the fault's offset is at most the number of bytes
+abbrev pub IsWithin : ℕ → DecodeFault → Type 0
+IsWithin bytes (decode.At kind offset) = offset ≤ bytes
+IsWithin bytes decode.OutOfMemory = Unit {0}
 
 -- this value is answered, unless memory was refused
 abbrev pub IsUnlessMemory : {X : Type 0} → Result X DecodeFault → X → Type 0

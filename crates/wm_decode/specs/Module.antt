@@ -41,8 +41,14 @@ AtMostOne Item text x = Vector Item text (option_to_list x)
 abbrev pub NoItems : List ℕ → ℕ → Type 0
 NoItems text count = U32 text count × (count ≡ 0)
 
+abbrev pub magic : List ℕ
+magic = 0x00 ∷ 0x61 ∷ 0x73 ∷ 0x6D ∷ []
+
+abbrev pub version : List ℕ
+version = 0x01 ∷ 0x00 ∷ 0x00 ∷ 0x00 ∷ []
+
 abbrev pub header : List ℕ
-header = 0x00 ∷ 0x61 ∷ 0x73 ∷ 0x6D ∷ 0x01 ∷ 0x00 ∷ 0x00 ∷ 0x00 ∷ []
+header = magic ++ version
 
 -- the items of a section, none where it is absent
 abbrev pub items_of : {X : Type 0} → Option (List X) → List X

@@ -6,11 +6,11 @@ use Rattle.wm_ast.specs.declared.module.Module.{Module}
 use Rattle.std.specs.Option.{option_flatten}
 use Rattle.wm_decode.specs.Bounds.{Bounds, max_module_bytes, profile}
 use Rattle.wm_decode.specs.declared.fault.Limit.TheVariants as limit
-use Rattle.wm_decode.specs.Stop.{Stop, bad, past}
+use Rattle.wm_decode.specs.Stop.{Stop, bad, other_magic, other_version, past}
 use Rattle.wm_decode.specs.Reading.{◌>>=◌}
 use Rattle.wm_decode.specs.ReadingVectors.{u32_at, vector_at, sized_at, name_at}
 use Rattle.wm_decode.specs.ReadingParts.{Read, func_type_at, imports_at, memories_at, indices_at, no_items_at, global_at, exports_at, code_at, segments_at, agrees}
-use Rattle.wm_decode.specs.Module.{header, items_of, memory_of}
+use Rattle.wm_decode.specs.Module.{items_of, magic, memory_of, version}
 use Rattle.wm_decode.specs.declared.module.Front.{Front}
 use Rattle.wm_decode.specs.declared.module.Declared.{Declared}
 
@@ -33,13 +33,18 @@ unfoldable pub section_at : {X : Type 0} → (List ℕ → Read X) → ℕ → L
 section_at content_at id [] = Ok (None, [])
 section_at content_at id (b ∷ bytes) = if b == id then (sized_at content_at bytes >>= λ x. customs_in x.1 >>= λ rest. Ok (Some x.0, rest)) else Ok (None, b ∷ bytes)
 
-abbrev pub behind : List ℕ → List ℕ → Result (List ℕ) Stop
-behind [] bytes = Ok bytes
-behind (p ∷ ps) [] = Err bad
-behind (p ∷ ps) (b ∷ bytes) = if b == p then behind ps bytes else Err bad
+-- the bytes after this one; another byte stops reading so
+unfoldable pub one_at : Stop → ℕ → List ℕ → Result (List ℕ) Stop
+one_at other wanted [] = Err bad
+one_at other wanted (b ∷ bytes) = if b == wanted then Ok bytes else Err other
+
+-- the bytes after these
+abbrev pub behind : Stop → List ℕ → List ℕ → Result (List ℕ) Stop
+behind other [] bytes = Ok bytes
+behind other (p ∷ ps) bytes = one_at other p bytes >>= behind other ps
 
 unfoldable pub header_at : List ℕ → Result (List ℕ) Stop
-header_at bytes = behind header bytes
+header_at bytes = behind other_magic magic bytes >>= behind other_version version
 
 -- the sections of types, imports and functions
 unfoldable pub front_at : Bounds → List ℕ → Read Front

@@ -111,7 +111,7 @@ impl<T: Drop> From<AllocFailed<T>> for ItemFault {
 }
 
 impl ItemFault {
-    ghost use Rattle.wm_decode.specs.Implements.{SameStop, SameFault};
+    ghost use Rattle.wm_decode.specs.Implements.{IsWithin, SameStop, SameFault};
 
     /// The fault at a byte from which `left` bytes are left.
     pub(crate) fn at(self, left: usize) -> ItemFault
@@ -151,7 +151,8 @@ impl ItemFault {
 
     /// The fault with its offset in `bytes` bytes: bytes that end too early are faulted at their end.
     pub(crate) fn in_module(self, bytes: usize) -> DecodeFault
-        ensures { SameFault self result }
+        ensures same { SameFault self result }
+        ensures within { IsWithin bytes result }
     {
         match self {
             ItemFault::OutOfMemory => DecodeFault::OutOfMemory,

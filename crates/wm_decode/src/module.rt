@@ -1,12 +1,12 @@
 //! Modules (Core 1.0, section 5.5.15).
-ghost use Rattle.std.specs.Prelude.{◌≡◌, ℕ, List, IfOk};
+ghost use Rattle.std.specs.Prelude.{◌≡◌, ℕ, List, length, IfErr, IfOk};
 ghost use Rattle.wm_ast.specs.declared.module.Module.{Module};
 ghost use Rattle.wm_decode.specs.declared.fault.Limit.{Limit};
-ghost use Rattle.wm_decode.specs.Stop.{bad};
+ghost use Rattle.wm_decode.specs.Stop.{bad, other_magic, other_version};
 ghost use Rattle.wm_decode.specs.Bounds.{profile};
-ghost use Rattle.wm_decode.specs.Implements.{Implements, Decodes, IsUnlessMemory, RefusedBy, stop_of, IsBad};
-ghost use Rattle.wm_decode.specs.Module.{items_of, memory_of, SpellsWithin, IsPast, spells};
-ghost use Rattle.wm_decode.specs.ReadingModule.{agreed_module, header_at, front_at, declared_at, module_at, whole_at};
+ghost use Rattle.wm_decode.specs.Implements.{Implements, Decodes, IsUnlessMemory, IsWithin, RefusedBy, stop_of};
+ghost use Rattle.wm_decode.specs.Module.{items_of, magic, memory_of, version, SpellsWithin, IsPast, spells};
+ghost use Rattle.wm_decode.specs.ReadingModule.{agreed_module, behind, header_at, one_at, front_at, declared_at, module_at, whole_at};
 
 use crate::bounds::MAX_MODULE_BYTES;
 use crate::code::Code;
@@ -25,23 +25,42 @@ use std::alloc::Global;
 use wm_ast::{DataSegment, Exports, Func, FuncType, Global as GlobalEntry, Limits, Memory, Module};
 use wm_list::List;
 
-/// Why bytes don't begin with the header.
-fn header_fault(bytes: &[u8]) -> ItemFault
-    ensures { IsBad result }
+/// The bytes after this byte. Another byte is that fault, from which so many bytes are left.
+#[tactic(auto, unfolding(crate::specs::ReadingModule::one_at))]
+fn expect(wanted: u8, other: FaultKind, left: usize, bytes: &[u8]) -> Result<&[u8], ItemFault>
+    ensures { Implements (λ x. x.now) result (one_at (stop_of other) wanted bytes.now) }
 {
-    let magic = [0x00, 0x61, 0x73, 0x6D];
-    let version = [0x01, 0x00, 0x00, 0x00];
-    for (byte, wanted) in bytes.iter().zip(magic.iter()) {
-        if *byte != *wanted {
-            return ItemFault::WithLeft(FaultKind::Magic, bytes.len());
-        }
+    let [found, rest @ ..] = bytes else {
+        return Err(ItemFault::WithLeft(FaultKind::Truncated, 0));
+    };
+    if *found != wanted {
+        return Err(ItemFault::WithLeft(other, left));
     }
-    for (byte, wanted) in bytes.iter().skip(4).zip(version.iter()) {
-        if *byte != *wanted {
-            return ItemFault::WithLeft(FaultKind::Version, bytes.len().saturating_sub(4));
-        }
-    }
-    ItemFault::WithLeft(FaultKind::Truncated, 0)
+    Ok(rest)
+}
+
+/// Reads the four bytes of a binary module.
+fn read_magic(bytes: &[u8]) -> Result<&[u8], ItemFault>
+    ensures { Implements (λ x. x.now) result (behind other_magic magic bytes.now) }
+{
+    let left = bytes.len();
+    let rest = expect(0x00, FaultKind::Magic, left, bytes)?;
+    let rest = expect(0x61, FaultKind::Magic, left, rest)?;
+    let rest = expect(0x73, FaultKind::Magic, left, rest)?;
+    let rest = expect(0x6D, FaultKind::Magic, left, rest)?;
+    Ok(rest)
+}
+
+/// Reads the four bytes of version 1.
+fn read_version(bytes: &[u8]) -> Result<&[u8], ItemFault>
+    ensures { Implements (λ x. x.now) result (behind other_version version bytes.now) }
+{
+    let left = bytes.len();
+    let rest = expect(0x01, FaultKind::Version, left, bytes)?;
+    let rest = expect(0x00, FaultKind::Version, left, rest)?;
+    let rest = expect(0x00, FaultKind::Version, left, rest)?;
+    let rest = expect(0x00, FaultKind::Version, left, rest)?;
+    Ok(rest)
 }
 
 /// Reads the header.
@@ -49,10 +68,9 @@ fn header_fault(bytes: &[u8]) -> ItemFault
 fn header(bytes: &[u8]) -> Result<&[u8], ItemFault>
     ensures { Implements (λ x. x.now) result (header_at bytes.now) }
 {
-    match bytes {
-        [0x00, 0x61, 0x73, 0x6D, 0x01, 0x00, 0x00, 0x00, rest @ ..] => Ok(rest),
-        _ => Err(header_fault(bytes)),
-    }
+    let rest = read_magic(bytes)?;
+    let rest = read_version(rest)?;
+    Ok(rest)
 }
 
 /// The items of a section, none where it is absent.
@@ -223,7 +241,8 @@ pub(crate) fn read_module(alloc: Global, bytes: &[u8]) -> Result<Module, ItemFau
 /// Reads a module of no more bytes than are allowed.
 #[tactic(auto, unfolding(crate::specs::ReadingModule::whole_at))]
 fn decode_whole(alloc: Global, bytes: &[u8]) -> Result<Module, DecodeFault>
-    ensures { Decodes result (whole_at bytes.now) }
+    ensures read { Decodes result (whole_at bytes.now) }
+    ensures offset { IfErr result (IsWithin (length bytes.now)) }
 {
     if bytes.len() > MAX_MODULE_BYTES {
         return Err(DecodeFault::At(FaultKind::Limit(Limit::ModuleBytes), MAX_MODULE_BYTES));
@@ -248,8 +267,11 @@ pub fn decode(alloc: Global, bytes: &[u8]) -> Result<Module, DecodeFault>
     ensures only { (m : Module) → SpellsWithin bytes.now m → IsUnlessMemory result m }
     // Of bytes that spell a module, a limit is named only where they or the module are past it.
     ensures past { (m : Module) (limit : Limit) → spells bytes.now m → RefusedBy limit result → IsPast limit bytes.now m }
-    // Of any bytes, a limit is named only where reading from left to right meets more than it allows.
+    // Of any bytes, a limit is named only where reading from left to right meets more than it allows, and magic and
+    // version exactly where it meets other bytes.
     ensures limits { Decodes result (whole_at bytes.now) }
+    // The offset lies in the bytes, or at their end.
+    ensures offset { IfErr result (IsWithin (length bytes.now)) }
 {
     decode_whole(alloc, bytes)
 }

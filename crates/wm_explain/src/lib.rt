@@ -3,6 +3,7 @@
 
 mod allowed;
 mod byte_reader;
+mod code_map;
 mod compared;
 mod decode_refusal;
 mod document_part;
@@ -20,6 +21,7 @@ mod replay;
 mod row;
 mod rule;
 mod shape_refusal;
+mod sites;
 mod start_refusal;
 mod survey;
 mod type_fault;
@@ -28,3 +30,4 @@ mod unsupported;
 mod valid_refusal;
 
 pub use reasons::{explain_refusal, explain_run, explain_shape};
+pub use sites::event_sites;

@@ -45,29 +45,49 @@ fn open(blocks: &mut Vec<BlockPosition>, instr: &Instr) -> Result<(), AllocError
     Ok(())
 }
 
-/// The number of an instruction of a block, or of the `else` or `end` after it, among the opcodes of its function in the
-/// order of the text, from 0; None if it isn't one of them. Each opcode takes a byte of
-/// the module, so there are at most [`MAX_MODULE_BYTES`].
+/// The opcodes of a function.
+#[derive(Drop)]
+pub(crate) struct OpcodeNumbers {
+    /// By block and place in it the number of the opcode, that of the `else` or `end` after the block last.
+    numbers: Vec<Vec<Option<usize>>>,
+    /// How many opcodes there are.
+    pub count: usize,
+}
+
+impl OpcodeNumbers {
+    /// The number of an instruction of a block, or of the `else` or `end` after it; None if it isn't an opcode of the function.
+    pub(crate) fn at(&self, position: BlockPosition) -> Option<usize> {
+        self.numbers.get(position.block)?.get(position.at).copied()?
+    }
+}
+
+/// The numbers of the opcodes of a function in the order of the text, from 0. Each opcode takes a byte of the module, so
+/// there are at most [`MAX_MODULE_BYTES`].
 ///
 /// # Errors
 ///
 /// Only if an allocation fails.
-pub(crate) fn opcode_number(
-    alloc: Global,
-    blocks: &[Block],
-    wanted: BlockPosition,
-) -> Result<Option<usize>, AllocError> {
+pub(crate) fn opcode_numbers(alloc: Global, blocks: &[Block]) -> Result<OpcodeNumbers, AllocError> {
+    let mut numbers = Vec::new(alloc);
+    for block in blocks {
+        numbers.push(vec![in alloc; None; block.len().saturating_add(1)]?)?;
+    }
     let mut open_blocks = Vec::new(alloc);
     open_blocks.push(BlockPosition { block: 0, at: 0 })?;
     for number in 0..MAX_MODULE_BYTES {
         let Some(here) = open_blocks.pop() else {
-            return Ok(None);
+            return Ok(OpcodeNumbers {
+                numbers,
+                count: number,
+            });
         };
-        if here == wanted {
-            return Ok(Some(number));
+        if let Some(places) = numbers.get_mut(here.block) {
+            if let Some(place) = places.get_mut(here.at) {
+                *place = Some(number);
+            }
         }
         let Some(block) = blocks.get(here.block) else {
-            return Ok(None);
+            break;
         };
         if let Some(instr) = block.get(here.at) {
             open_blocks.push(BlockPosition {
@@ -77,7 +97,10 @@ pub(crate) fn opcode_number(
             open(&mut open_blocks, instr)?;
         }
     }
-    Ok(None)
+    Ok(OpcodeNumbers {
+        numbers,
+        count: MAX_MODULE_BYTES,
+    })
 }
 
 /// The first name under which a function is exported.
@@ -160,11 +183,7 @@ pub(crate) fn position_phrase(
     };
     let number = match module.funcs.get(func) {
         Some(function) => {
-            opcode_number(
-                alloc,
-                function.blocks.as_slice(),
-                BlockPosition { block, at },
-            )?
+            opcode_numbers(alloc, function.blocks.as_slice())?.at(BlockPosition { block, at })
         }
         None => None,
     };

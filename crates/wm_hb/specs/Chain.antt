@@ -1,10 +1,10 @@
 -- Chains of happens-before whose links say which edges they are.
-use Rattle.std.specs.Prelude.{◌≡◌, ◌+◌, ◌<◌, ◌≤◌, List, [], ◌∷◌, All, IsSome, length}
+use Rattle.std.specs.Prelude.{◌≡◌, ◌+◌, ◌<◌, ◌≤◌, List, [], ◌∷◌, All, IsSome, MatchOption, Option, length}
 use Rattle.wm_event.specs.declared.event.EventKey.{EventKey}
 use Rattle.wm_event.specs.declared.event.EventId.{EventId}
 use Rattle.wm_event.specs.declared.event.EventId.TheVariants.{Init, At}
 use Rattle.wm_event.specs.Execution.{Execution}
-use Rattle.wm_event.specs.HappensBefore.{SequencedBefore, SynchronizesWith, Chain}
+use Rattle.wm_event.specs.HappensBefore.{HappensBefore, SequencedBefore, SynchronizesWith, Chain}
 use Rattle.wm_hb.specs.declared.chain.Link.{Link}
 use Rattle.wm_hb.specs.declared.fault_chain.FaultChain.{FaultChain}
 use Rattle.wm_hb.specs.declared.chain.LinkKind.{LinkKind}
@@ -34,3 +34,7 @@ pub record IsShortestChain (x : Execution) (a : EventId) (links : List Link) (b 
 -- each of these is a shortest chain between its two events
 abbrev pub AreChains : Execution → List FaultChain → Type 0
 AreChains x chains = All (λ chain. IsShortestChain x chain.from chain.links chain.to) chains
+
+-- a shortest chain from one event to another; None where the first doesn't happen before the second
+abbrev pub FindsChain : Execution → EventId → EventId → Option (List Link) → Type 0
+FindsChain x a b result = MatchOption result (HappensBefore x a b → ⊥) (λ links. IsShortestChain x a links b)

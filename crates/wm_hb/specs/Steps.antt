@@ -1,10 +1,11 @@
 -- The events of an execution as the nodes of a graph, by their place in the order.
-use Rattle.std.specs.Prelude.{◌≡◌, ℕ, ◌+◌, ◌<◌, List, length, map, Some, slice_get, ◌⊎◌, ◌↔◌}
+use Rattle.std.specs.Prelude.{◌≡◌, ℕ, ◌+◌, ◌<◌, Bool, IsTrue, List, MatchOption, Option, length, map, Some, slice_get, ◌⊎◌, ◌↔◌}
 use Rattle.wm_event.specs.declared.event.EventKey.{EventKey}
 use Rattle.wm_event.specs.Execution.{ReadsFrom}
 use Rattle.wm_event.specs.LoggedRun.{LoggedRun, execution}
+use Rattle.wm_event.specs.declared.event.EventId.{EventId}
 use Rattle.wm_event.specs.declared.event.EventId.TheVariants.{At}
-use Rattle.wm_event.specs.HappensBefore.{SequencedBefore, SynchronizesWith}
+use Rattle.wm_event.specs.HappensBefore.{HappensBefore, SequencedBefore, SynchronizesWith}
 use Rattle.wm_event.specs.Rules.{KeepsOrder}
 use Rattle.wm_closure.specs.Graph.{IsAmong, sources_of}
 
@@ -43,3 +44,17 @@ AreSourcesWithin x r n sources = (m : ℕ) → IsAmong sources (length sources) 
 pub record IsHappensBefore (x : LoggedRun) (graph : List (List ℕ)) : Type 0 where
   pub edges : IsGraphOf x graph
   pub agrees : KeepsOrder (execution x)
+
+-- for the events at two places: whether the first happens before the second
+abbrev pub DecidesBefore : LoggedRun → ℕ → ℕ → Bool → Type 0
+DecidesBefore x from to b = (p r : EventKey) → StandsAt x from p → StandsAt x to r → IsTrue b ↔ HappensBefore (execution x) (At p) (At r)
+
+-- the place of the event before this one in its thread, None where there is none
+abbrev pub FindsPrevious : LoggedRun → EventKey → Option ℕ → Type 0
+FindsPrevious x r result = MatchOption result ((p : EventKey) → IsNext x p r → ⊥) (λ m. (p : EventKey) × StandsAt x m p × IsNext x p r)
+
+-- the place of the writer, None where it doesn't synchronize with the reader
+abbrev pub FindsWriter : LoggedRun → EventId → EventKey → Option ℕ → Type 0
+FindsWriter x writer reader result = MatchOption result
+    ((p : EventKey) → writer ≡ At p → SynchronizesWith (execution x) p reader → ⊥)
+    (λ m. (p : EventKey) × (writer ≡ At p) × StandsAt x m p × SynchronizesWith (execution x) p reader)

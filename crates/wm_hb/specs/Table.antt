@@ -1,5 +1,5 @@
 -- How each event is reached from a first one, by its place in the order.
-use Rattle.std.specs.Prelude.{◌≡◌, ℕ, ◌+◌, ◌≤◌, List, Option, None, Some, slice_get, length, IsSomeAnd, IfSome, option_and_then, unwrap_or}
+use Rattle.std.specs.Prelude.{◌≡◌, ℕ, ◌+◌, ◌≤◌, List, MatchOption, Option, None, Some, slice_get, length, IsSomeAnd, IfSome, option_and_then, unwrap_or}
 use Rattle.wm_event.specs.declared.event.EventKey.{EventKey}
 use Rattle.wm_event.specs.declared.event.EventId.{EventId}
 use Rattle.wm_event.specs.declared.event.EventId.TheVariants.{At}
@@ -94,3 +94,18 @@ BoundsThroughPlace table previous o = (x : LoggedRun) (a p : EventKey) → IsTab
 abbrev pub BoundsThroughWriter : LoggedRun → List Row → EventId → EventKey → Option Hop → Type 0
 BoundsThroughWriter x table writer reader o =
     (a p : EventKey) → IsTable x a table → writer ≡ At p → SynchronizesWith (execution x) p reader → BoundsThrough x a p (hop_links o)
+
+-- from the event that the table begins with, the links lead to the event at a place
+abbrev pub LeadsTo : LoggedRun → List Row → ℕ → List Link → Type 0
+LeadsTo x table to links = (a b : EventKey) → IsTable x a table → StandsAt x to b → Leads (execution x) (At a) links (At b)
+
+-- no chain through a writer that synchronizes with the reader has fewer links
+abbrev pub BoundsThroughWriters : LoggedRun → List Row → EventKey → Option Hop → Type 0
+BoundsThroughWriters x table reader o =
+    (a p : EventKey) → IsTable x a table → SynchronizesWith (execution x) p reader → BoundsThrough x a p (hop_links o)
+
+-- the place of the event before this one in its thread; None where none is sequenced before it
+abbrev pub FindsPrevious : LoggedRun → EventKey → Option ℕ → Type 0
+FindsPrevious x r result = MatchOption result
+    ((p : EventKey) → SequencedBefore (execution x) p r → ⊥)
+    (λ m. (p : EventKey) × StandsAt x m p × SequencedBefore (execution x) p r × (p.number + 1 ≡ r.number))

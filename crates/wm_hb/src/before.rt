@@ -5,6 +5,7 @@ ghost use Rattle.wm_event.specs.declared.event.EventKey.{EventKey};
 ghost use Rattle.wm_event.specs.HappensBefore.{HappensBefore as IsBefore};
 ghost use Rattle.wm_event.specs.LoggedRun.{execution};
 ghost use Rattle.wm_event.specs.Rules.{KeepsOrder};
+ghost use Rattle.wm_hb.specs.Steps.{DecidesBefore};
 
 use crate::ordered::Ordered;
 use crate::steps::{graph, place_of, threads};
@@ -71,8 +72,7 @@ impl<'c, 'i> HappensBefore<'c, 'i> {
 
     /// Whether the event at one place of the order happens before the event at another, without a look-up.
     pub fn before_at(&self, from: usize, to: usize) -> bool
-        ensures { (a b : EventKey) → slice_get self.now.witness.order from ≡ Some a → slice_get self.now.witness.order to ≡ Some b
-            → IsTrue result ↔ IsBefore (execution self.now) (At a) (At b) }
+        ensures { DecidesBefore self.now from to result }
     {
         let candidate = self.candidate;
         let _log = candidate.log();

@@ -1,12 +1,11 @@
 //! Shortest chains of happens-before.
-ghost use Rattle.std.specs.Prelude.{◌≡◌, ◌<◌, ℕ, length, reverse, IfOk, MatchOption};
+ghost use Rattle.std.specs.Prelude.{◌≡◌, ◌<◌, ℕ, length, reverse, IfOk};
 ghost use Rattle.wm_event.specs.declared.event.EventKey.{EventKey};
 ghost use Rattle.wm_event.specs.declared.event.EventId.TheVariants.{At};
-ghost use Rattle.wm_event.specs.HappensBefore.{HappensBefore};
 ghost use Rattle.wm_event.specs.LoggedRun.{execution};
 ghost use Rattle.wm_event.specs.Rules.{KeepsOrder};
-ghost use Rattle.wm_hb.specs.Chain.{IsShortestChain, Leads};
-ghost use Rattle.wm_hb.specs.Table.{IsReachedAt, IsTable, StandsAt, links_at};
+ghost use Rattle.wm_hb.specs.Chain.{FindsChain};
+ghost use Rattle.wm_hb.specs.Table.{IsReachedAt, IsTable, LeadsTo, links_at};
 
 use crate::table::{Reach, Row, table};
 use std::alloc::{AllocError, Global};
@@ -42,8 +41,7 @@ fn links_back(
     requires table { (a : EventKey) × IsTable candidate.now a table.now }
     requires all { length table.now ≡ length candidate.now.witness.order }
     requires reached { (d : ℕ) × IsReachedAt table.now to d }
-    ensures leads { IfOk result (λ links. (a b : EventKey) → IsTable candidate.now a table.now → StandsAt candidate.now to b
-        → Leads (execution candidate.now) (At a) (reverse links.items) (At b)) }
+    ensures leads { IfOk result (λ links. LeadsTo candidate.now table.now to (reverse links.items)) }
     ensures size { IfOk result (λ links. length links.items ≡ links_at table.now to) }
 {
     let order = candidate.witness().order.as_slice();
@@ -67,8 +65,7 @@ fn chain_between(
     to: EventKey,
 ) -> Result<Option<List<Link>>, AllocError>
     requires { KeepsOrder (execution candidate.now) }
-    ensures { IfOk result (λ chain. MatchOption chain (HappensBefore (execution candidate.now) (At from) (At to) → ⊥)
-        (λ links. IsShortestChain (execution candidate.now) (At from) links (At to))) }
+    ensures { IfOk result (FindsChain (execution candidate.now) (At from) (At to)) }
 {
     let _order = candidate.witness();
     let Some(end) = candidate.place(EventId::At(to)) else {
@@ -98,8 +95,7 @@ pub fn shortest_chain(
     to: EventId,
 ) -> Result<Option<List<Link>>, AllocError>
     requires { KeepsOrder (execution candidate.now) }
-    ensures { IfOk result (λ chain. MatchOption chain (HappensBefore (execution candidate.now) from to → ⊥)
-        (λ links. IsShortestChain (execution candidate.now) from links to)) }
+    ensures { IfOk result (FindsChain (execution candidate.now) from to) }
 {
     let EventId::At(end) = to else {
         return Ok(None);

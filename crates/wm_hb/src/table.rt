@@ -5,7 +5,7 @@ ghost use Rattle.wm_event.specs.declared.event.EventId.TheVariants.{At};
 ghost use Rattle.wm_event.specs.HappensBefore.{SequencedBefore, SynchronizesWith};
 ghost use Rattle.wm_event.specs.LoggedRun.{execution};
 ghost use Rattle.wm_event.specs.Rules.{KeepsOrder};
-ghost use Rattle.wm_hb.specs.Table.{BoundsThrough, BoundsThroughPlace, BoundsThroughWriter, IsBestOfThread, IsHop, IsHopFrom, IsRow, IsSmall, IsTable, IsWithin, StandsAt, hop_links};
+ghost use Rattle.wm_hb.specs.Table.{BoundsThroughPlace, BoundsThroughWriter, BoundsThroughWriters, FindsPrevious, IsBestOfThread, IsHop, IsHopFrom, IsRow, IsSmall, IsTable, IsWithin, StandsAt, hop_links};
 
 use crate::chain::LinkKind;
 use crate::writers::synchronizes;
@@ -85,8 +85,7 @@ fn hop_from(table: &[Row], kind: LinkKind, previous: usize) -> Option<Hop>
 
 /// The place of the event before this one in its thread.
 fn place_before(candidate: &Candidate, key: EventKey) -> Option<usize>
-    ensures { MatchOption result ((p : EventKey) → SequencedBefore (execution candidate.now) p key → ⊥)
-        (λ m. (p : EventKey) × StandsAt candidate.now m p × SequencedBefore (execution candidate.now) p key × (p.number + 1 ≡ key.number)) }
+    ensures { FindsPrevious candidate.now key result }
 {
     candidate.event(EventId::At(key))?;
     let number = key.number.checked_sub(1)?;
@@ -143,8 +142,7 @@ fn best(candidate: &Candidate, table: &[Row], key: EventKey, earlier: Option<Hop
     requires earlier { IfSome earlier (λ hop. IsHop candidate.now table.now key hop) }
     ensures hop { IfSome result (λ hop. IsHop candidate.now table.now key hop) }
     ensures thread { (n : ℕ) → IsWithin (hop_links earlier) n → IsWithin (hop_links result) n }
-    ensures writers { (a p : EventKey) → IsTable candidate.now a table.now → SynchronizesWith (execution candidate.now) p key
-        → BoundsThrough candidate.now a p (hop_links result) }
+    ensures writers { BoundsThroughWriters candidate.now table.now key result }
 {
     let mut best = earlier;
     for writer in candidate.writers(key) {
@@ -153,7 +151,7 @@ fn best(candidate: &Candidate, table: &[Row], key: EventKey, earlier: Option<Hop
     best
 }
 
-/// How the event behind those of the table is reached.
+/// How the event after those of the table is reached.
 fn row_of(candidate: &Candidate, table: &[Row], from: EventKey, key: EventKey) -> Row
     requires agrees { KeepsOrder (execution candidate.now) }
     requires stands { StandsAt candidate.now (length table.now) key }

@@ -71,7 +71,7 @@ impl<T> Growing<T> {
         self.entries.reserve(more)
     }
 
-    /// Puts an item into room taken before, behind the others. It takes no memory.
+    /// Puts an item into room taken before, after the others. It takes no memory.
     pub fn push_reserved(&mut self, item: T)
     where
         T: Drop,
@@ -82,7 +82,7 @@ impl<T> Growing<T> {
         self.entries.push_reserved(item);
     }
 
-    /// Copies items into room taken before, behind the others. It takes no memory.
+    /// Copies items into room taken before, after the others. It takes no memory.
     pub fn extend_within(&mut self, items: &[T])
     where
         T: Copy,

@@ -74,7 +74,7 @@ impl<T> List<T> {
         self.entries.get(index)
     }
 
-    /// Puts an item behind the others. The list is unchanged where memory is refused.
+    /// Puts an item after the others. The list is unchanged where memory is refused.
     pub fn push(&mut self, item: T) -> Result<(), AllocFailed<T>>
         ensures ok { OnOk result (self.new ≡ self.old ++ item ∷ []) }
         ensures err { OnErr result (self.new ≡ self.old) }

@@ -1,5 +1,5 @@
 -- The subcommand that was met, and what its words mean.
-use Rattle.std.proofs.Common.{◌≡◌, ℕ, zero, suc, ◌+◌, ◌<◌, ◌≤◌, inl, inr, true, false, List, [], ◌∷◌, length, get_or, map, Option, None, Some, option_map, refl, sym, ap, ap₂, subst, ◌∙◌, arith, Bor}
+use Rattle.std.proofs.Common.{◌≡◌, ℕ, zero, suc, ◌+◌, ◌<◌, ◌≤◌, inl, inr, true, false, List, [], ◌∷◌, ◌++◌, codes, length, get_or, map, Option, None, Some, option_map, refl, sym, ap, ap₂, subst, ◌∙◌, arith, Bor}
 use Rattle.std.specs.Prelude.{Contains, IfSome, if◌then◌else◌}
 use Rattle.std.specs.Str.{bytes_eq}
 use Rattle.std.proofs.lemmas.List.{length-map}
@@ -9,9 +9,9 @@ use Rattle.clap.specs.Words.{Row, Text, first_of, first_value, found_of, rows_of
 use Rattle.clap.specs.declared.parser.matches.ArgMatches.{ArgMatches}
 use Rattle.clap.specs.declared.parser.matches.Found.{Found}
 use Rattle.clap.proofs.WalkLemmas.{first_value-rows}
-use Rattle.wm_litmus.specs.Commands.{Form, HasFields, IsNamed, LacksField, Means, fields_of, forms, name_of}
+use Rattle.wm_litmus.specs.Commands.{Form, HasFields, IsNamed, LacksField, LacksFields, Means, absent_of, fields_of, forms, name_of}
 use Rattle.wm_litmus.specs.declared.command.Command.{Command}
-use Rattle.wm_litmus.specs.declared.command.Command.TheVariants.{Rules, Check, Migrate, Complete, Verify, Stream, Drive, Run, Explain, Graph, Help, Version}
+use Rattle.wm_litmus.specs.declared.command.Command.TheVariants.{Rules, Check, Migrate, Complete, Verify, Stream, Drive, Run, Races, EventRaces, Explain, Graph, Help, Version}
 
 -- the first parts of pairs
 first_parts : {X Y Z : Type 0} (f : X → Y) (g : X → Z) (o : Option X) → option_map f o ≡ option_map (λ (p : Y × Z). p.0) (option_map (λ x. (f x, g x)) o)
@@ -54,20 +54,22 @@ abbrev pub required_in : List Form → Text → List Text
 required_in [] name = []
 required_in (form ∷ forms) name = if bytes_eq form.name name then form.required else required_in forms name
 
--- the fields of each command are the words that its form requires
-fields_are_required : (command : Command) → map (λ (field : Text × Text). field.0) (fields_of command) ≡ required_in forms (name_of command)
-fields_are_required (Rules d) = refl
-fields_are_required (Check m d) = refl
-fields_are_required (Migrate d) = refl
-fields_are_required (Complete m d) = refl
-fields_are_required (Verify m d) = refl
-fields_are_required (Stream m) = refl
-fields_are_required (Drive m t) = refl
-fields_are_required (Run m r) = refl
-fields_are_required (Explain m d) = refl
-fields_are_required (Graph m d) = refl
-fields_are_required Help = refl
-fields_are_required Version = refl
+-- the fields of each command begin with the words that its form requires
+fields_begin : (command : Command) → (others : List Text) × (map (λ (field : Text × Text). field.0) (fields_of command) ≡ required_in forms (name_of command) ++ others)
+fields_begin (Rules d) = ([], refl)
+fields_begin (Check m d) = ([], refl)
+fields_begin (Migrate d) = ([], refl)
+fields_begin (Complete m d) = ([], refl)
+fields_begin (Verify m d) = ([], refl)
+fields_begin (Stream m) = ([], refl)
+fields_begin (Drive m t) = ([], refl)
+fields_begin (Run m r) = ([], refl)
+fields_begin (Races m d) = (codes "document" ∷ [], refl)
+fields_begin (EventRaces d) = ([], refl)
+fields_begin (Explain m d) = ([], refl)
+fields_begin (Graph m d) = ([], refl)
+fields_begin Help = ([], refl)
+fields_begin Version = ([], refl)
 
 -- no field that has a value lacks one
 has_or_lacks : (rows : List Row) (fields : List (Text × Text)) → HasFields rows fields → LacksField rows (map (λ (field : Text × Text). field.0) fields) → ⊥
@@ -75,23 +77,35 @@ has_or_lacks rows [] has lacks = lacks
 has_or_lacks rows (field ∷ fields) has (inl none) = let no : None ≡ Some field.1 = sym none ∙ has.0 in absurd cc
 has_or_lacks rows (field ∷ fields) has (inr lacks) = has_or_lacks rows fields has.1 lacks
 
+-- what lacks one of some words lacks one of more
+lacks_more : (rows : List Row) (ids others : List Text) → LacksField rows ids → LacksField rows (ids ++ others)
+lacks_more rows [] others lacks = absurd lacks
+lacks_more rows (id ∷ ids) others (inl none) = inl none
+lacks_more rows (id ∷ ids) others (inr lacks) = inr (lacks_more rows ids others lacks)
+
 -- a subcommand that lacks a word that its form requires is no command
 pub no_command : (name : Text) (rows : List Row) (ids : List Text) → required_in forms name ≡ ids → LacksField rows ids → (command : Command) → IsNamed name rows command → ⊥
 no_command name rows ids are lacks command is =
-    let same = sym are ∙ ap (required_in forms) is.0 ∙ sym (fields_are_required command) in
-    has_or_lacks rows (fields_of command) is.1 (subst (LacksField rows) same lacks)
+    let same = sym are ∙ ap (required_in forms) is.0 in
+    let begin = fields_begin command in
+    has_or_lacks rows (fields_of command) is.1
+    (subst (LacksField rows) (ap (λ xs. xs ++ begin.0) same ∙ sym begin.1) (lacks_more rows ids begin.0 lacks))
 
 -- the command of a subcommand's name and rows is that of the subcommand
 pub means_some : (o : Option Command) (found : Option (Text × List Row)) (name : Text) (rows : List Row) → found ≡ Some (name, rows)
     → IfSome o (IsNamed name rows) → IfSome o (Means found)
 means_some None found name rows is named = tt
-means_some (Some command) found name rows is named = (rows, is ∙ ap (λ (t : Text). Some (t, rows)) named.0, named.1)
+means_some (Some command) found name rows is named = (rows, is ∙ ap (λ (t : Text). Some (t, rows)) named.0, named.1, named.2)
 
 pub means_none : (found : Option (Text × List Row)) (name : Text) (rows : List Row) → found ≡ Some (name, rows)
     → ((command : Command) → IsNamed name rows command → ⊥) → (command : Command) → Means found command → ⊥
 means_none found name rows is none command means =
     let same = parts found name (name_of command) rows means.0 is means.1 in
-    none command (same.0, subst (λ (r : List Row). HasFields r (fields_of command)) (sym same.1) means.2)
+    none command (
+      same.0,
+      subst (λ (r : List Row). HasFields r (fields_of command)) (sym same.1) means.2,
+      subst (λ (r : List Row). LacksFields r (absent_of command)) (sym same.1) means.3,
+    )
 
 -- a word is there as a text where one of the words is that text
 word_at : (ws : List (Bor Text)) (t : Text) (k : ℕ) → k < length ws → ((d : Bor Text) → bytes_eq (get_or ws k d).now t ≡ true) → get_or (map (λ (w : Bor Text). w.now) ws) k t ≡ t

@@ -7,5 +7,6 @@ pub mod Counting
 pub mod Gathering
 pub mod Tabling
 pub mod Padding
+pub mod RaceTexts
 pub mod Explaining
 pub mod Streaming

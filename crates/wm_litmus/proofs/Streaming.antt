@@ -28,7 +28,7 @@ answers_lines module_bytes judge is (line ∷ lines) (answer ∷ answers) h = (h
 
 module _ (file input old new : Option (List ℕ)) (module_bytes : List ℕ) (judge : Judge) where
   pub streams_all : (status : LineStatus) (code : ℕ) → IsReadOf file max_module_bytes module_bytes → IsJudgeOf module_bytes judge
-      → AnswersAll (JudgesLine judge) (max_document_bytes + 1) input status old new → code ≡ status_code status → StreamsAll file input old new code
+      → AnswersAll (JudgesLine judge) (max_document_bytes + 1) input old new status → code ≡ status_code status → StreamsAll file input old new code
   streams_all status code read is all code_is = record {
     module_bytes = module_bytes;
     read = read;

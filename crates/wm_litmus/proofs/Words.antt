@@ -58,6 +58,38 @@ stream_takes_no_document : IsNoCommand (codes "stream" ∷ codes "a.wasm" ∷ co
 unfolding clap_on_literals
 stream_takes_no_document command is = let none = is.taken in cc
 
+-- the name, and the values of the words of `races`
+read_log : List Text → Option (Text × Option Text × Option Text)
+read_log words = option_map (λ (p : Text × List Row). (p.0, first_of (codes "file") p.1, first_of (codes "document") p.1)) (subcommand_of wmlab_app words)
+
+races_of_a_module_is_taken : fault_of wmlab_app (codes "races" ∷ codes "a.wasm" ∷ codes "-" ∷ []) ≡ []
+unfolding clap_on_literals
+races_of_a_module_is_taken = refl
+
+races_of_a_module_is_read : read_log (codes "races" ∷ codes "a.wasm" ∷ codes "-" ∷ []) ≡ Some (codes "races", Some (codes "a.wasm"), Some (codes "-"))
+unfolding clap_on_literals read_log
+races_of_a_module_is_read = refl
+
+races_of_a_document_is_taken : fault_of wmlab_app (codes "races" ∷ codes "-" ∷ []) ≡ []
+unfolding clap_on_literals
+races_of_a_document_is_taken = refl
+
+races_of_a_document_is_read : read_log (codes "races" ∷ codes "-" ∷ []) ≡ Some (codes "races", Some (codes "-"), None)
+unfolding clap_on_literals read_log
+races_of_a_document_is_read = refl
+
+races_takes_no_third_word : IsNoCommand (codes "races" ∷ codes "a.wasm" ∷ codes "-" ∷ codes "-" ∷ [])
+unfolding clap_on_literals
+races_takes_no_third_word command is = let none = is.taken in cc
+
+drive_is_taken : fault_of wmlab_app (codes "drive" ∷ codes "a.wasm" ∷ codes "0" ∷ codes "f" ∷ codes "g" ∷ []) ≡ []
+unfolding clap_on_literals
+drive_is_taken = refl
+
+run_is_taken : fault_of wmlab_app (codes "run" ∷ codes "a.wasm" ∷ codes "1" ∷ codes "f" ∷ codes "g" ∷ []) ≡ []
+unfolding clap_on_literals
+run_is_taken = refl
+
 explain : List Text
 explain = codes "explain" ∷ codes "a.wasm" ∷ codes "-" ∷ []
 

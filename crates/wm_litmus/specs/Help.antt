@@ -14,6 +14,7 @@ help_lines =
     ∷ codes "    check MODULE DOC              check a log against its module and the memory rules"
     ∷ codes "    explain MODULE DOC            check a log, and explain the answer in sentences"
     ∷ codes "    graph MODULE DOC              draw a log for Graphviz, with the first violation in red"
+    ∷ codes "    races [MODULE] DOC            list the data races of an allowed log"
     ∷ codes "    rules DOC                     judge a log by the memory rules alone, over 16 pages of zeros"
     ∷ codes "    complete MODULE DOC           print a log with the steps and ends that its module gives it"
     ∷ codes "    verify MODULE DOC             complete a log, and check it"
@@ -36,6 +37,7 @@ help_lines =
     ∷ codes "    wmlab check store-buffering.wasm store-buffering.json"
     ∷ codes "    wmlab explain store-buffering.wasm store-buffering.json"
     ∷ codes "    wmlab graph store-buffering.wasm store-buffering.json | dot -Tsvg > store-buffering.svg"
+    ∷ codes "    wmlab races store-buffering.wasm store-buffering.json"
     ∷ codes "    wmlab rules - < store-buffering.json"
     ∷ codes "    wmlab complete store-buffering.wasm recorded.json > completed.json"
     ∷ codes "    wmlab verify store-buffering.wasm recorded.json"
@@ -48,7 +50,8 @@ help_lines =
     ∷ []
     ∷ codes "EXIT STATUS"
     ∷ codes "    0    the execution is allowed, or the requested text was printed"
-    ∷ codes "    1    the execution is broken: the module does not perform it, or a memory rule forbids it"
+    ∷ codes "    1    the execution is broken: the module does not perform it, or a memory rule forbids it;"
+    ∷ codes "         of races: it is allowed, and has a data race"
     ∷ codes "    2    the command line, the module or the log is refused"
     ∷ codes "    3    out of memory, or a file could not be read or the answer not written (see stderr)"
     ∷ []

@@ -11,6 +11,8 @@ pub mod Help
 pub mod Input
 pub mod Lines
 pub mod Prints
+pub mod Races
+pub mod Rules
 pub mod Serving
 pub mod Stream
 pub mod Table

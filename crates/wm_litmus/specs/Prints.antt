@@ -9,3 +9,7 @@ ended line = line ++ 10 ∷ []
 pub record Prints (status : ℕ) (line : List ℕ) (answer : Answer) : Type 0 where
   pub status_is : answer.status ≡ status
   pub text_is : string_bytes answer.text ≡ ended line
+
+-- an answer has this status and text
+abbrev pub Gives : (ℕ → List ℕ → Type 0) → Answer → Type 0
+Gives Answers answer = Answers answer.status (string_bytes answer.text)

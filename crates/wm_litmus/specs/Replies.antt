@@ -1,5 +1,5 @@
 -- What the program answers: what it prints, and the exit status.
-use Rattle.std.specs.Prelude.{◌≡◌, ℕ, ◌*◌, List, Option, drop, replicate}
+use Rattle.std.specs.Prelude.{◌≡◌, ◌<◌, ℕ, ◌*◌, List, Option, drop, map, replicate, string_bytes}
 use Rattle.std.specs.Borrow.{Bor}
 use Rattle.std.specs.Io.KnownBytes.{Appends}
 use Rattle.wm_check.specs.declared.verdict.Breach.{Breach}
@@ -11,55 +11,26 @@ use Rattle.wm_check.specs.declared.verdict.Verdict.TheVariants as verdict
 use Rattle.wm_check.specs.Completed.{HasNoRun, IsCompletedTo}
 use Rattle.wm_check.specs.Verdicts.{IsAllowed, IsBrokenBy, IsRefusedFor}
 use Rattle.wm_decode.specs.Bounds.{max_module_bytes}
-use Rattle.wm_event.specs.declared.log.ThreadLog.{ThreadLog}
-use Rattle.wm_event.specs.declared.rule.Judgement.{Judgement}
-use Rattle.wm_event.specs.declared.shape_fault.ShapeFault.{ShapeFault}
-use Rattle.wm_event.specs.declared.witness.Witness.{Witness}
-use Rattle.wm_event.specs.Faults.{Judges}
-use Rattle.wm_event.specs.First.{IsFirst}
-use Rattle.wm_event.specs.LoggedRun.{LoggedRun, execution}
-use Rattle.wm_event.specs.Shape.{IsWellShaped, Misshapes, shape_rank}
-use Rattle.wm_logfile.specs.Limits.{max_document_bytes}
 use Rattle.wm_logfile.specs.declared.fault.DocFault.{DocFault}
 use Rattle.wm_logfile.specs.declared.fault.DocFault.TheVariants.{Misplaced}
 use Rattle.wm_logfile.specs.DocumentBytes.{IsDocumentOf, IsNoDocument}
 use Rattle.wm_logfile.specs.Migration.{IsMigrated, IsMisplaced}
 use Rattle.wm_replay.specs.declared.answer.ReplayAnswer.{ReplayAnswer}
 use Rattle.clap.specs.Words.{Text}
-use Rattle.wm_litmus.specs.declared.command.Command.TheVariants.{Rules, Check, Migrate, Complete, Verify, Stream, Drive, Run, Explain, Graph, Help, Version}
+use Rattle.wm_litmus.specs.declared.answer.Answer.{Answer}
+use Rattle.wm_litmus.specs.declared.command.Command.TheVariants.{Rules, Check, Migrate, Complete, Verify, Stream, Drive, Run, Races, EventRaces, Explain, Graph, Help, Version}
 use Rattle.wm_litmus.specs.Commands.{IsCommand, IsNoCommand}
 use Rattle.wm_litmus.specs.Drive.{IsScriptAnswer}
 use Rattle.wm_litmus.specs.Explanation.{AnswersExplain, AnswersGraph}
 use Rattle.wm_litmus.specs.Help.{help_text, version_text}
+use Rattle.wm_litmus.specs.Races.{AnswersEventRaces, AnswersRaces}
 use Rattle.wm_litmus.specs.Rounds.{IsRoundsAnswer}
+use Rattle.wm_litmus.specs.Rules.{AnswersRules}
 use Rattle.wm_litmus.specs.Input.{IsDocumentRead, IsReadOf}
 use Rattle.wm_stream.specs.Output.{AppendsFront}
 use Rattle.wm_litmus.specs.Prints.{ended}
 use Rattle.wm_litmus.specs.Stream.{AnswersFirstLines, AnswersStream, AnswersVerify}
 use Rattle.wm_litmus.specs.Lines.{document_line_text, judgement_status, judgement_text, shape_line_text, verdict_text, words_line_text}
-
--- ---- the command `rules`
-
--- so many pages of zeros, of 65,536 bytes each
-unfoldable pub zeros : ℕ → List ℕ
-zeros pages = replicate (pages * 65536) 0
-
-abbrev pub run_over : ℕ → List ThreadLog → Witness → LoggedRun
-run_over pages log witness = record { log = log; witness = witness; initial = zeros pages }
-
--- the status and the text that answer a run
-pub data AnswersRun (run : LoggedRun) (status : ℕ) (text : List ℕ) : Type 0 where
-  judged : (judgement : Judgement) → IsWellShaped run → Judges (execution run) judgement
-      → status ≡ judgement_status judgement → text ≡ ended (judgement_text judgement) → AnswersRun run status text
-  misshapen : (fault : ShapeFault) → IsFirst shape_rank (Misshapes run) fault
-      → status ≡ 2 → text ≡ ended (shape_line_text fault) → AnswersRun run status text
-
--- the status and the text that answer a document
-pub data AnswersRules (bytes : List ℕ) (status : ℕ) (text : List ℕ) : Type 0 where
-  read : (log : List ThreadLog) (witness : Witness) → IsDocumentOf bytes log witness
-      → AnswersRun (run_over 16 log witness) status text → AnswersRules bytes status text
-  refused : (fault : DocFault) → IsNoDocument bytes fault
-      → status ≡ 2 → text ≡ ended (document_line_text fault) → AnswersRules bytes status text
 
 -- ---- the command `check`
 
@@ -96,6 +67,9 @@ pub data AnswersComplete (module_bytes document_bytes : List ℕ) (status : ℕ)
 
 -- ---- the program
 
+abbrev pub words_of : List (Bor Text) → List Text
+words_of words = map (λ word. word.now) words
+
 -- what the program is given: the words, and what the files and the input hold, where that is known
 pub record Given : Type 0 where
   pub words : List Text
@@ -109,22 +83,22 @@ given words files input = record { words = words; files = files; input = input }
 pub data IsAnswer (given : Given) (status : ℕ) (text : List ℕ) : Type 0 where
   no_command : IsNoCommand given.words → status ≡ 2 → text ≡ ended words_line_text → IsAnswer given status text
   rules_of : (document : Bor Text) (bytes : List ℕ) → IsCommand given.words (Rules document)
-      → IsDocumentRead given.files given.input max_document_bytes document.now bytes
+      → IsDocumentRead given.files given.input document.now bytes
       → AnswersRules bytes status text → IsAnswer given status text
   check_of : (file document : Bor Text) (module_bytes bytes : List ℕ) → IsCommand given.words (Check file document)
       → IsReadOf (given.files file.now) max_module_bytes module_bytes
-      → IsDocumentRead given.files given.input max_document_bytes document.now bytes
+      → IsDocumentRead given.files given.input document.now bytes
       → AnswersCheck module_bytes bytes status text → IsAnswer given status text
   migrate_of : (document : Bor Text) (bytes : List ℕ) → IsCommand given.words (Migrate document)
-      → IsDocumentRead given.files given.input max_document_bytes document.now bytes
+      → IsDocumentRead given.files given.input document.now bytes
       → AnswersMigrate bytes status text → IsAnswer given status text
   complete_of : (file document : Bor Text) (module_bytes bytes : List ℕ) → IsCommand given.words (Complete file document)
       → IsReadOf (given.files file.now) max_module_bytes module_bytes
-      → IsDocumentRead given.files given.input max_document_bytes document.now bytes
+      → IsDocumentRead given.files given.input document.now bytes
       → AnswersComplete module_bytes bytes status text → IsAnswer given status text
   verify_of : (file document : Bor Text) (module_bytes bytes : List ℕ) → IsCommand given.words (Verify file document)
       → IsReadOf (given.files file.now) max_module_bytes module_bytes
-      → IsDocumentRead given.files given.input max_document_bytes document.now bytes
+      → IsDocumentRead given.files given.input document.now bytes
       → AnswersVerify module_bytes bytes status text → IsAnswer given status text
   stream_of : (file : Bor Text) (module_bytes : List ℕ) → IsCommand given.words (Stream file)
       → IsReadOf (given.files file.now) max_module_bytes module_bytes
@@ -133,13 +107,20 @@ pub data IsAnswer (given : Given) (status : ℕ) (text : List ℕ) : Type 0 wher
       → IsScriptAnswer (given.files file.now) turns.now (drop 3 given.words) status text → IsAnswer given status text
   run_of : (file rounds : Bor Text) → IsCommand given.words (Run file rounds)
       → IsRoundsAnswer (given.files file.now) rounds.now (drop 3 given.words) status text → IsAnswer given status text
+  races_of : (file document : Bor Text) (module_bytes bytes : List ℕ) → IsCommand given.words (Races file document)
+      → IsReadOf (given.files file.now) max_module_bytes module_bytes
+      → IsDocumentRead given.files given.input document.now bytes
+      → AnswersRaces module_bytes bytes status text → IsAnswer given status text
+  event_races_of : (document : Bor Text) (bytes : List ℕ) → IsCommand given.words (EventRaces document)
+      → IsDocumentRead given.files given.input document.now bytes
+      → AnswersEventRaces bytes status text → IsAnswer given status text
   explain_of : (file document : Bor Text) (module_bytes bytes : List ℕ) → IsCommand given.words (Explain file document)
       → IsReadOf (given.files file.now) max_module_bytes module_bytes
-      → IsDocumentRead given.files given.input max_document_bytes document.now bytes
+      → IsDocumentRead given.files given.input document.now bytes
       → AnswersExplain module_bytes bytes status text → IsAnswer given status text
   graph_of : (file document : Bor Text) (module_bytes bytes : List ℕ) → IsCommand given.words (Graph file document)
       → IsReadOf (given.files file.now) max_module_bytes module_bytes
-      → IsDocumentRead given.files given.input max_document_bytes document.now bytes
+      → IsDocumentRead given.files given.input document.now bytes
       → AnswersGraph module_bytes bytes status text → IsAnswer given status text
   help_of : IsCommand given.words Help → status ≡ 0 → text ≡ help_text → IsAnswer given status text
   version_of : IsCommand given.words Version → status ≡ 0 → text ≡ version_text → IsAnswer given status text
@@ -159,3 +140,11 @@ pub data WritesFront (given : Given) (old new : Option (List ℕ)) : Type 0 wher
       → IsReadOf (given.files file.now) max_module_bytes module_bytes
       → AnswersFirstLines module_bytes given.input text
       → AppendsFront old new text → WritesFront given old new
+
+-- below status 3 the writer gains the answer
+abbrev pub Serves : List (Bor Text) → (List ℕ → Option (List ℕ)) → Option (List ℕ) → Option (List ℕ) → Option (List ℕ) → ℕ → Type 0
+Serves words files input old new status = status < 3 → WritesAnswer (given (words_of words) files input) old new status
+
+-- at status 3 it gains a front of it at most
+abbrev pub StopsAt3 : List (Bor Text) → (List ℕ → Option (List ℕ)) → Option (List ℕ) → Option (List ℕ) → Option (List ℕ) → ℕ → Type 0
+StopsAt3 words files input old new status = status ≡ 3 → WritesFront (given (words_of words) files input) old new

@@ -1,5 +1,5 @@
 -- What the command `run` answers.
-use Rattle.std.specs.Prelude.{◌≡◌, ◌≢◌, ◌+◌, ◌<◌, ◌^◌, ℕ, List, [], ◌∷◌, ◌++◌, Option, String, true, codes, length, map, string_bytes}
+use Rattle.std.specs.Prelude.{◌≡◌, ◌≢◌, ◌+◌, ◌<◌, ◌^◌, ℕ, List, [], ◌∷◌, ◌++◌, MatchOption, Option, String, true, codes, length, map, string_bytes}
 use Rattle.std.specs.BTreeMap.{BTreeMap}
 use Rattle.std.specs.declared.alloc.Global.{Global}
 use Rattle.std.specs.Fmt.{decimal}
@@ -20,7 +20,7 @@ use Rattle.wm_run.specs.declared.plan.Plan.{Plan}
 use Rattle.wm_run.specs.Rounds.{IsRound, IsRoundFault}
 use Rattle.wm_run.specs.Run.{Record}
 use Rattle.wm_litmus.specs.declared.answer.Answer.{Answer}
-use Rattle.wm_litmus.specs.Counts.{Counts}
+use Rattle.wm_litmus.specs.Counts.{Counts, CountsOneMore}
 use Rattle.wm_litmus.specs.Own.{run_text}
 use Rattle.wm_litmus.specs.Input.{IsReadOf}
 use Rattle.wm_litmus.specs.Lines.{run_fault_line_text, verdict_text, word_line_text}
@@ -44,7 +44,7 @@ outcomes runs = map (λ (run : Record). outcome_text run.log) runs
 
 -- one more run was counted
 abbrev pub CountsRun : Record → BTreeMap (String Global) ℕ → BTreeMap (String Global) ℕ → Type 0
-CountsRun run old new = (came : List (List ℕ)) → Counts came old → length came + 1 < 2 ^ 64 → Counts (came ++ outcome_text run.log ∷ []) new
+CountsRun run old new = CountsOneMore (outcome_text run.log) old new
 
 -- a round was made, is allowed, and was counted
 pub record CountsRound («module» : Module) (plan : Plan) (old new : BTreeMap (String Global) ℕ) : Type 0 where
@@ -79,6 +79,10 @@ pub data AnswersRounds (module_bytes : List ℕ) (plan : Plan) (count : ℕ) (st
 abbrev pub RunsOver : Module → Rounds → Answer → Type 0
 RunsOver «module» rounds answer =
     (module_bytes : List ℕ) → IsModuleOf module_bytes «module» → AnswersRounds module_bytes rounds.plan rounds.count answer.status (string_bytes answer.text)
+
+-- a round that was counted, or the answer to all
+abbrev pub CountsOrAnswers : Module → Rounds → BTreeMap (String Global) ℕ → BTreeMap (String Global) ℕ → Option Answer → Type 0
+CountsOrAnswers «module» rounds old new answer = MatchOption answer (CountsRound «module» rounds.plan old new) (RunsOver «module» rounds)
 
 -- the status and the text that answer the words of rounds of the module of a file, whose bytes may be known: those of the rounds
 -- that a word of their number and the words of the starts spell, or a refusal of the first of them that spells nothing

@@ -1,5 +1,5 @@
 -- What the commands `verify` and `stream` answer.
-use Rattle.std.specs.Prelude.{◌≡◌, ℕ, ◌+◌, List, ◌++◌, Option, IfSome, take}
+use Rattle.std.specs.Prelude.{◌≡◌, ℕ, ◌+◌, List, ◌++◌, Option, IfSome, string_bytes, take}
 use Rattle.wm_check.specs.declared.verdict.Verdict.{Verdict}
 use Rattle.wm_check.specs.declared.verdict.Verdict.TheVariants.{Refused}
 use Rattle.wm_check.specs.declared.verdict.Refusal.{Refusal}
@@ -7,6 +7,7 @@ use Rattle.wm_check.specs.Reading.{IsModuleRefusal}
 use Rattle.wm_check.specs.Run.{IsModuleOf}
 use Rattle.wm_check.specs.Verified.{Verifies}
 use Rattle.wm_logfile.specs.Limits.{max_document_bytes}
+use Rattle.wm_stream.specs.declared.answer.LineAnswer.{LineAnswer}
 use Rattle.wm_stream.specs.declared.answer.LineStatus.{LineStatus}
 use Rattle.wm_stream.specs.Answers.{Answered, AreAnswers, overall, status_code, text_of}
 use Rattle.wm_stream.specs.Lines.{cut_lines}
@@ -53,6 +54,11 @@ pub record AnswersFirstLines (module_bytes : List ℕ) (input : Option (List ℕ
   pub text_is : text ≡ text_of answers
 
 -- ---- who answers a line
+
+-- the answer is the line of the verdict
+pub record IsLineOf (verdict : Verdict) (answer : LineAnswer) : Type 0 where
+  pub status_is : status_code answer.status ≡ verdict_status verdict
+  pub text_is : string_bytes answer.text ≡ ended (verdict_text verdict)
 
 -- the bytes spell the module, or are refused with this verdict
 abbrev pub IsJudgeOf : List ℕ → Judge → Type 0

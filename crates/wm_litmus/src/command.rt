@@ -1,7 +1,7 @@
 //! The command line.
 ghost use Rattle.std.specs.Prelude.{◌≡◌, ◌∷◌, [], false, Err, IfOk, IfSome, None, Some, fold, map};
 ghost use Rattle.clap.specs.Words.{app_of, first_of, kind_of, rule_of, subcommand_rows_of};
-ghost use Rattle.wm_litmus.specs.Commands.{AddsAs, HasFields, IsCommand, IsNamed, IsNoCommand, LacksField, Means, any_words_rule, checked_form, document_form, fault_of_kind, form_app, forms, module_form, plain_form, rows_in, started_form, with_form, wmlab_app, word_rule};
+ghost use Rattle.wm_litmus.specs.Commands.{AddsAs, HasFields, IsCommand, IsNamed, IsNoCommand, LacksField, Means, any_words_rule, checked_form, document_form, fault_of_kind, form_app, forms, log_form, module_form, optional_rule, plain_form, rows_in, started_form, with_form, wmlab_app, word_rule};
 ghost use Rattle.wm_litmus.specs.declared.command.Command.{Command};
 ghost use Rattle.wm_litmus.specs.declared.command.CommandFault.TheVariants.{OutOfMemory, Words};
 
@@ -28,6 +28,10 @@ pub enum Command<'a> {
     Drive { module: &'a str, turns: &'a str },
     /// Makes this number of rounds of a module's threads; the remaining words are what these start with.
     Run { module: &'a str, rounds: &'a str },
+    /// Checks a run against a module, and lists its data races by the instructions.
+    Races { module: &'a str, document: &'a str },
+    /// Judges a run by the memory rules, and lists its data races by the events.
+    EventRaces { document: &'a str },
     /// Checks a run, and says why the answer is what it is.
     Explain { module: &'a str, document: &'a str },
     /// Checks a run, and draws it.
@@ -72,6 +76,14 @@ fn word<'a>(alloc: Global, name: &'a str) -> Arg<'a>
     Arg::new(alloc, name).required(true).action(ArgAction::Set)
 }
 
+/// A word that may stand.
+fn optional_word<'a>(alloc: Global, name: &'a str) -> Arg<'a>
+    ensures rule { rule_of result ≡ optional_rule name.now }
+    ensures own { result.global ≡ false }
+{
+    Arg::new(alloc, name).action(ArgAction::Set)
+}
+
 /// Words of which any number may stand.
 fn any_words<'a>(alloc: Global, name: &'a str) -> Arg<'a>
     ensures rule { rule_of result ≡ any_words_rule name.now }
@@ -110,6 +122,15 @@ fn checked_parser<'a>(alloc: Global, name: &'a str) -> Result<Parser<'a>, AllocE
     Parser::new(alloc, name)
         .arg(word(alloc, "module"))?
         .arg(word(alloc, "document"))
+}
+
+/// A command of a document, or of a module and a document.
+fn log_parser<'a>(alloc: Global, name: &'a str) -> Result<Parser<'a>, AllocError>
+    ensures { IfOk result (AddsAs (form_app (log_form name.now))) }
+{
+    Parser::new(alloc, name)
+        .arg(word(alloc, "file"))?
+        .arg(optional_word(alloc, "document"))
 }
 
 /// A command of a module, a word `how`, and what threads start with.
@@ -166,6 +187,13 @@ fn with_checked<'a>(
     parser.subcommand(checked_parser(alloc, name)?)
 }
 
+/// Adds a command of a document, or of a module and a document.
+fn with_log<'a>(alloc: Global, parser: Parser<'a>, name: &'a str) -> Result<Parser<'a>, AllocError>
+    ensures { IfOk result (λ more. app_of more ≡ with_form (app_of parser.entry) (log_form name.now)) }
+{
+    parser.subcommand(log_parser(alloc, name)?)
+}
+
 /// Adds a command of a module, a word `how`, and what threads start with.
 fn with_started<'a>(
     alloc: Global,
@@ -190,6 +218,7 @@ fn with_commands<'a>(alloc: Global, parser: Parser<'a>) -> Result<Parser<'a>, Al
     let parser = with_module(alloc, parser, "stream")?;
     let parser = with_started(alloc, parser, "drive", "turns")?;
     let parser = with_started(alloc, parser, "run", "rounds")?;
+    let parser = with_log(alloc, parser, "races")?;
     let parser = with_checked(alloc, parser, "explain")?;
     let parser = with_checked(alloc, parser, "graph")?;
     let parser = with_plain(alloc, parser, "help")?;
@@ -264,6 +293,16 @@ fn command_of<'a>(name: &str, words: &ArgMatches<'a>) -> Option<Command<'a>>
         "run" => {
             let (module, rounds) = two_words(words, "module", "rounds")?;
             Some(Command::Run { module, rounds })
+        }
+        "races" => {
+            let file = one_word(words, "file")?;
+            match one_word(words, "document") {
+                Some(document) => Some(Command::Races {
+                    module: file,
+                    document,
+                }),
+                None => Some(Command::EventRaces { document: file }),
+            }
         }
         "explain" => {
             let (module, document) = two_words(words, "module", "document")?;

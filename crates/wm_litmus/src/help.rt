@@ -19,6 +19,7 @@ COMMANDS
     check MODULE DOC              check a log against its module and the memory rules
     explain MODULE DOC            check a log, and explain the answer in sentences
     graph MODULE DOC              draw a log for Graphviz, with the first violation in red
+    races [MODULE] DOC            list the data races of an allowed log
     rules DOC                     judge a log by the memory rules alone, over 16 pages of zeros
     complete MODULE DOC           print a log with the steps and ends that its module gives it
     verify MODULE DOC             complete a log, and check it
@@ -41,6 +42,7 @@ EXAMPLES
     wmlab check store-buffering.wasm store-buffering.json
     wmlab explain store-buffering.wasm store-buffering.json
     wmlab graph store-buffering.wasm store-buffering.json | dot -Tsvg > store-buffering.svg
+    wmlab races store-buffering.wasm store-buffering.json
     wmlab rules - < store-buffering.json
     wmlab complete store-buffering.wasm recorded.json > completed.json
     wmlab verify store-buffering.wasm recorded.json
@@ -53,7 +55,8 @@ EXAMPLES
 
 EXIT STATUS
     0    the execution is allowed, or the requested text was printed
-    1    the execution is broken: the module does not perform it, or a memory rule forbids it
+    1    the execution is broken: the module does not perform it, or a memory rule forbids it;
+         of races: it is allowed, and has a data race
     2    the command line, the module or the log is refused
     3    out of memory, or a file could not be read or the answer not written (see stderr)
 

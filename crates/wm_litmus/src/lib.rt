@@ -35,6 +35,7 @@ mod migration;
 mod outcomes;
 mod own;
 mod program;
+mod races;
 mod rounds;
 mod rules;
 mod stream;

@@ -1,14 +1,14 @@
 //! The whole program.
-ghost use Rattle.std.specs.Prelude.{◌≡◌, ◌+◌, ◌^◌, ◌≤◌, ◌<◌, IfErr, IfOk, OnErr, OnOk, List, ℕ, drop, map, string_bytes};
+ghost use Rattle.std.specs.Prelude.{◌≡◌, ◌+◌, ◌^◌, ◌≤◌, ◌<◌, IfErr, IfOk, OnErr, OnOk, List, ℕ, drop};
 ghost use Rattle.wm_decode.specs.Bounds.{max_module_bytes};
-ghost use Rattle.wm_litmus.specs.Replies.{WritesAnswer, WritesFront, given};
+ghost use Rattle.wm_litmus.specs.Replies.{Serves, StopsAt3, given, words_of};
+ghost use Rattle.wm_litmus.specs.Prints.{Gives};
 ghost use Rattle.wm_litmus.specs.Serving.{IsOfLines, IsReply, StreamsAll, StreamsFront};
 ghost use Rattle.wm_litmus.specs.Drive.{IsScriptAnswer};
 ghost use Rattle.wm_litmus.specs.Failures.{IsUnreadFile};
 ghost use Rattle.wm_litmus.specs.Input.{IsDocumentRead, IsReadOf};
 ghost use Rattle.wm_litmus.specs.Rounds.{IsRoundsAnswer};
 ghost use Rattle.wm_litmus.specs.declared.program.Failure.TheVariants.{OutOfMemory};
-ghost use Rattle.wm_logfile.specs.Limits.{max_document_bytes};
 
 use crate::answer::Answer;
 use crate::check::check_answer;
@@ -20,6 +20,7 @@ use crate::files::{FileFault, Files};
 use crate::help::{help_answer, version_answer};
 use crate::input::read_limited;
 use crate::migration::migrate_answer;
+use crate::races::{event_races_answer, races_answer};
 use crate::rounds::rounds_answer;
 use crate::rules::rules_answer;
 use crate::stream::{judge_of, verify_answer};
@@ -109,8 +110,7 @@ fn read_document_bytes<'a, R: AllocGlobal, F: Files, I: Read>(
     name: &'a str,
 ) -> Result<Vec<u8>, Failure<'a>>
     requires { F.failures_of files.old + 1 < 2 ^ 64 }
-    ensures known { IfOk result (λ bytes.
-        IsDocumentRead (F.content_of files.old) (I.remaining input.old) max_document_bytes name.now bytes.items) }
+    ensures known { IfOk result (λ bytes. IsDocumentRead (F.content_of files.old) (I.remaining input.old) name.now bytes.items) }
     ensures unread { IfErr result (λ stop. IsUnreadFile stop
         → F.failures_of files.old < F.failures_of files.new) }
 {
@@ -132,8 +132,7 @@ fn read_run<'a, R: AllocGlobal, F: Files, I: Read>(
     requires { F.failures_of files.old + 1 < 2 ^ 64 }
     ensures modules { IfOk result (λ read.
         IsReadOf (F.content_of files.old «module».now) max_module_bytes read.0.items) }
-    ensures documents { IfOk result (λ read.
-        IsDocumentRead (F.content_of files.old) (I.remaining input.old) max_document_bytes document.now read.1.items) }
+    ensures documents { IfOk result (λ read. IsDocumentRead (F.content_of files.old) (I.remaining input.old) document.now read.1.items) }
     ensures unread { IfErr result (λ stop. IsUnreadFile stop
         → F.failures_of files.old < F.failures_of files.new) }
 {
@@ -144,7 +143,7 @@ fn read_run<'a, R: AllocGlobal, F: Files, I: Read>(
 
 /// The words that the threads start with: those after the command, the module, and the turns or rounds.
 fn starts_of<'a>(words: &'a [&'a str]) -> &'a [&'a str]
-    ensures { map (λ word. word.now) result.now ≡ drop 3 (map (λ word. word.now) words.now) }
+    ensures { words_of result.now ≡ drop 3 (words_of words.now) }
 {
     words.get(3..).unwrap_or(&[])
 }
@@ -158,9 +157,7 @@ fn script_of<'a, R: AllocGlobal + Threads + Sync, F: Files>(
     starts: &[&str],
 ) -> Result<Answer, Failure<'a>>
     requires { F.failures_of files.old + 1 < 2 ^ 64 }
-    ensures answers { IfOk result (λ answer.
-        IsScriptAnswer (F.content_of files.old name.now) turns.now (map (λ word. word.now) starts.now)
-        answer.status (string_bytes answer.text)) }
+    ensures answers { IfOk result (Gives (IsScriptAnswer (F.content_of files.old name.now) turns.now (words_of starts.now))) }
     ensures unread { IfErr result (λ stop. IsUnreadFile stop
         → F.failures_of files.old < F.failures_of files.new) }
 {
@@ -186,9 +183,7 @@ fn rounds_of<'a, R: AllocGlobal + Threads + Wait + Sync, F: Files>(
     starts: &[&str],
 ) -> Result<Answer, Failure<'a>>
     requires { F.failures_of files.old + 1 < 2 ^ 64 }
-    ensures answers { IfOk result (λ answer.
-        IsRoundsAnswer (F.content_of files.old name.now) rounds.now (map (λ word. word.now) starts.now)
-        answer.status (string_bytes answer.text)) }
+    ensures answers { IfOk result (Gives (IsRoundsAnswer (F.content_of files.old name.now) rounds.now (words_of starts.now))) }
     ensures unread { IfErr result (λ stop. IsUnreadFile stop
         → F.failures_of files.old < F.failures_of files.new) }
 {
@@ -243,7 +238,7 @@ fn reply_to<'a, R: AllocGlobal + Threads + Wait + Sync, F: Files, I: Read>(
 ) -> Result<Reply<'a>, Failure<'a>>
     requires { F.failures_of files.old + 1 < 2 ^ 64 }
     ensures answers { IfOk result (IsReply
-        (given (map (λ word. word.now) words.now) (F.content_of files.old) (I.remaining input.old))) }
+        (given (words_of words.now) (F.content_of files.old) (I.remaining input.old))) }
     ensures kept { IfOk result (λ reply. IsOfLines reply → (files.new ≡ files.old) × (input.new ≡ input.old)) }
     ensures unread { IfErr result (λ stop. IsUnreadFile stop
         → F.failures_of files.old < F.failures_of files.new) }
@@ -271,6 +266,14 @@ fn reply_to<'a, R: AllocGlobal + Threads + Wait + Sync, F: Files, I: Read>(
             Ok(Reply::Answer(verify_answer(rt.alloc(), read.0.as_slice(), read.1.as_slice())?))
         }
         Ok(Command::Stream { module }) => Ok(Reply::Lines(module)),
+        Ok(Command::Races { module, document }) => {
+            let read = read_run(rt, files, input, module, document)?;
+            Ok(Reply::Answer(races_answer(rt, read.0.as_slice(), read.1.as_slice())?))
+        }
+        Ok(Command::EventRaces { document }) => {
+            let bytes = read_document_bytes(rt, files, input, document)?;
+            Ok(Reply::Answer(event_races_answer(rt, bytes.as_slice())?))
+        }
         Ok(Command::Explain { module, document }) => {
             let read = read_run(rt, files, input, module, document)?;
             Ok(Reply::Answer(explain_answer(rt, read.0.as_slice(), read.1.as_slice())?))
@@ -346,13 +349,9 @@ pub fn serve<R: AllocGlobal + Threads + Wait + Sync, F: Files, I: Read, O: Write
 ) -> u8
     requires { F.failures_of files.old + 1 < 2 ^ 64 }
     ensures status { result ≤ 3 }
-    ensures answers { result < 3
-        → WritesAnswer (given (map (λ word. word.now) words.now) (F.content_of files.old) (I.remaining input.old))
-        (O.contents out.old) (O.contents out.new) result }
+    ensures answers { Serves words.now (F.content_of files.old) (I.remaining input.old) (O.contents out.old) (O.contents out.new) result }
     ensures silent { result < 3 → err.new ≡ err.old }
-    ensures stopped { result ≡ 3
-        → WritesFront (given (map (λ word. word.now) words.now) (F.content_of files.old) (I.remaining input.old))
-        (O.contents out.old) (O.contents out.new) }
+    ensures stopped { StopsAt3 words.now (F.content_of files.old) (I.remaining input.old) (O.contents out.old) (O.contents out.new) result }
 {
     match reply_to(rt, words, files, input) {
         Ok(Reply::Answer(answer)) => match write_text(out, answer.text.as_str()) {

@@ -1,6 +1,6 @@
 //! The command `run`: rounds of a module's threads, which run at the same time.
-ghost use Rattle.std.specs.Prelude.{IfOk, MatchOption, string_bytes};
-ghost use Rattle.wm_litmus.specs.Rounds.{AnswersRounds, CountsRound, RunsOver};
+ghost use Rattle.std.specs.Prelude.{IfOk, string_bytes};
+ghost use Rattle.wm_litmus.specs.Rounds.{AnswersRounds, CountsOrAnswers, RunsOver};
 
 use crate::answer::Answer;
 use crate::own::check_own;
@@ -20,9 +20,7 @@ fn count_round<R: AllocGlobal + Threads + Wait + Sync>(
     rounds: &Rounds,
     table: &mut Table,
 ) -> Result<Option<Answer>, AllocError>
-    ensures { IfOk result (λ answer. MatchOption answer
-        (CountsRound «module».now rounds.now.plan table.old.counts table.new.counts)
-        (RunsOver «module».now rounds.now)) }
+    ensures { IfOk result (CountsOrAnswers «module».now rounds.now table.old.counts table.new.counts) }
 {
     let run = match run_round(rt, rt.alloc(), module, &rounds.plan, &OpenGate) {
         Ok(run) => run,

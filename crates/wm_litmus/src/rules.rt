@@ -1,6 +1,6 @@
 //! The command `rules`: a document is judged by the memory rules, over pages of zeros.
 ghost use Rattle.std.specs.Prelude.{◌≡◌, ◌≤◌, IfOk, string_bytes};
-ghost use Rattle.wm_litmus.specs.Replies.{AnswersRules, AnswersRun, run_over};
+ghost use Rattle.wm_litmus.specs.Rules.{AnswersRules, AnswersRun, run_over};
 
 use crate::INITIAL_PAGES;
 use crate::answer::Answer;

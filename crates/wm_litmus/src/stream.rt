@@ -3,7 +3,7 @@ ghost use Rattle.std.specs.Prelude.{◌≡◌, IfOk, string_bytes};
 ghost use Rattle.wm_stream.specs.Answers.{status_code};
 ghost use Rattle.wm_litmus.specs.Lines.{verdict_status, verdict_text};
 ghost use Rattle.wm_litmus.specs.Prints.{ended};
-ghost use Rattle.wm_litmus.specs.Stream.{AnswersVerify, IsJudgeOf, JudgesLine};
+ghost use Rattle.wm_litmus.specs.Stream.{AnswersVerify, IsJudgeOf, IsLineOf, JudgesLine};
 
 use crate::answer::Answer;
 use std::alloc::{AllocError, Global};
@@ -50,8 +50,7 @@ fn line_status(verdict: &Verdict) -> LineStatus
 
 /// The answer to a line that a verdict is.
 fn line_answer(alloc: Global, verdict: &Verdict) -> Result<LineAnswer, AllocError>
-    ensures { IfOk result (λ answer. (status_code answer.status ≡ verdict_status verdict.now)
-        × (string_bytes answer.text ≡ ended (verdict_text verdict.now))) }
+    ensures { IfOk result (IsLineOf verdict.now) }
 {
     let answer = Answer::of_verdict(alloc, verdict)?;
     Ok(LineAnswer {

@@ -1,9 +1,7 @@
 //! How often each outcome came.
-ghost use Rattle.std.specs.Prelude.{◌≡◌, ◌<◌, ◌+◌, ◌-◌, ◌^◌, ◌++◌, codes, false, ◌∷◌, [], IfOk, OnOk, List, ℕ, length, map, string_bytes};
-ghost use Rattle.std.specs.BTreeMap.{get_by_text};
-ghost use Rattle.std.specs.Fmt.{decimal, format_spec, padded_integral};
+ghost use Rattle.std.specs.Prelude.{◌≡◌, ◌<◌, ◌^◌, ◌++◌, codes, [], IfOk, OnOk, List, ℕ, length, map, string_bytes};
 ghost use Rattle.std.specs.List.{flat_map};
-ghost use Rattle.wm_litmus.specs.Counts.{Counts, next_count, row_of};
+ghost use Rattle.wm_litmus.specs.Counts.{Counts, CountsOneMore, IsNextCount, padded_text, row_of};
 ghost use Rattle.wm_litmus.specs.Rounds.{CountsRun, outcomes};
 ghost use Rattle.wm_litmus.specs.Table.{IsTableText, row_text};
 
@@ -14,8 +12,7 @@ use wm_run::Run;
 
 /// A line of the table: the count in 8 places, two spaces, and the outcome.
 fn row_line(alloc: Global, outcome: &str, count: u64) -> Result<String, AllocError>
-    ensures { IfOk result (λ line. string_bytes line
-        ≡ padded_integral (format_spec 32 3 0 8 (2 ^ 64 - 1)) false [] (decimal count) ++ (codes "  " ++ (outcome.now ++ codes "\n"))) }
+    ensures { IfOk result (λ line. string_bytes line ≡ padded_text count ++ (codes "  " ++ (outcome.now ++ codes "\n"))) }
 {
     format!(in alloc; "{count:>8}  {outcome}\n")
 }
@@ -38,8 +35,7 @@ impl Table {
 
     /// How often an outcome has come, with the next time.
     fn next_count(&self, outcome: &str) -> u64
-        ensures { (came : List (List ℕ)) → Counts came self.now.counts → length came + 1 < 2 ^ 64
-            → result ≡ next_count (get_by_text self.now.counts outcome.now) }
+        ensures { IsNextCount self.now.counts outcome.now result }
     {
         match self.counts.get(outcome) {
             Some(count) => count.saturating_add(1),
@@ -49,8 +45,7 @@ impl Table {
 
     /// One more of an outcome.
     fn add(&mut self, outcome: String) -> Result<(), AllocError>
-        ensures { OnOk result ((came : List (List ℕ)) → Counts came self.old.counts → length came + 1 < 2 ^ 64
-            → Counts (came ++ string_bytes outcome ∷ []) self.new.counts) }
+        ensures { OnOk result (CountsOneMore (string_bytes outcome) self.old.counts self.new.counts) }
     {
         let count = self.next_count(outcome.as_str());
         self.counts.insert(outcome, count)?;

@@ -8,7 +8,7 @@ use Rattle.wm_event.specs.Log.{IsLog}
 use Rattle.wm_logfile.specs.declared.fault.DocFault.{DocFault}
 use Rattle.wm_logfile.specs.declared.fault.DocFault.TheVariants.{OutOfMemory}
 use Rattle.wm_logfile.specs.Document.{IsWithinLimits, Spells}
-use Rattle.wm_logfile.specs.DocumentBytes.{IsDocumentOf}
+use Rattle.wm_logfile.specs.DocumentBytes.{IsDocumentOf, IsNoDocument}
 
 abbrev Read : Type 0
 Read = Result (List ThreadLog × Witness) DocFault
@@ -24,8 +24,8 @@ same_again bytes (Ok p) log w written within only =
 same_again bytes (Err e) log w written within only = tt
 
 pub too_long : (bytes : List ℕ) (r : Read) (log : List ThreadLog) (w : Witness) → (length bytes ≤ 8388608 → IsDocumentOf bytes log w)
-    → IfErr r (λ e. (e ≡ OutOfMemory → ⊥) → length bytes ≤ 8388608 → (l : List ThreadLog) → (v : Witness) → IsLog l → IsWithinLimits l v → Spells bytes l v → ⊥)
+    → IfErr r (λ e. (e ≡ OutOfMemory → ⊥) → IsNoDocument bytes e)
     → IfErr r (λ e. (e ≡ OutOfMemory → ⊥) → 8388608 < length bytes)
 too_long bytes (Ok p) log w written refused = tt
 too_long bytes (Err e) log w written refused = λ memory.
-    lt_of_not-le (λ small. (let document = written small in refused memory small log w document.is_log document.limits document.spelled))
+    lt_of_not-le (λ small. (refused memory).no_document log w (written small))

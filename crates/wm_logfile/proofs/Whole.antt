@@ -1,5 +1,5 @@
 -- The laws of a witness and of the whole document.
-use Rattle.std.proofs.Common.{◌≡◌, ℕ, suc, ◌+◌, ◌<◌, ◌≤◌, Bool, cond, eqb, leb, inl, inr, List, [], ◌∷◌, length, map, Option, Some, None, refl, sym, ap, subst, ◌∙◌, arith}
+use Rattle.std.proofs.Common.{◌≡◌, ℕ, suc, ◌+◌, ◌≤◌, Bool, cond, eqb, leb, inl, inr, List, [], ◌∷◌, length, map, Option, Some, None, refl, sym, ap, subst, ◌∙◌, arith}
 use Rattle.std.specs.Prelude.{codes, zip}
 use Rattle.std.specs.Str.{bytes_eq}
 use Rattle.std.specs.List.{All}
@@ -21,11 +21,10 @@ use Rattle.wm_logfile.specs.declared.document.Version.{Version}
 use Rattle.wm_logfile.specs.declared.document.Version.TheVariants.{First, Second}
 use Rattle.wm_logfile.specs.declared.fault.DocFault.{DocFault}
 use Rattle.wm_logfile.specs.declared.fault.DocFault.TheVariants.{NotJson, BadShape, BadVersion, NumberRange, TooLarge, OutOfMemory, Misplaced}
-use Rattle.wm_logfile.specs.Document.{count, list, thread, thread_by, writers, keys, witness_cells, witness, IsDocument, ThreadFits, WriterFits, KeyFits, IsWithinLimits, Spells, HasTooManyThreads}
+use Rattle.wm_logfile.specs.Document.{count, list, thread, thread_by, writers, keys, witness_cells, witness, IsDocument, ThreadFits, WriterFits, KeyFits, IsWithinLimits, Spells}
 use Rattle.wm_logfile.specs.Document.IsDocument.{first, second}
 use Rattle.wm_logfile.specs.Faults.{DocRefuses}
-use Rattle.wm_logfile.specs.Reading.{◌>>=◌, list_at, items_in, traverse, writers_at, keys_at, witness_from, witness_at, firsts, seconds, limited_thread_at, limited_thread_by_at, few_from, few_at, name_at, version_from, version_at, parts_from, parts_at, pair_1_at, pair_2_at, pair_at, document_at}
-use Rattle.wm_logfile.proofs.Lists.{list_takes, list_of_items_in}
+use Rattle.wm_logfile.specs.Reading.{◌>>=◌, traverse, writers_at, keys_at, witness_from, witness_at, firsts, seconds, limited_thread_at, limited_thread_by_at, few_from, few_at, name_at, version_from, version_at, parts_from, parts_at, pair_1_at, pair_2_at, pair_at, document_at}
 use Rattle.wm_logfile.proofs.Format.{bind_some, when_some, IsFormat, IsFormatAt, AllFrom, listed, traverse_takes, traverse_again}
 use Rattle.wm_logfile.proofs.Keys.{all_keys, all_writers}
 use Rattle.wm_logfile.proofs.Leaves.{chosen, texts, u64_takes}
@@ -217,14 +216,14 @@ pair_2_again x fits_log fits =
 
 -- ---- the whole
 
-abbrev version_number : Version → ℕ
+abbrev pub version_number : Version → ℕ
 version_number First = 1
 version_number Second = 2
 
-abbrev Parts : Type 0
+abbrev pub Parts : Type 0
 Parts = Version × Data × Data
 
-abbrev parts_cells : Parts → List Data
+abbrev pub parts_cells : Parts → List Data
 parts_cells p = string (codes "wasm-litmus-log") ∷ count (version_number p.0) ∷ p.1 ∷ p.2 ∷ []
 
 version_from_takes : (n : ℕ) (v : Version) → version_from n ≡ Some v → n ≡ version_number v
@@ -234,7 +233,7 @@ version_from_takes n v h =
       | inr c ↦ (let g = when_some (eqb n 2) (Some Second) v c.1 in let same : Second ≡ v = cc in eqb-true n 2 g.0 ∙ ap version_number same)
     ]
 
-version_takes : (d : Data) (v : Version) → version_at d ≡ Some v → d ≡ count (version_number v)
+pub version_takes : (d : Data) (v : Version) → version_at d ≡ Some v → d ≡ count (version_number v)
 version_takes d v h =
     let one = bind_some (as_number d >>= as_u64) version_from v h in
     u64_takes d one.0 one.1 ∙ ap count (version_from_takes one.0 v one.2)
@@ -243,7 +242,7 @@ version_again : (v : Version) → version_at (count (version_number v)) ≡ Some
 version_again First = refl
 version_again Second = refl
 
-parts_take : (ds : List Data) (p : Parts) → parts_from ds ≡ Some p → (ds ≡ parts_cells p) × Unit {0}
+pub parts_take : (ds : List Data) (p : Parts) → parts_from ds ≡ Some p → (ds ≡ parts_cells p) × Unit {0}
 unfolding parts_from
 parts_take [] p h = absurd cc
 parts_take (a ∷ []) p h = absurd cc
@@ -264,7 +263,7 @@ parts_take (a ∷ b ∷ c ∷ d ∷ []) p h =
     )
 parts_take (a ∷ b ∷ c ∷ d ∷ e ∷ ds) p h = absurd cc
 
-parts_again : (p : Parts) → parts_from (parts_cells p) ≡ Some p
+pub parts_again : (p : Parts) → parts_from (parts_cells p) ≡ Some p
 unfolding parts_from
 parts_again p = ap (λ (o : Option Version). o >>= λ v. Some (v, p.1, p.2)) (version_again p.0)
 
@@ -299,16 +298,6 @@ is_log d ls h = (threads_apart 0 ls (all_threads.takes d ls h).1.0).0
 pub is_log_by : (d : Data) (ps : List ThreadWith) → few_at limited_thread_by_at d ≡ Some ps → IsLog (firsts ps)
 is_log_by d ps h = (withs_apart 0 ps (all_withs.takes d ps h).1.0).placed
 
-pub too_many : (d : Data) (fields : List Data) (v : Version) (ts last : Data) → list_at d ≡ Some fields → parts_from fields ≡ Some (v, ts, last) → 16 < length (items_in ts) → HasTooManyThreads d
-too_many d fields v ts last e h lt = record {
-  name = string (codes "wasm-litmus-log");
-  version = count (version_number v);
-  threads = items_in ts;
-  last = last;
-  is = list_takes d fields e ∙ ap list (parts_take fields (v, ts, last) h).0 ∙ ap (λ (y : Data). list (parts_cells (v, y, last))) (list_of_items_in ts (omega (arith, lt)));
-  many = lt;
-}
-
 -- what was read is spelled so, within the limits
 pub is_document : (d : Data) (l : List ThreadLog) (w : Witness) → document_at d ≡ Some (l, w) → IsDocument d l w × IsLog l × IsWithinLimits l w
 is_document d l w h =
@@ -339,6 +328,3 @@ refusal (NumberRange p) d ne h = h
 refusal TooLarge d ne h = h
 refusal OutOfMemory d ne h = absurd (ne refl)
 refusal Misplaced d ne h = absurd h
-
-pub placed : (e : DocFault) (d : Data) → DocRefuses e (document_at d) → e ≡ Misplaced → ⊥
-placed e d h is = rw is at h

@@ -1,5 +1,5 @@
 -- The values that a log with a witness is spelled by, the limits, and the text.
-use Rattle.std.specs.Prelude.{◌≡◌, ◌<◌, ◌≤◌, ◌⊎◌, ◌^◌, ℕ, List, [], ◌∷◌, ◌++◌, map, length, codes, Some, None, Option, ⊤, IsUtf8, IfSome, All}
+use Rattle.std.specs.Prelude.{◌≡◌, ◌<◌, ◌≤◌, ◌^◌, ℕ, List, [], ◌∷◌, ◌++◌, map, length, codes, Some, None, Option, ⊤, IsUtf8, IfSome, All}
 use Rattle.serde_json.specs.Data.{Data, number, string, array, unsigned}
 use Rattle.serde_json.specs.Read.{read}
 use Rattle.serde_json.specs.View.{items_of}
@@ -19,7 +19,6 @@ use Rattle.wm_event.specs.Event.{key_of}
 use Rattle.wm_event.specs.Fitting.{FitsLog}
 use Rattle.wm_event.specs.TrapText.{trap_text}
 use Rattle.wm_event.specs.Witness.{writers_in}
-use Rattle.wm_logfile.specs.Limits.{max_document_bytes}
 use Rattle.wm_logfile.specs.Words.{kind_word, order_word}
 
 -- ---- the parts of both versions
@@ -171,16 +170,3 @@ pub record Spells (bytes : List ℕ) (log : List ThreadLog) (w : Witness) : Type
   pub value : Data
   pub text : read bytes ≡ Some value
   pub spelled : IsDocument value log w
-
--- the value lists more threads than a document may have
-pub record HasTooManyThreads (d : Data) : Type 0 where
-  pub name : Data
-  pub version : Data
-  pub threads : List Data
-  pub last : Data
-  pub is : d ≡ list (name ∷ version ∷ list threads ∷ last ∷ [])
-  pub many : max_threads < length threads
-
--- past the limit of bytes, or JSON text past the limit of threads
-abbrev pub IsTooLarge : List ℕ → Type 0
-IsTooLarge bytes = (max_document_bytes < length bytes) ⊎ ((d : Data) × (read bytes ≡ Some d) × HasTooManyThreads d)

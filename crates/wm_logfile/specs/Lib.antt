@@ -3,6 +3,7 @@ pub mod Words
 pub mod Document
 pub mod Reading
 pub mod Faults
+pub mod Causes
 pub mod PathText
 pub mod Texts
 pub mod DocumentBytes

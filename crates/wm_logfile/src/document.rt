@@ -1,14 +1,16 @@
 //! The reader of a document.
-ghost use Rattle.std.specs.Prelude.{◌≡◌, ◌≢◌, ◌≤◌, ◌<◌, List, length, map, IfOk, IfErr};
+ghost use Rattle.std.specs.Prelude.{◌≡◌, ◌≢◌, ◌≤◌, List, None, length, map, IfOk, IfErr};
 ghost use Rattle.serde_json.specs.View.{view};
 ghost use Rattle.wm_event.specs.declared.log.ThreadLog.{ThreadLog};
 ghost use Rattle.wm_event.specs.declared.witness.Witness.{Witness};
 ghost use Rattle.wm_event.specs.Log.{IsLog};
 ghost use Rattle.serde_json.specs.Data.{Data};
-ghost use Rattle.wm_logfile.specs.Document.{IsDocument, Spells, IsWithinLimits, HasTooManyThreads, IsTooLarge};
+ghost use Rattle.wm_logfile.specs.Document.{IsDocument, Spells, IsWithinLimits, list};
+ghost use Rattle.wm_logfile.specs.Causes.{IsFaultOf, IsThreadsFault, IsVersionFault};
+ghost use Rattle.wm_logfile.specs.DocumentBytes.{IsNoDocument};
 ghost use Rattle.wm_logfile.specs.Faults.{Gives, DocGives};
 ghost use Rattle.wm_logfile.specs.Limits.{max_document_bytes};
-ghost use Rattle.wm_logfile.specs.Reading.{items_in, few_at, name_at, pair_1_at, pair_2_at, version_at, parts_from, document_at};
+ghost use Rattle.wm_logfile.specs.Reading.{few_at, name_at, pair_1_at, pair_2_at, version_at, parts_from, document_at};
 
 use crate::MAX_DOCUMENT_BYTES;
 use crate::fault::{DocFault, ReadFault};
@@ -40,8 +42,7 @@ fn threads_of<T: Drop, R: ItemReader<T>>(
     path: &Path,
 ) -> Result<List<T>, DocFault>
     ensures given { DocGives (λ ts. ts) result (few_at (R.reads reader.now) (view value.now)) }
-    ensures too_large { IfErr result (λ e. e ≡ DocFault.TooLarge
-        → 16 < length (items_in (view value.now))) }
+    ensures fault { IfErr result (IsThreadsFault (view value.now)) }
 {
     let values = list_of(value, path)?;
     if values.len() > MAX_THREADS {
@@ -52,7 +53,8 @@ fn threads_of<T: Drop, R: ItemReader<T>>(
 
 /// Whether this is the name of the format.
 fn check_name(value: &Value, path: &Path) -> Result<(), ReadFault>
-    ensures { Gives (λ u. u) result (name_at (view value.now)) }
+    ensures given { Gives (λ u. u) result (name_at (view value.now)) }
+    ensures named { IfErr result (λ _. name_at (view value.now) ≡ None) }
 {
     match value.as_str() {
         Some("wasm-litmus-log") => Ok(()),
@@ -63,7 +65,7 @@ fn check_name(value: &Value, path: &Path) -> Result<(), ReadFault>
 /// The version, by its number.
 fn version_of(value: &Value, path: &Path) -> Result<Version, DocFault>
     ensures given { DocGives (λ v. v) result (version_at (view value.now)) }
-    ensures small { IfErr result (λ e. e ≢ DocFault.TooLarge) }
+    ensures fault { IfErr result (IsVersionFault (view value.now)) }
 {
     if !value.is_number() {
         return Err(DocFault::BadShape(path.copied()));
@@ -83,7 +85,7 @@ fn parts_of<'a>(
 ) -> Result<(Version, &'a Value, &'a Value), DocFault>
     ensures given { DocGives (λ p. (p.0, view p.1.now, view p.2.now)) result
         (parts_from (map view fields.now)) }
-    ensures small { IfErr result (λ e. e ≢ DocFault.TooLarge) }
+    ensures fault { IfErr result (IsFaultOf (list (map view fields.now))) }
 {
     let [name, version, threads, last] = fields else {
         return Err(DocFault::BadShape(path.copied()));
@@ -102,8 +104,7 @@ fn pair_of_first(
 ) -> Result<(Log, Witness), DocFault>
     ensures given { DocGives (λ p. (p.0, p.1)) result
         (pair_1_at (view threads.now) (view witness.now)) }
-    ensures too_large { IfErr result (λ e. e ≡ DocFault.TooLarge
-        → 16 < length (items_in (view threads.now))) }
+    ensures fault { IfErr result (IsThreadsFault (view threads.now)) }
 {
     let logs = threads_of(alloc, &ThreadReader, threads, &path.child(2))?;
     let witness = witness_of(alloc, witness, &path.child(3))?;
@@ -119,8 +120,7 @@ fn pair_of_second(
 ) -> Result<(Log, Witness), DocFault>
     ensures given { DocGives (λ p. (p.0, p.1)) result
         (pair_2_at (view threads.now) (view order.now)) }
-    ensures too_large { IfErr result (λ e. e ≡ DocFault.TooLarge
-        → 16 < length (items_in (view threads.now))) }
+    ensures fault { IfErr result (IsThreadsFault (view threads.now)) }
 {
     let threads = threads_of(alloc, &ThreadByReader, threads, &path.child(2))?;
     let order = order_keys_of(alloc, order, &path.child(3))?;
@@ -131,8 +131,7 @@ fn pair_of_second(
 /// The log and the witness that this value spells.
 fn document_of(alloc: Global, value: &Value) -> Result<(Log, Witness), DocFault>
     ensures given { DocGives (λ p. (p.0, p.1)) result (document_at (view value.now)) }
-    ensures too_large { IfErr result (λ e. e ≡ DocFault.TooLarge
-        → HasTooManyThreads (view value.now)) }
+    ensures fault { IfErr result (IsFaultOf (view value.now)) }
 {
     let path = Path::whole();
     let fields = list_of(value, &path)?;
@@ -159,13 +158,8 @@ pub fn read_document(alloc: Global, bytes: &[u8]) -> Result<(Log, Witness), DocF
     ensures only { IfOk result (λ p. (log : List ThreadLog) → (w : Witness) → IsLog log
         → IsWithinLimits log w → Spells bytes.now log w → (log ≡ p.0) × (w ≡ p.1)) }
 
-    // What is spelled within the limits is refused only for want of memory.
-    ensures refused { IfErr result (λ e. e ≢ DocFault.OutOfMemory
-        → length bytes.now ≤ max_document_bytes → (log : List ThreadLog) → (w : Witness)
-        → IsLog log → IsWithinLimits log w → ¬ Spells bytes.now log w) }
-    ensures too_large { IfErr result (λ e. e ≡ DocFault.TooLarge → IsTooLarge bytes.now) }
-    ensures large { IfErr result (λ e. max_document_bytes < length bytes.now → e ≡ DocFault.TooLarge) }
-    ensures placed { IfErr result (λ e. e ≢ DocFault.Misplaced) }
+    // Only what is spelled so by no pair within the limits is refused, with its fault, or for want of memory.
+    ensures refused { IfErr result (λ e. e ≢ DocFault.OutOfMemory → IsNoDocument bytes.now e) }
 {
     if bytes.len() > MAX_DOCUMENT_BYTES {
         return Err(DocFault::TooLarge);

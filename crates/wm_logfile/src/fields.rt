@@ -1,5 +1,5 @@
 //! Readers of the values inside a document that are no lists of items.
-ghost use Rattle.std.specs.Prelude.{◌≤◌, map, IfOk};
+ghost use Rattle.std.specs.Prelude.{◌≡◌, ◌≤◌, None, map, IfErr, IfOk};
 ghost use Rattle.serde_json.specs.View.{view};
 ghost use Rattle.wm_logfile.specs.Faults.{Gives};
 ghost use Rattle.wm_logfile.specs.Reading.{list_at, number_at, width_at, kind_at, order_at};
@@ -13,7 +13,8 @@ use wm_event::EventKind;
 
 /// The items of a list.
 pub(crate) fn list_of<'a>(value: &'a Value, path: &Path) -> Result<&'a [Value], ReadFault>
-    ensures { Gives (λ s. map view s.now) result (list_at (view value.now)) }
+    ensures given { Gives (λ s. map view s.now) result (list_at (view value.now)) }
+    ensures none { IfErr result (λ _. list_at (view value.now) ≡ None) }
 {
     match value.as_array() {
         Some(list) => Ok(list.as_slice()),

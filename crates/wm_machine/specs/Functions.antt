@@ -30,3 +30,7 @@ from_place (Some block) at = drop at block
 
 abbrev pub continuation : Module → ℕ → ℕ → ℕ → List Instr
 continuation m func block at = from_place (block_in m.funcs func block) at
+
+-- a function of these parameters and other locals, with its body
+abbrev pub called_with : List ValType → List ValType → Module → ℕ → Callable
+called_with params locals m func = record { params = params; locals = locals; body = continuation m func 0 0 }

@@ -2,6 +2,7 @@
 use Rattle.std.specs.Prelude.{ℕ, zero, suc, ◌+◌, ◌<◌, ◌^◌, ◌≡◌, List, [], ◌∷◌, ◌++◌, Option, Some, None, Result, Ok, Err, length, drop, take, reverse, map}
 use Rattle.wm_ast.specs.declared.module.Module.{Module}
 use Rattle.wm_ast.specs.declared.types.ValType.{ValType}
+use Rattle.wm_ast.specs.declared.instr.Instr.{Instr}
 use Rattle.wm_event.specs.declared.op.OpFields.{OpFields}
 use Rattle.wm_event.specs.declared.log.TrapKind.TheVariants.{Exhausted}
 use Rattle.wm_machine.specs.declared.value.TypedValue.{TypedValue}
@@ -16,7 +17,7 @@ use Rattle.wm_machine.specs.declared.fault.StepFault.{StepFault}
 use Rattle.wm_machine.specs.declared.fault.StepFault.TheVariants.{Stuck as StuckFault, OutOfMemory}
 use Rattle.wm_machine.specs.Functions.{Callable, callable, continuation}
 use Rattle.wm_machine.specs.Term.{Vars, Frame, Reduced, Next, Ends, Leaves, Returns, Traps, Stuck}
-use Rattle.wm_machine.specs.Step.{reduce, returned, invoke, out_of_label}
+use Rattle.wm_machine.specs.Step.{act, reduce, returned, invoke, out_of_label}
 use Rattle.wm_machine.specs.Nest.{Position, at_begin}
 use Rattle.wm_machine.specs.Values.{zero_of}
 use Rattle.wm_machine.specs.Configuration.{left_of}
@@ -59,6 +60,10 @@ made_of (Leaves l values) = None
 made_of (Returns values) = None
 made_of (Traps kind) = None
 made_of Stuck = None
+
+-- the access that an instruction makes with these operands, whichever call it is in, whatever it reads and whatever follows
+abbrev pub AsksFor : Module → List TypedValue → Instr → Option OpFields → Type 0
+AsksFor m operands instr op = (depth read func : ℕ) (vars : Vars) (rest : List Instr) → made_of (act m depth read func vars operands instr rest) ≡ op
 
 -- a call and the globals are what they were
 abbrev pub Same : CallFrame → List TypedValue → CallFrame → List TypedValue → Type 0

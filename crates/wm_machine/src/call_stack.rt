@@ -72,7 +72,7 @@ impl<'m> CallStack<'m> {
         Ok(())
     }
 
-    /// StepsTo back to the innermost call that waits, if there is one, with what was given back; else, and at an `Err`, nothing
+    /// Goes back to the innermost call that waits, if there is one, with what was given back; else, and at an `Err`, nothing
     /// changes.
     pub fn leave(
         &mut self,

@@ -95,7 +95,7 @@ impl ControlStack {
         &self.values[self.values.len() - count..]
     }
 
-    /// StepsTo back to the begin of the body of a function.
+    /// Goes back to the begin of the body of a function.
     pub fn restart(&mut self)
         ensures { self.new ≡ at_begin 0 }
     {
@@ -108,7 +108,7 @@ impl ControlStack {
         };
     }
 
-    /// StepsTo on to an instruction of the innermost block.
+    /// Goes on to an instruction of the innermost block.
     #[inline(always)]
     pub fn set_at(&mut self, at: usize)
         ensures { self.new ≡ record self.old { at = at } }

@@ -1,6 +1,6 @@
 //! What a call needs of its function.
 ghost use Rattle.std.specs.Prelude.{◌≡◌, IfSome, Some, None};
-ghost use Rattle.wm_machine.specs.Functions.{callable, continuation};
+ghost use Rattle.wm_machine.specs.Functions.{callable, called_with};
 
 use wm_ast::{Module, ValType};
 
@@ -14,8 +14,7 @@ pub struct LocalTypes<'m> {
 /// What a call needs of its function; None where the function, its type or its body isn't there.
 pub fn callable(module: &Module, func: usize) -> Option<LocalTypes<'_>>
     ensures none { result ≡ None → callable «module».now func ≡ None }
-    ensures some { IfSome result (λ f. callable «module».now func
-        ≡ Some record { params = f.params.now; locals = f.locals.now; body = continuation «module».now func 0 0 }) }
+    ensures some { IfSome result (λ f. callable «module».now func ≡ Some (called_with f.params.now f.locals.now «module».now func)) }
 {
     let code = module.funcs.get(func)?;
     let ty = module.func_type(func)?;

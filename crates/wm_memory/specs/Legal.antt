@@ -5,6 +5,7 @@ use Rattle.wm_event.specs.Limits.{max_events}
 use Rattle.wm_event.specs.Op.{IsOp}
 use Rattle.wm_memory.specs.declared.history_step.HistoryStep.{HistoryStep}
 use Rattle.wm_memory.specs.declared.history_step.HistoryStep.TheVariants.{Access, Drain, DrainAt}
+use Rattle.wm_memory.specs.Limits.{max_pending}
 use Rattle.wm_memory.specs.Visibility.{Step, events, waiting, steps, Passes}
 
 -- an item may come after these steps of so many threads over a memory of that size
@@ -14,7 +15,7 @@ MayFollow threads size s (Drain t) = (t < threads) × (0 < length (waiting s t))
 MayFollow threads size s (DrainAt t k) = (t < threads) × (k < length (waiting s t)) × Passes k (waiting s t)
 
 pub record IsWithin (s : List Step) : Type 0 where
-  pub pending : (t : ℕ) → length (waiting s t) ≤ 64
+  pub pending : (t : ℕ) → length (waiting s t) ≤ max_pending
   pub few : length (events s) ≤ max_events
 
 -- a history, the newest item first, of these threads over this Init

@@ -15,6 +15,7 @@ use Rattle.wm_event.specs.declared.event.EventId.{EventId}
 use Rattle.wm_event.specs.declared.op.OpFields.{OpFields as Op}
 use Rattle.wm_event.specs.Op.{event_made}
 use Rattle.wm_memory.specs.Cells.{covers}
+use Rattle.wm_memory.specs.Limits.{max_pending}
 use Rattle.wm_memory.specs.Table.{CellTable, cell_at, HasCell, Puts, PutsAll, shown}
 use Rattle.wm_memory.specs.Visibility.{Step, Made, Drained, Passes, In, published, waiting, accesses, seen, value_at, writers_at, made_after, writers_after, step_of}
 use Rattle.wm_memory.specs.declared.history_step.HistoryStep.TheVariants.{Access}
@@ -84,7 +85,7 @@ MayLeave t k m = (b : Buffered) × (slice_get m.buffers t ≡ Some b) × (k < le
 abbrev pub Drains : ℕ → ℕ → Bool → State → State → Type 0
 Drains t k result m n = MatchBool result (MayLeave t k m × PublishesAt t k m n) ((n ≡ m) × CannotLeave t k m)
 
--- whatever steps the memory fitted, the new one fits them with the drain behind; else nothing changed
+-- whatever steps the memory fitted, the new one fits them with the drain after them; else nothing changed
 abbrev pub DrainFits : ℕ → ℕ → Bool → State → State → Type 0
 DrainFits t k result m n = MatchBool result ((threads : ℕ) (initial : List ℕ) (s : List Step) → Fits threads initial s m → Fits threads initial (Drained t k ∷ s) n) (n ≡ m)
 
@@ -100,7 +101,7 @@ pub record DoesAtomicBy (t : ℕ) (op : Op) (b : Buffered) (mid : CellTable) (m 
 abbrev pub DoesAtomic : ℕ → Op → State → Event → List EventId → State → Type 0
 DoesAtomic t op m e ws n = (b : Buffered) × ((mid : CellTable) × DoesAtomicBy t op b mid m e ws n)
 
--- a plain read of t, which the cells show behind its stores
+-- a plain read of t, which the cells show under its stores
 pub record DoesLoadBy (t : ℕ) (op : Op) (b : Buffered) (m : State) (e : Event) (ws : List EventId) (n : State) : Type 0 where
   pub was : slice_get m.buffers t ≡ Some b
   pub event : e ≡ event_made (record { thread = t; number = b.accesses }) op (value_at (shown m.cells (reverse b.stores)) op.address (bytes_of op.width))
@@ -132,7 +133,7 @@ plain_store Unordered (CmpXchg expected new) = false
 
 -- the oldest store leaves just before the access: it is a plain store, and as many wait as may
 abbrev pub drains_first : List Step → ℕ → Op → Bool
-drains_first s t op = plain_store op.order op.kind && (length (waiting s t) == 64)
+drains_first s t op = plain_store op.order op.kind && (length (waiting s t) == max_pending)
 
 -- the steps that an access of t follows
 abbrev pub ready : List Step → ℕ → Op → List Step

@@ -21,7 +21,7 @@ abbrev pub In : Event → List Event → Type 0
 In v [] = ⊥
 In v (x ∷ xs) = (x ≡ v) ⊎ In v xs
 
--- the item with k older ones behind it, the others, and those behind it
+-- the item after which k older ones come, the others, and those older ones
 abbrev pub pick : ℕ → List Event → List Event
 pick k [] = []
 pick k (x ∷ xs) = if length xs == k then x ∷ [] else pick k xs
@@ -34,7 +34,7 @@ abbrev pub behind : ℕ → List Event → List Event
 behind k [] = []
 behind k (x ∷ xs) = if length xs == k then xs else behind k xs
 
--- the store with k older ones behind it overlaps none of these
+-- the store after which k older ones come overlaps none of these
 abbrev pub Passes : ℕ → List Event → Type 0
 Passes k w = (x y : Event) (a : ℕ) → In x (pick k w) → In y (behind k w) → covers x a ≡ true → covers y a ≡ true → ⊥
 

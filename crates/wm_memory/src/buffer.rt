@@ -1,5 +1,6 @@
 //! The store buffer of a thread.
 ghost use Rattle.std.specs.Prelude.{◌≡◌, ◌^◌, ◌∷◌, ◌++◌, [], ◌+◌, ◌<◌, ◌≤◌, length, take, drop, IfOk, MatchBool};
+ghost use Rattle.wm_memory.specs.Limits.{max_pending};
 ghost use Rattle.wm_memory.specs.Memory.{MayPass, Overlaps, without_store};
 
 use crate::MAX_PENDING;
@@ -23,7 +24,9 @@ impl Model for Buffer {
 
     ghost view = { λ a. record { stores = a.stores.items; accesses = a.accesses } };
 
-    ghost invariant = { λ a. (64 ≤ vec_capacity a.stores) × (vec_len a.stores ≤ 64) };
+    ghost use Rattle.wm_memory.specs.Limits.{max_pending};
+
+    ghost invariant = { λ a. (max_pending ≤ vec_capacity a.stores) × (vec_len a.stores ≤ max_pending) };
 }
 
 impl Buffer {
@@ -40,7 +43,7 @@ impl Buffer {
     /// How many stores wait.
     pub fn len(&self) -> usize
         ensures len { result ≡ length self.now.stores }
-        ensures few { result ≤ 64 }
+        ensures few { result ≤ max_pending }
     {
         self.stores.len()
     }
@@ -111,7 +114,7 @@ impl Buffer {
     /// Adds a store, which is an access, where fewer wait than may. It takes no memory.
     pub fn add(&mut self, e: Event)
         requires few { self.old.accesses + 1 < 2 ^ 32 }
-        requires room { length self.old.stores < 64 }
+        requires room { length self.old.stores < max_pending }
         ensures { self.new ≡ record { stores = self.old.stores ++ e ∷ []; accesses = self.old.accesses + 1 } }
     {
         match self.stores.push(e) {

@@ -3,6 +3,7 @@ ghost use Rattle.std.specs.Prelude.{◌≡◌, ◌+◌, ◌<◌, ◌≤◌, leng
 ghost use Rattle.wm_access.specs.AccessWidth.{bytes_of};
 ghost use Rattle.wm_event.specs.Event.{reads};
 ghost use Rattle.wm_event.specs.Shape.{read_width};
+ghost use Rattle.wm_memory.specs.Limits.{max_pending};
 ghost use Rattle.wm_memory.specs.Memory.{Answers, Buffered, CannotLeave, DoesAtomic, DoesLoad, DoesStore, DrainFits, Drains, DrainsFirst, FaultIs, Fits, Fitting, HasNumber, MakesAccess, IsPending, MayLeave, PublishesAt, Waits, plain_store};
 ghost use Rattle.wm_memory.specs.Reply.{padded, reply_of};
 ghost use Rattle.wm_memory.specs.Texts.{mem_fault_text};
@@ -179,7 +180,7 @@ impl Memory {
     /// How many stores of a thread wait, 0 where there is no such thread.
     pub fn pending(&self, thread: u32) -> usize
         ensures count { IsPending thread self.now result }
-        ensures few { result ≤ 64 }
+        ensures few { result ≤ max_pending }
     {
         match self.buffers.get(thread as usize) {
             Some(buffer) => buffer.len(),
@@ -267,7 +268,7 @@ impl Memory {
     fn store(&mut self, thread: u32, op: Op) -> Made
         requires there { thread < length self.old.buffers }
         requires few { HasNumber thread self.old }
-        requires room { (b : Buffered) → slice_get self.old.buffers thread ≡ Some b → length b.stores < 64 }
+        requires room { (b : Buffered) → slice_get self.old.buffers thread ≡ Some b → length b.stores < max_pending }
         ensures event { DoesStore thread op self.old result.event result.writers self.new }
     {
         let buffer = &mut self.buffers[thread as usize];
@@ -280,7 +281,7 @@ impl Memory {
         }
     }
 
-    /// A plain store, behind a drain of the oldest one where as many wait as may.
+    /// A plain store, after a drain of the oldest one where as many wait as may.
     fn plain_store(&mut self, thread: u32, op: Op) -> Result<Made, AllocError>
         requires there { thread < length self.old.buffers }
         requires range { op.address + bytes_of op.width ≤ length self.old.cells.initial }

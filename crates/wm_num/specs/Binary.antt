@@ -1,5 +1,5 @@
 -- The integer meaning of the operators on two operands (WebAssembly Core 1.0, section 4.3.2). Here w is the number of bits.
-use Rattle.std.specs.Prelude.{ℕ, ◌+◌, ◌-◌, ◌*◌, ◌/◌, ◌%◌, ◌^◌, min, max, Bool, true, false, ◌==◌, if◌then◌else◌, pos, int_div, int_rem, int_le}
+use Rattle.std.specs.Prelude.{◌≡◌, ℕ, ◌+◌, ◌-◌, ◌*◌, ◌/◌, ◌%◌, ◌^◌, min, max, Bool, true, false, ◌==◌, if◌then◌else◌, pos, int_div, int_rem, int_le}
 use Rattle.std.specs.Prelude.{Result, Ok, Err}
 use Rattle.std.specs.Int.{int_div_euclid}
 use Rattle.wm_num.specs.declared.operator.BinaryOperator.{BinaryOperator}
@@ -71,12 +71,16 @@ rotated_right w a k = a / 2 ^ k + a % 2 ^ k * 2 ^ (w - k)
 abbrev pub unless_zero : ℕ → Result ℕ NumTrap → Result ℕ NumTrap
 unless_zero b x = if b == 0 then Err DivideByZero else x
 
+-- the signed quotient, or the trap of a division
+abbrev pub divided : ℕ → ℕ → ℕ → Result ℕ NumTrap
+divided w a b = unless_zero b (if quotient_overflows w a b then Err Overflow else Ok (signed_quotient w a b))
+
 -- what an operator gives at operands of w bits
 abbrev pub result_of : BinaryOperator → ℕ → ℕ → ℕ → Result ℕ NumTrap
 result_of Add w a b = Ok (sum_modulo w a b)
 result_of Sub w a b = Ok (difference_modulo w a b)
 result_of Mul w a b = Ok (product_modulo w a b)
-result_of DivS w a b = unless_zero b (if quotient_overflows w a b then Err Overflow else Ok (signed_quotient w a b))
+result_of DivS w a b = divided w a b
 result_of DivU w a b = unless_zero b (Ok (a / b))
 result_of RemS w a b = unless_zero b (Ok (signed_remainder w a b))
 result_of RemU w a b = unless_zero b (Ok (a % b))
@@ -88,6 +92,10 @@ result_of ShrS w a b = Ok (signed_shifted_right w a (b % w))
 result_of ShrU w a b = Ok (shifted_right a (b % w))
 result_of Rotl w a b = Ok (rotated_left w a (b % w))
 result_of Rotr w a b = Ok (rotated_right w a (b % w))
+
+-- the least signed value, divided by -1: both as operands of w bits
+abbrev pub DividesLeastByMinusOne : ℕ → BinaryOperator → ℕ → ℕ → Type 0
+DividesLeastByMinusOne w op a b = (op ≡ DivS) × (a ≡ 2 ^ (w - 1)) × (b ≡ 2 ^ w - 1)
 
 -- what an operator gives at operands of a width
 abbrev pub binary_meaning : BinaryOperator → Width → ℕ → ℕ → Result ℕ NumTrap

@@ -1,8 +1,8 @@
 //! The operators by their names.
 
-ghost use Rattle.std.specs.Prelude.{◌≡◌, ◌-◌, ◌^◌, ◌≤◌, ◌↔◌, IfOk, IsTrue};
+ghost use Rattle.std.specs.Prelude.{◌≡◌, ◌≤◌, ◌↔◌, IfOk, IsTrue};
 ghost use Rattle.wm_num.specs.Number.{bits_of, IsOperand};
-ghost use Rattle.wm_num.specs.Binary.{binary_meaning, divides};
+ghost use Rattle.wm_num.specs.Binary.{DividesLeastByMinusOne, binary_meaning, divides};
 ghost use Rattle.wm_num.specs.Unary.{unary_meaning};
 
 use crate::operator::{BinaryOperator, NumTrap, UnaryOperator, Width};
@@ -20,8 +20,7 @@ pub fn binary(op: BinaryOperator, width: Width, left: u64, right: u64) -> Result
     ensures meaning { result ≡ binary_meaning op width left right }
     ensures operand { IfOk result (IsOperand width) }
     ensures by_zero { (result ≡ Err NumTrap.DivideByZero) ↔ (IsTrue (divides op) × (right ≡ 0)) }
-    ensures overflow { (result ≡ Err NumTrap.Overflow)
-        ↔ ((op ≡ BinaryOperator.DivS) × (left ≡ 2 ^ (bits_of width - 1)) × (right ≡ 2 ^ bits_of width - 1)) }
+    ensures overflow { (result ≡ Err NumTrap.Overflow) ↔ DividesLeastByMinusOne (bits_of width) op left right }
 {
     match op {
         BinaryOperator::Add => Ok(arithmetic::add(width, left, right)),

@@ -2,7 +2,7 @@
 
 ghost use Rattle.std.specs.Prelude.{◌≡◌, ◌≢◌, ◌/◌, ◌%◌, if◌then◌else◌};
 ghost use Rattle.wm_num.specs.Number.{bits_of, IsOperand};
-ghost use Rattle.wm_num.specs.Binary.{quotient_overflows, signed_quotient, signed_remainder, unless_zero};
+ghost use Rattle.wm_num.specs.Binary.{divided, quotient_overflows, signed_quotient, signed_remainder, unless_zero};
 
 use crate::operator::{NumTrap, Width};
 use crate::view::{operand_32, operand_64, signed_32, signed_64};
@@ -31,11 +31,7 @@ pub fn rem_u(left: u64, right: u64) -> Result<u64, NumTrap>
 pub fn div_s(width: Width, left: u64, right: u64) -> Result<u64, NumTrap>
     requires left { IsOperand width left }
     requires right { IsOperand width right }
-    ensures { result
-        ≡ unless_zero right
-        (if quotient_overflows (bits_of width) left right
-        then Err NumTrap.Overflow
-        else Ok (signed_quotient (bits_of width) left right)) }
+    ensures { result ≡ divided (bits_of width) left right }
 {
     if right == 0 {
         return Err(NumTrap::DivideByZero);

@@ -2,10 +2,11 @@
 ghost use Rattle.std.specs.Prelude.{IfOk};
 ghost use Rattle.wm_event.specs.Op.{kind_finds};
 ghost use Rattle.wm_event.specs.Reply.{ReadAnswers};
-ghost use Rattle.wm_recorder.specs.Locked.{DrainedOnce, DrainedAtOnce, MadeOnce};
+ghost use Rattle.wm_recorder.specs.Locked.{DrainedOnce, DrainedAtOnce, IsOver, MadeOnce};
 ghost use Rattle.wm_recorder.specs.Recorder.{IsRecording, RecordsValid};
 
-use crate::{AccessFault, Recorder, Shared};
+use crate::held::Held;
+use crate::{AccessFault, Over, Recorder, Shared};
 use std::alloc::AllocError;
 use std::sync::{Mutex, Wait};
 use wm_event::{Op, Reply};
@@ -14,58 +15,58 @@ use wm_event::{Op, Reply};
 /// drain that a full buffer forces before it, or for one drain; so whenever the lock is free, the recorder's history is
 /// legal, and its events, writers and order are what that history records: a valid execution.
 #[derive(Drop)]
-pub struct LockedMemory<'a, R: Wait> {
+pub struct LockedMemory<'a, R: Wait, N: Over> {
     rt: &'a R,
-    recorder: Mutex<Recorder>,
+    held: Mutex<Held<N>>,
 }
 
-impl<'a, R: Wait> LockedMemory<'a, R> {
+impl<'a, R: Wait, N: Over> LockedMemory<'a, R, N> {
     /// A memory that threads share, which records in this recorder.
-    pub fn new(rt: &'a R, recorder: Recorder) -> LockedMemory<'a, R> {
+    pub fn new(rt: &'a R, recorder: Recorder) -> LockedMemory<'a, R, N>
+        requires { IsOver N.initial N.threads recorder }
+    {
         LockedMemory {
             rt,
-            recorder: Mutex::new(recorder),
+            held: Mutex::new(Held::new(recorder)),
         }
     }
 
-    /// The recorder, with all that the threads did.
+    /// The recorder, with all that the threads did. It is over the same Init, and of as many threads, as the one put in.
     pub fn into_recorder(self) -> Recorder
+        ensures over { IsOver N.initial N.threads result }
         ensures recording { IsRecording result }
         ensures valid { RecordsValid result }
     {
-        let LockedMemory { rt: _, recorder } = self;
-        let recorder = recorder.into_inner();
+        let LockedMemory { rt: _, held } = self;
+        let recorder = held.into_inner().into_recorder();
         recorder.recorded_log_is_valid();
         recorder
     }
 }
 
-impl<'a, R: Wait> Shared for LockedMemory<'a, R> {
+impl<'a, R: Wait, N: Over> Shared for LockedMemory<'a, R, N> {
     fn access(&self, thread: u32, op: Op) -> Result<Reply, AccessFault>
         ensures answers { IfOk result (λ reply. ReadAnswers (kind_finds op.kind) op.width reply.read) }
-        ensures made { MadeOnce thread op result }
+        ensures made { MadeOnce N.initial N.threads thread op result }
     {
-        let mut guard = self.recorder.lock(self.rt);
-        let recorder = &mut *guard;
-        recorder.recorded_log_is_valid();
-        recorder.step_access(thread, op)
+        let mut guard = self.held.lock(self.rt);
+        let held = &mut *guard;
+        held.access(thread, op)
     }
 
     fn drain(&self, thread: u32) -> Result<bool, AllocError>
-        ensures { IfOk result (DrainedOnce thread) }
+        ensures { IfOk result (DrainedOnce N.initial N.threads thread) }
     {
-        let mut guard = self.recorder.lock(self.rt);
-        let recorder = &mut *guard;
-        recorder.recorded_log_is_valid();
-        recorder.step_drain(thread)
+        let mut guard = self.held.lock(self.rt);
+        let held = &mut *guard;
+        held.drain(thread)
     }
 
     fn drain_at(&self, thread: u32, index: u32) -> Result<bool, AllocError>
-        ensures { IfOk result (DrainedAtOnce thread index) }
+        ensures { IfOk result (DrainedAtOnce N.initial N.threads thread index) }
     {
-        let mut guard = self.recorder.lock(self.rt);
-        let recorder = &mut *guard;
-        recorder.recorded_log_is_valid();
-        recorder.step_drain_at(thread, index)
+        let mut guard = self.held.lock(self.rt);
+        let held = &mut *guard;
+        held.drain_at(thread, index)
     }
 }

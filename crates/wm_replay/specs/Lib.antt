@@ -1,4 +1,5 @@
 pub mod Replay
 pub mod Following
+pub mod Positions
 pub mod Comparison
 pub mod Complete

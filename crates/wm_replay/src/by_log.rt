@@ -5,11 +5,13 @@ ghost use Rattle.wm_event.specs.Reply.{ReadAnswers};
 ghost use Rattle.wm_machine.specs.Run.{end_of as config_end};
 ghost use Rattle.wm_machine.specs.State.{config_of, need_of, value_or_zero};
 ghost use Rattle.wm_replay.specs.Following.{FollowsLog, HasPlaces, MakesEvent, MakesNotEvent, RunsByLog, KeepsUnstepped, Steps};
+ghost use Rattle.wm_replay.specs.Positions.{ArePositions, HasPositions, NotesPosition};
 ghost use Rattle.wm_replay.specs.Replay.{start_of};
 
 use std::alloc::{AllocError, Global};
 use wm_event::{End, Event, EventId, Op, Reply, ThreadLog};
-use wm_machine::{AdvanceFault, Need, StartFault, Stepped, Thread};
+use wm_list::List;
+use wm_machine::{AdvanceFault, CodePosition, Need, StartFault, Stepped, Thread};
 use wm_num::low_bytes;
 use wm_valid::ValidModule;
 
@@ -26,11 +28,13 @@ enum StepByLog {
 }
 
 /// How far a thread was run by its log.
-#[derive(Clone, Copy)]
+#[derive(Drop)]
 struct Progress {
     steps: u32,
     /// How many events of its log it made.
     events: usize,
+    /// Where it was before the step that made each of them.
+    positions: Vec<CodePosition>,
 }
 
 /// A thread that was run by its log until it ended, came to an access that isn't the log's next event, or had made the
@@ -43,6 +47,8 @@ pub struct Followed<'m> {
     pub steps: u32,
     /// How many events of its log it made. They are the log's first ones.
     pub events: usize,
+    /// Where in the code it was before the step that made each of them, in their order.
+    pub positions: List<CodePosition>,
 }
 
 /// Whether the access makes the event when it reads the value that the event read.
@@ -67,16 +73,18 @@ fn reply_of(op: &Op, event: &Event) -> Reply
     }
 }
 
-/// Makes an access if it is the log's next event, after the given number of events.
+/// Makes an access if it is the log's next event, after the given number of events, and notes where it is made.
 fn access_by_log(
     thread: &mut Thread,
     op: &Op,
     stated: &[Event],
     events: usize,
+    positions: &mut Vec<CodePosition>,
 ) -> Result<StepByLog, AllocError>
     requires { (read : ℕ) → need_of read thread.old ≡ Need.Access op.now }
     ensures steps { IfOk result (Steps thread.old.module (config_of thread.old) (config_of thread.new) stated.now events) }
     ensures kept { IfOk result (KeepsUnstepped (config_of thread.old) (config_of thread.new)) }
+    ensures noted { IfOk result (NotesPosition thread.old events positions.old.items positions.new.items) }
     ensures same { thread.new.module ≡ thread.old.module }
 {
     if events >= stated.len() {
@@ -86,6 +94,7 @@ fn access_by_log(
     if !makes_event(op, event) {
         return Ok(StepByLog::OtherAccess);
     }
+    positions.push(thread.position())?;
     match thread.advance(Some(reply_of(op, event))) {
         Ok(()) => Ok(StepByLog::Stepped(events + 1)),
         Err(AdvanceFault::OutOfMemory) => Err(AllocError),
@@ -93,15 +102,17 @@ fn access_by_log(
 }
 
 /// Makes the next step of a thread. If it makes an access, that has to be the log's next event, after the given number
-/// of events.
+/// of events; where it is made is noted.
 #[inline(always)]
 fn step_by_log(
     thread: &mut Thread,
     stated: &[Event],
     events: usize,
+    positions: &mut Vec<CodePosition>,
 ) -> Result<StepByLog, AllocError>
     ensures steps { IfOk result (Steps thread.old.module (config_of thread.old) (config_of thread.new) stated.now events) }
     ensures kept { IfOk result (KeepsUnstepped (config_of thread.old) (config_of thread.new)) }
+    ensures noted { IfOk result (NotesPosition thread.old events positions.old.items positions.new.items) }
     ensures same { thread.new.module ≡ thread.old.module }
 {
     let stepped = match thread.step() {
@@ -110,7 +121,7 @@ fn step_by_log(
     };
     match stepped {
         Stepped::Local => Ok(StepByLog::Stepped(events)),
-        Stepped::Access(op) => access_by_log(thread, &op, stated, events),
+        Stepped::Access(op) => access_by_log(thread, &op, stated, events, positions),
         Stepped::Ended(_) => Ok(StepByLog::Ended),
     }
 }
@@ -128,6 +139,7 @@ pub fn end_of(thread: &Thread) -> End
 /// Runs a thread on the values that its log read, until it ends, comes to an access that isn't the log's next event, or
 /// has made `limit` steps.
 fn run_by_log(
+    alloc: Global,
     thread: &mut Thread,
     stated: &ThreadLog,
     number: usize,
@@ -136,21 +148,32 @@ fn run_by_log(
     requires start { start_of thread.old.module stated.now ≡ Ok (config_of thread.old) }
     requires places { HasPlaces number stated.now.events }
     ensures runs { IfOk result (λ p. RunsByLog thread.old.module number stated.now limit (config_of thread.new) p.steps p.events) }
+    ensures positions { IfOk result (λ p. ArePositions thread.old.module number stated.now p.events p.positions.items) }
     ensures same { thread.new.module ≡ thread.old.module }
 {
     let stated_events = stated.events.as_slice();
     let mut events = 0usize;
+    let mut positions = Vec::new(alloc);
     for steps in 0..limit {
-        match step_by_log(thread, stated_events, events) {
+        match step_by_log(thread, stated_events, events, &mut positions) {
             Err(refused) => return Err(refused),
             Ok(StepByLog::Stepped(now)) => events = now,
-            Ok(StepByLog::OtherAccess) => return Ok(Progress { steps, events }),
-            Ok(StepByLog::Ended) => return Ok(Progress { steps, events }),
+            Ok(StepByLog::OtherAccess) => return Ok(Progress {
+                steps,
+                events,
+                positions,
+            }),
+            Ok(StepByLog::Ended) => return Ok(Progress {
+                steps,
+                events,
+                positions,
+            }),
         }
     }
     Ok(Progress {
         steps: limit,
         events,
+        positions,
     })
 }
 
@@ -170,7 +193,8 @@ pub fn follow<'m>(
     limit: u32,
 ) -> Result<Result<Followed<'m>, StartFault>, AllocError>
     requires { HasPlaces number stated.now.events }
-    ensures { IfOk result (FollowsLog «module».now number stated.now limit) }
+    ensures runs { IfOk result (FollowsLog «module».now number stated.now limit) }
+    ensures positions { IfOk result (HasPositions «module».now number stated.now) }
 {
     let name = stated.start.name.as_str();
     let args = stated.start.args.as_slice();
@@ -179,12 +203,13 @@ pub fn follow<'m>(
         Err(StartFault::OutOfMemory) => return Err(AllocError),
         Err(fault) => return Ok(Err(fault)),
     };
-    match run_by_log(&mut thread, stated, number, limit) {
+    match run_by_log(alloc, &mut thread, stated, number, limit) {
         Err(refused) => Err(refused),
         Ok(progress) => Ok(Ok(Followed {
             thread,
             steps: progress.steps,
             events: progress.events,
+            positions: List::from_vec(progress.positions),
         })),
     }
 }

@@ -9,7 +9,7 @@ use Rattle.wm_event.specs.Execution.{Execution, place}
 use Rattle.wm_event.specs.HappensBefore.{HappensBefore}
 use Rattle.wm_rules.specs.Others.{IsWrittenBetween}
 
--- each happens before those behind it
+-- each happens before those after it
 abbrev pub AreInSequence : Execution → List EventId → Type 0
 AreInSequence x ids = (i j : ℕ) (a b : EventId) → i < j → slice_get ids i ≡ Some a → slice_get ids j ≡ Some b → HappensBefore x a b
 

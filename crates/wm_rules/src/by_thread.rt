@@ -11,7 +11,7 @@ use crate::coherence::is_written_between;
 use wm_event::{Candidate, Event, EventId, EventKey};
 use wm_hb::{HappensBefore, stands_before};
 
-/// How many of a thread's writes a writer doesn't happen before. It happens before all those behind them.
+/// How many of a thread's writes a writer doesn't happen before. It happens before all those after them.
 fn count_not_after(relation: &HappensBefore, writer: EventId, writes: &[EventId]) -> usize
     requires { AreInSequence (execution relation.now) writes.now }
     ensures bound { result ≤ length writes.now }

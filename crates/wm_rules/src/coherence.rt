@@ -7,7 +7,7 @@ ghost use Rattle.wm_event.specs.LoggedRun.{execution};
 ghost use Rattle.wm_event.specs.Shape.{IsThere, ListsEachOnce};
 ghost use Rattle.wm_event.specs.declared.event.EventKey.{EventKey};
 ghost use Rattle.wm_rules.specs.Between.{FindsAt, IsPlaceOf};
-ghost use Rattle.wm_rules.specs.Others.{FindsListed, IsWrittenBetween};
+ghost use Rattle.wm_rules.specs.Others.{FindsListed, IsWrittenBetween, WritesBetween};
 ghost use Rattle.wm_hb.specs.Scan.{Finds, IsEventOf};
 
 use crate::between::{is_after, part_between};
@@ -46,8 +46,7 @@ fn written_between_at(
 ) -> Option<EventKey>
     requires start { IsPlaceOf relation.now.witness.order start writer }
     requires end { slice_get relation.now.witness.order end ≡ Some (key_of event.now) }
-    ensures { FindsAt relation.now.witness.order place
-        (λ v. IsWrittenBetween (execution relation.now) (key_of event.now) event.now byte writer (At v)) result }
+    ensures { FindsAt relation.now.witness.order place (WritesBetween relation.now event.now byte writer) result }
 {
     if !is_after(relation, writer, start, place) {
         return None;
@@ -76,8 +75,7 @@ fn first_between(
 ) -> Option<EventKey>
     requires listed { IsEventOf (execution relation.now) event.now }
     requires there { IsThere relation.now.log writer }
-    ensures first { FindsListed relation.now.witness.order
-        (λ key. IsWrittenBetween (execution relation.now) (key_of event.now) event.now byte writer (At key)) result }
+    ensures first { FindsListed relation.now.witness.order (WritesBetween relation.now event.now byte writer) result }
     ensures order { ListsEachOnce relation.now.log relation.now.witness.order }
 {
     let candidate = relation.candidate();

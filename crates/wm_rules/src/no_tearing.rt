@@ -8,7 +8,7 @@ ghost use Rattle.wm_event.specs.Faults.{BreaksNoTearing};
 ghost use Rattle.wm_event.specs.LoggedRun.{execution};
 ghost use Rattle.wm_event.specs.Rules.{IsTearFree, IsTearFreeLike};
 ghost use Rattle.wm_event.specs.Shape.{ListsEachOnce};
-ghost use Rattle.wm_rules.specs.Others.{FindsListed};
+ghost use Rattle.wm_rules.specs.Others.{FindsListed, Tears};
 ghost use Rattle.wm_hb.specs.Scan.{Finds, IsEventOf};
 
 use wm_access::AccessWidth;
@@ -79,8 +79,7 @@ fn first_tearing(
     byte: u8,
     writer: EventId,
 ) -> Option<EventKey>
-    ensures first { FindsListed candidate.now.witness.order
-        (λ key. BreaksNoTearing (execution candidate.now) (key_of event.now) event.now byte writer (At key)) result }
+    ensures first { FindsListed candidate.now.witness.order (Tears candidate.now event.now byte writer) result }
     ensures order { ListsEachOnce candidate.now.log candidate.now.witness.order }
 {
     let _order = candidate.witness();

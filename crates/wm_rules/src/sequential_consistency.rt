@@ -4,7 +4,7 @@ ghost use Rattle.wm_event.specs.declared.event.Event.{Event};
 ghost use Rattle.wm_event.specs.declared.event.EventKey.{EventKey};
 ghost use Rattle.wm_event.specs.declared.event.EventId.{EventId};
 ghost use Rattle.wm_event.specs.Execution.{event_at};
-ghost use Rattle.wm_rules.specs.Between.{FindsAt, IfListedAt, IsPlaceOf};
+ghost use Rattle.wm_rules.specs.Between.{FindsAt, IsPlaceOf, IsTrueIfOvertaken};
 ghost use Rattle.wm_event.specs.declared.event.EventId.TheVariants.{At};
 ghost use Rattle.wm_event.specs.Event.{key_of, range_of};
 ghost use Rattle.wm_event.specs.Execution.{ReadsFrom};
@@ -12,7 +12,7 @@ ghost use Rattle.wm_event.specs.Faults.{BreaksSequentialConsistency};
 ghost use Rattle.wm_event.specs.LoggedRun.{execution};
 ghost use Rattle.wm_event.specs.Rules.{HasRange, IsAtomicWrite, Overtakes};
 ghost use Rattle.wm_event.specs.Shape.{IsThere, ListsEachOnce};
-ghost use Rattle.wm_rules.specs.Others.{FindsListed};
+ghost use Rattle.wm_rules.specs.Others.{FindsListed, IsOutOfOrder};
 ghost use Rattle.wm_hb.specs.Scan.{Finds, IsEventOf};
 
 use crate::between::{is_after, key_at, part_between};
@@ -147,8 +147,7 @@ fn may_overtake(
     case: u8,
 ) -> bool
     requires { IsPlaceOf relation.now.witness.order start writer }
-    ensures { IfListedAt relation.now.witness.order place (λ v. IfListedAt relation.now.witness.order end (λ r.
-        (e : Event) → Overtakes (execution relation.now) writer (At v) r e case → IsTrue result)) }
+    ensures { IsTrueIfOvertaken relation.now writer place end case result }
 {
     match case {
         2 => relation.before_at(place, end),
@@ -185,8 +184,7 @@ fn out_of_order_at(
     requires writer { IsThere relation.now.log writer }
     requires start { IsPlaceOf relation.now.witness.order start writer }
     requires end { slice_get relation.now.witness.order end ≡ Some (key_of event.now) }
-    ensures { FindsAt relation.now.witness.order place
-        (λ v. BreaksSequentialConsistency (execution relation.now) (key_of event.now) event.now writer (At v) case) result }
+    ensures { FindsAt relation.now.witness.order place (IsOutOfOrder relation.now event.now writer case) result }
 {
     if !may_overtake(relation, writer, start, end, place, case) {
         return None;
@@ -210,8 +208,7 @@ fn first_out_of_order(
 ) -> Option<EventKey>
     requires listed { IsEventOf (execution relation.now) event.now }
     requires writer { IsThere relation.now.log writer }
-    ensures first { FindsListed relation.now.witness.order
-        (λ key. BreaksSequentialConsistency (execution relation.now) (key_of event.now) event.now writer (At key) case) result }
+    ensures first { FindsListed relation.now.witness.order (IsOutOfOrder relation.now event.now writer case) result }
     ensures order { ListsEachOnce relation.now.log relation.now.witness.order }
 {
     let candidate = relation.candidate();

@@ -15,5 +15,8 @@ pub mod Limits
 pub mod Driving
 pub mod Together
 pub mod Rounds
+pub mod Refusing
 pub mod Ranges
 pub mod Once
+pub mod SameAccess
+pub mod Exists

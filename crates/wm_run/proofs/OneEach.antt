@@ -8,18 +8,18 @@ use Rattle.std.proofs.lemmas.Option.{get_or_from_slice_get, slice_get-get_or, sl
 use Rattle.wm_run.specs.declared.ended.ThreadEnd.{ThreadEnd}
 use Rattle.wm_run.specs.Ends.{IsEndIn, ends_of}
 
-counted : {X : Type 0} (p : X → Bool) (x : X) (xs : List X) → p x ≡ true → count_by p (x ∷ xs) ≡ 1 + count_by p xs
+pub counted : {X : Type 0} (p : X → Bool) (x : X) (xs : List X) → p x ≡ true → count_by p (x ∷ xs) ≡ 1 + count_by p xs
 counted p x xs is = sum_by-cons (λ y. cond (p y) 1 0) x xs ∙ ap (λ (b : Bool). cond b 1 0 + count_by p xs) is
 
-uncounted : {X : Type 0} (p : X → Bool) (x : X) (xs : List X) → p x ≡ false → count_by p (x ∷ xs) ≡ count_by p xs
+pub uncounted : {X : Type 0} (p : X → Bool) (x : X) (xs : List X) → p x ≡ false → count_by p (x ∷ xs) ≡ count_by p xs
 uncounted p x xs is =
     let more : count_by p (x ∷ xs) ≡ 0 + count_by p xs = sum_by-cons (λ y. cond (p y) 1 0) x xs ∙ ap (λ (b : Bool). cond b 1 0 + count_by p xs) is in
     omega (arith, more)
 
-first_is : {X : Type 0} (y : X) (ys : List X) (x : X) → slice_get (y ∷ ys) 0 ≡ Some x → y ≡ x
+pub first_is : {X : Type 0} (y : X) (ys : List X) (x : X) → slice_get (y ∷ ys) 0 ≡ Some x → y ≡ x
 first_is y ys x is = get_or_from_slice_get (y ∷ ys) 0 x x is
 
-among_others : {X : Type 0} (y : X) (ys : List X) (k : ℕ) (x : X) → slice_get (y ∷ ys) (suc k) ≡ Some x → slice_get ys k ≡ Some x
+pub among_others : {X : Type 0} (y : X) (ys : List X) (k : ℕ) (x : X) → slice_get (y ∷ ys) (suc k) ≡ Some x → slice_get ys k ≡ Some x
 among_others y ys k x is =
     let within : suc k < length (y ∷ ys) = slice_get_within (y ∷ ys) (suc k) x is in
     let lt : k < length ys = omega (arith, within) in
@@ -74,6 +74,11 @@ one_more_end P ends n e one is holds below t x lt in_ends =
 
 -- ---- a thread that has one has it
 
+pub one_later : {X : Type 0} (x : X) (xs : List X) (k : ℕ) (y : X) → slice_get xs k ≡ Some y → slice_get (x ∷ xs) (suc k) ≡ Some y
+one_later x xs k y is =
+    let lt : k < length xs = slice_get_within xs k y is in
+    slice_get-get_or (x ∷ xs) (suc k) y (omega (arith, lt)) ∙ ap Some (get_or_from_slice_get xs k y y is)
+
 find : {X : Type 0} (p : X → Bool) (xs : List X) → 0 < count_by p xs → (x : X) × ((k : ℕ) × (slice_get xs k ≡ Some x)) × (p x ≡ true)
 find p [] some = absurd (omega (arith, some))
 find {X = X} p (x ∷ xs) some =
@@ -83,13 +88,8 @@ find {X = X} p (x ∷ xs) some =
           let n = uncounted p x xs is_not in
           let more : 0 < count_by p xs = omega (arith, n, some) in
           let rest = find p xs more in
-          (rest.0, (suc rest.1.0, behind x xs rest.1.0 rest.0 rest.1.1), rest.2)
+          (rest.0, (suc rest.1.0, one_later x xs rest.1.0 rest.0 rest.1.1), rest.2)
     ]
-  where
-    behind : (x : X) (xs : List X) (k : ℕ) (y : X) → slice_get xs k ≡ Some y → slice_get (x ∷ xs) (suc k) ≡ Some y
-    behind x xs k y is =
-        let lt : k < length xs = slice_get_within xs k y is in
-        slice_get-get_or (x ∷ xs) (suc k) y (omega (arith, lt)) ∙ ap Some (get_or_from_slice_get xs k y y is)
 
 pub some_end : (ends : List ThreadEnd) (t : ℕ) → ends_of ends t ≡ 1 → (e : ThreadEnd) × IsEndIn ends t e
 some_end ends t one =

@@ -1,5 +1,5 @@
 -- What the workers promised and what was gathered make a round.
-use Rattle.std.proofs.Common.{◌≡◌, ℕ, ◌<◌, ◌≤◌, ◌⊎◌, inl, inr, Bool, true, false, ◌||◌, List, [], length, reverse, get_or, map, Some, Ok, slice_get, slice_index_or, All, refl, sym, ap, subst, ◌∙◌, arith}
+use Rattle.std.proofs.Common.{◌≡◌, ℕ, ◌<◌, ◌≤◌, ◌⊎◌, inl, inr, Bool, true, false, ◌||◌, List, [], length, get_or, map, Some, Ok, slice_get, slice_index_or, All, refl, sym, ap, subst, ◌∙◌, arith}
 use Rattle.std.specs.Prelude.{Result, option_map}
 use Rattle.std.proofs.lemmas.List.{get_or-map, length-map, same_lists}
 use Rattle.std.proofs.lemmas.Option.{get_or_from_slice_get, same_Some, slice_get-get_or, slice_get-map, slice_get_within}
@@ -9,10 +9,7 @@ use Rattle.wm_event.specs.declared.log.End.TheVariants.{Cut}
 use Rattle.wm_event.specs.declared.log.Start.{Start}
 use Rattle.wm_event.specs.declared.log.ThreadLog.{ThreadLog}
 use Rattle.wm_logfile.specs.Document.{EndFits}
-use Rattle.wm_memory.specs.Legal.{IsLegal}
-use Rattle.wm_memory.specs.Recorded.{by_thread, events_of, writers_of}
-use Rattle.wm_recorder.specs.Recorder.{Recording, IsRecording, initial_of, steps_of, threads_of}
-use Rattle.wm_replay.specs.Replay.{IsRun}
+use Rattle.wm_recorder.specs.Recorder.{Recording, threads_of}
 use Rattle.wm_run.specs.declared.ended.Stop.{Stop}
 use Rattle.wm_run.specs.declared.ended.Stop.TheVariants.{Own, Gate, Memory}
 use Rattle.wm_run.specs.declared.ended.ThreadEnd.{ThreadEnd}
@@ -20,7 +17,7 @@ use Rattle.wm_run.specs.declared.fault.RunFault.{RunFault}
 use Rattle.wm_run.specs.declared.plan.Plan.{Plan}
 use Rattle.wm_run.specs.Ends.{IsEndIn}
 use Rattle.wm_run.specs.Gathered.{IsGathered, log_by}
-use Rattle.wm_run.specs.Own.{IsOwnRun, IsWithinPlan, OwnRunsAreAllowed}
+use Rattle.wm_run.specs.Own.{IsWithinPlan, OwnRunsAreAllowed}
 use Rattle.wm_run.specs.Reached.{stands_before_access}
 use Rattle.wm_run.specs.Rounds.{AreEndsOf, AreWorkOf, IsHeld, IsRound, IsRoundPlan}
 use Rattle.wm_run.specs.Run.{Record}
@@ -28,6 +25,7 @@ use Rattle.wm_run.specs.Stops.{is_own}
 use Rattle.wm_run.specs.Worker.{IsEndOf, IsWorkOf}
 use Rattle.wm_run.proofs.Logging.{get_some}
 use Rattle.wm_run.proofs.OneEach.{some_end}
+use Rattle.wm_run.proofs.Together.{gathered_own}
 
 -- ---- from the workers
 
@@ -73,7 +71,7 @@ end_at is_open m starts limit ends t are lt =
     }
 
 -- an end stands at its thread's number
-own_place : (is_open : Bool) (m : Module) (starts : List Start) (limit : ℕ) (ends : List ThreadEnd) (k : ℕ) (e : ThreadEnd) → AreEndsOf is_open m starts limit ends → slice_get ends k ≡ Some e → e.thread ≡ k
+pub own_place : (is_open : Bool) (m : Module) (starts : List Start) (limit : ℕ) (ends : List ThreadEnd) (k : ℕ) (e : ThreadEnd) → AreEndsOf is_open m starts limit ends → slice_get ends k ≡ Some e → e.thread ≡ k
 own_place is_open m starts limit ends k e are is =
     let within : k < length ends = slice_get_within ends k e is in
     let lt : k < length starts = omega (arith, within, are.0) in
@@ -103,7 +101,6 @@ as_many is_open m starts limit ends r run are g = elim (cases_lt (threads_of r) 
 record IsThread (is_open : Bool) (m : Module) (starts : List Start) (limit : ℕ) (run : Record) (t : ℕ) (log : ThreadLog) : Type 0 where
   pub is_start : slice_get starts t ≡ Some log.start
   pub within : log.steps ≤ limit
-  pub is_run : IsRun m t log
   pub early : log.end ≡ Cut → log.steps < limit → IsHeld is_open m run t log
   pub fits : EndFits log.end
 
@@ -117,7 +114,6 @@ thread_at : (is_open : Bool) (m : Module) (starts : List Start) (limit : ℕ) (e
 thread_at is_open m starts limit ends r run t log are g many e lt at =
     let is : log_by e.end ≡ log = same_Some (log_by e.end) log (sym (g.logs.each t e.end lt e.in_ends) ∙ at) in
     let program : e.end.program.value ≡ m = e.is_end.of_module in
-    let ran : IsRun m t (log_by e.end) = subst (λ x. IsRun x t (log_by e.end)) program (subst (λ k. IsRun e.end.program.value k (log_by e.end)) e.is_end.of_thread e.end.is_run) in
     let stands : (is_own e.end.stop || stands_before_access m t (log_by e.end)) ≡ true =
     subst (λ x. (is_own e.end.stop || stands_before_access x t (log_by e.end)) ≡ true) program
     (subst (λ k. (is_own e.end.stop || stands_before_access e.end.program.value k (log_by e.end)) ≡ true) e.is_end.of_thread e.end.stopped) in
@@ -125,7 +121,6 @@ thread_at is_open m starts limit ends r run t log are g many e lt at =
     subst (IsThread is_open m starts limit run t) is (record {
       is_start = e.is_start ∙ ap Some (sym e.is_end.of_start);
       within = e.is_end.within;
-      is_run = ran;
       early = λ cut less. held is_open e.end.stop (stands_before_access m t (log_by e.end)) (16384 ≤ length run.witness.order) stands
           (λ own. let all = e.is_end.whole own cut in absurd (omega (arith, all, less))) e.is_end.held full;
       fits = e.is_end.fits;
@@ -167,25 +162,6 @@ starts_from is_open m starts limit run are = same_lists (map (λ (log : ThreadLo
         let here : slice_get (map (λ (x : ThreadLog). x.start) run.log) t ≡ Some log.start = slice_get-map (λ (x : ThreadLog). x.start) run.log t ∙ ap (option_map (λ (x : ThreadLog). x.start)) at in
         get_or_from_slice_get (map (λ (x : ThreadLog). x.start) run.log) t log.start d here ∙ sym (get_or_from_slice_get starts t log.start d (are.each t log at).is_start)
 
-own_from : (is_open : Bool) (m : Module) (starts : List Start) (limit : ℕ) (ends : List ThreadEnd) (r : Recording) (run : Record) → IsGathered m r ends run → AreThreads is_open m starts limit run → IsOwnRun m run
-own_from is_open m starts limit ends r run g are =
-    let k : IsRecording r = g.recording in
-    let recorded : threads_of r ≡ length run.log = sym g.logs.count in
-    record {
-      initial = initial_of r;
-      is_init = g.is_init;
-      bytes = k.bytes;
-      history = reverse r.history;
-      legal = subst (λ n. IsLegal n (initial_of r) (reverse r.history)) recorded k.legal;
-      records = record {
-        events = g.events ∙ (k.events ∙ ap (by_thread (events_of (steps_of r))) recorded);
-        writers = g.writers ∙ (k.writers ∙ ap (by_thread (writers_of (steps_of r))) recorded);
-        order = g.order ∙ k.order;
-        memory = refl;
-      };
-      runs = λ t log at. (are.each t log at).is_run;
-    }
-
 -- at most so many threads and steps as the plan has
 pub within_from : (is_open : Bool) (m : Module) (plan : Plan) (ends : List ThreadEnd) (r : Recording) (run : Record) → IsRoundPlan plan → AreEndsOf is_open m plan.starts plan.steps ends → IsGathered m r ends run → IsWithinPlan run
 within_from is_open m plan ends r run is are g =
@@ -201,7 +177,7 @@ within_from is_open m plan ends r run is are g =
 pub round_from : (is_open : Bool) (m : Module) (plan : Plan) (ends : List ThreadEnd) (r : Recording) (run : Record) → OwnRunsAreAllowed → AreEndsOf is_open m plan.starts plan.steps ends → IsGathered m r ends run → IsRound is_open m plan run
 round_from is_open m plan ends r run law are g =
     let threads = threads_from is_open m plan.starts plan.steps ends r run are g in
-    let own = own_from is_open m plan.starts plan.steps ends r run g threads in
+    let own = gathered_own m ends r run (programs_from is_open m plan.starts plan.steps ends are) g in
     record {
       starts = starts_from is_open m plan.starts plan.steps run threads;
       within = λ t log at. (threads.each t log at).within;

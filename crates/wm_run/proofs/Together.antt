@@ -1,16 +1,22 @@
 -- The logs of the threads by their ends, beside the recorder.
-use Rattle.std.proofs.Common.{◌≡◌, ℕ, ◌+◌, ◌<◌, List, [], ◌∷◌, ◌++◌, length, get_or, map, Some, slice_get, sym, ap, subst, ◌∙◌, arith}
+use Rattle.std.proofs.Common.{◌≡◌, ℕ, ◌+◌, ◌<◌, List, [], ◌∷◌, ◌++◌, All, length, get_or, map, reverse, Some, slice_get, refl, sym, ap, subst, ◌∙◌, arith}
 use Rattle.std.specs.Prelude.{option_map, unwrap_or}
 use Rattle.std.proofs.lemmas.List.{length-map, same_lists}
-use Rattle.std.proofs.lemmas.Option.{get_or_from_slice_get, slice_get-get_or, slice_get-map}
+use Rattle.std.proofs.lemmas.List.Elements.{All-get_or}
+use Rattle.std.proofs.lemmas.Option.{get_or_from_slice_get, same_Some, slice_get-get_or, slice_get-map, slice_get_within}
+use Rattle.wm_ast.specs.declared.module.Module.{Module}
 use Rattle.wm_event.specs.declared.event.Event.{Event}
 use Rattle.wm_event.specs.declared.log.ThreadLog.{ThreadLog}
 use Rattle.wm_memory.proofs.Listed.{get-end, get-front, length-by_thread}
-use Rattle.wm_memory.specs.Recorded.{events_of}
-use Rattle.wm_recorder.specs.Recorder.{Recording, IsRecording, steps_of, threads_of}
+use Rattle.wm_memory.specs.Legal.{IsLegal}
+use Rattle.wm_memory.specs.Recorded.{by_thread, events_of, writers_of}
+use Rattle.wm_recorder.specs.Recorder.{Recording, IsRecording, initial_of, steps_of, threads_of}
+use Rattle.wm_replay.specs.Replay.{IsRun}
 use Rattle.wm_run.specs.declared.ended.ThreadEnd.{ThreadEnd}
 use Rattle.wm_run.specs.Ends.{HasOneEach, IsEndIn, ends_of}
-use Rattle.wm_run.specs.Gathered.{AllAgree, AreLogsBy, log_by}
+use Rattle.wm_run.specs.Gathered.{AllAgree, AreLogsBy, IsGathered, log_by}
+use Rattle.wm_run.specs.Own.{IsOwnRun}
+use Rattle.wm_run.specs.Run.{Record}
 use Rattle.wm_run.proofs.OneEach.{one_more_end, some_end}
 
 pub logs_more : (ends : List ThreadEnd) (logs : List ThreadLog) (n : ℕ) (e : ThreadEnd) (new : ThreadLog) → length logs ≡ n → ends_of ends n ≡ 1 → IsEndIn ends n e → new ≡ log_by e
@@ -64,3 +70,35 @@ whole r ends a b c n logs count same_a same_b same_c one_each agrees logs_by = r
 
 pub events_of_whole : (r : Recording) (ends : List ThreadEnd) (logs : List ThreadLog) → IsRecording r → IsWhole r ends logs → map (λ (log : ThreadLog). log.events) logs ≡ r.events
 events_of_whole r ends logs k w = logged_events r ends logs k w.one_each w.agrees w.logs_by
+
+-- ---- what is gathered is an own run
+
+is_run_of : (m : Module) (ends : List ThreadEnd) (t : ℕ) (e : ThreadEnd) (log : ThreadLog) → All (λ (x : ThreadEnd). x.program.value ≡ m) ends → IsEndIn ends t e → log_by e ≡ log → IsRun m t log
+is_run_of m ends t e log programs in_ends is =
+    let within : in_ends.0.0 < length ends = slice_get_within ends in_ends.0.0 e in_ends.0.1 in
+    let program : e.program.value ≡ m =
+    subst (λ (x : ThreadEnd). x.program.value ≡ m) (get_or_from_slice_get ends in_ends.0.0 e e in_ends.0.1) (All-get_or (λ (x : ThreadEnd). x.program.value ≡ m) ends in_ends.0.0 e within programs) in
+    subst (IsRun m t) is (subst (λ x. IsRun x t (log_by e)) program (subst (λ k. IsRun e.program.value k (log_by e)) in_ends.1 e.is_run))
+
+pub gathered_own : (m : Module) (ends : List ThreadEnd) (r : Recording) (run : Record) → All (λ (x : ThreadEnd). x.program.value ≡ m) ends → IsGathered m r ends run → IsOwnRun m run
+gathered_own m ends r run programs g =
+    let k : IsRecording r = g.recording in
+    let recorded : threads_of r ≡ length run.log = sym g.logs.count in
+    record {
+      initial = initial_of r;
+      is_init = g.is_init;
+      bytes = k.bytes;
+      history = reverse r.history;
+      legal = subst (λ n. IsLegal n (initial_of r) (reverse r.history)) recorded k.legal;
+      records = record {
+        events = g.events ∙ (k.events ∙ ap (by_thread (events_of (steps_of r))) recorded);
+        writers = g.writers ∙ (k.writers ∙ ap (by_thread (writers_of (steps_of r))) recorded);
+        order = g.order ∙ k.order;
+        memory = refl;
+      };
+      runs = λ t log at.
+          let within : t < length run.log = slice_get_within run.log t log at in
+          let there : t < threads_of r = omega (arith, within, g.logs.count) in
+          let has = some_end ends t (g.one_each.each t there) in
+          is_run_of m ends t has.0 log programs has.1 (same_Some (log_by has.0) log (sym (g.logs.each t has.0 there has.1) ∙ at));
+    }

@@ -18,6 +18,10 @@ pub record IsFirstRefused (m : Module) (starts : List Start) (t : ℕ) (fault : 
   pub refused : started m start.name start.args ≡ Err fault
   pub others : (k : ℕ) (other : Start) → k < t → slice_get starts k ≡ Some other → (c : Config) × (started m other.name other.args ≡ Ok c)
 
+-- each thread starts
+abbrev pub AllStart : Module → List Start → Type 0
+AllStart m starts = (t : ℕ) (start : Start) → slice_get starts t ≡ Some start → (c : Config) × (started m start.name start.args ≡ Ok c)
+
 -- why a script isn't played: first what is wrong with the plan, then the first thread that doesn't start
 abbrev pub IsScriptFault : Module → Plan → List Turn → RunFault → Type 0
 IsScriptFault m plan turns (run.Plan fault) = IsPlanFault plan turns fault

@@ -16,7 +16,7 @@ use Rattle.wm_run.specs.declared.plan.Plan.{Plan}
 use Rattle.wm_run.specs.Own.{IsAllowedOver, IsOwnRun}
 use Rattle.wm_run.specs.Plan.{HasThreads}
 use Rattle.wm_run.specs.Reached.{stands_before_access}
-use Rattle.wm_run.specs.Refusal.{IsFirstRefused}
+use Rattle.wm_run.specs.Refusal.{AllStart, IsFirstRefused}
 use Rattle.wm_run.specs.Run.{Record}
 use Rattle.wm_run.specs.Worker.{IsEndOf, IsWorkOf}
 
@@ -62,9 +62,17 @@ pub record IsRound (is_open : Bool) (m : Module) (plan : Plan) (run : Record) : 
   pub allowed : (initial : List ℕ) → IsInit m initial → IsAllowedOver m initial run
   pub early : (t : ℕ) (thread : ThreadLog) → slice_get run.log t ≡ Some thread → thread.end ≡ Cut → thread.steps < plan.steps → IsHeld is_open m run t thread
 
--- why a round isn't made: first what is wrong with the plan, then the first thread that doesn't start. The other faults are
--- those of gather, over what the threads did
+-- the plan is a round's, and each of its threads starts
+pub record IsReady (m : Module) (plan : Plan) : Type 0 where
+  pub planned : IsRoundPlan plan
+  pub starts : AllStart m plan.starts
+
+-- why a round isn't made: first what is wrong with the plan, then the first thread that doesn't start. Only where nothing is,
+-- a thread of the plan may be split: its worker and the memory say different things of it
 abbrev pub IsRoundFault : Module → Plan → RunFault → Type 0
 IsRoundFault m plan (run.Plan fault) = IsRoundPlanFault plan fault
 IsRoundFault m plan (run.Start t fault) = IsRoundPlan plan × IsFirstRefused m plan.starts t fault
-IsRoundFault m plan _ = ⊤
+IsRoundFault m plan (run.Split t) = IsReady m plan × (t < length plan.starts)
+IsRoundFault m plan run.OutOfMemory = ⊤
+IsRoundFault m plan (run.Ends t) = ⊥
+IsRoundFault m plan run.Foreign = ⊥

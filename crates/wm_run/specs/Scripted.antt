@@ -7,9 +7,11 @@ use Rattle.wm_machine.specs.Run.{end_of}
 use Rattle.wm_machine.specs.Start.{started}
 use Rattle.wm_memory.specs.Visibility.{Step}
 use Rattle.wm_memory.specs.Recorded.{by_thread, events_of, order_of, writers_of}
-use Rattle.wm_valid.specs.Valid.{IsInit}
+use Rattle.wm_valid.specs.Valid.{IsInit, Valid}
 use Rattle.wm_run.specs.declared.plan.Plan.{Plan}
 use Rattle.wm_run.specs.declared.turn.Turn.{Turn}
+use Rattle.wm_run.specs.Plan.{IsPlan}
+use Rattle.wm_run.specs.Refusal.{AllStart}
 use Rattle.wm_run.specs.Run.{Record}
 use Rattle.wm_run.specs.Script.{TurnsLead, ScriptState, Setting, ThreadState, done}
 
@@ -47,6 +49,10 @@ pub record IsScripted (m : Module) (plan : Plan) (turns : List Turn) (run : Reco
   pub plays : TurnsLead setting first turns last
   pub logged : IsLogOf plan.starts last.threads (done setting last.history) run
 
--- a module, a plan and turns have one scripted run
+-- a module, a plan and turns have at most one scripted run
 abbrev pub OneScriptedRun : Type 0
 OneScriptedRun = (m : Module) (plan : Plan) (turns : List Turn) (run other : Record) → IsScripted m plan turns run → IsScripted m plan turns other → run ≡ other
+
+-- and they have one, where the module is valid, the plan can be followed through the turns, and its threads start
+abbrev pub HasScriptedRun : Type 0
+HasScriptedRun = (m : Module) (plan : Plan) (turns : List Turn) → Valid m → IsPlan plan turns → AllStart m plan.starts → (run : Record) × IsScripted m plan turns run

@@ -3,6 +3,7 @@ ghost use Rattle.std.specs.Prelude.{◌≡◌, ◌↔◌, ◌<◌, ◌≤◌, Al
 ghost use Rattle.wm_recorder.specs.Recorder.{threads_of};
 ghost use Rattle.wm_run.specs.Ends.{HasOneEach, ends_of};
 ghost use Rattle.wm_run.specs.Gathered.{Agrees, AllAgree, AreLogsBy, HasItsEvents, IsFirstSplit, IsGathered, IsGatherFault, StopsWhereFull, log_by};
+ghost use Rattle.wm_run.specs.Own.{IsOwnRun};
 
 use crate::ended::{Stop, ThreadEnd};
 use crate::ends::{end_of, ends_fault};
@@ -90,7 +91,8 @@ fn logs_by(alloc: Global, ends: &[ThreadEnd], threads: usize) -> Result<List<Thr
     Ok(List::from_vec(logs))
 }
 
-/// The run whose threads came to these ends over this recorder. The ends are of this module, in any order.
+/// The run whose threads came to these ends over this recorder, an own run of the module. The ends are of this module, in
+/// any order.
 ///
 /// # Errors
 ///
@@ -106,6 +108,7 @@ pub fn gather(
 ) -> Result<Run, RunFault>
     requires { All (λ e. e.program.value ≡ «module».now) ends.items }
     ensures gathered { IfOk result (IsGathered «module».now recorder ends.items) }
+    ensures own { IfOk result (IsOwnRun «module».now) }
     ensures refused { IfErr result (IsGatherFault «module».now recorder ends.items) }
 {
     if !recorder.initial().is_same(module.initial()) {

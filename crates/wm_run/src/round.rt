@@ -1,7 +1,7 @@
 //! A round: a worker for each thread, and a drainer, over one locked memory.
 ghost use Rattle.std.specs.Prelude.{◌≡◌, ◌≤◌, Ok, IfErr, IfOk, OnOk, length, map};
 ghost use Rattle.wm_event.specs.Limits.{max_steps};
-ghost use Rattle.wm_recorder.specs.Recorder.{IsRecording, RecordsValid};
+ghost use Rattle.wm_recorder.specs.Locked.{IsOver};
 ghost use Rattle.wm_run.specs.Own.{IsWithinPlan};
 ghost use Rattle.wm_run.specs.Plan.{HasThreads};
 ghost use Rattle.wm_run.specs.Rounds.{AreWorkOfPlan, IsRound, IsRoundFault, IsRoundPlan, IsRoundPlanFault};
@@ -19,12 +19,13 @@ use crate::plan::Plan;
 use crate::run::Run;
 use crate::worker::work;
 use std::alloc::{AllocError, Global};
+use std::marker::Brand;
 use std::snapshot::Snapshot;
 use std::sync::Wait;
 use std::thread;
 use std::thread::{Promise, PromisedHandle, Scope, Threads};
 use wm_event::Start;
-use wm_recorder::{LockedMemory, Recorder, Shared};
+use wm_recorder::{LockedMemory, Over, Recorder, Shared};
 use wm_valid::ValidModule;
 
 /// What a worker promises of its result: that it is [`work`]'s of this thread.
@@ -174,6 +175,28 @@ fn run_shared<R: Threads + Wait + Sync, S: Shared + Sync, G: Gate + Sync>(
     )
 }
 
+/// Runs the threads over a recorder under a lock. The recorder comes back over the same Init, and of as many threads.
+fn run_locked<N: Over + Send + Sync, R: Threads + Wait + Sync, G: Gate + Sync>(
+    rt: &R,
+    alloc: Global,
+    module: &ValidModule,
+    plan: &Plan,
+    recorder: Recorder,
+    gate: &G,
+) -> (
+    Recorder,
+    Result<Vec<Result<ThreadEnd, RunFault>>, AllocError>,
+)
+    requires plan { IsRoundPlan plan.now }
+    requires over { IsOver N.initial N.threads recorder }
+    ensures over { IsOver N.initial N.threads result.0 }
+    ensures work { IfOk result.1 (λ v. AreWorkOfPlan (G.is_open gate.now) «module».now plan.now v.items) }
+{
+    let shared = LockedMemory::<R, N>::new(rt, recorder);
+    let results = run_shared(rt, alloc, module, plan, &shared, gate);
+    (shared.into_recorder(), results)
+}
+
 /// The ends of the threads. Each thread starts, so a worker's only fault can be `OutOfMemory`.
 fn all_ends(
     alloc: Global,
@@ -210,8 +233,9 @@ fn check_plan(plan: &Plan) -> Result<(), PlanFault>
 ///
 /// `Plan` with the first fault of the plan: `Threads` where it starts none or more than 16, `Steps` where it lets a thread
 /// make more than 1,000,000, `Turns` where it has more than 1,000,000 drains; else `Start` with the first thread that
-/// doesn't start. Then no worker is started. `OutOfMemory` where memory was refused, or a thread of the system. `Foreign`,
-/// `Ends` and `Split` are those of [`gather`].
+/// doesn't start. Then no worker is started. `OutOfMemory` where memory was refused, or a thread of the system. `Split` with
+/// a thread of the plan of which its worker and the recorder say different things, as [`gather`] finds it, where nothing is
+/// wrong with the plan and all its threads start. `Foreign` and `Ends` never come.
 pub fn run_round<R: Threads + Wait + Sync, G: Gate + Sync>(
     rt: &R,
     alloc: Global,
@@ -229,9 +253,7 @@ pub fn run_round<R: Threads + Wait + Sync, G: Gate + Sync>(
     }
     let runners = launch(alloc, module, plan.starts.as_slice())?;
     let recorder = Recorder::new(alloc, module.initial(), runners.len())?;
-    let shared = LockedMemory::new(rt, recorder);
-    let results = run_shared(rt, alloc, module, plan, &shared, gate);
-    let recorder = shared.into_recorder();
+    let (recorder, results) = run_locked::<Brand, R, G>(rt, alloc, module, plan, recorder, gate);
     let ends = all_ends(alloc, results?)?;
     own_runs_are_allowed();
     gather(alloc, module, recorder, ends)

@@ -6,7 +6,7 @@ ghost use Rattle.wm_run.specs.Own.{IsOwnRun, IsWithinPlan};
 ghost use Rattle.wm_run.specs.Plan.{AreTurnsOf, IsPlan};
 ghost use Rattle.wm_run.specs.Refusal.{IsScriptFault};
 ghost use Rattle.wm_run.specs.Runner.{IsSet, PlaysTurns};
-ghost use Rattle.wm_run.specs.Scripted.{IsScripted, OneScriptedRun};
+ghost use Rattle.wm_run.specs.Scripted.{HasScriptedRun, IsScripted, OneScriptedRun};
 
 use crate::fault::RunFault;
 use crate::launch::{copy_start, launch};
@@ -117,7 +117,9 @@ pub fn drive(
     Ok(run)
 }
 
-/// A module, a plan and turns have one scripted run.
+/// A module, a plan and turns have at most one scripted run; and they have one, where the module is valid, the plan can be
+/// followed through the turns, and its threads start.
 pub fn one_scripted_run()
-    ensures { OneScriptedRun }
+    ensures one { OneScriptedRun }
+    ensures some { HasScriptedRun }
 {}

@@ -70,7 +70,7 @@ module _ (says : List ℕ → LineStatus → List ℕ → Type 0) where
 
   -- the end of the reader
   pub answers_all : (limit : ℕ) (had left : Option (List ℕ)) (begun : List ℕ) (status added : LineStatus) (old now new : Option (List ℕ)) → 0 < limit
-      → HasAnswered limit had left begun status old now → IsAtEnd left → Prints says (last_line begun) added now new → AnswersAll says limit had (worse status added) old new
+      → HasAnswered limit had left begun status old now → IsAtEnd left → Prints says (last_line begun) added now new → AnswersAll says limit had old new (worse status added)
   answers_all limit had left begun status added old now new some has at_end prints = record {
     lines = has.lines ++ last_line begun;
     are_lines = Consumes-whole had left has.seen (λ all. has.lines ++ last_line begun ≡ cut_lines limit all) has.consumed at_end (sym (ends limit has.seen has.lines begun some has.splits));

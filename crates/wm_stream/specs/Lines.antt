@@ -28,3 +28,8 @@ pub record Splits (limit : ℕ) (bytes : List ℕ) (lines : List (List ℕ)) (be
   pub line : List ℕ
   pub kept : begun ≡ take limit line
   pub splits : (rest : List ℕ) → cut_lines limit (bytes ++ rest) ≡ lines ++ map (take limit) (lines_after line rest)
+
+-- whatever came before, one part more ends these lines, and another line begins
+abbrev pub SplitsOn : ℕ → List ℕ → List ℕ → List (List ℕ) → List ℕ → Type 0
+SplitsOn limit begun part lines next =
+    (bytes : List ℕ) (before : List (List ℕ)) → Splits limit bytes before begun → Splits limit (bytes ++ part) (before ++ lines) next

@@ -1,7 +1,7 @@
 //! Lines that are answered at the same time.
 ghost use Rattle.std.specs.Prelude.{IfOk, OnErr, map, string_bytes};
 ghost use Rattle.std.specs.List.{AllZip};
-ghost use Rattle.wm_stream.specs.Answers.{Joins, Prints, PrintsFront, answered};
+ghost use Rattle.wm_stream.specs.Answers.{AnswersAs, Joins, Prints, PrintsFront, answered, texts_of};
 
 use crate::answer::{AnswersLines, LineAnswer, LineStatus};
 use crate::output::write_text;
@@ -20,8 +20,7 @@ fn answers_to<R: AllocGlobal + Threads + Sync, J: AnswersLines>(
     judge: &J,
     lines: &[Vec<u8>],
 ) -> Result<Vec<LineAnswer>, AllocError>
-    ensures { IfOk result (λ answers. AllZip
-        (λ line answer. J.says judge.now line.items answer.status (string_bytes answer.text)) lines.now answers.items) }
+    ensures { IfOk result (λ answers. AllZip (AnswersAs (J.says judge.now)) lines.now answers.items) }
 {
     let alloc = rt.alloc();
     lines
@@ -60,9 +59,8 @@ pub(crate) fn print_answers<R: AllocGlobal + Threads + Sync, O: Write, J: Answer
     out: &mut O,
 ) -> Result<LineStatus, StreamFault>
     ensures printed { IfOk result (λ status.
-        Prints (J.says judge.now) (map (λ line. line.items) lines.now) status (O.contents out.old) (O.contents out.new)) }
-    ensures stopped { OnErr result
-        (PrintsFront (J.says judge.now) (map (λ line. line.items) lines.now) (O.contents out.old) (O.contents out.new)) }
+        Prints (J.says judge.now) (texts_of lines.now) status (O.contents out.old) (O.contents out.new)) }
+    ensures stopped { OnErr result (PrintsFront (J.says judge.now) (texts_of lines.now) (O.contents out.old) (O.contents out.new)) }
 {
     let answers = answers_to(rt, judge, lines)?;
     let all = joined(rt.alloc(), answers.as_slice())?;

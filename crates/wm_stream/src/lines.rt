@@ -1,6 +1,7 @@
 //! Bytes that come in parts, as lines.
-ghost use Rattle.std.specs.Prelude.{◌≡◌, ◌++◌, IfOk, List, OnOk, ℕ, map};
-ghost use Rattle.wm_stream.specs.Lines.{Splits, extended, last_line};
+ghost use Rattle.std.specs.Prelude.{◌≡◌, IfOk, OnOk};
+ghost use Rattle.wm_stream.specs.Answers.{texts_of};
+ghost use Rattle.wm_stream.specs.Lines.{SplitsOn, extended, last_line};
 
 use memchr::memchr;
 use std::alloc::{AllocError, Global};
@@ -25,8 +26,7 @@ pub(crate) fn split_lines(
     begun: &mut Vec<u8>,
     part: &[u8],
 ) -> Result<Vec<Vec<u8>>, AllocError>
-    ensures { IfOk result (λ lines. (bytes : List ℕ) (before : List (List ℕ)) → Splits limit bytes before begun.old.items
-        → Splits limit (bytes ++ part.now) (before ++ map (λ line. line.items) lines.items) begun.new.items) }
+    ensures { IfOk result (λ lines. SplitsOn limit begun.old.items part.now (texts_of lines.items) begun.new.items) }
 {
     let mut lines = Vec::new(alloc);
     let mut left = part;
@@ -42,7 +42,7 @@ pub(crate) fn split_lines(
 
 /// What follows the last newline, as a line; no line if nothing does.
 pub(crate) fn last_line(alloc: Global, begun: Vec<u8>) -> Result<Vec<Vec<u8>>, AllocError>
-    ensures { IfOk result (λ lines. map (λ line. line.items) lines.items ≡ last_line begun.items) }
+    ensures { IfOk result (λ lines. texts_of lines.items ≡ last_line begun.items) }
 {
     let mut lines = Vec::new(alloc);
     if !begun.is_empty() {

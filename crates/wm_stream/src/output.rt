@@ -1,5 +1,5 @@
 //! Writing of a text.
-ghost use Rattle.std.specs.Prelude.{◌≡◌, MatchResult};
+ghost use Rattle.std.specs.Prelude.{OnErr, OnOk};
 ghost use Rattle.std.specs.Io.KnownBytes.{Appends};
 ghost use Rattle.wm_stream.specs.Output.{AppendsFront};
 
@@ -12,9 +12,8 @@ use std::io::{ErrorKind, Write};
 ///
 /// The first write that fails or takes nothing, and a failed flush; the writer has then gained a front of the text.
 pub fn write_text<W: Write>(out: &mut W, text: &str) -> io::Result<()>
-    ensures { MatchResult result
-        (λ _. Appends (W.contents out.old) (W.contents out.new) text.now)
-        (λ _. AppendsFront (W.contents out.old) (W.contents out.new) text.now) }
+    ensures written { OnOk result (Appends (W.contents out.old) (W.contents out.new) text.now) }
+    ensures stopped { OnErr result (AppendsFront (W.contents out.old) (W.contents out.new) text.now) }
 {
     let mut left = text.as_bytes();
     for _ in 0..u64::MAX {

@@ -1,7 +1,7 @@
 //! A stream of lines and the answers to them.
-ghost use Rattle.std.specs.Prelude.{◌≡◌, ◌<◌, ◌≤◌, IfOk, OnErr, length, take};
-ghost use Rattle.std.specs.Io.KnownBytes.{Consumes, IsAtEnd, Keeps};
-ghost use Rattle.wm_stream.specs.Stream.{AnswersAll, AnswersFirst};
+ghost use Rattle.std.specs.Prelude.{◌≡◌, ◌<◌, IfOk, OnErr, length};
+ghost use Rattle.std.specs.Io.KnownBytes.{Keeps};
+ghost use Rattle.wm_stream.specs.Stream.{AnswersAll, AnswersFirst, Reads};
 ghost use Rattle.wm_stream.specs.declared.stream.StreamFault.TheVariants.{OutOfMemory};
 
 use crate::answer::{AnswersLines, LineStatus};
@@ -36,9 +36,7 @@ impl From<AllocError> for StreamFault {
 /// The next bytes of the input, none at its end. An interrupted read is made again.
 fn read_part<I: Read>(input: &mut I, buffer: &mut [u8]) -> Result<usize, StreamFault>
     requires { 0 < length buffer.old }
-    ensures read { IfOk result (λ count. count ≤ length buffer.new
-        × Consumes (I.remaining input.old) (I.remaining input.new) (take count buffer.new)
-        × (count ≡ 0 → IsAtEnd (I.remaining input.new))) }
+    ensures read { IfOk result (λ count. Reads (I.remaining input.old) (I.remaining input.new) buffer.new count) }
     ensures size { length buffer.new ≡ length buffer.old }
     ensures failed { OnErr result (Keeps (I.remaining input.old) (I.remaining input.new)) }
 {
@@ -67,8 +65,7 @@ pub fn answer_lines<R: AllocGlobal + Threads + Sync, I: Read, O: Write, J: Answe
     limit: usize,
 ) -> Result<LineStatus, StreamFault>
     requires { 0 < limit }
-    ensures answered { IfOk result (λ status.
-        AnswersAll (J.says judge.now) limit (I.remaining input.old) status (O.contents out.old) (O.contents out.new)) }
+    ensures answered { IfOk result (AnswersAll (J.says judge.now) limit (I.remaining input.old) (O.contents out.old) (O.contents out.new)) }
     ensures stopped { OnErr result
         (AnswersFirst (J.says judge.now) limit (I.remaining input.old) (O.contents out.old) (O.contents out.new)) }
 {

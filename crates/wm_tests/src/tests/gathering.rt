@@ -3,17 +3,20 @@ ghost use Rattle.std.specs.Prelude.{◌≡◌, ◌≤◌, All, IfOk};
 ghost use Rattle.wm_access.specs.declared.AccessWidth.TheVariants as AccessWidth;
 ghost use Rattle.wm_access.specs.declared.MemoryOrder.TheVariants as MemoryOrder;
 ghost use Rattle.wm_event.specs.Op.{IsOp};
+ghost use Rattle.wm_recorder.specs.Locked.{IsOver};
 
 use super::modules::STORE_BUFFERING;
 use super::same;
 use std::alloc::{AllocError, Global};
+use std::marker::Brand;
 use std::process::Abort;
+use std::sync::Wait;
 use std::test::Fail;
 use wm_access::{AccessWidth, MemoryOrder};
 use wm_check::{Unread, read_module};
 use wm_event::{End, Initial, Op, OpFields, OpKind, Reply, Start};
 use wm_list::{List, Text};
-use wm_recorder::{AccessFault, LockedMemory, Recorder, Shared};
+use wm_recorder::{AccessFault, LockedMemory, Over, Recorder, Shared};
 use wm_run::{OpenGate, RunFault, Stop, ThreadEnd, drainer, gather, work};
 use wm_valid::ValidModule;
 
@@ -184,12 +187,27 @@ fn pass_one<R: Abort, S: Shared>(rt: &R, shared: &S) -> Result<(), Fail> {
     Ok(())
 }
 
+/// The same over a recorder under a lock.
+fn take_locked_turns<N: Over, R: Abort + Wait>(rt: &R, recorder: Recorder) -> Result<(), Fail>
+    requires { IsOver N.initial N.threads recorder }
+{
+    let shared = LockedMemory::<R, N>::new(rt, recorder);
+    take_turns(rt, &shared)
+}
+
+/// The passing store, over a recorder under a lock.
+fn pass_one_locked<N: Over, R: Abort + Wait>(rt: &R, recorder: Recorder) -> Result<(), Fail>
+    requires { IsOver N.initial N.threads recorder }
+{
+    let shared = LockedMemory::<R, N>::new(rt, recorder);
+    pass_one(rt, &shared)
+}
+
 #[test]
 fn the_drainer_takes_turns(rt: HostRuntime) -> Result<(), Fail> {
     let initial = Initial::zeros(rt.alloc(), 1);
     let recorder = Recorder::new(rt.alloc(), &initial, 2)?;
-    let shared = LockedMemory::new(&rt, recorder);
-    take_turns(&rt, &shared)
+    take_locked_turns::<Brand, _>(&rt, recorder)
 }
 
 /// The second time round the drainer takes the store behind the oldest one.
@@ -197,6 +215,5 @@ fn the_drainer_takes_turns(rt: HostRuntime) -> Result<(), Fail> {
 fn the_drainer_passes_the_oldest_store(rt: HostRuntime) -> Result<(), Fail> {
     let initial = Initial::zeros(rt.alloc(), 1);
     let recorder = Recorder::new(rt.alloc(), &initial, 2)?;
-    let shared = LockedMemory::new(&rt, recorder);
-    pass_one(&rt, &shared)
+    pass_one_locked::<Brand, _>(&rt, recorder)
 }

@@ -7,7 +7,7 @@ use Rattle.wm_logfile.specs.DocumentBytes.{IsDocumentOf}
 use Rattle.wm_valid.specs.Valid.{IsInit}
 use Rattle.wm_check.specs.declared.verdict.Verdict.{Verdict}
 use Rattle.wm_check.specs.Checked.{RefusesShape}
-use Rattle.wm_check.specs.Reading.{ComparesOver, HasCandidate, IsCandidateOver, KeepsMisshapen}
+use Rattle.wm_check.specs.Reading.{ComparesOver, HasCandidate, IsCandidateOver, IsCertified, KeepsMisshapen}
 use Rattle.wm_check.specs.Verdicts.{Says}
 use Rattle.wm_check.proofs.Candidates.{has_candidate}
 use Rattle.wm_check.proofs.checker.compare_log.Goals as goal
@@ -66,3 +66,8 @@ returns-in_ok-compare-in-Ok-clause-candidate g c =
 pub returns-in_ok-compare-in-Ok-clause-refused : goal.returns-in_ok-compare-in-Ok-clause-refused
 returns-in_ok-compare-in-Ok-clause-refused g c =
     has_candidate c.in_ok-compare-in-Ok.field-0 c.in-Ok.candidate c.in_ok-compare-in-Ok.ensures.judged
+
+pub returns-in-Err-clause-certified : goal.returns-in-Err-clause-certified
+returns-in-Err-clause-certified g c =
+    IfOk-weaker c.refuse_shape.result (RefusesShape c.in-Err.misshapen) _ (λ checked is. subst (λ kept. IfSome kept (λ run. IsCertified run checked.verdict)) (sym is.candidate) tt)
+    c.refuse_shape.ensures

@@ -6,7 +6,7 @@ use Rattle.wm_explain.proofs.compared.compare.Goals as goal
 
 pub returns : goal.returns
 returns c =
-    let followed = subst (FollowsLog c.args.module.now c.args.number c.args.stated.now 1000000) c.in-Ok-Ok.field-0-is c.in-Ok-Ok.ensures in
+    let followed = subst (FollowsLog c.args.module.now c.args.number c.args.stated.now 1000000) c.in-Ok-Ok.field-0-is c.in-Ok-Ok.ensures.runs in
     let logged =
     subst (λ (events : List Event). c.log_next.result ≡ next_by_log (slice_get events c.in-Ok-Ok.followed.events)) c.as_slice.ensures c.log_next.ensures
     in

@@ -43,3 +43,7 @@ returns-in_err-module-in-explain-clause-none c = λ _.
 pub returns-in_err-module-in-graph-clause-none : goal.returns-in_err-module-in-graph-clause-none
 returns-in_err-module-in-graph-clause-none c = λ _.
     no_command c.args.name.now (rows_of (found_of c.args.words.now)) (codes "module" ∷ codes "document" ∷ []) (ap (required_in forms) c.in-graph.is) (c.in_err-module-in-graph.ensures.none refl)
+
+pub returns-in_err-file-in-races-clause-none : goal.returns-in_err-file-in-races-clause-none
+returns-in_err-file-in-races-clause-none c = λ _.
+    no_command c.args.name.now (rows_of (found_of c.args.words.now)) (codes "file" ∷ []) (ap (required_in forms) c.in-races.is) (c.in_err-file-in-races.ensures.none refl)

@@ -1,7 +1,7 @@
 use Rattle.std.proofs.Common.{ap, codes, ◌∙◌}
 use Rattle.std.proofs.lemmas.Result.{IfOk-weaker}
 use Rattle.clap.specs.Words.{App}
-use Rattle.wm_litmus.specs.Commands.{Form, checked_form, document_form, module_form, plain_form, started_form, with_form}
+use Rattle.wm_litmus.specs.Commands.{Form, checked_form, document_form, log_form, module_form, plain_form, started_form, with_form}
 use Rattle.wm_litmus.proofs.command.with_commands.Goals as goal
 
 add : Form → App → App
@@ -17,7 +17,8 @@ returns c =
     let stream = c.in_ok-parser-6.ensures ∙ ap (add (module_form (codes "stream"))) verify in
     let drive = c.in_ok-parser-7.ensures ∙ ap (add (started_form (codes "drive") (codes "turns"))) stream in
     let run = c.in_ok-parser-8.ensures ∙ ap (add (started_form (codes "run") (codes "rounds"))) drive in
-    let explain = c.in_ok-parser-9.ensures ∙ ap (add (checked_form (codes "explain"))) run in
-    let graph = c.in_ok-parser-10.ensures ∙ ap (add (checked_form (codes "graph"))) explain in
-    let help = c.in_ok-parser-11.ensures ∙ ap (add (plain_form (codes "help"))) graph in
+    let races = c.in_ok-parser-9.ensures ∙ ap (add (log_form (codes "races"))) run in
+    let explain = c.in_ok-parser-10.ensures ∙ ap (add (checked_form (codes "explain"))) races in
+    let graph = c.in_ok-parser-11.ensures ∙ ap (add (checked_form (codes "graph"))) explain in
+    let help = c.in_ok-parser-12.ensures ∙ ap (add (plain_form (codes "help"))) graph in
     IfOk-weaker c.with_plain-2.result _ _ (λ parser more. more ∙ ap (add (plain_form (codes "version"))) help) c.with_plain-2.ensures

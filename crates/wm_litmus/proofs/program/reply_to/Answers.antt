@@ -1,10 +1,12 @@
 use Rattle.std.proofs.Common.{◌≡◌, subst, string_bytes}
 use Rattle.wm_litmus.specs.Drive.{IsScriptAnswer}
 use Rattle.wm_litmus.specs.Explanation.{AnswersExplain, AnswersGraph}
+use Rattle.wm_litmus.specs.Races.{AnswersEventRaces, AnswersRaces}
 use Rattle.wm_litmus.specs.Rounds.{IsRoundsAnswer}
 use Rattle.wm_litmus.specs.Stream.{AnswersVerify}
-use Rattle.wm_litmus.specs.Replies.{AnswersCheck, AnswersComplete, AnswersMigrate, AnswersRules}
-use Rattle.wm_litmus.specs.Replies.IsAnswer.{check_of, complete_of, drive_of, explain_of, graph_of, help_of, migrate_of, no_command, rules_of, run_of, verify_of, version_of}
+use Rattle.wm_litmus.specs.Replies.{AnswersCheck, AnswersComplete, AnswersMigrate}
+use Rattle.wm_litmus.specs.Rules.{AnswersRules}
+use Rattle.wm_litmus.specs.Replies.IsAnswer.{check_of, complete_of, drive_of, event_races_of, explain_of, graph_of, help_of, migrate_of, no_command, races_of, rules_of, run_of, verify_of, version_of}
 use Rattle.wm_litmus.proofs.program.reply_to.Goals as goal
 
 pub returns-in_ok-rules_answer-in-Ok-Rules-clause-answers : goal.returns-in_ok-rules_answer-in-Ok-Rules-clause-answers
@@ -120,3 +122,23 @@ returns-in_ok-refused_words-in-Err-Words-clause-answers g c =
     let prints = c.in_ok-refused_words-in-Err-Words.ensures in
     let refused = c.in-Err-Words.ensures.refused in
     no_command (refused (cc c.in-Err-Words.field-0-is)) prints.status_is prints.text_is
+
+pub returns-in_ok-races_answer-in-Ok-Races-clause-answers : goal.returns-in_ok-races_answer-in-Ok-Races-clause-answers
+returns-in_ok-races_answer-in-Ok-Races-clause-answers g c =
+    let answer = c.in_ok-races_answer-in-Ok-Races.field-0 in
+    let read = c.in_ok-read-in-Ok-Races in
+    let of_module : c.as_slice-in-Ok-Races.result.now ≡ read.read.0.items = c.as_slice-in-Ok-Races.ensures.value in
+    let of_document : c.as_slice-in-Ok-Races-2.result.now ≡ read.read.1.items = c.as_slice-in-Ok-Races-2.ensures.value in
+    races_of c.in-Ok-Races.module c.in-Ok-Races.document read.read.0.items read.read.1.items (rw c.in-Ok-Races.field-0-is at c.in-Ok-Races.ensures.read)
+    read.ensures.modules read.ensures.documents
+    (subst (λ bytes. AnswersRaces read.read.0.items bytes answer.status (string_bytes answer.text)) of_document
+    (subst (λ bytes. AnswersRaces bytes c.as_slice-in-Ok-Races-2.result.now answer.status (string_bytes answer.text)) of_module
+    c.in_ok-races_answer-in-Ok-Races.ensures))
+
+pub returns-in_ok-event_races_answer-in-Ok-EventRaces-clause-answers : goal.returns-in_ok-event_races_answer-in-Ok-EventRaces-clause-answers
+returns-in_ok-event_races_answer-in-Ok-EventRaces-clause-answers g c =
+    let answer = c.in_ok-event_races_answer-in-Ok-EventRaces.field-0 in
+    let read = c.in_ok-bytes-in-Ok-EventRaces in
+    let slice : c.as_slice-in-Ok-EventRaces.result.now ≡ read.bytes.items = c.as_slice-in-Ok-EventRaces.ensures.value in
+    event_races_of c.in-Ok-EventRaces.document read.bytes.items (rw c.in-Ok-EventRaces.field-0-is at c.in-Ok-EventRaces.ensures.read) read.ensures.known
+    (subst (λ bytes. AnswersEventRaces bytes answer.status (string_bytes answer.text)) slice c.in_ok-event_races_answer-in-Ok-EventRaces.ensures)

@@ -11,7 +11,7 @@ returns-in-Ok-Answer-clause-stopped g c _ =
     let answer = c.in-Ok-Answer.answer in
     let text = string_bytes answer.text in
     front answer.status text (rw c.in-Ok-Answer.field-0-is at c.in-Ok-Answer.ensures.answers)
-    (subst (AppendsFront (g.O.Write.contents c.args.out.now) (g.O.Write.contents c.write_text.new.out)) c.as_str.ensures.value c.in-Err-write_text.ensures)
+    (subst (AppendsFront (g.O.Write.contents c.args.out.now) (g.O.Write.contents c.write_text.new.out)) c.as_str.ensures.value c.in-Err-write_text.ensures.stopped)
 
 pub returns-in-Ok-stream_lines-clause-answers : goal.returns-in-Ok-stream_lines-clause-answers
 returns-in-Ok-stream_lines-clause-answers g c _ =

@@ -1,6 +1,6 @@
 use Rattle.std.proofs.lemmas.Result.{IfOk-weaker}
 use Rattle.wm_logfile.specs.DocumentBytes.{IsDocumentOf}
-use Rattle.wm_litmus.specs.Replies.AnswersRules.{read, refused}
+use Rattle.wm_litmus.specs.Rules.AnswersRules.{read, refused}
 use Rattle.wm_litmus.proofs.rules.rules_answer.Goals as goal
 
 pub returns-in-Ok : goal.returns-in-Ok
@@ -16,13 +16,5 @@ returns-in-Ok g c =
 pub returns-in-Err : goal.returns-in-Err
 returns-in-Err g c =
     IfOk-weaker c.refused_document.result _ _
-    (λ answer prints. refused c.in-Err.fault
-    (record {
-      no_document = λ log witness d. c.in-Err.ensures.refused prints.0 d.small log witness d.is_log d.limits d.spelled;
-      too_large = c.in-Err.ensures.too_large;
-      large = c.in-Err.ensures.large;
-      no_want = prints.0;
-      placed = c.in-Err.ensures.placed;
-    })
-    prints.1.status_is prints.1.text_is)
+    (λ answer prints. refused c.in-Err.fault (c.in-Err.ensures.refused prints.0) prints.1.status_is prints.1.text_is)
     c.refused_document.ensures

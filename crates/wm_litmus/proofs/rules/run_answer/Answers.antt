@@ -4,8 +4,8 @@ use Rattle.wm_event.specs.First.{IsFirst}
 use Rattle.wm_event.specs.LoggedRun.{LoggedRun, execution}
 use Rattle.wm_event.specs.Faults.{Judges}
 use Rattle.wm_event.specs.Shape.{IsWellShaped, Misshapes, shape_rank}
-use Rattle.wm_litmus.specs.Replies.{zeros}
-use Rattle.wm_litmus.specs.Replies.AnswersRun.{judged, misshapen}
+use Rattle.wm_litmus.specs.Rules.{zeros}
+use Rattle.wm_litmus.specs.Rules.AnswersRun.{judged, misshapen}
 use Rattle.wm_litmus.proofs.rules.run_answer.Goals as goal
 
 pub returns-in-Err : goal.returns-in-Err

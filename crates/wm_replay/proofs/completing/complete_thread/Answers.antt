@@ -13,7 +13,7 @@ returns-then-followed-len c =
     let f = c.in-Ok-Ok.followed in
     let at = config_of f.thread in
     let left = subst (λ n. f.events < n) c.len.ensures c.if-followed-len.true in
-    let followed = subst (FollowsLog m c.args.number t 1000000) c.in-Ok-Ok.field-0-is c.in-Ok-Ok.ensures in
+    let followed = subst (FollowsLog m c.args.number t 1000000) c.in-Ok-Ok.field-0-is c.in-Ok-Ok.ensures.runs in
     let runs = followed.0 in (
       no_steps m c.args.number t at f.steps f.events c.requires runs left,
       (refl, stop_at_differs m c.args.number t at f.steps f.events c.requires runs left),
@@ -26,7 +26,7 @@ returns c =
     let f = c.in-Ok-Ok.followed in
     let at = config_of f.thread in
     let all = subst (λ n. n ≤ f.events) c.len.ensures c.if-followed-len.false in
-    let followed = subst (FollowsLog m c.args.number t 1000000) c.in-Ok-Ok.field-0-is c.in-Ok-Ok.ensures in
+    let followed = subst (FollowsLog m c.args.number t 1000000) c.in-Ok-Ok.field-0-is c.in-Ok-Ok.ensures.runs in
     let runs = followed.0 in
     let same : c.in_ok-completed.completed ≡ ending t f.steps (config_end at) =
     c.in_ok-completed.ensures ∙ ap (ending t f.steps) c.end_of.ensures in

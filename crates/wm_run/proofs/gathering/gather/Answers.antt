@@ -4,7 +4,7 @@ use Rattle.wm_event.proofs.FittingLemmas.{fits_log}
 use Rattle.wm_recorder.specs.Recorder.{initial_of}
 use Rattle.wm_valid.specs.Valid.{IsInit}
 use Rattle.wm_valid.proofs.Initial.{one_init}
-use Rattle.wm_run.proofs.Together.{events_of_whole, whole}
+use Rattle.wm_run.proofs.Together.{events_of_whole, gathered_own, whole}
 use Rattle.wm_run.proofs.gathering.gather.Goals as goal
 
 pub returns-then-not-is_same-clause-refused : goal.returns-then-not-is_same-clause-refused
@@ -46,3 +46,7 @@ returns-clause-gathered c =
       recording = c.in_ok-parts.ensures.recording;
       valid = c.in_ok-parts.ensures.valid;
     }
+
+pub returns-clause-own : goal.returns-clause-own
+returns-clause-own c =
+    gathered_own c.args.module.now c.args.ends.items c.args.recorder c.new-2.result c.requires (returns-clause-gathered c)

@@ -1,9 +1,13 @@
-use Rattle.std.proofs.Common.{List, rules, subst}
+use Rattle.std.proofs.Common.{◌≡◌, ◌∙◌, List, length, rules, subst, sym}
 use Rattle.std.specs.Prelude.{Result}
-use Rattle.std.proofs.lemmas.Result.{IfOk-weaker}
+use Rattle.std.proofs.lemmas.Result.{IfErr-weaker, IfOk-at_ok, IfOk-weaker}
+use Rattle.wm_recorder.specs.Recorder.{initial_of, threads_of}
 use Rattle.wm_run.specs.declared.ended.ThreadEnd.{ThreadEnd}
 use Rattle.wm_run.specs.declared.fault.RunFault.{RunFault}
-use Rattle.wm_run.specs.Rounds.{AreWorkOf, IsRoundPlan}
+use Rattle.wm_run.specs.Refusal.{AllStart}
+use Rattle.wm_run.specs.Rounds.{AreWorkOf, IsReady, IsRoundPlan}
+use Rattle.wm_valid.specs.Valid.{IsInit}
+use Rattle.wm_run.proofs.Refusing.{all_start, gather_fault}
 use Rattle.wm_run.proofs.Rounds.{ends_from, programs_from, round_from, within_from}
 use Rattle.wm_run.proofs.round.run_round.Goals as goal
 
@@ -13,8 +17,9 @@ gather-requires g c =
     let m = c.args.module.now in
     let plan = c.args.plan.now in
     let P : List (Result ThreadEnd RunFault) → Type 0 = λ rs. AreWorkOf is_open m plan.starts plan.steps rs in
-    let works = subst P c.in_ok-ends.ensures c.in_ok-results.ensures in
-    programs_from is_open m plan.starts plan.steps c.in_ok-ends.ends.items (ends_from is_open m plan.starts plan.steps c.in_ok-ends.ends.items works)
+    let works = subst P c.in_ok-ends.ensures (IfOk-at_ok (λ (v : _). P v.items) c.in_ok-results.was c.run_locked-recorder.ensures.work) in
+    let are = ends_from is_open m plan.starts plan.steps c.in_ok-ends.ends.items works in
+    programs_from is_open m plan.starts plan.steps c.in_ok-ends.ends.items are
 
 pub returns-clause-round : goal.returns-clause-round
 returns-clause-round g c =
@@ -22,9 +27,10 @@ returns-clause-round g c =
     let m = c.args.module.now in
     let plan = c.args.plan.now in
     let P : List (Result ThreadEnd RunFault) → Type 0 = λ rs. AreWorkOf is_open m plan.starts plan.steps rs in
-    let works = subst P c.in_ok-ends.ensures c.in_ok-results.ensures in
+    let works = subst P c.in_ok-ends.ensures (IfOk-at_ok (λ (v : _). P v.items) c.in_ok-results.was c.run_locked-recorder.ensures.work) in
     let are = ends_from is_open m plan.starts plan.steps c.in_ok-ends.ends.items works in
-    IfOk-weaker c.gather.result _ _ (λ run gathered. round_from is_open m plan c.in_ok-ends.ends.items c.into_recorder-recorder.result run c.own_runs_are_allowed.ensures are gathered) c.gather.ensures.gathered
+    let r = c.run_locked-recorder.result.0 in
+    IfOk-weaker c.gather.result _ _ (λ run gathered. round_from is_open m plan c.in_ok-ends.ends.items r run c.own_runs_are_allowed.ensures are gathered) c.gather.ensures.gathered
 
 pub returns-clause-within : goal.returns-clause-within
 returns-clause-within g c =
@@ -32,7 +38,25 @@ returns-clause-within g c =
     let m = c.args.module.now in
     let plan = c.args.plan.now in
     let P : List (Result ThreadEnd RunFault) → Type 0 = λ rs. AreWorkOf is_open m plan.starts plan.steps rs in
-    let works = subst P c.in_ok-ends.ensures c.in_ok-results.ensures in
+    let works = subst P c.in_ok-ends.ensures (IfOk-at_ok (λ (v : _). P v.items) c.in_ok-results.was c.run_locked-recorder.ensures.work) in
     let are = ends_from is_open m plan.starts plan.steps c.in_ok-ends.ends.items works in
     let planned : IsRoundPlan plan = search rules in
-    IfOk-weaker c.gather.result _ _ (λ run gathered. within_from is_open m plan c.in_ok-ends.ends.items c.into_recorder-recorder.result run planned are gathered) c.gather.ensures.gathered
+    let r = c.run_locked-recorder.result.0 in
+    IfOk-weaker c.gather.result _ _ (λ run gathered. within_from is_open m plan c.in_ok-ends.ends.items r run planned are gathered) c.gather.ensures.gathered
+
+pub returns-clause-refused : goal.returns-clause-refused
+returns-clause-refused g c =
+    let is_open = g.G.Gate.is_open c.args.gate.now in
+    let m = c.args.module.now in
+    let plan = c.args.plan.now in
+    let P : List (Result ThreadEnd RunFault) → Type 0 = λ rs. AreWorkOf is_open m plan.starts plan.steps rs in
+    let works = subst P c.in_ok-ends.ensures (IfOk-at_ok (λ (v : _). P v.items) c.in_ok-results.was c.run_locked-recorder.ensures.work) in
+    let are = ends_from is_open m plan.starts plan.steps c.in_ok-ends.ends.items works in
+    let planned : IsRoundPlan plan = search rules in
+    let r = c.run_locked-recorder.result.0 in
+    let starts = subst (AllStart m) c.as_slice.ensures (all_start m c.as_slice.result.now c.in_ok-runners.runners.items c.in_ok-runners.ensures.launched) in
+    let ready : IsReady m plan = record { planned = planned; starts = starts } in
+    let over = c.run_locked-recorder.ensures.over in
+    let init : IsInit m (initial_of r) = subst (IsInit m) (sym (over.initial_is ∙ c.in_ok-recorder.ensures.initial)) c.initial.ensures in
+    let many : threads_of r ≡ length plan.starts = search (rules, over.threads_are, c.in_ok-recorder.ensures.threads, c.in_ok-runners.ensures.launched.count) in
+    IfErr-weaker c.gather.result _ _ (λ fault is. gather_fault is_open m plan c.in_ok-ends.ends.items r fault ready init many are is) c.gather.ensures.refused

@@ -22,7 +22,7 @@ returns-in-Ok-clause-printed g c =
     let all = c.in_ok-all.all in
     let joins = subst (λ (xs : List LineAnswer). Joins (map answered xs) all) c.as_slice.ensures.value c.in_ok-all.ensures in
     all_printed (g.J.AnswersLines.says c.args.judge.now) c.args.lines.now c.in_ok-answers.answers.items all old new c.in_ok-answers.ensures joins
-    (subst (Appends old new) c.as_str.ensures.value c.in-Ok.ensures)
+    (subst (Appends old new) c.as_str.ensures.value c.in-Ok.ensures.written)
 
 pub returns-clause-stopped : goal.returns-clause-stopped
 returns-clause-stopped g c =
@@ -31,4 +31,4 @@ returns-clause-stopped g c =
     let all = c.in_ok-all.all in
     let joins = subst (λ (xs : List LineAnswer). Joins (map answered xs) all) c.as_slice.ensures.value c.in_ok-all.ensures in
     some_printed (g.J.AnswersLines.says c.args.judge.now) c.args.lines.now c.in_ok-answers.answers.items all old new c.in_ok-answers.ensures joins
-    (subst (AppendsFront old new) c.as_str.ensures.value c.in-Err.ensures)
+    (subst (AppendsFront old new) c.as_str.ensures.value c.in-Err.ensures.stopped)

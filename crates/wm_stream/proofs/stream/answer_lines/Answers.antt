@@ -46,12 +46,12 @@ returns-in_err-print_answers-clause-stopped g c =
     let part = take c.in_ok-count.count c.read_part.new.buffer in
     let read = c.in_ok-count.ensures.read in
     let none : part ≡ [] = ap (λ k. take k c.read_part.new.buffer) c.if-count-eq0.true ∙ take_none c.read_part.new.buffer in
-    let answered = reads_nothing says c.args.limit had mid left c.loop.begun.items part c.loop.status old now c.loop.invariant.answered read.1 none in
+    let answered = reads_nothing says c.args.limit had mid left c.loop.begun.items part c.loop.status old now c.loop.invariant.answered read.consumes none in
     let new = g.O.Write.contents c.print_answers.new.out in
     let last : texts c.as_slice.result.now ≡ last_line c.loop.begun.items = ap texts c.as_slice.ensures.value ∙ c.in_ok-last.ensures in
     let front : PrintsFront says (last_line c.loop.begun.items) now new = subst (λ lines. PrintsFront says lines now new) last c.in_err-print_answers.ensures.stopped in
     on_err c.from_residual-in_err-print_answers.result
-    (stops_at_last says c.args.limit had left c.loop.begun.items c.loop.status old now new c.requires answered (read.2 c.if-count-eq0.true) front)
+    (stops_at_last says c.args.limit had left c.loop.begun.items c.loop.status old now new c.requires answered (read.at_end c.if-count-eq0.true) front)
 
 pub returns-then-count-eq0-clause-answered : goal.returns-then-count-eq0-clause-answered
 returns-then-count-eq0-clause-answered g c =
@@ -64,12 +64,12 @@ returns-then-count-eq0-clause-answered g c =
     let part = take c.in_ok-count.count c.read_part.new.buffer in
     let read = c.in_ok-count.ensures.read in
     let none : part ≡ [] = ap (λ k. take k c.read_part.new.buffer) c.if-count-eq0.true ∙ take_none c.read_part.new.buffer in
-    let answered = reads_nothing says c.args.limit had mid left c.loop.begun.items part c.loop.status old now c.loop.invariant.answered read.1 none in
+    let answered = reads_nothing says c.args.limit had mid left c.loop.begun.items part c.loop.status old now c.loop.invariant.answered read.consumes none in
     let new = g.O.Write.contents c.print_answers.new.out in
     let last : texts c.as_slice.result.now ≡ last_line c.loop.begun.items = ap texts c.as_slice.ensures.value ∙ c.in_ok-last.ensures in
     let prints : Prints says (last_line c.loop.begun.items) c.in_ok-print_answers.field-0 now new = subst (λ lines. Prints says lines c.in_ok-print_answers.field-0 now new) last c.in_ok-print_answers.ensures.printed in
     rw c.worse.ensures
-    (answers_all says c.args.limit had left c.loop.begun.items c.loop.status c.in_ok-print_answers.field-0 old now new c.requires answered (read.2 c.if-count-eq0.true) prints)
+    (answers_all says c.args.limit had left c.loop.begun.items c.loop.status c.in_ok-print_answers.field-0 old now new c.requires answered (read.at_end c.if-count-eq0.true) prints)
 
 pub returns-in_err-lines-clause-stopped : goal.returns-in_err-lines-clause-stopped
 returns-in_err-lines-clause-stopped g c =
@@ -96,7 +96,7 @@ returns-in_err-print_answers-2-clause-stopped g c =
     let lines : texts c.as_slice-in-loop-2.result.now ≡ more = ap texts c.as_slice-in-loop-2.ensures.value in
     let front : PrintsFront says more now new = subst (λ all. PrintsFront says all now new) lines c.in_err-print_answers-2.ensures.stopped in
     on_err c.from_residual-in_err-print_answers-2.result
-    (stops_within says c.args.limit had mid left c.loop.begun.items next part more c.loop.status old now new c.loop.invariant.answered c.in_ok-count.ensures.read.1 adds front)
+    (stops_within says c.args.limit had mid left c.loop.begun.items next part more c.loop.status old now new c.loop.invariant.answered c.in_ok-count.ensures.read.consumes adds front)
 
 pub loop-preserved : goal.loop-preserved
 loop-preserved g c =
@@ -121,7 +121,7 @@ loop-preserved g c =
     record {
       room = ap length (whole_buffer buffer c.loop.buffer.items c.loop.buffer.len (c.read_part.ensures.size ∙ c.as_mut_slice.ensures.len)) ∙ c.read_part.ensures.size ∙ ap length c.as_mut_slice.ensures.value ∙ c.loop.invariant.room;
       answered = rw c.worse-status.ensures
-          (answers_more says c.args.limit had mid left c.loop.begun.items next part more c.loop.status added old now new c.loop.invariant.answered c.in_ok-count.ensures.read.1 adds prints);
+          (answers_more says c.args.limit had mid left c.loop.begun.items next part more c.loop.status added old now new c.loop.invariant.answered c.in_ok-count.ensures.read.consumes adds prints);
     }
 
 pub returns-clause-stopped : goal.returns-clause-stopped

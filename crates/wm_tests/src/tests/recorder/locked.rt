@@ -1,13 +1,17 @@
 //! A recorder under its lock, on one thread and on two.
+ghost use Rattle.wm_recorder.specs.Locked.{IsOver};
+
 use super::super::same;
 use super::{event_count, load, order_length, pending, steps, store_word, two_threads};
+use std::marker::Brand;
 use std::process::Abort;
 use std::sync::Wait;
 use std::test::Fail;
 use std::thread;
+use std::thread::Threads;
 use wm_access::{AccessWidth, MemoryOrder};
 use wm_event::{Op, OpFields, OpKind};
-use wm_recorder::{AccessFault, LockedMemory, Shared};
+use wm_recorder::{AccessFault, LockedMemory, Over, Recorder, Shared};
 
 fn load_word(address: u32) -> Op {
     Op::new(OpFields {
@@ -42,24 +46,31 @@ fn refusal<S: Shared>(shared: &S, thread: u32) -> Option<AccessFault> {
     shared.access(thread, load(0)).err()
 }
 
-#[test]
-fn a_drain_shows_the_oldest_store_to_the_others(rt: HostRuntime) -> Result<(), Fail> {
-    let shared = LockedMemory::new(&rt, two_threads(rt.alloc())?);
+/// Three stores of two threads, of which a drain shows the oldest of each to the other.
+fn drain_and_read<N: Over, R: Abort + Wait>(rt: &R, recorder: Recorder) -> Result<(), Fail>
+    requires { IsOver N.initial N.threads recorder }
+{
+    let shared = LockedMemory::<R, N>::new(rt, recorder);
     write(&shared, 0, 0, 1)?;
     write(&shared, 0, 8, 2)?;
     write(&shared, 1, 4, 3)?;
-    same(&rt, drain(&shared, 0)?, true);
-    same(&rt, read(&shared, 1, 0)?, Some(1));
-    same(&rt, read(&shared, 1, 8)?, Some(0));
-    same(&rt, drain(&shared, 1)?, true);
-    same(&rt, drain(&shared, 1)?, false);
-    same(&rt, read(&shared, 0, 4)?, Some(3));
-    same(&rt, refusal(&shared, 2), Some(AccessFault::NoThread));
+    same(rt, drain(&shared, 0)?, true);
+    same(rt, read(&shared, 1, 0)?, Some(1));
+    same(rt, read(&shared, 1, 8)?, Some(0));
+    same(rt, drain(&shared, 1)?, true);
+    same(rt, drain(&shared, 1)?, false);
+    same(rt, read(&shared, 0, 4)?, Some(3));
+    same(rt, refusal(&shared, 2), Some(AccessFault::NoThread));
     let recorder = shared.into_recorder();
-    same(&rt, steps(&recorder), 8);
-    same(&rt, order_length(&recorder), 6);
-    same(&rt, pending(&recorder, 0), 1);
+    same(rt, steps(&recorder), 8);
+    same(rt, order_length(&recorder), 6);
+    same(rt, pending(&recorder, 0), 1);
     Ok(())
+}
+
+#[test]
+fn a_drain_shows_the_oldest_store_to_the_others(rt: HostRuntime) -> Result<(), Fail> {
+    drain_and_read::<Brand, _>(&rt, two_threads(rt.alloc())?)
 }
 
 /// Whether the store of thread 0 with so many older ones left its buffer.
@@ -86,21 +97,31 @@ fn read_often<S: Shared>(shared: &S) -> Result<(), AccessFault> {
     Ok(())
 }
 
-#[test]
-fn two_threads_drain_and_read(rt: HostRuntime) -> Result<(), Fail> {
-    let shared = LockedMemory::new(&rt, two_threads(rt.alloc())?);
-    let (drained, seen) = thread::join(&rt, || store_three(&shared), || read_often(&shared));
+/// One thread stores and drains while another reads.
+fn drain_beside_reads<N: Over + Send + Sync, R: Abort + Threads + Wait + Sync>(
+    rt: &R,
+    recorder: Recorder,
+) -> Result<(), Fail>
+    requires { IsOver N.initial N.threads recorder }
+{
+    let shared = LockedMemory::<R, N>::new(rt, recorder);
+    let (drained, seen) = thread::join(rt, || store_three(&shared), || read_often(&shared));
     let drained = drained?;
     seen?;
-    same(&rt, drained, [false, true]);
-    same(&rt, read(&shared, 1, 8)?, Some(3));
-    same(&rt, read(&shared, 1, 0)?, Some(0));
+    same(rt, drained, [false, true]);
+    same(rt, read(&shared, 1, 8)?, Some(3));
+    same(rt, read(&shared, 1, 0)?, Some(0));
     let recorder = shared.into_recorder();
     recorder.recorded_log_is_valid();
-    same(&rt, pending(&recorder, 0), 2);
-    same(&rt, event_count(&recorder, 0), 3);
-    same(&rt, event_count(&recorder, 1), 32);
-    same(&rt, order_length(&recorder), 35);
-    same(&rt, steps(&recorder), 36);
+    same(rt, pending(&recorder, 0), 2);
+    same(rt, event_count(&recorder, 0), 3);
+    same(rt, event_count(&recorder, 1), 32);
+    same(rt, order_length(&recorder), 35);
+    same(rt, steps(&recorder), 36);
     Ok(())
+}
+
+#[test]
+fn two_threads_drain_and_read(rt: HostRuntime) -> Result<(), Fail> {
+    drain_beside_reads::<Brand, _>(&rt, two_threads(rt.alloc())?)
 }

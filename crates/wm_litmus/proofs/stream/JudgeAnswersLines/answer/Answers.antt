@@ -9,7 +9,7 @@ returns-in_ok-verdict-in-Module c =
     (λ answer is module_bytes is_module. record {
       verdict = c.in_ok-verdict-in-Module.verdict;
       verifies = c.in_ok-verdict-in-Module.ensures module_bytes (subst (IsJudgeOf module_bytes) c.in-Module.is is_module);
-      status_is = is.0;
-      text_is = is.1;
+      status_is = is.status_is;
+      text_is = is.text_is;
     })
     c.line_answer.ensures

@@ -1,0 +1,135 @@
+-- What the command `races` answers.
+use Rattle.std.specs.Prelude.{◌≡◌, ◌≢◌, ℕ, zero, suc, ◌-◌, List, [], ◌∷◌, ◌++◌, codes, length, string_bytes, false, map, take, ⊤}
+use Rattle.std.specs.Fmt.{decimal, digits}
+use Rattle.std.specs.List.{flat_map}
+use Rattle.wm_ast.specs.declared.module.Module.{Module}
+use Rattle.wm_check.specs.declared.verdict.Certificate.{Certificate}
+use Rattle.wm_check.specs.declared.verdict.Verdict.{Verdict}
+use Rattle.wm_check.specs.declared.verdict.Verdict.TheVariants.{Allowed, Refused, Broken}
+use Rattle.wm_check.specs.Run.{IsCandidateOf, IsModuleOf}
+use Rattle.wm_check.specs.Verdicts.{Says}
+use Rattle.wm_event.specs.declared.event.Event.{Event}
+use Rattle.wm_event.specs.declared.log.ThreadLog.{ThreadLog}
+use Rattle.wm_event.specs.declared.witness.Witness.{Witness}
+use Rattle.wm_event.specs.LoggedRun.{LoggedRun, execution}
+use Rattle.wm_event.specs.Rules.{IsValid}
+use Rattle.wm_event.specs.Shape.{IsWellShaped, event_count}
+use Rattle.wm_event.specs.Texts.{key_text}
+use Rattle.wm_logfile.specs.declared.fault.DocFault.{DocFault}
+use Rattle.wm_logfile.specs.DocumentBytes.{IsDocumentOf, IsNoDocument}
+use Rattle.wm_races.specs.declared.site.Site.{Site}
+use Rattle.wm_races.specs.declared.site.SiteRace.{SiteRace}
+use Rattle.wm_races.specs.Report.{HasSites, IsRaceReport}
+use Rattle.wm_litmus.specs.declared.answer.Answer.{Answer}
+use Rattle.wm_litmus.specs.declared.races.RaceLine.{RaceLine}
+use Rattle.wm_litmus.specs.declared.races.RaceLine.TheVariants.{Sites, Events}
+use Rattle.wm_litmus.specs.Lines.{document_line_text, verdict_status, verdict_text}
+use Rattle.wm_litmus.specs.Prints.{Gives, ended}
+use Rattle.wm_litmus.specs.Rules.{AnswersRun, run_over}
+
+-- ---- lines
+
+abbrev pub races_status : List SiteRace → ℕ
+races_status [] = 0
+races_status (race ∷ races) = 1
+
+-- a run of so many threads and events without a race
+abbrev pub no_races_text : ℕ → ℕ → List ℕ
+no_races_text threads events = codes "no races threads=" ++ decimal threads ++ codes " events=" ++ decimal events
+
+-- the first race between two instructions: its event and its write
+abbrev pub pair_text : SiteRace → List ℕ
+pair_text race = codes "race " ++ key_text race.event ++ codes " with " ++ key_text race.write
+
+abbrev pub site_text : Site → List ℕ
+site_text site =
+    codes " function=" ++ decimal site.function ++ codes " instruction=" ++ decimal site.instruction ++ codes " offset=0x" ++ digits 16 false site.offset
+
+-- a line: the first race between two instructions, how many there are, and both instructions
+abbrev pub race_text : SiteRace → List ℕ
+race_text race = pair_text race ++ codes " times=" ++ decimal race.count ++ site_text race.site ++ site_text race.other
+
+-- the line of a race, by its kind
+abbrev pub line_text : RaceLine → SiteRace → List ℕ
+line_text Sites = race_text
+line_text Events = pair_text
+
+-- a line for each race
+abbrev pub shown_text : (SiteRace → List ℕ) → List SiteRace → List ℕ
+shown_text line races = flat_map (λ race. ended (line race)) races
+
+-- how many lines are left out
+abbrev pub more_text : ℕ → List ℕ
+more_text zero = []
+more_text (suc n) = ended (codes "and " ++ decimal (suc n) ++ codes " more")
+
+-- at most 1,000 lines
+abbrev pub lines_text : (SiteRace → List ℕ) → List SiteRace → List ℕ
+lines_text line races = shown_text line (take 1000 races) ++ more_text (length races - 1000)
+
+-- all that is printed of the races of a run of so many threads and events
+abbrev pub races_text : (SiteRace → List ℕ) → ℕ → ℕ → List SiteRace → List ℕ
+races_text line threads events [] = ended (no_races_text threads events)
+races_text line threads events (race ∷ races) = lines_text line (race ∷ races)
+
+-- the status and the text that list the races of a run
+pub record ListsRaces (line : SiteRace → List ℕ) (threads events : ℕ) (races : List SiteRace) (status : ℕ) (text : List ℕ) : Type 0 where
+  pub status_is : status ≡ races_status races
+  pub text_is : text ≡ races_text line threads events races
+
+-- ---- of a module and a document
+
+-- the status and the text list the races of a run, reported by some sites of its events
+pub record ReportsRaces (run : LoggedRun) (certificate : Certificate) (status : ℕ) (text : List ℕ) : Type 0 where
+  pub sites : List (List Site)
+  pub has_sites : HasSites run.log sites
+  pub races : List SiteRace
+  pub report : IsRaceReport (execution run) sites races
+  pub lists : ListsRaces race_text certificate.threads certificate.events races status text
+
+abbrev pub IsNotAllowed : Verdict → Type 0
+IsNotAllowed (Allowed certificate) = ⊥
+IsNotAllowed (Refused refusal) = ⊤
+IsNotAllowed (Broken breach) = ⊤
+
+-- the status and the text that answer a module and a document: the races of an allowed run; else the line of the verdict
+pub data AnswersRaces (module_bytes document_bytes : List ℕ) (status : ℕ) (text : List ℕ) : Type 0 where
+  listed : («module» : Module) (run : LoggedRun) (certificate : Certificate) → IsCandidateOf module_bytes document_bytes «module» run
+      → Says module_bytes document_bytes (Allowed certificate) → IsValid (execution run) → ReportsRaces run certificate status text
+      → AnswersRaces module_bytes document_bytes status text
+  told : (verdict : Verdict) → Says module_bytes document_bytes verdict → IsNotAllowed verdict
+      → status ≡ verdict_status verdict → text ≡ ended (verdict_text verdict) → AnswersRaces module_bytes document_bytes status text
+
+-- an answer to these bytes of a document, and to all bytes that spell the module
+abbrev pub RacesOver : Module → List ℕ → Answer → Type 0
+RacesOver «module» document_bytes answer = (module_bytes : List ℕ) → IsModuleOf module_bytes «module» → Gives (AnswersRaces module_bytes document_bytes) answer
+
+-- ---- of a document alone
+
+-- an event as a site of its own
+abbrev pub own_site : Event → Site
+own_site e = record { function = e.thread; instruction = e.number; offset = 0 }
+
+-- each event is a site of its own
+abbrev pub AreOwnSites : List ThreadLog → List (List Site) → Type 0
+AreOwnSites log sites = sites ≡ map (λ (thread : ThreadLog). map own_site thread.events) log
+
+-- the status and the text list the races of a valid run, a line for each
+pub record ReportsOwnRaces (run : LoggedRun) (status : ℕ) (text : List ℕ) : Type 0 where
+  pub sites : List (List Site)
+  pub own_sites : AreOwnSites run.log sites
+  pub races : List SiteRace
+  pub report : IsRaceReport (execution run) sites races
+  pub lists : ListsRaces pair_text (length run.log) (event_count run.log) races status text
+
+-- the status and the text that answer a run: its races, if the memory rules allow it; else the answer of `rules`
+pub data AnswersRunRaces (run : LoggedRun) (status : ℕ) (text : List ℕ) : Type 0 where
+  listed : IsWellShaped run → IsValid (execution run) → ReportsOwnRaces run status text → AnswersRunRaces run status text
+  told : status ≢ 0 → AnswersRun run status text → AnswersRunRaces run status text
+
+-- the status and the text that answer a document: those of its run over 16 pages of zeros
+pub data AnswersEventRaces (bytes : List ℕ) (status : ℕ) (text : List ℕ) : Type 0 where
+  read : (log : List ThreadLog) (witness : Witness) → IsDocumentOf bytes log witness
+      → AnswersRunRaces (run_over 16 log witness) status text → AnswersEventRaces bytes status text
+  refused : (fault : DocFault) → IsNoDocument bytes fault
+      → status ≡ 2 → text ≡ ended (document_line_text fault) → AnswersEventRaces bytes status text

@@ -1,0 +1,280 @@
+//! The command `races`: the data races of an allowed run, by the instructions or by the events.
+ghost use Rattle.std.specs.Prelude.{◌≡◌, ◌≤◌, IfOk, Some, map, string_bytes};
+ghost use Rattle.wm_event.specs.LoggedRun.{execution};
+ghost use Rattle.wm_event.specs.Rules.{IsValid, KeepsOrder};
+ghost use Rattle.wm_event.specs.Shape.{event_count};
+ghost use Rattle.wm_litmus.specs.Races.{AnswersEventRaces, AnswersRaces, AnswersRunRaces, AreOwnSites, ListsRaces, RacesOver, ReportsOwnRaces, ReportsRaces, line_text, more_text, own_site, shown_text, site_text};
+ghost use Rattle.wm_litmus.specs.Prints.{Gives, ended};
+ghost use Rattle.wm_litmus.specs.Rules.{run_over};
+ghost use Rattle.wm_races.specs.Report.{HasSites, IsRaceReport};
+
+use crate::INITIAL_PAGES;
+use crate::answer::Answer;
+use std::alloc::{AllocError, Global};
+use std::fmt;
+use std::thread::Threads;
+use wm_check::{Certificate, Unread, Verdict, check_log, count_events, read_module};
+use wm_event::{Candidate, Initial, Judgement, Log, ThreadLog, Witness};
+use wm_explain::event_sites;
+use wm_hb::{HappensBefore, Ordered};
+use wm_list::List;
+use wm_logfile::read_document;
+use wm_races::{Site, SiteRace, races};
+use wm_rules::judge;
+use wm_valid::ValidModule;
+
+/// How many lines are printed at most.
+const MAX_LINES: usize = 1000;
+
+/// The races of a candidate whose order agrees with happens-before.
+fn report_of<R: AllocGlobal + Threads + Sync>(
+    rt: &R,
+    candidate: &Candidate,
+    sites: &[List<Site>],
+) -> Result<List<SiteRace>, AllocError>
+    requires order { KeepsOrder (execution candidate.now) }
+    requires sites { HasSites candidate.now.log sites.now }
+    ensures { IfOk result (IsRaceReport (execution candidate.now) sites.now) }
+{
+    let Ok(ordered) = Ordered::of(candidate) else {
+        unreachable!()
+    };
+    let before = HappensBefore::of(rt, rt.alloc(), &ordered)?;
+    races(rt, rt.alloc(), &before, sites)
+}
+
+/// How a race is printed.
+#[derive(Clone, Copy)]
+enum RaceLine {
+    /// The first race between two instructions, how many there are, and both instructions.
+    Sites,
+    /// A race alone, by its events.
+    Events,
+}
+
+/// An instruction, as it prints after what happens there.
+#[derive(Clone, Copy)]
+struct SitePhrase(Site);
+
+impl fmt::Display for SitePhrase {
+    ghost output = { λ phrase. Some (site_text phrase.0) };
+
+    fn fmt<W: fmt::Write>(&self, f: &mut fmt::Formatter<W>) -> fmt::Result {
+        let Site {
+            function,
+            instruction,
+            offset,
+        } = self.0;
+        write!(f, " function={function} instruction={instruction} offset=0x{offset:x}")
+    }
+}
+
+/// The line of a race, with its newline.
+fn race_line(alloc: Global, line: RaceLine, race: &SiteRace) -> Result<String, AllocError>
+    ensures { IfOk result (λ text. string_bytes text ≡ ended (line_text line race.now)) }
+{
+    let SiteRace {
+        site,
+        other,
+        event,
+        write,
+        count,
+    } = *race;
+    match line {
+        RaceLine::Events => format!(in alloc; "race {event} with {write}\n"),
+        RaceLine::Sites => {
+            let (site, other) = (SitePhrase(site), SitePhrase(other));
+            format!(in alloc; "race {event} with {write} times={count}{site}{other}\n")
+        }
+    }
+}
+
+/// A line for each race.
+fn shown_lines(alloc: Global, line: RaceLine, races: &[SiteRace]) -> Result<String, AllocError>
+    ensures { IfOk result (λ text. string_bytes text ≡ shown_text (line_text line) races.now) }
+{
+    let mut text = String::new(alloc);
+    for race in races {
+        let row = race_line(alloc, line, race)?;
+        text.push_str(row.as_str())?;
+    }
+    Ok(text)
+}
+
+/// How many races are left out, if any are.
+fn more_line(alloc: Global, count: usize) -> Result<String, AllocError>
+    ensures { IfOk result (λ text. string_bytes text ≡ more_text count) }
+{
+    if count == 0 {
+        return Ok(String::new(alloc));
+    }
+    format!(in alloc; "and {count} more\n")
+}
+
+/// The answer to a run of so many threads and events that has these races.
+fn listed(
+    alloc: Global,
+    line: RaceLine,
+    threads: usize,
+    events: usize,
+    races: &[SiteRace],
+) -> Result<Answer, AllocError>
+    ensures { IfOk result (Gives (ListsRaces (line_text line) threads events races.now)) }
+{
+    if races.is_empty() {
+        let text = format!(in alloc; "no races threads={threads} events={events}\n")?;
+        return Ok(Answer { text, status: 0 });
+    }
+    let shown = races.len().min(MAX_LINES);
+    let mut text = shown_lines(alloc, line, &races[..shown])?;
+    let more = more_line(alloc, races.len() - shown)?;
+    text.push_str(more.as_str())?;
+    Ok(Answer { text, status: 1 })
+}
+
+/// The answer to an allowed run.
+fn list_allowed<R: AllocGlobal + Threads + Sync>(
+    rt: &R,
+    module: &ValidModule,
+    module_bytes: &[u8],
+    certificate: Certificate,
+    candidate: &Candidate,
+) -> Result<Answer, AllocError>
+    requires { KeepsOrder (execution candidate.now) }
+    ensures { IfOk result (Gives (ReportsRaces candidate.now certificate)) }
+{
+    let sites = event_sites(rt.alloc(), module, module_bytes, candidate.log())?;
+    let races = report_of(rt, candidate, sites.as_slice())?;
+    let Certificate { threads, events } = certificate;
+    listed(
+        rt.alloc(),
+        RaceLine::Sites,
+        threads,
+        events,
+        races.as_slice(),
+    )
+}
+
+/// The answer to a document over a module.
+fn races_of_log<R: AllocGlobal + Threads + Sync>(
+    rt: &R,
+    module: &ValidModule,
+    module_bytes: &[u8],
+    document_bytes: &[u8],
+) -> Result<Answer, AllocError>
+    ensures { IfOk result (RacesOver «module».now document_bytes.now) }
+{
+    let checked = check_log(rt, module, document_bytes)?;
+    match (&checked.verdict, &checked.candidate) {
+        (Verdict::Allowed(certificate), Some(candidate)) => {
+            list_allowed(rt, module, module_bytes, *certificate, candidate)
+        }
+        (verdict, _) => Answer::of_verdict(rt.alloc(), verdict),
+    }
+}
+
+/// The data races of the run that these bytes record, by the instructions that make their events; if it isn't allowed, the
+/// line of the check.
+///
+/// # Errors
+///
+/// Only if memory was refused.
+pub(crate) fn races_answer<R: AllocGlobal + Threads + Sync>(
+    rt: &R,
+    module_bytes: &[u8],
+    document_bytes: &[u8],
+) -> Result<Answer, AllocError>
+    ensures { IfOk result (Gives (AnswersRaces module_bytes.now document_bytes.now)) }
+{
+    match read_module(rt.alloc(), module_bytes) {
+        Ok(module) => races_of_log(rt, &module, module_bytes, document_bytes),
+        Err(Unread::Refused(refusal)) => Answer::of_verdict(rt.alloc(), &Verdict::Refused(refusal)),
+        Err(Unread::OutOfMemory) => Err(AllocError),
+    }
+}
+
+/// For each event of a thread the event as its site.
+fn own_thread_sites(alloc: Global, thread: &ThreadLog) -> Result<List<Site>, AllocError>
+    ensures { IfOk result (λ sites. sites ≡ map own_site thread.now.events) }
+{
+    let mut sites = Vec::new(alloc);
+    for event in thread.events.as_slice() {
+        sites.push(Site {
+            function: event.thread,
+            instruction: event.number,
+            offset: 0,
+        })?;
+    }
+    Ok(List::from_vec(sites))
+}
+
+/// For each thread its events as their sites.
+fn own_sites(alloc: Global, log: &Log) -> Result<Vec<List<Site>>, AllocError>
+    ensures { IfOk result (λ sites. AreOwnSites log.now sites.items) }
+{
+    let mut sites = Vec::new(alloc);
+    for thread in log.threads() {
+        sites.push(own_thread_sites(alloc, thread)?)?;
+    }
+    Ok(sites)
+}
+
+/// The answer to a valid run over pages of zeros.
+fn list_valid<R: AllocGlobal + Threads + Sync>(
+    rt: &R,
+    candidate: &Candidate,
+) -> Result<Answer, AllocError>
+    requires { IsValid (execution candidate.now) }
+    ensures { IfOk result (Gives (ReportsOwnRaces candidate.now)) }
+{
+    let log = candidate.log();
+    let sites = own_sites(rt.alloc(), log)?;
+    let races = report_of(rt, candidate, sites.as_slice())?;
+    let threads = log.threads();
+    listed(
+        rt.alloc(),
+        RaceLine::Events,
+        threads.len(),
+        count_events(threads),
+        races.as_slice(),
+    )
+}
+
+/// The answer to a log with a witness, over this number of pages of zeros.
+fn races_of_run<R: AllocGlobal + Threads + Sync>(
+    rt: &R,
+    log: Log,
+    witness: Witness,
+    pages: usize,
+) -> Result<Answer, AllocError>
+    requires { pages ≤ 65536 }
+    ensures { IfOk result (Gives (AnswersRunRaces (run_over pages log witness))) }
+{
+    let initial = Initial::zeros(rt.alloc(), pages);
+    let candidate = match Candidate::new(rt.alloc(), log, witness, &initial) {
+        Ok(candidate) => candidate,
+        Err(fault) => return Answer::refused_shape(rt.alloc(), fault),
+    };
+    match judge(rt, &candidate)? {
+        Judgement::Valid => list_valid(rt, &candidate),
+        Judgement::Broken(fault) => Answer::judged(rt.alloc(), &Judgement::Broken(fault)),
+    }
+}
+
+/// The data races of the run of a document, by its events; if the memory rules don't allow it, the line of `rules`. Starts,
+/// ends and steps play no part in it.
+///
+/// # Errors
+///
+/// Only if memory was refused.
+pub(crate) fn event_races_answer<R: AllocGlobal + Threads + Sync>(
+    rt: &R,
+    bytes: &[u8],
+) -> Result<Answer, AllocError>
+    ensures { IfOk result (Gives (AnswersEventRaces bytes.now)) }
+{
+    match read_document(rt.alloc(), bytes) {
+        Ok((log, witness)) => races_of_run(rt, log, witness, INITIAL_PAGES),
+        Err(fault) => Answer::refused_document(rt.alloc(), &fault),
+    }
+}

@@ -1,0 +1,9 @@
+pub mod ListLemmas
+pub mod ReportLemmas
+pub mod ListingLemmas
+pub mod RaceLemmas
+pub mod ScanLemmas
+pub mod CountLemmas
+pub mod RaceListLaws
+pub mod SiteLaws
+pub mod OneReportLaw

@@ -1,0 +1,5 @@
+pub mod Races
+pub mod Report
+pub mod Listing
+pub mod Gathering
+pub mod Progress

@@ -1,0 +1,56 @@
+-- What a part of the scan lists.
+use Rattle.std.specs.Prelude.{◌≡◌, ◌≢◌, ◌⊎◌, false, ℕ, ◌+◌, ◌*◌, ◌<◌, ◌≤◌, List, Option, None, Some, MatchOption, length, slice_get}
+use Rattle.wm_event.specs.declared.event.Event.{Event}
+use Rattle.wm_event.specs.declared.event.EventKey.{EventKey}
+use Rattle.wm_event.specs.Event.{writes}
+use Rattle.wm_event.specs.LoggedRun.{LoggedRun, execution}
+use Rattle.wm_races.specs.Races.{ComesBefore, IsIn, IsRacingPair, first_common}
+use Rattle.wm_races.specs.declared.pair.RacingPair.{RacingPair}
+
+-- the racing pairs of which P holds, each once, in their order
+pub record Lists (run : LoggedRun) (P : RacingPair → Type 0) (pairs : List RacingPair) : Type 0 where
+  pub sound : (n : ℕ) (p : RacingPair) → slice_get pairs n ≡ Some p → IsRacingPair (execution run) p × P p
+  pub complete : (p : RacingPair) → IsRacingPair (execution run) p → P p → IsIn pairs p
+  pub sorted : (m n : ℕ) (p q : RacingPair) → m < n → slice_get pairs m ≡ Some p → slice_get pairs n ≡ Some q
+      → ComesBefore (execution run) p q
+
+abbrev pub event_place : LoggedRun → RacingPair → ℕ
+event_place run p = (execution run).place_of p.event
+
+abbrev pub write_place : LoggedRun → RacingPair → ℕ
+write_place run p = (execution run).place_of p.write
+
+-- the event that is listed at the place, None where none is
+abbrev pub IsKeyAt : List EventKey → ℕ → Option EventKey → Type 0
+IsKeyAt order place result = MatchOption result (slice_get order place ≡ None) (λ key. slice_get order place ≡ Some key)
+
+-- the two places differ, and the event only reads or stands later than the write
+abbrev pub IsNamed : Event → ℕ → ℕ → Type 0
+IsNamed e place other = (other ≢ place) × ((writes e ≡ false) ⊎ (other < place))
+
+-- a racing pair of the events at these two places, whose first common byte this is
+abbrev pub IsPairAt : LoggedRun → ℕ → ℕ → ℕ → RacingPair → Type 0
+IsPairAt run place byte other p = IsRacingPair (execution run) p
+    × (event_place run p ≡ place) × (first_common (execution run) p ≡ byte) × (write_place run p ≡ other)
+
+-- that pair, or None where there is none
+abbrev pub FindsPair : LoggedRun → ℕ → ℕ → ℕ → Option RacingPair → Type 0
+FindsPair run place byte other result =
+    MatchOption result ((p : RacingPair) → IsPairAt run place byte other p → ⊥) (IsPairAt run place byte other)
+
+-- the races of the event at a place
+abbrev pub ListsAt : LoggedRun → ℕ → List RacingPair → Type 0
+ListsAt run place pairs = Lists run (λ p. event_place run p ≡ place) pairs
+
+-- the races of the events before a place
+abbrev pub ListsBelow : LoggedRun → ℕ → List RacingPair → Type 0
+ListsBelow run place pairs = Lists run (λ p. event_place run p < place) pairs
+
+-- the races of the event at a place, which aren't many
+pub record IsListAt (run : LoggedRun) (place : ℕ) (pairs : List RacingPair) : Type 0 where
+  pub lists : ListsAt run place pairs
+  pub few : length pairs ≤ 8 * length run.witness.order
+
+-- list k is that of the event at k behind a place
+abbrev pub AreListsFrom : LoggedRun → ℕ → List (List RacingPair) → Type 0
+AreListsFrom run start lists = (k : ℕ) (pairs : List RacingPair) → slice_get lists k ≡ Some pairs → IsListAt run (start + k) pairs

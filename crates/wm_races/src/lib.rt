@@ -1,0 +1,14 @@
+//! The data races of a candidate, counted by the sites of their events.
+#![tactic(auto)]
+
+mod block;
+mod law;
+mod pair;
+mod report;
+mod scan;
+mod site;
+
+pub use law::one_race_report;
+pub use pair::RacingPair;
+pub use scan::races;
+pub use site::{Site, SiteRace};

@@ -1,0 +1,73 @@
+//! All races of a candidate, block by block.
+ghost use Rattle.std.specs.Prelude.{◌≤◌, ◌<◌, ◌+◌, ◌^◌, IfOk, OnOk, length};
+ghost use Rattle.wm_event.specs.LoggedRun.{execution};
+ghost use Rattle.wm_races.specs.Progress.{IsReportBelow};
+ghost use Rattle.wm_races.specs.Report.{HasSites, IsRaceReport};
+
+use crate::block::pairs_from;
+use crate::report::Report;
+use crate::site::{Site, SiteRace};
+use std::alloc::{AllocError, Global};
+use std::thread::Threads;
+use wm_hb::HappensBefore;
+use wm_list::List;
+
+/// How many events are worked at a time: the pairs of more of them would take too much memory.
+const BLOCK: usize = 512;
+
+/// Adds the races of the events from one place of the order to another.
+fn add_block(
+    rt: &(impl Threads + Sync),
+    alloc: Global,
+    before: &HappensBefore,
+    sites: &[List<Site>],
+    report: &mut Report,
+    start: usize,
+    count: usize,
+) -> Result<(), AllocError>
+    requires sites { HasSites before.now.log sites.now }
+    requires inside { start + count ≤ length before.now.witness.order }
+    requires fits { start + count < 2 ^ 64 }
+    requires report { IsReportBelow before.now sites.now start report.old }
+    ensures { OnOk result (IsReportBelow before.now sites.now (start + count) report.new) }
+{
+    let _log = before.candidate().log();
+    let lists = pairs_from(rt, alloc, before, start, count)?;
+    for pairs in lists.as_slice() {
+        report.add_all(sites, pairs.as_slice())?;
+    }
+    Ok(())
+}
+
+/// The data races of a candidate whose order agrees with happens-before, by the sites of their events. `sites` has for
+/// each thread a list with a site for each of its events.
+///
+/// Two events race if they overlap, at least one writes, at least one is plain or their ranges differ, and neither happens
+/// before the other. There is a line for each two sites between which events race, with the first such pair and their
+/// number. The pairs are in the order of the event's place, then of the first byte that both access, then of the write's
+/// place; the lines are in the order of their first pairs. How the work was shared out plays no part in it.
+///
+/// # Errors
+///
+/// Only if an allocation fails.
+pub fn races(
+    rt: &(impl Threads + Sync),
+    alloc: Global,
+    before: &HappensBefore,
+    sites: &[List<Site>],
+) -> Result<List<SiteRace>, AllocError>
+    requires { HasSites before.now.log sites.now }
+    ensures { IfOk result (IsRaceReport (execution before.now) sites.now) }
+{
+    let candidate = before.candidate();
+    let _log = candidate.log();
+    let events = candidate.witness().order.len();
+    let mut report = Report::new(alloc);
+    let mut start = 0usize;
+    while start < events {
+        let count = BLOCK.min(events - start);
+        add_block(rt, alloc, before, sites, &mut report, start, count)?;
+        start += count;
+    }
+    Ok(report.into_lines())
+}

@@ -1,0 +1,79 @@
+//! What lies under the lock of a memory that threads share.
+ghost use Rattle.std.specs.Prelude.{◌≡◌, IfOk};
+ghost use Rattle.wm_event.specs.Op.{kind_finds};
+ghost use Rattle.wm_event.specs.Reply.{ReadAnswers};
+ghost use Rattle.wm_memory.specs.declared.history_step.HistoryStep.TheVariants.{Drain, DrainAt};
+ghost use Rattle.wm_recorder.specs.Locked.{IsAccessOver, IsDrainOver, IsOver};
+ghost use Rattle.wm_recorder.specs.Recorder.{initial_of, threads_of};
+
+use crate::{AccessFault, Over, Recorder};
+use std::alloc::AllocError;
+use std::marker::PhantomData;
+use wm_event::{Op, Reply};
+
+/// A recorder over the Init that `N` names, of as many threads. Each of its calls is one step.
+#[derive(Drop)]
+pub struct Held<N: Over> {
+    recorder: Recorder,
+    of: PhantomData<N>,
+    pub ghost initial: { initial_of recorder ≡ N.initial },
+    pub ghost threads: { threads_of recorder ≡ N.threads },
+}
+
+impl<N: Over> Held<N> {
+    /// What lies under a new lock.
+    pub fn new(recorder: Recorder) -> Self
+        requires { IsOver N.initial N.threads recorder }
+        ensures { result.recorder ≡ recorder }
+    {
+        Held {
+            recorder,
+            of: PhantomData,
+        }
+    }
+
+    /// The recorder.
+    pub fn into_recorder(self) -> Recorder
+        ensures same { result ≡ self.recorder }
+        ensures over { IsOver N.initial N.threads result }
+    {
+        let Self { recorder, of: _ } = self;
+        recorder
+    }
+
+    /// One access, as [`Recorder::step_access`] makes it.
+    pub fn access(&mut self, thread: u32, op: Op) -> Result<Reply, AccessFault>
+        ensures answers { IfOk result (λ reply. ReadAnswers (kind_finds op.kind) op.width reply.read) }
+        ensures made { IsAccessOver N.initial N.threads thread op self.old.recorder result self.new.recorder }
+    {
+        let Held { recorder, of: _ } = self;
+        recorder.recorded_log_is_valid();
+        let answer = recorder.step_access(thread, op);
+        recorder.recorded_log_is_valid();
+        answer
+    }
+
+    /// One drain of a thread's oldest store, as [`Recorder::step_drain`] makes it.
+    pub fn drain(&mut self, thread: u32) -> Result<bool, AllocError>
+        ensures { IfOk result (λ drained.
+            IsDrainOver N.initial N.threads (Drain thread) thread 0 self.old.recorder drained self.new.recorder) }
+    {
+        let Held { recorder, of: _ } = self;
+        recorder.recorded_log_is_valid();
+        let answer = recorder.step_drain(thread);
+        recorder.recorded_log_is_valid();
+        answer
+    }
+
+    /// One drain of the store with so many older ones, as [`Recorder::step_drain_at`] makes it.
+    pub fn drain_at(&mut self, thread: u32, index: u32) -> Result<bool, AllocError>
+        ensures { IfOk result (λ drained.
+            IsDrainOver N.initial N.threads (DrainAt thread index) thread index self.old.recorder drained self.new.recorder) }
+    {
+        let Held { recorder, of: _ } = self;
+        recorder.recorded_log_is_valid();
+        let answer = recorder.step_drain_at(thread, index);
+        recorder.recorded_log_is_valid();
+        answer
+    }
+}

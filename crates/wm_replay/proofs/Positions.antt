@@ -1,0 +1,53 @@
+-- The positions of the events that a thread makes.
+use Rattle.std.proofs.Common.{◌≡◌, ℕ, zero, suc, ◌+◌, ◌<◌, inl, inr, List, [], ◌∷◌, ◌++◌, length, Some, refl, sym, ap, subst, ◌∙◌, length-append, arith}
+use Rattle.std.specs.Prelude.{Ok, slice_get}
+use Rattle.std.proofs.lemmas.Option.{none-some, same_Some}
+use Rattle.wm_ast.specs.declared.module.Module.{Module}
+use Rattle.wm_event.specs.declared.log.ThreadLog.{ThreadLog}
+use Rattle.wm_machine.specs.declared.thread.CodePosition.{CodePosition}
+use Rattle.wm_machine.specs.Run.{steps}
+use Rattle.wm_machine.specs.State.{State, config_of, position_of}
+use Rattle.wm_machine.specs.Term.{Config}
+use Rattle.wm_replay.specs.declared.by_log.StepByLog.TheVariants as by_log
+use Rattle.wm_replay.specs.Following.{Steps}
+use Rattle.wm_replay.specs.Positions.{ArePositions, IsMadeAt, NotesPosition}
+use Rattle.wm_replay.specs.Replay.{reads_of, start_of}
+use Rattle.wm_replay.proofs.Following.{so_far}
+
+pub no_positions : (m : Module) (k : ℕ) (t : ThreadLog) → ArePositions m k t 0 []
+no_positions m k t = record { count = refl; each = λ i p is. absurd (none-some p is) }
+
+-- one more of which P holds
+all_and_one : {X : Type 0} (P : ℕ → X → Type 0) (xs : List X) (x : X) → ((i : ℕ) (y : X) → slice_get xs i ≡ Some y → P i y) → P (length xs) x
+    → (i : ℕ) (y : X) → slice_get (xs ++ x ∷ []) i ≡ Some y → P i y
+all_and_one P [] x each last zero y is = subst (P 0) (same_Some x y is) last
+all_and_one P [] x each last (suc i) y is = absurd (none-some y is)
+all_and_one P (z ∷ zs) x each last zero y is = each 0 y is
+all_and_one P (z ∷ zs) x each last (suc i) y is = all_and_one (λ j. P (suc j)) zs x (λ j. each (suc j)) last i y is
+
+module _ (m : Module) (k : ℕ) (t : ThreadLog) (start : Config) (is_start : start_of m t ≡ Ok start) where
+  -- the positions after one step more
+  pub positions_on : (s : State) (new : Config) (j n now : ℕ) (old ps : List CodePosition)
+      → steps m k start (reads_of t.events) j ≡ Some (so_far (config_of s) t.events n)
+      → Steps m (config_of s) new t.events n (by_log.Stepped now)
+      → NotesPosition s n old ps (by_log.Stepped now)
+      → ArePositions m k t n old → ArePositions m k t now ps
+  positions_on s new j n now old ps so step (inl kept) are =
+      subst (λ i. ArePositions m k t i ps) (sym kept.0) (subst (ArePositions m k t n) (sym kept.1) are)
+  positions_on s new j n now old ps so (inl local) (inr noted) are =
+      absurd (let a = local.0 in let b = noted.0 in omega (arith, a, b))
+  positions_on s new j n now old ps so (inr made) (inr noted) are =
+      subst (λ i. ArePositions m k t i ps) (sym noted.0) (subst (ArePositions m k t (n + 1)) (sym noted.1) record {
+        count = length-append old (position_of s ∷ []) ∙ ap (λ i. i + 1) are.count;
+        each = all_and_one (IsMadeAt m k t) old (position_of s) are.each
+            (subst (λ i. IsMadeAt m k t i (position_of s)) (sym are.count) record {
+              start = start;
+              is_start = is_start;
+              state = s;
+              count = j;
+              ran_so = so;
+              next = new;
+              makes = made.1;
+              stands = refl;
+            });
+      })

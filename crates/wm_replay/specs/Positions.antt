@@ -1,0 +1,42 @@
+-- Where in the code a thread makes the events of its log.
+use Rattle.std.specs.Prelude.{◌≡◌, ◌⊎◌, ◌+◌, ℕ, List, [], ◌∷◌, ◌++◌, length, take, drop, Some, Result, Ok, Err, slice_get, ⊤}
+use Rattle.wm_ast.specs.declared.module.Module.{Module}
+use Rattle.wm_event.specs.declared.log.ThreadLog.{ThreadLog}
+use Rattle.wm_machine.specs.declared.fault.StartFault.{StartFault}
+use Rattle.wm_machine.specs.declared.thread.CodePosition.{CodePosition}
+use Rattle.wm_machine.specs.Run.{steps}
+use Rattle.wm_machine.specs.State.{State, config_of, position_of}
+use Rattle.wm_machine.specs.Term.{Config}
+use Rattle.wm_replay.specs.declared.by_log.Followed.{Followed}
+use Rattle.wm_replay.specs.declared.by_log.StepByLog.{StepByLog}
+use Rattle.wm_replay.specs.declared.by_log.StepByLog.TheVariants as by_log
+use Rattle.wm_replay.specs.Following.{Accesses}
+use Rattle.wm_replay.specs.Replay.{reads_of, start_of}
+
+-- thread k makes event n of its log by a step from this position: it is there after some steps, which made the events below n
+-- on the values that they read
+pub record IsMadeAt (m : Module) (k : ℕ) (t : ThreadLog) (n : ℕ) (position : CodePosition) : Type 0 where
+  pub start : Config
+  pub is_start : start_of m t ≡ Ok start
+  pub state : State
+  pub count : ℕ
+  pub ran_so : steps m k start (reads_of t.events) count ≡ Some record { events = take n t.events; config = config_of state; reads = reads_of (drop n t.events) }
+  pub next : Config
+  pub makes : Accesses m (config_of state) next t.events n
+  pub stands : position_of state ≡ position
+
+-- these are the positions of thread k's first n events
+pub record ArePositions (m : Module) (k : ℕ) (t : ThreadLog) (n : ℕ) (positions : List CodePosition) : Type 0 where
+  pub count : length positions ≡ n
+  pub each : (i : ℕ) (p : CodePosition) → slice_get positions i ≡ Some p → IsMadeAt m k t i p
+
+-- those of the events that a thread has made
+abbrev pub HasPositions : Module → ℕ → ThreadLog → Result Followed StartFault → Type 0
+HasPositions m k t (Ok f) = ArePositions m k t f.events f.positions
+HasPositions m k t (Err fault) = ⊤
+
+-- a step of a thread in this state, which has made n events: the position is noted if the step makes the next one
+abbrev pub NotesPosition : State → ℕ → List CodePosition → List CodePosition → StepByLog → Type 0
+NotesPosition s n old new (by_log.Stepped now) = ((now ≡ n) × (new ≡ old)) ⊎ ((now ≡ n + 1) × (new ≡ old ++ position_of s ∷ []))
+NotesPosition s n old new by_log.OtherAccess = new ≡ old
+NotesPosition s n old new by_log.Ended = new ≡ old
