@@ -19,6 +19,12 @@ fn add_thread(text: &mut String, number: usize, thread: &ThreadLog) -> Result<()
     )
 }
 
+/// Adds the events in their order.
+fn add_events(alloc: Global, text: &mut String, candidate: &Candidate) -> Result<(), AllocError> {
+    text.push_str("The events in their order, with who wrote what was read:\n")?;
+    add_rows(alloc, text, candidate)
+}
+
 /// What an allowed run rests on: its threads, and its events in their order with who wrote what was read.
 ///
 /// # Errors
@@ -36,7 +42,21 @@ pub(crate) fn allowed_reason(alloc: Global, candidate: &Candidate) -> Result<Str
     for (number, thread) in candidate.log().threads().iter().enumerate() {
         add_thread(&mut text, number, thread)?;
     }
-    text.push_str("The events in their order, with who wrote what was read:\n")?;
-    add_rows(alloc, &mut text, candidate)?;
+    add_events(alloc, &mut text, candidate)?;
+    Ok(text)
+}
+
+/// What is said of events that the memory rules allow where no module is given: that, and the events in their order with
+/// who wrote what was read.
+///
+/// # Errors
+///
+/// Only if an allocation fails.
+pub(crate) fn permitted_reason(alloc: Global, candidate: &Candidate) -> Result<String, AllocError> {
+    let mut text = String::new(alloc);
+    text.push_str(
+        "The memory rules allow the events with these writers in this order. No module was given, so nothing is said of the threads' runs.\n",
+    )?;
+    add_events(alloc, &mut text, candidate)?;
     Ok(text)
 }

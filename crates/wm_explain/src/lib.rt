@@ -29,5 +29,5 @@ mod type_stack;
 mod unsupported;
 mod valid_refusal;
 
-pub use reasons::{explain_refusal, explain_run, explain_shape};
+pub use reasons::{explain_events, explain_refusal, explain_run, explain_shape};
 pub use sites::event_sites;

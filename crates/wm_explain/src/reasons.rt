@@ -1,6 +1,6 @@
 //! Why a verdict says what it says.
 
-use crate::allowed::allowed_reason;
+use crate::allowed::{allowed_reason, permitted_reason};
 use crate::decode_refusal::decode_reason;
 use crate::document_refusal::document_reason;
 use crate::replay::replay_reason;
@@ -10,7 +10,7 @@ use crate::valid_refusal::valid_reason;
 use std::alloc::{AllocError, Global};
 use std::thread::Threads;
 use wm_check::{Breach, Refusal, Verdict};
-use wm_event::{Candidate, Misshapen};
+use wm_event::{Candidate, Judgement, Misshapen};
 use wm_valid::ValidModule;
 
 /// Why the bytes of a module or of a document are refused: where the fault is, what was found and what was expected.
@@ -63,5 +63,22 @@ pub fn explain_run<R: AllocGlobal + Threads + Sync>(
         Verdict::Allowed(_) => allowed_reason(rt.alloc(), candidate),
         Verdict::Broken(Breach::Rule(fault)) => rule_reason(rt.alloc(), candidate, fault),
         Verdict::Broken(Breach::Replay(answer)) => replay_reason(rt, module, candidate, *answer),
+    }
+}
+
+/// Why the memory rules allow the events of a candidate or don't, in sentences and a table. Each line ends with a newline.
+/// Nothing is said of a module: the events have no places in its code.
+///
+/// # Errors
+///
+/// Only if an allocation fails.
+pub fn explain_events(
+    alloc: Global,
+    judgement: &Judgement,
+    candidate: &Candidate,
+) -> Result<String, AllocError> {
+    match judgement {
+        Judgement::Valid => permitted_reason(alloc, candidate),
+        Judgement::Broken(fault) => rule_reason(alloc, candidate, fault),
     }
 }
