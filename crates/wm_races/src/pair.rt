@@ -6,7 +6,7 @@ ghost use Rattle.wm_event.specs.Writes.{writes_byte};
 ghost use Rattle.wm_event.specs.declared.event.EventKey.{EventKey};
 ghost use Rattle.wm_hb.specs.Scan.{IsEventOf};
 ghost use Rattle.wm_races.specs.Races.{Accesses, IsWeak};
-ghost use Rattle.wm_races.specs.Listing.{FindsPair, IsKeyAt, IsListAt, IsNamed};
+ghost use Rattle.wm_races.specs.Listing.{FindsPair, IsKeyAt, IsListAt, IsNamed, TellsUnordered};
 
 use std::alloc::{AllocError, Global};
 use wm_event::{Candidate, Event, EventId, EventKey};

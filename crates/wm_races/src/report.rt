@@ -1,6 +1,6 @@
 //! Racing pairs, gathered by the sites of their events.
 ghost use Rattle.std.specs.Prelude.{◌≡◌, ◌+◌, ◌<◌, ◌^◌, ◌-◌, [], List, OnOk, IsTrue, length, sum_by};
-ghost use Rattle.wm_races.specs.Gathering.{AddsPair, CountsIn, HasSitesOf, IsGathered, count_of};
+ghost use Rattle.wm_races.specs.Gathering.{AddsPair, CountsIn, HasSitesOf, IsGathered, ReportsMore, count_of};
 ghost use Rattle.wm_races.specs.Report.{HasPairSites};
 ghost use Rattle.wm_races.specs.declared.pair.RacingPair.{RacingPair};
 
