@@ -11,6 +11,7 @@ import tempfile
 import textwrap
 
 from wmlabtools import generated
+from wmlabtools.wasm import number, section, sized, vector
 
 
 def assembled(text):
@@ -120,6 +121,24 @@ def waits_for_the_other(access, tries):
 """
 
 
+# Two stores of a byte by a function that isn't exported, and a load of both bytes.
+BYTE_STORES = """
+(module
+  (memory 1 1 shared)
+  (func (param i32 i32)
+    (i32.store8 (local.get 0) (local.get 1)))
+  (func (export "low") (call 0 (i32.const 0) (i32.const 3)))
+  (func (export "high") (call 0 (i32.const 2) (i32.const 1)))
+  (func (export "word") (result i32) (i32.load (i32.const 0))))
+"""
+
+
+def names(functions, before=b"", after=b""):
+    """A section `name` with these names of functions by their indices, and with other bytes before and after them."""
+    named = vector([number(index) + sized(name) for index, name in functions.items()])
+    return behind(section(0, sized(b"name") + before + section(1, named) + after).hex())
+
+
 # A custom section, and the code section's size in five bytes; a data count in front of the code.
 NAME_SECTION = behind("0005046e616d65")
 PADDED = changed("0a1f02", "0a9f8080800002")
@@ -136,6 +155,17 @@ FILES = {
     "calls-itself": (body('(export "a") call 0'),),
     "branches-at-once": (body('(export "a") br 0'),),
     "name-section-behind": (STORE_BUFFERING, NAME_SECTION),
+    # With the subsections 0 and 2, the names of the module and of locals.
+    "named-function": (
+        BYTE_STORES,
+        names({0: b"put", 1: b"put the low byte"}, section(0, sized(b"stores")), section(2, b"\x00")),
+    ),
+    # A name of five bytes, of which four are there.
+    "name-cut-off": (BYTE_STORES, behind("000e046e616d65" "0107" "01000570757421")),
+    "name-not-utf-8": (BYTE_STORES, names({0: b"put", 1: b"\xff"})),
+    "name-of-no-function": (BYTE_STORES, names({0: b"put", 4: b"more"})),
+    "names-against-their-order": (BYTE_STORES, names({1: b"low", 0: b"put"})),
+    "long-name": (BYTE_STORES, names({0: "é".encode() * 101})),
     "padded-size": (STORE_BUFFERING, PADDED),
     "data-segment": (DATA, data_count(1)),
     "header": ("(module)",),

@@ -2,9 +2,9 @@
 
 use crate::json_text::JsonText;
 use crate::phrase::{Count, EndPhrase};
-use crate::row::add_rows;
-use std::alloc::{AllocError, Global};
-use wm_event::{Candidate, ThreadLog};
+use crate::row::EventTables;
+use std::alloc::AllocError;
+use wm_event::{EventId, ThreadLog};
 
 /// Adds how a thread starts and ends.
 fn add_thread(text: &mut String, number: usize, thread: &ThreadLog) -> Result<(), AllocError> {
@@ -20,9 +20,13 @@ fn add_thread(text: &mut String, number: usize, thread: &ThreadLog) -> Result<()
 }
 
 /// Adds the events in their order.
-fn add_events(alloc: Global, text: &mut String, candidate: &Candidate) -> Result<(), AllocError> {
+fn add_events(text: &mut String, tables: &mut EventTables) -> Result<(), AllocError> {
     text.push_str("The events in their order, with who wrote what was read:\n")?;
-    add_rows(alloc, text, candidate)
+    let mut ids = Vec::new(tables.alloc);
+    for key in tables.candidate.witness().order.as_slice() {
+        ids.push(EventId::At(*key))?;
+    }
+    tables.add(text, ids.as_slice())
 }
 
 /// What an allowed run rests on: its threads, and its events in their order with who wrote what was read.
@@ -30,19 +34,20 @@ fn add_events(alloc: Global, text: &mut String, candidate: &Candidate) -> Result
 /// # Errors
 ///
 /// Only if an allocation fails.
-pub(crate) fn allowed_reason(alloc: Global, candidate: &Candidate) -> Result<String, AllocError> {
-    let mut text = String::new(alloc);
+pub(crate) fn allowed_reason(mut tables: EventTables) -> Result<String, AllocError> {
+    let threads = tables.candidate.log().threads();
+    let mut text = String::new(tables.alloc);
     text.push_str(
         "Each thread's events and end are those of its run on the values that it read. The memory rules allow the events with these writers in this order.\n",
     )?;
     text.push_str("The threads:\n")?;
-    if candidate.log().threads().is_empty() {
+    if threads.is_empty() {
         text.push_str("  none\n")?;
     }
-    for (number, thread) in candidate.log().threads().iter().enumerate() {
+    for (number, thread) in threads.iter().enumerate() {
         add_thread(&mut text, number, thread)?;
     }
-    add_events(alloc, &mut text, candidate)?;
+    add_events(&mut text, &mut tables)?;
     Ok(text)
 }
 
@@ -52,11 +57,11 @@ pub(crate) fn allowed_reason(alloc: Global, candidate: &Candidate) -> Result<Str
 /// # Errors
 ///
 /// Only if an allocation fails.
-pub(crate) fn permitted_reason(alloc: Global, candidate: &Candidate) -> Result<String, AllocError> {
-    let mut text = String::new(alloc);
+pub(crate) fn permitted_reason(mut tables: EventTables) -> Result<String, AllocError> {
+    let mut text = String::new(tables.alloc);
     text.push_str(
         "The memory rules allow the events with these writers in this order. No module was given, so nothing is said of the threads' runs.\n",
     )?;
-    add_events(alloc, &mut text, candidate)?;
+    add_events(&mut text, &mut tables)?;
     Ok(text)
 }

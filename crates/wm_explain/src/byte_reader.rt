@@ -1,5 +1,20 @@
 //! Reading the bytes of a module without judging them.
 
+use std::str;
+
+/// How many bytes come before the first section of a module: the magic number and the version.
+const HEADER_BYTES: usize = 8;
+
+/// A section of a module, or a subsection of one.
+#[derive(Clone, Copy)]
+pub(crate) struct Section<'a> {
+    /// Its number.
+    pub id: u8,
+    /// Where its contents begin.
+    pub start: usize,
+    pub contents: &'a [u8],
+}
+
 /// A place in the bytes of a module, from which they are read on.
 #[derive(Clone, Copy)]
 pub(crate) struct ByteReader<'a> {
@@ -8,6 +23,24 @@ pub(crate) struct ByteReader<'a> {
 }
 
 impl<'a> ByteReader<'a> {
+    /// Before the first of these bytes.
+    pub(crate) fn new(bytes: &'a [u8]) -> Self {
+        ByteReader { bytes, at: 0 }
+    }
+
+    /// Before the first section of a module.
+    pub(crate) fn at_sections(module_bytes: &'a [u8]) -> Self {
+        ByteReader {
+            bytes: module_bytes,
+            at: HEADER_BYTES,
+        }
+    }
+
+    /// Whether there is no further byte.
+    pub(crate) fn is_at_end(&self) -> bool {
+        self.at >= self.bytes.len()
+    }
+
     /// The next byte.
     pub(crate) fn byte(&mut self) -> Option<u8> {
         let byte = self.bytes.get(self.at).copied()?;
@@ -58,5 +91,37 @@ impl<'a> ByteReader<'a> {
         let size = self.number()?;
         self.skip(size);
         Some(())
+    }
+
+    /// This many bytes, if there are so many.
+    fn take(&mut self, count: usize) -> Option<&'a [u8]> {
+        let end = self.at.checked_add(count)?;
+        let taken = self.bytes.get(self.at..end)?;
+        self.at = end;
+        Some(taken)
+    }
+
+    /// A name (Core 1.0, section 5.2.4); None where it is cut off or not UTF-8.
+    pub(crate) fn name(&mut self) -> Option<&'a str> {
+        let size = self.number()?;
+        str::from_utf8(self.take(size)?).ok()
+    }
+
+    /// A section or a subsection (Core 1.0, section 5.5.2); None where it is cut off.
+    pub(crate) fn section(&mut self) -> Option<Section<'a>> {
+        let id = self.byte()?;
+        let size = self.number()?;
+        let start = self.at;
+        let contents = self.take(size)?;
+        Some(Section {
+            id,
+            start,
+            contents,
+        })
+    }
+
+    /// The bytes that are left.
+    pub(crate) fn rest(&self) -> &'a [u8] {
+        self.bytes.get(self.at..).unwrap_or(&[])
     }
 }

@@ -2,7 +2,8 @@
 
 use crate::byte_reader::ByteReader;
 use crate::instruction::{Opcode, immediates_of, skip_immediates};
-use crate::position::{BlockPosition, OpcodeNumbers, opcode_numbers};
+use crate::module_code::ModuleCode;
+use crate::opcode_numbers::{BlockPosition, OpcodeNumbers, opcode_numbers};
 use std::alloc::{AllocError, Global};
 use wm_ast::Module;
 use wm_decode::MAX_MODULE_BYTES;
@@ -12,25 +13,30 @@ use wm_races::Site;
 /// The number of the code section (Core 1.0, section 5.5.2).
 const CODE_SECTION: u8 = 10;
 
+/// Where the contents of the code section begin.
+fn code_section(bytes: &[u8]) -> Option<usize> {
+    let mut reader = ByteReader::at_sections(bytes);
+    for _ in 0..bytes.len() {
+        let section = reader.section()?;
+        if section.id == CODE_SECTION {
+            return Some(section.start);
+        }
+    }
+    None
+}
+
 /// Where the body of each function begins among the bytes of a module, after its size; as many as can be read.
 fn body_offsets(alloc: Global, bytes: &[u8]) -> Result<Vec<usize>, AllocError> {
     let mut bodies = Vec::new(alloc);
-    let mut reader = ByteReader { bytes, at: 8 };
-    for _ in 0..MAX_MODULE_BYTES {
-        let (Some(section), Some(size)) = (reader.byte(), reader.number()) else {
-            break;
-        };
-        if section != CODE_SECTION {
-            reader.skip(size);
-            continue;
-        }
-        let count = reader.number().unwrap_or(0);
-        for _ in 0..count {
-            let Some(size) = reader.number() else { break };
-            bodies.push(reader.at)?;
-            reader.skip(size);
-        }
-        break;
+    let Some(start) = code_section(bytes) else {
+        return Ok(bodies);
+    };
+    let mut reader = ByteReader { bytes, at: start };
+    let count = reader.number().unwrap_or(0);
+    for _ in 0..count {
+        let Some(size) = reader.number() else { break };
+        bodies.push(reader.at)?;
+        reader.skip(size);
     }
     Ok(bodies)
 }
@@ -96,17 +102,20 @@ pub(crate) struct CodeMap<'m> {
     alloc: Global,
     module: &'m Module,
     bytes: &'m [u8],
+    /// Where the body of each function begins among the bytes.
     bodies: Vec<usize>,
     functions: Vec<Option<FunctionMap>>,
 }
 
 impl<'m> CodeMap<'m> {
-    /// The map of a module and the bytes that spell it.
-    pub(crate) fn new(
-        alloc: Global,
-        module: &'m Module,
-        bytes: &'m [u8],
-    ) -> Result<CodeMap<'m>, AllocError> {
+    /// The map of a module.
+    ///
+    /// # Errors
+    ///
+    /// Only if an allocation fails.
+    pub(crate) fn new(alloc: Global, code: ModuleCode<'m>) -> Result<Self, AllocError> {
+        let ModuleCode { module, bytes } = code;
+        let module = module.module();
         let bodies = body_offsets(alloc, bytes)?;
         let mut functions = Vec::new(alloc);
         for _ in module.funcs.as_slice() {
@@ -141,12 +150,12 @@ impl<'m> CodeMap<'m> {
         }
     }
 
-    /// The instruction at a position, with where it begins among the bytes of the module.
+    /// The instruction at a position, with where it begins among the bytes of the module; None if the module doesn't have it.
     ///
     /// # Errors
     ///
     /// Only if an allocation fails.
-    pub(crate) fn site(&mut self, position: CodePosition) -> Result<Site, AllocError> {
+    pub(crate) fn site(&mut self, position: CodePosition) -> Result<Option<Site>, AllocError> {
         let func = position.func;
         if let Some(None) = self.functions.get(func) {
             let read = self.read(func)?;
@@ -154,11 +163,13 @@ impl<'m> CodeMap<'m> {
                 *place = read;
             }
         }
-        let (instruction, offset) = self.opcode(position).unwrap_or((0, 0));
-        Ok(Site {
+        let Some((instruction, offset)) = self.opcode(position) else {
+            return Ok(None);
+        };
+        Ok(Some(Site {
             function: u32::try_from(func).unwrap_or(u32::MAX),
             instruction: u32::try_from(instruction).unwrap_or(u32::MAX),
             offset: u32::try_from(offset).unwrap_or(u32::MAX),
-        })
+        }))
     }
 }

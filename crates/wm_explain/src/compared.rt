@@ -94,7 +94,7 @@ pub(crate) fn compare(
 impl fmt::Display for Next {
     fn fmt<W: fmt::Write>(&self, f: &mut fmt::Formatter<W>) -> fmt::Result {
         match self {
-            Next::Event(event) => write!(f, "{} ({})", EventPhrase(event), event.key()),
+            Next::Event(event) => write!(f, "{} ({})", EventPhrase::decimal(event), event.key()),
             Next::NoEvent => f.write_str("no further event"),
             Next::Access(op) => write!(f, "{}", OpPhrase(*op)),
             Next::Ended(end) => write!(f, "no further access: it {}", EndPhrase(*end)),

@@ -29,3 +29,24 @@ impl fmt::Display for JsonText<'_> {
         f.write_str("\"")
     }
 }
+
+/// The most characters that are shown of a name that stands in many rows.
+const MAX_CHARACTERS: usize = 100;
+
+/// A string as [`JsonText`] has it; after [`MAX_CHARACTERS`] of its characters `..` stands for the rest.
+#[derive(Clone, Copy)]
+pub(crate) struct ShortText<'a>(pub &'a str);
+
+impl fmt::Display for ShortText<'_> {
+    fn fmt<W: fmt::Write>(&self, f: &mut fmt::Formatter<W>) -> fmt::Result {
+        f.write_str("\"")?;
+        for (number, character) in self.0.chars().enumerate() {
+            if number == MAX_CHARACTERS {
+                f.write_str("..")?;
+                break;
+            }
+            write_char(f, character)?;
+        }
+        f.write_str("\"")
+    }
+}

@@ -1,7 +1,7 @@
 //! Events, writers and ends in words.
 
 use std::fmt;
-use wm_access::RmwOperator;
+use wm_access::{AccessWidth, RmwOperator};
 use wm_event::{End, Event, OpFields, OpKind};
 use wm_hb::WriterRun;
 
@@ -25,18 +25,70 @@ fn order_word(atomic: bool) -> &'static str {
     if atomic { "atomic" } else { "plain" }
 }
 
+/// How values are written.
+#[derive(Clone, Copy)]
+pub(crate) enum ValueForm {
+    Decimal,
+    /// With each of its bytes in hex too, the highest first.
+    WithHex,
+}
+
+/// A value of an access of this width.
+#[derive(Clone, Copy)]
+struct ValuePhrase {
+    value: u64,
+    width: AccessWidth,
+    form: ValueForm,
+}
+
+impl fmt::Display for ValuePhrase {
+    fn fmt<W: fmt::Write>(&self, f: &mut fmt::Formatter<W>) -> fmt::Result {
+        let ValuePhrase { value, width, form } = *self;
+        write!(f, "{value}")?;
+        match (form, width) {
+            (ValueForm::Decimal, _) => Ok(()),
+            (ValueForm::WithHex, AccessWidth::One) => write!(f, " (0x{value:02x})"),
+            (ValueForm::WithHex, AccessWidth::Two) => write!(f, " (0x{value:04x})"),
+            (ValueForm::WithHex, AccessWidth::Four) => write!(f, " (0x{value:08x})"),
+            (ValueForm::WithHex, AccessWidth::Eight) => write!(f, " (0x{value:016x})"),
+        }
+    }
+}
+
 /// Whether an access is an atomic one, what it does, its range and its values.
 #[derive(Clone, Copy)]
-pub(crate) struct EventPhrase<'a>(pub &'a Event);
+pub(crate) struct EventPhrase<'a> {
+    pub event: &'a Event,
+    pub form: ValueForm,
+}
+
+impl<'a> EventPhrase<'a> {
+    /// An event with its values in decimal.
+    pub(crate) fn decimal(event: &'a Event) -> Self {
+        EventPhrase {
+            event,
+            form: ValueForm::Decimal,
+        }
+    }
+
+    /// A value of the event.
+    fn value(&self, value: u64) -> ValuePhrase {
+        ValuePhrase {
+            value,
+            width: self.event.width,
+            form: self.form,
+        }
+    }
+}
 
 impl fmt::Display for EventPhrase<'_> {
     fn fmt<W: fmt::Write>(&self, f: &mut fmt::Formatter<W>) -> fmt::Result {
-        let event = self.0;
+        let event = self.event;
         let order = order_word(event.is_atomic());
         let size = Count(u64::from(event.width.bytes()), "byte");
         let address = event.address;
-        let read = event.read;
-        let written = event.written;
+        let read = self.value(event.read);
+        let written = self.value(event.written);
         match (event.reads(), event.writes()) {
             (true, true) => write!(
                 f,

@@ -3,7 +3,9 @@
 use crate::allowed::{allowed_reason, permitted_reason};
 use crate::decode_refusal::decode_reason;
 use crate::document_refusal::document_reason;
+use crate::module_code::ModuleCode;
 use crate::replay::replay_reason;
+use crate::row::EventTables;
 use crate::rule::rule_reason;
 use crate::shape_refusal::shape_reason;
 use crate::valid_refusal::valid_reason;
@@ -46,8 +48,9 @@ pub fn explain_shape(
     shape_reason(alloc, misshapen, memory_bytes)
 }
 
-/// Why a check gave its verdict on a candidate over the initial memory of a module, in sentences and a table. Each line
-/// ends with a newline. The text is empty for a refusal: that has no candidate, and [`explain_refusal`] has its reason.
+/// Why a check gave its verdict on a candidate over the initial memory of a module, in sentences and a table. `module_bytes`
+/// spell the module: events are shown with the places in them of the instructions that make them. Each line ends with a
+/// newline. The text is empty for a refusal: that has no candidate, and [`explain_refusal`] has its reason.
 ///
 /// # Errors
 ///
@@ -56,13 +59,21 @@ pub fn explain_run<R: AllocGlobal + Threads + Sync>(
     rt: &R,
     verdict: &Verdict,
     module: &ValidModule,
+    module_bytes: &[u8],
     candidate: &Candidate,
 ) -> Result<String, AllocError> {
+    let alloc = rt.alloc();
+    let code = ModuleCode {
+        module,
+        bytes: module_bytes,
+    };
     match verdict {
-        Verdict::Refused(_) => Ok(String::new(rt.alloc())),
-        Verdict::Allowed(_) => allowed_reason(rt.alloc(), candidate),
-        Verdict::Broken(Breach::Rule(fault)) => rule_reason(rt.alloc(), candidate, fault),
-        Verdict::Broken(Breach::Replay(answer)) => replay_reason(rt, module, candidate, *answer),
+        Verdict::Refused(_) => Ok(String::new(alloc)),
+        Verdict::Allowed(_) => allowed_reason(EventTables::over(alloc, code, candidate)?),
+        Verdict::Broken(Breach::Rule(fault)) => {
+            rule_reason(EventTables::over(alloc, code, candidate)?, fault)
+        }
+        Verdict::Broken(Breach::Replay(answer)) => replay_reason(rt, code, candidate, *answer),
     }
 }
 
@@ -77,8 +88,9 @@ pub fn explain_events(
     judgement: &Judgement,
     candidate: &Candidate,
 ) -> Result<String, AllocError> {
+    let tables = EventTables::without_code(alloc, candidate);
     match judgement {
-        Judgement::Valid => permitted_reason(alloc, candidate),
-        Judgement::Broken(fault) => rule_reason(alloc, candidate, fault),
+        Judgement::Valid => permitted_reason(tables),
+        Judgement::Broken(fault) => rule_reason(tables, fault),
     }
 }

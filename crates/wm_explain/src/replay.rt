@@ -2,8 +2,11 @@
 
 use crate::compared::{Compared, Next, compare};
 use crate::json_text::JsonText;
+use crate::module_code::ModuleCode;
 use crate::phrase::{Count, EndPhrase};
 use crate::position::position_phrase;
+use crate::row::EventTables;
+use crate::rule::add_fault_events;
 use crate::start_refusal::start_reason;
 use std::alloc::{AllocError, Global};
 use std::cmp::Ordering;
@@ -11,7 +14,6 @@ use std::thread::Threads;
 use wm_event::{Candidate, Judgement, MAX_STEPS, OpKind, Rule, RuleFault, ThreadLog};
 use wm_replay::{Place, ReplayAnswer};
 use wm_rules::judge;
-use wm_valid::ValidModule;
 
 /// A thread of a log, by its number.
 #[derive(Clone, Copy)]
@@ -133,13 +135,12 @@ fn add_place(
 fn add_position(
     alloc: Global,
     text: &mut String,
-    module: &ValidModule,
+    code: ModuleCode,
     thread: LoggedThread,
     compared: &Compared,
 ) -> Result<(), AllocError> {
     let start = thread.log.start.name.as_str();
-    let position = compared.position;
-    let place = position_phrase(alloc, module.module(), start, position)?;
+    let place = position_phrase(alloc, code, start, compared.position)?;
     match compared.made {
         Next::Ended(_) => writeln!(text, "The thread ended at {place}."),
         _ => {
@@ -167,17 +168,14 @@ fn hint(compared: &Compared, fault: &RuleFault) -> &'static str {
     }
 }
 
-/// Adds what the memory rules say of the events, since a wrong value that was read often shows later as another step.
-fn add_judgement(
+/// Adds that the memory rules don't allow the events either, since a wrong value that was read often shows later as another
+/// step.
+fn add_fault(
     text: &mut String,
     thread: LoggedThread,
     compared: &Compared,
-    judgement: &Judgement,
+    fault: &RuleFault,
 ) -> Result<(), AllocError> {
-    let Judgement::Broken(fault) = judgement else {
-        text.push_str("The memory rules allow the events as logged.\n")?;
-        return Ok(());
-    };
     writeln!(
         text,
         "The memory rules are also violated; the first violation is {fault}."
@@ -189,10 +187,23 @@ fn add_judgement(
     Ok(())
 }
 
+/// Adds the events of a violation of the memory rules.
+fn add_fault_table(
+    alloc: Global,
+    text: &mut String,
+    code: ModuleCode,
+    candidate: &Candidate,
+    fault: &RuleFault,
+) -> Result<(), AllocError> {
+    text.push_str("The events of the violation, with their places in the order:\n")?;
+    let mut tables = EventTables::over(alloc, code, candidate)?;
+    add_fault_events(text, &mut tables, fault, &[])
+}
+
 /// Why the log of a thread that starts isn't its run.
 fn thread_reason(
     alloc: Global,
-    module: &ValidModule,
+    code: ModuleCode,
     thread: LoggedThread,
     compared: &Compared,
     place: Place,
@@ -203,29 +214,36 @@ fn thread_reason(
         "Thread {number} runs the exported function {name}. Its log isn't what the module does.\n"
     )?;
     add_place(&mut text, thread, compared, place)?;
-    add_position(alloc, &mut text, module, thread, compared)?;
+    add_position(alloc, &mut text, code, thread, compared)?;
     Ok(text)
 }
 
 /// Why the log of the thread of this number isn't its run, and what the memory rules say of the events.
 fn differing_reason<R: AllocGlobal + Threads + Sync>(
     rt: &R,
-    module: &ValidModule,
+    code: ModuleCode,
     candidate: &Candidate,
     number: usize,
     place: Place,
 ) -> Result<String, AllocError> {
+    let alloc = rt.alloc();
     let threads = candidate.log().threads();
     if number >= threads.len() {
-        return Ok(String::new(rt.alloc()));
+        return Ok(String::new(alloc));
     }
     let log = &threads[number];
-    let Some(compared) = compare(rt.alloc(), module, log, number)? else {
-        return Ok(String::new(rt.alloc()));
+    let Some(compared) = compare(alloc, code.module, log, number)? else {
+        return Ok(String::new(alloc));
     };
     let thread = LoggedThread { number, log };
-    let mut text = thread_reason(rt.alloc(), module, thread, &compared, place)?;
-    add_judgement(&mut text, thread, &compared, &judge(rt, candidate)?)?;
+    let mut text = thread_reason(alloc, code, thread, &compared, place)?;
+    match judge(rt, candidate)? {
+        Judgement::Valid => text.push_str("The memory rules allow the events as logged.\n")?,
+        Judgement::Broken(fault) => {
+            add_fault(&mut text, thread, &compared, &fault)?;
+            add_fault_table(alloc, &mut text, code, candidate, &fault)?;
+        }
+    }
     Ok(text)
 }
 
@@ -237,18 +255,18 @@ fn differing_reason<R: AllocGlobal + Threads + Sync>(
 /// Only if an allocation fails.
 pub(crate) fn replay_reason<R: AllocGlobal + Threads + Sync>(
     rt: &R,
-    module: &ValidModule,
+    code: ModuleCode,
     candidate: &Candidate,
     answer: ReplayAnswer,
 ) -> Result<String, AllocError> {
     match answer {
         ReplayAnswer::Same => Ok(String::new(rt.alloc())),
         ReplayAnswer::StartRefused(number, fault) => match candidate.log().threads().get(number) {
-            Some(stated) => start_reason(rt.alloc(), module.module(), number, stated, fault),
+            Some(stated) => start_reason(rt.alloc(), code.module.module(), number, stated, fault),
             None => Ok(String::new(rt.alloc())),
         },
-        ReplayAnswer::Differs(number, place) => {
-            differing_reason(rt, module, candidate, number, place)
-        }
+        ReplayAnswer::Differs(number, place) => differing_reason(
+            rt, code, candidate, number, place,
+        ),
     }
 }

@@ -1,75 +1,181 @@
 //! The table of events.
 
-use crate::phrase::{EventPhrase, WritersPhrase};
+use crate::module_code::ModuleCode;
+use crate::named_site::{NamedSite, NamedSites};
+use crate::phrase::{EventPhrase, ValueForm, WritersPhrase};
 use std::alloc::{AllocError, Global};
 use std::fmt;
-use wm_event::{Candidate, Event, EventId};
+use wm_event::{Candidate, Event, EventId, EventKey};
 use wm_hb::{WriterRun, writer_runs};
 
-/// An event in a table: its place in the order, its name, what it does, and who wrote what it read.
+/// An event in a table: its place in the order, its name, what it does, who wrote what it read, and the instruction that
+/// makes it.
 #[derive(Clone, Copy)]
 struct EventRow<'a> {
     /// From 1, since Init is at 0.
     place: usize,
     event: &'a Event,
+    form: ValueForm,
     /// The bytes that it read, by their writers.
     runs: &'a [WriterRun],
+    site: Option<NamedSite<'a>>,
 }
 
 impl fmt::Display for EventRow<'_> {
     fn fmt<W: fmt::Write>(&self, f: &mut fmt::Formatter<W>) -> fmt::Result {
-        let EventRow { place, event, runs } = *self;
+        let EventRow {
+            place,
+            event,
+            form,
+            runs,
+            site,
+        } = *self;
         let key = event.key();
-        write!(f, "{place:>7}  {key}  {}", EventPhrase(event))?;
-        if runs.is_empty() {
-            return Ok(());
+        write!(f, "{place:>7}  {key}  {}", EventPhrase { event, form })?;
+        if !runs.is_empty() {
+            write!(f, "; read {}", WritersPhrase(runs))?;
         }
-        write!(f, "; read {}", WritersPhrase(runs))
+        match site {
+            Some(site) => write!(f, "; {site}"),
+            None => Ok(()),
+        }
     }
 }
 
 /// The head of a table of events.
-pub(crate) const HEAD: &str =
+const HEAD: &str =
     "  (T.N is event N of thread T, both from 0; init writes the initial memory)\n  place  event\n";
 
 /// The row of Init.
 const INIT_ROW: &str = "      0  init  writes the initial memory\n";
 
-/// Adds the row of an event that is there.
-pub(crate) fn add_row(
-    alloc: Global,
-    text: &mut String,
-    candidate: &Candidate,
-    id: EventId,
-) -> Result<(), AllocError> {
-    let EventId::At(key) = id else {
-        return Ok(text.push_str(INIT_ROW)?);
-    };
-    let (Some(event), Some(place)) = (candidate.event(id), candidate.place(id)) else {
-        return Ok(());
-    };
-    let runs = writer_runs(alloc, candidate, key)?;
-    let row = EventRow {
-        place: place.saturating_add(1),
-        event,
-        runs: runs.as_slice(),
-    };
-    writeln!(text, "{row}")
+/// Whether the writers of a read's bytes are different events.
+fn is_mixed(writers: &[EventId]) -> bool {
+    match writers {
+        [first, rest @ ..] => rest
+            .iter()
+            .any(|writer: &EventId| -> bool { writer != first }),
+        [] => false,
+    }
 }
 
-/// Adds the rows of all events, in their order.
-pub(crate) fn add_rows(
-    alloc: Global,
-    text: &mut String,
-    candidate: &Candidate,
-) -> Result<(), AllocError> {
-    let order = candidate.witness().order.as_slice();
-    if order.is_empty() {
-        return Ok(text.push_str("  none\n")?);
+/// The addresses of the reads whose bytes come from different writers, sorted.
+#[derive(Drop)]
+struct MixedAddresses {
+    sorted: Vec<u64>,
+}
+
+impl MixedAddresses {
+    /// Those of these events.
+    fn of(alloc: Global, candidate: &Candidate, ids: &[EventId]) -> Result<Self, AllocError> {
+        let mut sorted = Vec::new(alloc);
+        for id in ids {
+            let (EventId::At(key), Some(event)) = (*id, candidate.event(*id)) else {
+                continue;
+            };
+            if !is_mixed(candidate.writers(key)) {
+                continue;
+            }
+            for byte in 0..event.width.bytes() {
+                sorted.push(u64::from(event.address).saturating_add(u64::from(byte)))?;
+            }
+        }
+        sorted.sort_unstable();
+        Ok(MixedAddresses { sorted })
     }
-    text.push_str(HEAD)?;
-    for key in order {
-        add_row(alloc, text, candidate, EventId::At(*key))?;
+
+    /// How the values of an event are shown: in hex too where it meets one of the addresses.
+    fn form_of(&self, event: &Event) -> ValueForm {
+        for byte in 0..event.width.bytes() {
+            let address = u64::from(event.address).saturating_add(u64::from(byte));
+            if self.sorted.binary_search(&address).is_ok() {
+                return ValueForm::WithHex;
+            }
+        }
+        ValueForm::Decimal
     }
-    Ok(())
+}
+
+/// What tables of events are made from.
+#[derive(Drop)]
+pub(crate) struct EventTables<'a> {
+    pub alloc: Global,
+    pub candidate: &'a Candidate<'a>,
+    /// The instructions that make the events; None where no module is given.
+    sites: Option<NamedSites<'a>>,
+}
+
+impl<'a> EventTables<'a> {
+    /// Tables of a candidate's events, without the instructions that make them.
+    pub(crate) fn without_code(alloc: Global, candidate: &'a Candidate<'a>) -> Self {
+        EventTables {
+            alloc,
+            candidate,
+            sites: None,
+        }
+    }
+
+    /// Tables of a candidate's events, with the instructions of a module that make them.
+    ///
+    /// # Errors
+    ///
+    /// Only if an allocation fails.
+    pub(crate) fn over(
+        alloc: Global,
+        code: ModuleCode<'a>,
+        candidate: &'a Candidate<'a>,
+    ) -> Result<Self, AllocError> {
+        let sites = NamedSites::of(alloc, code, candidate.log())?;
+        Ok(EventTables {
+            alloc,
+            candidate,
+            sites: Some(sites),
+        })
+    }
+
+    /// Adds the row of an event that is there.
+    fn add_row(
+        &mut self,
+        text: &mut String,
+        key: EventKey,
+        mixed: &MixedAddresses,
+    ) -> Result<(), AllocError> {
+        let id = EventId::At(key);
+        let (Some(event), Some(place)) = (self.candidate.event(id), self.candidate.place(id)) else {
+            return Ok(());
+        };
+        let runs = writer_runs(self.alloc, self.candidate, key)?;
+        let site = match &mut self.sites {
+            Some(sites) => sites.site(key)?,
+            None => None,
+        };
+        let row = EventRow {
+            place: place.saturating_add(1),
+            event,
+            form: mixed.form_of(event),
+            runs: runs.as_slice(),
+            site,
+        };
+        writeln!(text, "{row}")
+    }
+
+    /// Adds a table of these events.
+    ///
+    /// # Errors
+    ///
+    /// Only if an allocation fails.
+    pub(crate) fn add(&mut self, text: &mut String, ids: &[EventId]) -> Result<(), AllocError> {
+        if ids.is_empty() {
+            return Ok(text.push_str("  none\n")?);
+        }
+        let mixed = MixedAddresses::of(self.alloc, self.candidate, ids)?;
+        text.push_str(HEAD)?;
+        for id in ids {
+            match *id {
+                EventId::Init => text.push_str(INIT_ROW)?,
+                EventId::At(key) => self.add_row(text, key, &mixed)?,
+            }
+        }
+        Ok(())
+    }
 }

@@ -1,6 +1,6 @@
 //! Why a memory rule is broken.
 
-use crate::row::{HEAD, add_row};
+use crate::row::EventTables;
 use std::alloc::{AllocError, Global};
 use std::fmt;
 use wm_event::{Candidate, EventId, Rule, RuleFault, byte_of};
@@ -255,23 +255,43 @@ fn add_chain(text: &mut String, chain: &FaultChain) -> Result<(), AllocError> {
     Ok(())
 }
 
-/// Adds the rows of the events of a fault.
-fn add_events(
+/// The events of a fault and of the chains that it rests on, each once, in their order; Init first.
+fn events_of(
     alloc: Global,
-    text: &mut String,
     candidate: &Candidate,
     fault: &RuleFault,
-) -> Result<(), AllocError> {
-    text.push_str("The events, with their places in the order:\n")?;
-    text.push_str(HEAD)?;
-    add_row(alloc, text, candidate, fault.writer)?;
+    chains: &[FaultChain],
+) -> Result<Vec<EventId>, AllocError> {
+    let mut ids = Vec::new(alloc);
+    ids.push(fault.writer)?;
+    ids.push(EventId::At(fault.event))?;
     if let Some(other) = fault.other {
-        add_row(alloc, text, candidate, other)?;
+        ids.push(other)?;
     }
-    if fault.writer != EventId::At(fault.event) {
-        add_row(alloc, text, candidate, EventId::At(fault.event))?;
+    for chain in chains {
+        ids.push(chain.from)?;
+        for link in chain.links.as_slice() {
+            ids.push(EventId::At(link.event))?;
+        }
     }
-    Ok(())
+    ids.sort_unstable_by_key(|id: &EventId| -> Option<usize> { candidate.place(*id) });
+    ids.dedup();
+    Ok(ids)
+}
+
+/// Adds the rows of the events of a fault and of these chains.
+///
+/// # Errors
+///
+/// Only if an allocation fails.
+pub(crate) fn add_fault_events(
+    text: &mut String,
+    tables: &mut EventTables,
+    fault: &RuleFault,
+    chains: &[FaultChain],
+) -> Result<(), AllocError> {
+    let ids = events_of(tables.alloc, tables.candidate, fault, chains)?;
+    tables.add(text, ids.as_slice())
 }
 
 /// What of the witness a rule depends on. V1, V3 and V4 don't depend on the order.
@@ -294,15 +314,18 @@ fn remedy(fault: &RuleFault) -> &'static str {
 ///
 /// Only if an allocation fails.
 pub(crate) fn rule_reason(
-    alloc: Global,
-    candidate: &Candidate,
+    mut tables: EventTables,
     fault: &RuleFault,
 ) -> Result<String, AllocError> {
+    let alloc = tables.alloc;
+    let candidate = tables.candidate;
     let rule = RuleName(fault.rule);
     let sentence = RuleSentence::of(candidate, fault);
     let mut text = format!(in alloc; "{rule}\n{sentence}\n")?;
-    add_events(alloc, &mut text, candidate, fault)?;
-    for chain in fault_chains(alloc, candidate, fault)?.as_slice() {
+    let chains = fault_chains(alloc, candidate, fault)?;
+    text.push_str("The events, with their places in the order:\n")?;
+    add_fault_events(&mut text, &mut tables, fault, chains.as_slice())?;
+    for chain in chains.as_slice() {
         add_chain(&mut text, chain)?;
     }
     let remedy = remedy(fault);

@@ -181,7 +181,7 @@ fn add_event_fault(
         _ => {}
     }
     let article = if event.is_atomic() { "an" } else { "a" };
-    writeln!(text, "{key} is {article} {}.", EventPhrase(event))
+    writeln!(text, "{key} is {article} {}.", EventPhrase::decimal(event))
 }
 
 /// The event that a fault names.

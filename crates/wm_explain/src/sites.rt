@@ -4,8 +4,9 @@ ghost use Rattle.wm_replay.specs.Following.{HasPlaces};
 ghost use Rattle.wm_races.specs.Report.{HasSites};
 
 use crate::code_map::CodeMap;
+use crate::module_code::ModuleCode;
 use std::alloc::{AllocError, Global};
-use wm_event::{Log, ThreadLog};
+use wm_event::{EventKey, Log, ThreadLog};
 use wm_list::List;
 use wm_machine::CodePosition;
 use wm_races::Site;
@@ -27,28 +28,77 @@ fn positions_of(
     }
 }
 
+/// By thread where it makes the events of its log.
+fn log_positions(
+    alloc: Global,
+    module: &ValidModule,
+    log: &Log,
+) -> Result<Vec<List<CodePosition>>, AllocError> {
+    let mut positions = Vec::new(alloc);
+    for (number, stated) in log.threads().iter().enumerate() {
+        positions.push(positions_of(alloc, module, stated, number)?)?;
+    }
+    Ok(positions)
+}
+
+/// The instructions that make the events of a log. Each thread is followed once.
+#[derive(Drop)]
+pub(crate) struct RunSites<'m> {
+    map: CodeMap<'m>,
+    /// By thread where it makes its events, as many as it makes.
+    positions: Vec<List<CodePosition>>,
+}
+
+impl<'m> RunSites<'m> {
+    /// The instructions that make the events of a log.
+    ///
+    /// # Errors
+    ///
+    /// Only if an allocation fails.
+    pub(crate) fn of(alloc: Global, code: ModuleCode<'m>, log: &Log) -> Result<Self, AllocError> {
+        Ok(RunSites {
+            map: CodeMap::new(alloc, code)?,
+            positions: log_positions(alloc, code.module, log)?,
+        })
+    }
+
+    /// Where an event is made.
+    fn position(&self, key: EventKey) -> Option<CodePosition> {
+        let thread = self.positions.get(key.thread as usize)?;
+        thread.get(key.number as usize).copied()
+    }
+
+    /// The instruction that makes an event; None if its thread doesn't make it.
+    ///
+    /// # Errors
+    ///
+    /// Only if an allocation fails.
+    pub(crate) fn site(&mut self, key: EventKey) -> Result<Option<Site>, AllocError> {
+        match self.position(key) {
+            Some(position) => self.map.site(position),
+            None => Ok(None),
+        }
+    }
+}
+
 /// A site for each event of a thread; an event that the thread doesn't make gets the first instruction of function 0.
 fn thread_sites(
     alloc: Global,
-    map: &mut CodeMap,
-    stated: &ThreadLog,
-    positions: &[CodePosition],
+    run: &mut RunSites,
+    thread: &ThreadLog,
 ) -> Result<List<Site>, AllocError>
-    ensures { IfOk result (λ sites. length sites ≡ length stated.now.events) }
+    ensures { IfOk result (λ sites. length sites ≡ length thread.now.events) }
 {
-    let mut sites = Vec::new(alloc);
-    for number in 0..stated.events.len() {
-        let site = match positions.get(number) {
-            Some(position) => map.site(*position)?,
-            None => Site {
-                function: 0,
-                instruction: 0,
-                offset: 0,
-            },
-        };
+    let mut sites = List::new(alloc);
+    for event in thread.events.as_slice() {
+        let site = run.site(event.key())?.unwrap_or(Site {
+            function: 0,
+            instruction: 0,
+            offset: 0,
+        });
         sites.push(site)?;
     }
-    Ok(List::from_vec(sites))
+    Ok(sites)
 }
 
 /// For each event of a log, by thread and number, the instruction of the module that makes it, if the log is that of runs
@@ -65,11 +115,14 @@ pub fn event_sites(
 ) -> Result<Vec<List<Site>>, AllocError>
     ensures { IfOk result (λ sites. HasSites log.now sites.items) }
 {
-    let mut map = CodeMap::new(alloc, module.module(), module_bytes)?;
+    let code = ModuleCode {
+        module,
+        bytes: module_bytes,
+    };
+    let mut run = RunSites::of(alloc, code, log)?;
     let mut sites = Vec::new(alloc);
-    for (number, stated) in log.threads().iter().enumerate() {
-        let positions = positions_of(alloc, module, stated, number)?;
-        sites.push(thread_sites(alloc, &mut map, stated, positions.as_slice())?)?;
+    for thread in log.threads() {
+        sites.push(thread_sites(alloc, &mut run, thread)?)?;
     }
     Ok(sites)
 }

@@ -1,0 +1,75 @@
+//! Instructions with the names of their functions.
+
+use crate::function_name::{BriefName, FunctionName, FunctionNames};
+use crate::module_code::ModuleCode;
+use crate::sites::RunSites;
+use std::alloc::{AllocError, Global};
+use std::fmt;
+use wm_event::{EventKey, Log};
+use wm_races::Site;
+
+/// An instruction with the name of its function.
+#[derive(Clone, Copy)]
+pub(crate) struct NamedSite<'a> {
+    site: Site,
+    function: FunctionName<'a>,
+}
+
+impl fmt::Display for NamedSite<'_> {
+    fn fmt<W: fmt::Write>(&self, f: &mut fmt::Formatter<W>) -> fmt::Result {
+        let Site {
+            instruction,
+            offset,
+            ..
+        } = self.site;
+        let function = BriefName(self.function);
+        write!(
+            f,
+            "at 0x{offset:x}, instruction {instruction} of {function}"
+        )
+    }
+}
+
+/// The instructions that make the events of a log, with the names of their functions.
+#[derive(Drop)]
+pub(crate) struct NamedSites<'a> {
+    log: &'a Log,
+    sites: RunSites<'a>,
+    names: FunctionNames<'a>,
+}
+
+impl<'a> NamedSites<'a> {
+    /// The instructions that make the events of a log.
+    ///
+    /// # Errors
+    ///
+    /// Only if an allocation fails.
+    pub(crate) fn of(
+        alloc: Global,
+        code: ModuleCode<'a>,
+        log: &'a Log,
+    ) -> Result<Self, AllocError> {
+        Ok(NamedSites {
+            log,
+            sites: RunSites::of(alloc, code, log)?,
+            names: FunctionNames::of(alloc, code)?,
+        })
+    }
+
+    /// The instruction that makes an event; None if its thread doesn't make it.
+    ///
+    /// # Errors
+    ///
+    /// Only if an allocation fails.
+    pub(crate) fn site(&mut self, key: EventKey) -> Result<Option<NamedSite<'_>>, AllocError> {
+        let Some(thread) = self.log.threads().get(key.thread as usize) else {
+            return Ok(None);
+        };
+        let Some(site) = self.sites.site(key)? else {
+            return Ok(None);
+        };
+        let start = thread.start.name.as_str();
+        let function = self.names.name(start, site.function as usize);
+        Ok(Some(NamedSite { site, function }))
+    }
+}
