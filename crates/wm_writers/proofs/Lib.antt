@@ -1,0 +1,3 @@
+pub mod AllLemmas
+pub mod FitLaws
+pub mod ForcedLaw
