@@ -77,8 +77,8 @@ pub(crate) fn chains_of(
     if premises.is_empty() {
         return Ok(Some(List::new(alloc)));
     }
-    let Ok(ordered) = Ordered::of(candidate) else {
-        return Ok(None);
-    };
-    chains_in(alloc, &ordered, premises.as_slice())
+    match Ordered::of(candidate) {
+        Ok(ordered) => chains_in(alloc, &ordered, premises.as_slice()),
+        Err(_) => Ok(None),
+    }
 }
