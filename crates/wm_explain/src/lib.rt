@@ -8,6 +8,7 @@ mod compared;
 mod decode_refusal;
 mod document_part;
 mod document_refusal;
+mod event_positions;
 mod expected;
 mod feature;
 mod function_name;

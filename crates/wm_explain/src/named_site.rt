@@ -1,10 +1,12 @@
 //! Instructions with the names of their functions.
 
+use crate::event_positions::log_positions;
 use crate::function_name::{BriefName, FunctionName, FunctionNames};
 use crate::module_code::ModuleCode;
 use crate::sites::RunSites;
-use std::alloc::{AllocError, Global};
+use std::alloc::AllocError;
 use std::fmt;
+use std::thread::Threads;
 use wm_event::{EventKey, Log};
 use wm_races::Site;
 
@@ -44,14 +46,16 @@ impl<'a> NamedSites<'a> {
     /// # Errors
     ///
     /// Only if an allocation fails.
-    pub(crate) fn of(
-        alloc: Global,
+    pub(crate) fn of<R: AllocGlobal + Threads + Sync>(
+        rt: &R,
         code: ModuleCode<'a>,
         log: &'a Log,
     ) -> Result<Self, AllocError> {
+        let alloc = rt.alloc();
+        let positions = log_positions(rt, code.module, log)?;
         Ok(NamedSites {
             log,
-            sites: RunSites::of(alloc, code, log)?,
+            sites: RunSites::new(alloc, code, positions)?,
             names: FunctionNames::of(alloc, code)?,
         })
     }

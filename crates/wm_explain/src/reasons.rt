@@ -62,16 +62,15 @@ pub fn explain_run<R: AllocGlobal + Threads + Sync>(
     module_bytes: &[u8],
     candidate: &Candidate,
 ) -> Result<String, AllocError> {
-    let alloc = rt.alloc();
     let code = ModuleCode {
         module,
         bytes: module_bytes,
     };
     match verdict {
-        Verdict::Refused(_) => Ok(String::new(alloc)),
-        Verdict::Allowed(_) => allowed_reason(EventTables::over(alloc, code, candidate)?),
+        Verdict::Refused(_) => Ok(String::new(rt.alloc())),
+        Verdict::Allowed(_) => allowed_reason(EventTables::over(rt, code, candidate)?),
         Verdict::Broken(Breach::Rule(fault)) => {
-            rule_reason(EventTables::over(alloc, code, candidate)?, fault)
+            rule_reason(EventTables::over(rt, code, candidate)?, fault)
         }
         Verdict::Broken(Breach::Replay(answer)) => replay_reason(rt, code, candidate, *answer),
     }

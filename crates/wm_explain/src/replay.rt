@@ -188,15 +188,15 @@ fn add_fault(
 }
 
 /// Adds the events of a violation of the memory rules.
-fn add_fault_table(
-    alloc: Global,
+fn add_fault_table<R: AllocGlobal + Threads + Sync>(
+    rt: &R,
     text: &mut String,
     code: ModuleCode,
     candidate: &Candidate,
     fault: &RuleFault,
 ) -> Result<(), AllocError> {
     text.push_str("The events of the violation, with their places in the order:\n")?;
-    let mut tables = EventTables::over(alloc, code, candidate)?;
+    let mut tables = EventTables::over(rt, code, candidate)?;
     add_fault_events(text, &mut tables, fault, &[])
 }
 
@@ -241,7 +241,7 @@ fn differing_reason<R: AllocGlobal + Threads + Sync>(
         Judgement::Valid => text.push_str("The memory rules allow the events as logged.\n")?,
         Judgement::Broken(fault) => {
             add_fault(&mut text, thread, &compared, &fault)?;
-            add_fault_table(alloc, &mut text, code, candidate, &fault)?;
+            add_fault_table(rt, &mut text, code, candidate, &fault)?;
         }
     }
     Ok(text)

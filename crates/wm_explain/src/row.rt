@@ -5,6 +5,7 @@ use crate::named_site::{NamedSite, NamedSites};
 use crate::phrase::{EventPhrase, ValueForm, WritersPhrase};
 use std::alloc::{AllocError, Global};
 use std::fmt;
+use std::thread::Threads;
 use wm_event::{Candidate, Event, EventId, EventKey};
 use wm_hb::{WriterRun, writer_runs};
 
@@ -120,17 +121,25 @@ impl<'a> EventTables<'a> {
     /// # Errors
     ///
     /// Only if an allocation fails.
-    pub(crate) fn over(
-        alloc: Global,
+    pub(crate) fn over<R: AllocGlobal + Threads + Sync>(
+        rt: &R,
         code: ModuleCode<'a>,
         candidate: &'a Candidate<'a>,
     ) -> Result<Self, AllocError> {
-        let sites = NamedSites::of(alloc, code, candidate.log())?;
+        let sites = NamedSites::of(rt, code, candidate.log())?;
         Ok(EventTables {
-            alloc,
+            alloc: rt.alloc(),
             candidate,
             sites: Some(sites),
         })
+    }
+
+    /// The instruction that makes an event, if there is one.
+    fn site(&mut self, key: EventKey) -> Result<Option<NamedSite<'_>>, AllocError> {
+        match &mut self.sites {
+            Some(sites) => sites.site(key),
+            None => Ok(None),
+        }
     }
 
     /// Adds the row of an event that is there.
@@ -141,14 +150,13 @@ impl<'a> EventTables<'a> {
         mixed: &MixedAddresses,
     ) -> Result<(), AllocError> {
         let id = EventId::At(key);
-        let (Some(event), Some(place)) = (self.candidate.event(id), self.candidate.place(id)) else {
+        let alloc = self.alloc;
+        let candidate = self.candidate;
+        let (Some(event), Some(place)) = (candidate.event(id), candidate.place(id)) else {
             return Ok(());
         };
-        let runs = writer_runs(self.alloc, self.candidate, key)?;
-        let site = match &mut self.sites {
-            Some(sites) => sites.site(key)?,
-            None => None,
-        };
+        let runs = writer_runs(alloc, candidate, key)?;
+        let site = self.site(key)?;
         let row = EventRow {
             place: place.saturating_add(1),
             event,

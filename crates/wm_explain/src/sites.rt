@@ -1,47 +1,18 @@
 //! The instructions that make the events of a log.
 ghost use Rattle.std.specs.Prelude.{◌≡◌, IfOk, length};
-ghost use Rattle.wm_replay.specs.Following.{HasPlaces};
 ghost use Rattle.wm_races.specs.Report.{HasSites};
 
 use crate::code_map::CodeMap;
+use crate::event_positions::positions_in_order;
 use crate::module_code::ModuleCode;
 use std::alloc::{AllocError, Global};
 use wm_event::{EventKey, Log, ThreadLog};
 use wm_list::List;
 use wm_machine::CodePosition;
 use wm_races::Site;
-use wm_replay::follow;
 use wm_valid::ValidModule;
 
-/// Where a thread makes the events of its log; as many as it makes.
-fn positions_of(
-    alloc: Global,
-    module: &ValidModule,
-    stated: &ThreadLog,
-    number: usize,
-) -> Result<List<CodePosition>, AllocError>
-    requires { HasPlaces number stated.now.events }
-{
-    match follow(alloc, module, stated, number, stated.steps)? {
-        Ok(followed) => Ok(followed.positions),
-        Err(_) => Ok(List::new(alloc)),
-    }
-}
-
-/// By thread where it makes the events of its log.
-fn log_positions(
-    alloc: Global,
-    module: &ValidModule,
-    log: &Log,
-) -> Result<Vec<List<CodePosition>>, AllocError> {
-    let mut positions = Vec::new(alloc);
-    for (number, stated) in log.threads().iter().enumerate() {
-        positions.push(positions_of(alloc, module, stated, number)?)?;
-    }
-    Ok(positions)
-}
-
-/// The instructions that make the events of a log. Each thread is followed once.
+/// The instructions that make the events of a log.
 #[derive(Drop)]
 pub(crate) struct RunSites<'m> {
     map: CodeMap<'m>,
@@ -50,16 +21,18 @@ pub(crate) struct RunSites<'m> {
 }
 
 impl<'m> RunSites<'m> {
-    /// The instructions that make the events of a log.
+    /// The instructions of a module at these positions.
     ///
     /// # Errors
     ///
     /// Only if an allocation fails.
-    pub(crate) fn of(alloc: Global, code: ModuleCode<'m>, log: &Log) -> Result<Self, AllocError> {
-        Ok(RunSites {
-            map: CodeMap::new(alloc, code)?,
-            positions: log_positions(alloc, code.module, log)?,
-        })
+    pub(crate) fn new(
+        alloc: Global,
+        code: ModuleCode<'m>,
+        positions: Vec<List<CodePosition>>,
+    ) -> Result<Self, AllocError> {
+        let map = CodeMap::new(alloc, code)?;
+        Ok(RunSites { map, positions })
     }
 
     /// Where an event is made.
@@ -119,7 +92,8 @@ pub fn event_sites(
         module,
         bytes: module_bytes,
     };
-    let mut run = RunSites::of(alloc, code, log)?;
+    let positions = positions_in_order(alloc, module, log)?;
+    let mut run = RunSites::new(alloc, code, positions)?;
     let mut sites = Vec::new(alloc);
     for thread in log.threads() {
         sites.push(thread_sites(alloc, &mut run, thread)?)?;

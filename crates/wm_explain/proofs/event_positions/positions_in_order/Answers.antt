@@ -1,7 +1,7 @@
 use Rattle.std.proofs.Common.{◌≡◌, Some}
 use Rattle.std.specs.Prelude.{slice_get}
 use Rattle.wm_replay.proofs.Logs.{item_at, places_in}
-use Rattle.wm_explain.proofs.sites.log_positions.Goals as goal
+use Rattle.wm_explain.proofs.event_positions.positions_in_order.Goals as goal
 
 pub positions_of-requires : goal.positions_of-requires
 positions_of-requires c =
