@@ -157,7 +157,7 @@ impl Answer {
 
     /// This answer, and the sentences that explain it.
     pub fn with_reasons(self, reasons: &str) -> Result<Answer, AllocError>
-        ensures { IfOk result (GainsReasons self.entry reasons.now) }
+        ensures { IfOk result (GainsReasons self reasons.now) }
     {
         let Answer { mut text, status } = self;
         text.push_str(reasons)?;

@@ -25,15 +25,3 @@ returns-in-Ok g c =
     (judged j shape judges prints.status_is prints.text_is) gains)
     c.with_reasons-in-Ok.ensures
 
-pub returns-in-Err : goal.returns-in-Err
-unfolding zeros
-returns-in-Err g c =
-    let run : List ℕ → LoggedRun = λ initial. record { log = c.args.log; witness = c.args.witness; initial = initial } in
-    let over : c.zeros-initial.result ≡ zeros c.args.pages = search rules in
-    let told = c.in_ok-answer-in-Err.ensures in
-    IfOk-weaker c.with_reasons-in-Err.result _ _
-    (λ answer gains. explains_run (run_over c.args.pages c.args.log c.args.witness) c.in_ok-answer-in-Err.answer answer c.as_str-in-Err.result.now
-    (misshapen c.in-Err.misshapen.fault
-    (subst (λ m. IsFirst shape_rank (Misshapes (run m)) c.in-Err.misshapen.fault) over (c.in-Err.ensures.fault told.0))
-    told.1.status_is told.1.text_is) gains)
-    c.with_reasons-in-Err.ensures
