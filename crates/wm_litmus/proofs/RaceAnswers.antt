@@ -32,3 +32,10 @@ reports_own run sites races threads events answer own report of_threads of_event
   lists = subst (λ n. ListsRaces pair_text n (event_count run.log) races answer.status (string_bytes answer.text)) of_threads
   (subst (λ n. ListsRaces pair_text threads n races answer.status (string_bytes answer.text)) of_events lists);
 }
+
+-- the status of a broken run, or of a refused one, isn't that of an allowed one
+pub one_not_zero : (status : ℕ) → status ≡ 1 → status ≡ 0 → ⊥
+one_not_zero status one none = let both : 1 ≡ 0 = sym one ∙ none in absurd cc
+
+pub two_not_zero : (status : ℕ) → status ≡ 2 → status ≡ 0 → ⊥
+two_not_zero status two none = let both : 2 ≡ 0 = sym two ∙ none in absurd cc

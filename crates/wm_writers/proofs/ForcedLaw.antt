@@ -149,11 +149,10 @@ module _ (run : LoggedRun) (shape : IsWellShaped run) (witness : Witness) (other
         let rest : map ends_of cs ≡ q ∷ [] = cc in
         let hb : HappensBefore (execution other) c.from c.to =
         links_kept c.from c.links c.to (all-head (λ (c : FaultChain). IsShortestChain (execution run) c.from c.links c.to) c cs are)
-        (all-first (IsForced run) (step_needs c.from c.links) (flat_map (λ (c : FaultChain). step_needs c.from c.links) cs) forced) in
-        (
+        (all-first (IsForced run) (step_needs c.from c.links) (flat_map (λ (c : FaultChain). step_needs c.from c.links) cs) forced) in (
           subst (λ (p : Premise). HappensBefore (execution other) p.from p.to) first hb,
           one_kept q cs (all-tail (λ (c : FaultChain). IsShortestChain (execution run) c.from c.links c.to) c cs are) rest
-          (all-second (IsForced run) (step_needs c.from c.links) (flat_map (λ (c : FaultChain). step_needs c.from c.links) cs) forced),
+              (all-second (IsForced run) (step_needs c.from c.links) (flat_map (λ (c : FaultChain). step_needs c.from c.links) cs) forced),
         )
 
     coherence_stays : (e : Event) (o : Option EventId) (chains : List FaultChain) → event_in run.log f.event ≡ Some e → BreaksCoherence (execution run) f.event e f.byte f.writer f.case o

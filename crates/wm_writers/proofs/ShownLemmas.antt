@@ -27,7 +27,6 @@ when-ok P Q follows (Ok a) h = follows a h
 when-ok P Q follows (Err e) h = tt
 
 module _ (x : Execution) where
-
   coherence_holds : (f : RuleFault) (e : Event) (c : ℕ) (o : Option EventId) → BreaksCoherence x f.event e f.byte f.writer c o → Hold x (coherence_premises f o)
   coherence_holds f e c None (reads_future is none before) =
       All-cons (λ (p : Premise). HappensBefore x p.from p.to) (record { from = At f.event; to = f.writer }) [] before (all-none (λ (p : Premise). HappensBefore x p.from p.to))

@@ -20,8 +20,20 @@ returns-in-Ok g c =
     let judges : Judges (execution (run (zeros c.args.pages))) j =
     subst (λ m. Judges (execution (run m)) j) over (subst (λ r. Judges (execution r) j) same c.in_ok-judgement-in-Ok.ensures.judged) in
     let prints = c.in_ok-answer-in-Ok.ensures in
-    IfOk-weaker c.with_reasons-in-Ok.result _ _
-    (λ answer gains. explains_run (run_over c.args.pages c.args.log c.args.witness) c.in_ok-answer-in-Ok.answer answer c.as_str-in-Ok.result.now
+    IfOk-weaker c.with_reasons.result _ _
+    (λ answer gains. explains_run (run_over c.args.pages c.args.log c.args.witness) c.in_ok-answer-in-Ok.answer answer c.as_str.result.now
     (judged j shape judges prints.status_is prints.text_is) gains)
-    c.with_reasons-in-Ok.ensures
+    c.with_reasons.ensures
 
+pub returns : goal.returns
+unfolding zeros
+returns g c =
+    let run : List ℕ → LoggedRun = λ initial. record { log = c.args.log; witness = c.args.witness; initial = initial } in
+    let over : c.zeros-initial.result ≡ zeros c.args.pages = search rules in
+    let told = c.in_ok-answer-in-Err.ensures in
+    IfOk-weaker c.with_reasons-in-Err.result _ _
+    (λ answer gains. explains_run (run_over c.args.pages c.args.log c.args.witness) c.in_ok-answer-in-Err.answer answer c.as_str-in-Err.result.now
+    (misshapen c.in-Err.misshapen.fault
+    (subst (λ m. IsFirst shape_rank (Misshapes (run m)) c.in-Err.misshapen.fault) over (c.in-Err.ensures.fault told.0))
+    told.1.status_is told.1.text_is) gains)
+    c.with_reasons-in-Err.ensures

@@ -9,8 +9,7 @@ use Rattle.wm_writers.proofs.source.are_forced.Goals as goal
 pub returns-then-not-has_forced_byte : goal.returns-then-not-has_forced_byte
 returns-then-not-has_forced_byte c =
     let i = c.loop-source.source-index in
-    let inside : i < length c.args.sources.now = omega arith in
-    (
+    let inside : i < length c.args.sources.now = omega arith in (
       λ t. absurd (let e : false ≡ true = t in cc),
       λ all. c.if-not-has_forced_byte.ensures.1 (subst HasForcedByte (sym c.source-item.is) (all i c.source-item.result inside)),
     )
