@@ -1,6 +1,13 @@
 -- What lists the races of a run answers what records it.
-use Rattle.std.proofs.Common.{◌≡◌, ℕ, List, [], ◌∷◌, length, map, refl, sym, ap, ap₂, subst, ◌∙◌, string_bytes}
+use Rattle.std.proofs.Common.{◌≡◌, ℕ, List, [], ◌∷◌, Option, Some, length, map, refl, sym, ap, ap₂, subst, ◌∙◌, arith, string_bytes}
+use Rattle.std.specs.Prelude.{IfSome}
 use Rattle.std.proofs.lemmas.List.{length-map}
+use Rattle.wm_check.specs.declared.verdict.Breach.{Breach}
+use Rattle.wm_check.specs.declared.verdict.Certificate.{Certificate}
+use Rattle.wm_check.specs.declared.verdict.Refusal.{Refusal}
+use Rattle.wm_check.specs.declared.verdict.Verdict.{Verdict}
+use Rattle.wm_check.specs.declared.verdict.Verdict.TheVariants.{Allowed, Refused, Broken}
+use Rattle.wm_check.specs.Reading.{IsCertified, IsCertifiedBy}
 use Rattle.wm_event.specs.declared.log.ThreadLog.{ThreadLog}
 use Rattle.wm_event.specs.LoggedRun.{LoggedRun, execution}
 use Rattle.wm_event.specs.Shape.{event_count, event_counts}
@@ -10,7 +17,7 @@ use Rattle.wm_races.specs.declared.site.SiteRace.{SiteRace}
 use Rattle.wm_races.specs.Report.{HasSites, IsRaceReport}
 use Rattle.wm_litmus.specs.declared.answer.Answer.{Answer}
 use Rattle.wm_litmus.specs.Prints.{Gives}
-use Rattle.wm_litmus.specs.Races.{AreOwnSites, ListsRaces, ReportsOwnRaces, own_site, pair_text}
+use Rattle.wm_litmus.specs.Races.{AreOwnSites, IsNotAllowed, ListsRaces, ReportsOwnRaces, own_site, pair_text}
 
 -- each event has a site of its own
 own_shape : (log : List ThreadLog) → map length (map (λ (thread : ThreadLog). map own_site thread.events) log) ≡ event_counts log
@@ -35,7 +42,21 @@ reports_own run sites races threads events answer own report of_threads of_event
 
 -- the status of a broken run, or of a refused one, isn't that of an allowed one
 pub one_not_zero : (status : ℕ) → status ≡ 1 → status ≡ 0 → ⊥
-one_not_zero status one none = let both : 1 ≡ 0 = sym one ∙ none in absurd cc
+one_not_zero status one none = absurd (omega (arith, one, none))
 
 pub two_not_zero : (status : ℕ) → status ≡ 2 → status ≡ 0 → ⊥
-two_not_zero status two none = let both : 2 ≡ 0 = sym two ∙ none in absurd cc
+two_not_zero status two none = absurd (omega (arith, two, none))
+
+-- what is said of a candidate that is there, and of an allowed one
+pub said_of_some : (o : Option LoggedRun) (run : LoggedRun) (P : LoggedRun → Type 0) → o ≡ Some run → IfSome o P → P run
+said_of_some o run P is said = subst (λ (x : Option LoggedRun). IfSome x P) is said
+
+pub certified_by : (v : Verdict) (certificate : Certificate) (run : LoggedRun) → v ≡ Allowed certificate → IsCertified run v → IsCertifiedBy run certificate
+certified_by v certificate run is certified = subst (IsCertified run) is certified
+
+-- a verdict of a kind isn't an allowed one
+pub refused_not_allowed : (v : Verdict) (refusal : Refusal) → v ≡ Refused refusal → IsNotAllowed v
+refused_not_allowed v refusal is = subst IsNotAllowed (sym is) tt
+
+pub broken_not_allowed : (v : Verdict) (breach : Breach) → v ≡ Broken breach → IsNotAllowed v
+broken_not_allowed v breach is = subst IsNotAllowed (sym is) tt

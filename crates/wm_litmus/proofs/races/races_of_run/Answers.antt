@@ -41,4 +41,15 @@ returns-in-Valid g c =
 
 pub returns : goal.returns
 unfolding zeros
-returns g c = ?
+returns g c =
+    let run : List ℕ → LoggedRun = λ initial. record { log = c.args.log; witness = c.args.witness; initial = initial } in
+    let over : c.zeros-initial.result ≡ zeros c.args.pages = search rules in
+    let same : c.in-Ok.candidate ≡ run c.zeros-initial.result = search rules in
+    let shape : IsWellShaped (run (zeros c.args.pages)) = subst (λ m. IsWellShaped (run m)) over c.in-Ok.ensures.shape in
+    let broken = Broken c.in-Broken.fault in
+    let judges : Judges (execution (run (zeros c.args.pages))) broken =
+    subst (λ m. Judges (execution (run m)) broken) over
+    (subst (λ r. Judges (execution r) broken) same (rw c.in-Broken.is at c.in_ok-judge.ensures.judged)) in
+    IfOk-weaker c.judged.result _ _
+    (λ answer prints. told (one_not_zero answer.status prints.status_is) (judged broken shape judges prints.status_is prints.text_is))
+    c.judged.ensures
