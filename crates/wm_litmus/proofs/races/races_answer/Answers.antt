@@ -1,5 +1,4 @@
 use Rattle.std.proofs.lemmas.Result.{IfOk-weaker}
-use Rattle.std.proofs.Common.{tt}
 use Rattle.wm_check.specs.declared.verdict.Verdict.TheVariants.{Refused}
 use Rattle.wm_litmus.specs.Races.AnswersRaces.{told}
 use Rattle.wm_litmus.proofs.Explaining.{refused_for}
