@@ -95,9 +95,9 @@ LOG = "examples/store-buffering.json"
 ALLOWED = "allowed threads=2 events=4"
 # Each command that reads a document, with that on standard input.
 OVER_DOCUMENTS = [
-    ["rules", "-"],
+    *([command, "-"] for command in ("rules", "explain", "graph", "races")),
     ["migrate", "-"],
-    *([command, MODULE, "-"] for command in ("check", "complete", "explain", "graph")),
+    *([command, MODULE, "-"] for command in ("check", "complete", "explain", "graph", "races")),
 ]
 
 

@@ -23,6 +23,7 @@ mod opcode_numbers;
 mod phrase;
 mod position;
 mod reasons;
+mod remedy;
 mod replay;
 mod row;
 mod rule;

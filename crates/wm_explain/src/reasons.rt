@@ -35,7 +35,7 @@ pub fn explain_refusal(
     }
 }
 
-/// Why a log and its witness are not a candidate over the initial memory of a module. Each line ends with a newline.
+/// Why a log and its witness are not a candidate over an initial memory of so many bytes. Each line ends with a newline.
 ///
 /// # Errors
 ///
@@ -43,9 +43,9 @@ pub fn explain_refusal(
 pub fn explain_shape(
     alloc: Global,
     misshapen: &Misshapen,
-    module: &ValidModule,
+    memory_bytes: usize,
 ) -> Result<String, AllocError> {
-    shape_reason(alloc, misshapen, module.initial().len())
+    shape_reason(alloc, misshapen, memory_bytes)
 }
 
 /// Why a check gave its verdict on a candidate over the initial memory of a module, in sentences and a table. `module_bytes`

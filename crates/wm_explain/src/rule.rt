@@ -1,5 +1,6 @@
 //! Why a memory rule is broken.
 
+use crate::remedy::add_remedy;
 use crate::row::EventTables;
 use std::alloc::{AllocError, Global};
 use std::fmt;
@@ -294,21 +295,8 @@ pub(crate) fn add_fault_events(
     tables.add(text, ids.as_slice())
 }
 
-/// What of the witness a rule depends on. V1, V3 and V4 don't depend on the order.
-fn remedy(fault: &RuleFault) -> &'static str {
-    match (fault.rule, fault.case) {
-        (Rule::Order, 1) => "With another order of the events, the same accesses may be allowed.",
-        (Rule::Order | Rule::SequentialConsistency, _) => {
-            "With another order of the events, or other writers, the same accesses may be allowed."
-        }
-        (Rule::WrittenValues | Rule::Coherence | Rule::NoTearing, _) => {
-            "This rule doesn't depend on the order of the events. With other writers, the same accesses may be allowed."
-        }
-    }
-}
-
-/// Why a run breaks a memory rule: the rule, the fault in a sentence, its events, and for each happens-before that it
-/// rests on a shortest chain.
+/// Why a run breaks a memory rule: the rule, the fault in a sentence, its events, for each happens-before that it rests on
+/// a shortest chain, and whether other writers or another order could mend it.
 ///
 /// # Errors
 ///
@@ -328,7 +316,6 @@ pub(crate) fn rule_reason(
     for chain in chains.as_slice() {
         add_chain(&mut text, chain)?;
     }
-    let remedy = remedy(fault);
-    writeln!(&mut text, "{remedy}")?;
+    add_remedy(alloc, &mut text, candidate, fault)?;
     Ok(text)
 }

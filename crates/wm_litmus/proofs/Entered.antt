@@ -11,7 +11,7 @@ use Rattle.clap.specs.declared.parser.matches.Found.{Found}
 use Rattle.clap.proofs.WalkLemmas.{first_value-rows}
 use Rattle.wm_litmus.specs.Commands.{Form, HasFields, IsNamed, LacksField, LacksFields, Means, absent_of, fields_of, forms, name_of}
 use Rattle.wm_litmus.specs.declared.command.Command.{Command}
-use Rattle.wm_litmus.specs.declared.command.Command.TheVariants.{Rules, Check, Migrate, Complete, Verify, Stream, Drive, Run, Races, EventRaces, Explain, Graph, Help, Version}
+use Rattle.wm_litmus.specs.declared.command.Command.TheVariants.{Rules, Check, Migrate, Complete, Verify, Stream, Drive, Run, Races, EventRaces, Explain, ExplainEvents, Graph, GraphEvents, Help, Version}
 
 -- the first parts of pairs
 first_parts : {X Y Z : Type 0} (f : X → Y) (g : X → Z) (o : Option X) → option_map f o ≡ option_map (λ (p : Y × Z). p.0) (option_map (λ x. (f x, g x)) o)
@@ -66,8 +66,10 @@ fields_begin (Drive m t) = ([], refl)
 fields_begin (Run m r) = ([], refl)
 fields_begin (Races m d) = (codes "document" ∷ [], refl)
 fields_begin (EventRaces d) = ([], refl)
-fields_begin (Explain m d) = ([], refl)
-fields_begin (Graph m d) = ([], refl)
+fields_begin (Explain m d) = (codes "document" ∷ [], refl)
+fields_begin (ExplainEvents d) = ([], refl)
+fields_begin (Graph m d) = (codes "document" ∷ [], refl)
+fields_begin (GraphEvents d) = ([], refl)
 fields_begin Help = ([], refl)
 fields_begin Version = ([], refl)
 

@@ -1,5 +1,6 @@
 pub mod Answering
 pub mod Entered
+pub mod EventExplaining
 pub mod Words
 pub mod Pieces
 pub mod OwnVerdicts
@@ -7,6 +8,7 @@ pub mod Counting
 pub mod Gathering
 pub mod Tabling
 pub mod Padding
+pub mod RaceAnswers
 pub mod RaceTexts
 pub mod Explaining
 pub mod Streaming

@@ -1,10 +1,11 @@
 -- The text of a list of races.
-use Rattle.std.proofs.Common.{◌≡◌, ℕ, List, [], ◌∷◌, ◌++◌, sym, ap, ◌∙◌, append_assoc}
+use Rattle.std.proofs.Common.{◌≡◌, ℕ, zero, suc, List, [], ◌∷◌, ◌++◌, codes, length, refl, sym, ap, ◌∙◌, append_assoc}
+use Rattle.std.specs.Fmt.{decimal}
 use Rattle.std.proofs.lemmas.List.{append-nil}
 use Rattle.std.proofs.lemmas.List.Concat.{flat_map-append}
 use Rattle.wm_races.specs.declared.site.SiteRace.{SiteRace}
 use Rattle.wm_litmus.specs.Prints.{ended}
-use Rattle.wm_litmus.specs.Races.{shown_text}
+use Rattle.wm_litmus.specs.Races.{ListsRaces, lines_text, more_text, no_races_text, shown_text}
 
 -- one race more, whose line was added
 pub line_added : (line : SiteRace → List ℕ) (races : List SiteRace) (race : SiteRace) (text row written : List ℕ) → text ≡ shown_text line races → row ≡ ended (line race)
@@ -14,3 +15,26 @@ line_added line races race text row written before is more =
     ∙ ap (λ t. t ++ row) before
     ∙ ap (λ l. shown_text line races ++ l) (is ∙ sym (append-nil (ended (line race))))
     ∙ sym (flat_map-append (λ (r : SiteRace). ended (line r)) races (race ∷ []))
+
+-- a line of parts, and its newline after the last one
+pub ended_4 : (a b c d : List ℕ) → ended (a ++ b ++ c ++ d) ≡ a ++ (b ++ (c ++ (d ++ 10 ∷ [])))
+ended_4 a b c d = simp append_assoc
+
+pub ended_8 : (a b c d e f g h : List ℕ) → ended ((a ++ b ++ c ++ d) ++ e ++ f ++ g ++ h) ≡ a ++ (b ++ (c ++ (d ++ (e ++ (f ++ (g ++ (h ++ 10 ∷ [])))))))
+ended_8 a b c d e f g h = simp append_assoc
+
+-- how many lines are left out, of some
+pub more_of : (n : ℕ) → (n ≡ 0 → ⊥) → more_text n ≡ codes "and " ++ (decimal n ++ (codes " more" ++ 10 ∷ []))
+more_of zero some = absurd (some refl)
+more_of (suc n) some = simp append_assoc
+
+-- what is printed of no race, and of some
+pub lists_none : (line : SiteRace → List ℕ) (threads events : ℕ) (races : List SiteRace) (text : List ℕ) → length races ≡ 0 → text ≡ ended (no_races_text threads events)
+    → ListsRaces line threads events races 0 text
+lists_none line threads events [] text none is = record { status_is = refl; text_is = is }
+lists_none line threads events (race ∷ races) text none is = absurd cc
+
+pub lists_some : (line : SiteRace → List ℕ) (threads events : ℕ) (races : List SiteRace) (text : List ℕ) → (length races ≡ 0 → ⊥) → text ≡ lines_text line races
+    → ListsRaces line threads events races 1 text
+lists_some line threads events [] text some is = absurd (some refl)
+lists_some line threads events (race ∷ races) text some is = record { status_is = refl; text_is = is }

@@ -97,9 +97,17 @@ explain_is_taken : fault_of wmlab_app explain ≡ []
 unfolding clap_on_literals explain
 explain_is_taken = refl
 
-explain_is_read : read explain ≡ Some (codes "explain", Some (codes "a.wasm"), Some (codes "-"))
-unfolding clap_on_literals read explain
+explain_is_read : read_log explain ≡ Some (codes "explain", Some (codes "a.wasm"), Some (codes "-"))
+unfolding clap_on_literals read_log explain
 explain_is_read = refl
+
+explain_of_a_document_is_taken : fault_of wmlab_app (codes "explain" ∷ codes "-" ∷ []) ≡ []
+unfolding clap_on_literals
+explain_of_a_document_is_taken = refl
+
+graph_of_a_document_is_taken : fault_of wmlab_app (codes "graph" ∷ codes "-" ∷ []) ≡ []
+unfolding clap_on_literals
+graph_of_a_document_is_taken = refl
 
 graph_is_taken : fault_of wmlab_app (codes "graph" ∷ codes "a.wasm" ∷ codes "-" ∷ []) ≡ []
 unfolding clap_on_literals

@@ -12,8 +12,8 @@ help_lines =
     ∷ []
     ∷ codes "COMMANDS"
     ∷ codes "    check MODULE DOC              check a log against its module and the memory rules"
-    ∷ codes "    explain MODULE DOC            check a log, and explain the answer in sentences"
-    ∷ codes "    graph MODULE DOC              draw a log for Graphviz, with the first violation in red"
+    ∷ codes "    explain [MODULE] DOC          check a log, and explain the answer in sentences"
+    ∷ codes "    graph [MODULE] DOC            draw a log for Graphviz, with the first violation in red"
     ∷ codes "    races [MODULE] DOC            list the data races of an allowed log"
     ∷ codes "    rules DOC                     judge a log by the memory rules alone, over 16 pages of zeros"
     ∷ codes "    complete MODULE DOC           print a log with the steps and ends that its module gives it"

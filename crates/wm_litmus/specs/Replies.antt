@@ -18,9 +18,10 @@ use Rattle.wm_logfile.specs.Migration.{IsMigrated, IsMisplaced}
 use Rattle.wm_replay.specs.declared.answer.ReplayAnswer.{ReplayAnswer}
 use Rattle.clap.specs.Words.{Text}
 use Rattle.wm_litmus.specs.declared.answer.Answer.{Answer}
-use Rattle.wm_litmus.specs.declared.command.Command.TheVariants.{Rules, Check, Migrate, Complete, Verify, Stream, Drive, Run, Races, EventRaces, Explain, Graph, Help, Version}
+use Rattle.wm_litmus.specs.declared.command.Command.TheVariants.{Rules, Check, Migrate, Complete, Verify, Stream, Drive, Run, Races, EventRaces, Explain, ExplainEvents, Graph, GraphEvents, Help, Version}
 use Rattle.wm_litmus.specs.Commands.{IsCommand, IsNoCommand}
 use Rattle.wm_litmus.specs.Drive.{IsScriptAnswer}
+use Rattle.wm_litmus.specs.EventExplanation.{AnswersEventExplain, AnswersEventGraph}
 use Rattle.wm_litmus.specs.Explanation.{AnswersExplain, AnswersGraph}
 use Rattle.wm_litmus.specs.Help.{help_text, version_text}
 use Rattle.wm_litmus.specs.Races.{AnswersEventRaces, AnswersRaces}
@@ -118,10 +119,16 @@ pub data IsAnswer (given : Given) (status : ℕ) (text : List ℕ) : Type 0 wher
       → IsReadOf (given.files file.now) max_module_bytes module_bytes
       → IsDocumentRead given.files given.input document.now bytes
       → AnswersExplain module_bytes bytes status text → IsAnswer given status text
+  explain_events_of : (document : Bor Text) (bytes : List ℕ) → IsCommand given.words (ExplainEvents document)
+      → IsDocumentRead given.files given.input document.now bytes
+      → AnswersEventExplain bytes status text → IsAnswer given status text
   graph_of : (file document : Bor Text) (module_bytes bytes : List ℕ) → IsCommand given.words (Graph file document)
       → IsReadOf (given.files file.now) max_module_bytes module_bytes
       → IsDocumentRead given.files given.input document.now bytes
       → AnswersGraph module_bytes bytes status text → IsAnswer given status text
+  graph_events_of : (document : Bor Text) (bytes : List ℕ) → IsCommand given.words (GraphEvents document)
+      → IsDocumentRead given.files given.input document.now bytes
+      → AnswersEventGraph bytes status text → IsAnswer given status text
   help_of : IsCommand given.words Help → status ≡ 0 → text ≡ help_text → IsAnswer given status text
   version_of : IsCommand given.words Version → status ≡ 0 → text ≡ version_text → IsAnswer given status text
 

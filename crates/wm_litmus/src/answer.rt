@@ -1,6 +1,7 @@
 //! What a command answers.
 ghost use Rattle.std.specs.Prelude.{◌≡◌, ◌≢◌, IfOk, string_bytes};
 ghost use Rattle.wm_litmus.specs.Drive.{PrintsRun};
+ghost use Rattle.wm_litmus.specs.EventExplanation.{GainsReasons};
 ghost use Rattle.wm_litmus.specs.Explanation.{PrintsReasons};
 ghost use Rattle.wm_litmus.specs.Lines.{document_line_text, judgement_status, judgement_text, run_fault_line_text, shape_line_text, verdict_status, verdict_text, word_line_text, words_line_text};
 ghost use Rattle.wm_litmus.specs.Prints.{Prints};
@@ -151,6 +152,15 @@ impl Answer {
         let line = verdict_line(alloc, verdict)?;
         let text = format!(in alloc; "{line}\n{reasons}")?;
         let status = verdict_status_of(verdict);
+        Ok(Answer { text, status })
+    }
+
+    /// This answer, and the sentences that explain it.
+    pub fn with_reasons(self, reasons: &str) -> Result<Answer, AllocError>
+        ensures { IfOk result (GainsReasons self reasons.now) }
+    {
+        let Answer { mut text, status } = self;
+        text.push_str(reasons)?;
         Ok(Answer { text, status })
     }
 

@@ -32,10 +32,14 @@ pub enum Command<'a> {
     Races { module: &'a str, document: &'a str },
     /// Judges a run by the memory rules, and lists its data races by the events.
     EventRaces { document: &'a str },
-    /// Checks a run, and says why the answer is what it is.
+    /// Checks a run against a module, and says why the answer is what it is.
     Explain { module: &'a str, document: &'a str },
-    /// Checks a run, and draws it.
+    /// Judges a run by the memory rules, and says why the answer is what it is.
+    ExplainEvents { document: &'a str },
+    /// Checks a run against a module, and draws it.
     Graph { module: &'a str, document: &'a str },
+    /// Judges a run by the memory rules, and draws it.
+    GraphEvents { document: &'a str },
     /// Prints how the program is used.
     Help,
     /// Prints the version.
@@ -219,8 +223,8 @@ fn with_commands<'a>(alloc: Global, parser: Parser<'a>) -> Result<Parser<'a>, Al
     let parser = with_started(alloc, parser, "drive", "turns")?;
     let parser = with_started(alloc, parser, "run", "rounds")?;
     let parser = with_log(alloc, parser, "races")?;
-    let parser = with_checked(alloc, parser, "explain")?;
-    let parser = with_checked(alloc, parser, "graph")?;
+    let parser = with_log(alloc, parser, "explain")?;
+    let parser = with_log(alloc, parser, "graph")?;
     let parser = with_plain(alloc, parser, "help")?;
     with_plain(alloc, parser, "version")
 }
@@ -305,12 +309,24 @@ fn command_of<'a>(name: &str, words: &ArgMatches<'a>) -> Option<Command<'a>>
             }
         }
         "explain" => {
-            let (module, document) = two_words(words, "module", "document")?;
-            Some(Command::Explain { module, document })
+            let file = one_word(words, "file")?;
+            match one_word(words, "document") {
+                Some(document) => Some(Command::Explain {
+                    module: file,
+                    document,
+                }),
+                None => Some(Command::ExplainEvents { document: file }),
+            }
         }
         "graph" => {
-            let (module, document) = two_words(words, "module", "document")?;
-            Some(Command::Graph { module, document })
+            let file = one_word(words, "file")?;
+            match one_word(words, "document") {
+                Some(document) => Some(Command::Graph {
+                    module: file,
+                    document,
+                }),
+                None => Some(Command::GraphEvents { document: file }),
+            }
         }
         "help" => Some(Command::Help),
         "version" => Some(Command::Version),

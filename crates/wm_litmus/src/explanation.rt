@@ -23,7 +23,7 @@ fn reasons_of<R: AllocGlobal + Threads + Sync>(
 ) -> Result<String, AllocError> {
     match (&checked.candidate, &checked.misshapen, &checked.verdict) {
         (Some(candidate), _, verdict) => explain_run(rt, verdict, module, module_bytes, candidate),
-        (None, Some(misshapen), _) => explain_shape(rt.alloc(), misshapen, module),
+        (None, Some(misshapen), _) => explain_shape(rt.alloc(), misshapen, module.initial().len()),
         (None, None, Verdict::Refused(refusal)) => {
             explain_refusal(rt.alloc(), refusal, module_bytes, document_bytes)
         }

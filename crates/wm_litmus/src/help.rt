@@ -17,8 +17,8 @@ USAGE
 
 COMMANDS
     check MODULE DOC              check a log against its module and the memory rules
-    explain MODULE DOC            check a log, and explain the answer in sentences
-    graph MODULE DOC              draw a log for Graphviz, with the first violation in red
+    explain [MODULE] DOC          check a log, and explain the answer in sentences
+    graph [MODULE] DOC            draw a log for Graphviz, with the first violation in red
     races [MODULE] DOC            list the data races of an allowed log
     rules DOC                     judge a log by the memory rules alone, over 16 pages of zeros
     complete MODULE DOC           print a log with the steps and ends that its module gives it

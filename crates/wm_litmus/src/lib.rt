@@ -26,6 +26,7 @@ mod check;
 mod command;
 mod completion;
 mod drive;
+mod event_explanation;
 mod explanation;
 mod files;
 mod help;

@@ -15,6 +15,7 @@ use crate::check::check_answer;
 use crate::command::{Command, CommandFault, read_command};
 use crate::completion::completion_answer;
 use crate::drive::drive_answer;
+use crate::event_explanation::{explain_events_answer, graph_events_answer};
 use crate::explanation::{explain_answer, graph_answer};
 use crate::files::{FileFault, Files};
 use crate::help::{help_answer, version_answer};
@@ -278,9 +279,17 @@ fn reply_to<'a, R: AllocGlobal + Threads + Wait + Sync, F: Files, I: Read>(
             let read = read_run(rt, files, input, module, document)?;
             Ok(Reply::Answer(explain_answer(rt, read.0.as_slice(), read.1.as_slice())?))
         }
+        Ok(Command::ExplainEvents { document }) => {
+            let bytes = read_document_bytes(rt, files, input, document)?;
+            Ok(Reply::Answer(explain_events_answer(rt, bytes.as_slice())?))
+        }
         Ok(Command::Graph { module, document }) => {
             let read = read_run(rt, files, input, module, document)?;
             Ok(Reply::Answer(graph_answer(rt, read.0.as_slice(), read.1.as_slice())?))
+        }
+        Ok(Command::GraphEvents { document }) => {
+            let bytes = read_document_bytes(rt, files, input, document)?;
+            Ok(Reply::Answer(graph_events_answer(rt, bytes.as_slice())?))
         }
         Ok(Command::Drive { module, turns }) => {
             let answer = script_of(rt, files, module, turns, starts)?;
@@ -320,7 +329,8 @@ fn report<E: Write>(err: &mut E, failure: Failure) -> u8
 /// `verify MODULE DOC` reads both, and prints the line of `check` for the completed document. `stream MODULE` reads the
 /// module, and then answers each line of `input` by the line of `verify` for it, in their order, as they come.
 /// `explain MODULE DOC` prints the line of `check`, and then explains it in sentences; `graph MODULE DOC` prints
-/// the execution for Graphviz, or the line of a refusal, each with the status of `check`.
+/// the execution for Graphviz, or the line of a refusal, each with the status of `check`. Without a module these two read a
+/// document as `rules` does, and explain or draw what `rules` judges.
 /// `drive MODULE TURNS START..` plays a script over a module, and prints the outcome, the verdict on what was logged, and
 /// its document. `run MODULE ROUNDS START..` lets the threads run at the same time, ROUNDS times over, checks each log,
 /// and prints how often each outcome came; it is the one command that may wait for other threads.

@@ -165,11 +165,16 @@ fn races_of_log<R: AllocGlobal + Threads + Sync>(
     ensures { IfOk result (RacesOver «module».now document_bytes.now) }
 {
     let checked = check_log(rt, module, document_bytes)?;
-    match (&checked.verdict, &checked.candidate) {
-        (Verdict::Allowed(certificate), Some(candidate)) => {
+    let verdict = &checked.verdict;
+    match verdict {
+        Verdict::Allowed(certificate) => {
+            let Some(candidate) = &checked.candidate else {
+                unreachable!()
+            };
             list_allowed(rt, module, module_bytes, *certificate, candidate)
         }
-        (verdict, _) => Answer::of_verdict(rt.alloc(), verdict),
+        Verdict::Refused(_) => Answer::of_verdict(rt.alloc(), verdict),
+        Verdict::Broken(_) => Answer::of_verdict(rt.alloc(), verdict),
     }
 }
 

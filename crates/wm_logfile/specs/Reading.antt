@@ -4,6 +4,7 @@ use Rattle.std.specs.Prelude.{◌==◌, ◌||◌, ℕ, suc, List, [], ◌∷◌,
 use Rattle.std.specs.Str.{bytes_eq}
 use Rattle.serde_json.specs.Data.{Data, Items, no_items, item}
 use Rattle.serde_json.specs.Find.{as_number, as_str, as_u64, as_array}
+use Rattle.serde_json.specs.View.{view}
 use Rattle.wm_access.specs.declared.AccessWidth.{AccessWidth}
 use Rattle.wm_access.specs.declared.AccessWidth.TheVariants.{One, Two, Four, Eight}
 use Rattle.wm_access.specs.MemoryOrder.{is_sequential}
@@ -24,6 +25,7 @@ use Rattle.wm_event.specs.declared.log.Start.{Start}
 use Rattle.wm_event.specs.declared.log.ThreadLog.{ThreadLog}
 use Rattle.wm_event.specs.declared.witness.Witness.{Witness}
 use Rattle.wm_event.specs.TrapText.{trap_text}
+use Rattle.wm_logfile.specs.declared.event.EventParts.{EventParts}
 use Rattle.wm_logfile.specs.declared.document.Version.{Version}
 use Rattle.wm_logfile.specs.declared.document.Version.TheVariants.{First, Second}
 use Rattle.wm_logfile.specs.declared.thread.ThreadHead.{ThreadHead}
@@ -108,6 +110,10 @@ abbrev pub event_from : ℕ → ℕ → EventKind → Data → Data → Data →
 event_from t n k order address width values =
     order_for k order >>= λ o. number_at u32_max address >>= λ a. width_at width >>= λ w. values_at k values >>= λ v.
     Some (record { thread = t; number = n; kind = k; order = o; address = a; width = w; read = v.0; written = v.1 })
+
+-- the same of the parts that a reader holds
+abbrev pub event_of : ℕ → ℕ → EventKind → EventParts → List Data → Option Event
+event_of t n k parts values = event_from t n k (view parts.order.now) (view parts.address.now) (view parts.width.now) values
 
 unfoldable pub fields_at : ℕ → ℕ → List Data → Option Event
 fields_at t n (tag ∷ order ∷ address ∷ width ∷ values) =

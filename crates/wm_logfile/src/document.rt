@@ -4,10 +4,9 @@ ghost use Rattle.serde_json.specs.View.{view};
 ghost use Rattle.wm_event.specs.declared.log.ThreadLog.{ThreadLog};
 ghost use Rattle.wm_event.specs.declared.witness.Witness.{Witness};
 ghost use Rattle.wm_event.specs.Log.{IsLog};
-ghost use Rattle.serde_json.specs.Data.{Data};
-ghost use Rattle.wm_logfile.specs.Document.{IsDocument, Spells, IsWithinLimits, list};
+ghost use Rattle.wm_logfile.specs.Document.{Spells, IsWithinLimits, list};
 ghost use Rattle.wm_logfile.specs.Causes.{IsFaultOf, IsThreadsFault, IsVersionFault};
-ghost use Rattle.wm_logfile.specs.DocumentBytes.{IsNoDocument};
+ghost use Rattle.wm_logfile.specs.DocumentBytes.{IsNoDocument, IsOnlyPair, SpellsOnePair};
 ghost use Rattle.wm_logfile.specs.Faults.{Gives, DocGives};
 ghost use Rattle.wm_logfile.specs.Limits.{max_document_bytes};
 ghost use Rattle.wm_logfile.specs.Reading.{few_at, name_at, pair_1_at, pair_2_at, version_at, parts_from, document_at};
@@ -155,8 +154,7 @@ pub fn read_document(alloc: Global, bytes: &[u8]) -> Result<(Log, Witness), DocF
         × IsWithinLimits p.0 p.1) }
 
     // Within the limits no other pair is spelled so.
-    ensures only { IfOk result (λ p. (log : List ThreadLog) → (w : Witness) → IsLog log
-        → IsWithinLimits log w → Spells bytes.now log w → (log ≡ p.0) × (w ≡ p.1)) }
+    ensures only { IfOk result (λ p. IsOnlyPair bytes.now p.0 p.1) }
 
     // Only what is spelled so by no pair within the limits is refused, with its fault, or for want of memory.
     ensures refused { IfErr result (λ e. e ≢ DocFault.OutOfMemory → IsNoDocument bytes.now e) }
@@ -179,7 +177,5 @@ pub fn read_document(alloc: Global, bytes: &[u8]) -> Result<(Log, Witness), DocF
 
 /// A value spells at most one log with a witness, whatever the version and the limits.
 pub fn one_pair()
-    ensures { (d : Data) → (log : List ThreadLog) → (other : List ThreadLog) → (v : Witness)
-        → (w : Witness) → IsLog log → IsLog other → IsDocument d log v → IsDocument d other w
-        → (log ≡ other) × (v ≡ w) }
+    ensures { SpellsOnePair }
 {}

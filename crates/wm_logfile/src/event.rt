@@ -2,7 +2,7 @@
 ghost use Rattle.std.specs.Prelude.{◌≡◌, map};
 ghost use Rattle.serde_json.specs.View.{view};
 ghost use Rattle.wm_logfile.specs.Faults.{Gives};
-ghost use Rattle.wm_logfile.specs.Reading.{event_at, event_by_at, event_from, fields_at, fields_by_at, by_from, values_at, order_for, values_len, values_by_len, number_event_at, number_event_by_at};
+ghost use Rattle.wm_logfile.specs.Reading.{event_at, event_by_at, event_of, fields_at, fields_by_at, by_from, values_at, order_for, values_len, values_by_len, number_event_at, number_event_by_at};
 
 use crate::fault::ReadFault;
 use crate::fields::{kind_of, list_of, number_of, order_of, width_of};
@@ -75,8 +75,7 @@ fn event_of_parts(
     number: u32,
     path: &Path,
 ) -> Result<Event, ReadFault>
-    ensures { Gives (λ e. e) result (event_from thread number kind (view parts.now.order.now)
-        (view parts.now.address.now) (view parts.now.width.now) (map view values.now)) }
+    ensures { Gives (λ e. e) result (event_of thread number kind parts.now (map view values.now)) }
 {
     let order = order_for(kind, parts.order, &path.child(1))?;
     let address = number_of(parts.address, u32::MAX as u64, &path.child(2))? as u32;

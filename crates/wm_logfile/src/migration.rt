@@ -1,10 +1,8 @@
 //! Documents of either version as documents of version 2, and read again.
-ghost use Rattle.std.specs.Prelude.{◌≡◌, ◌≢◌, ◌<◌, IfErr, IfOk, length, string_bytes};
-ghost use Rattle.serde_json.specs.Written.{compact_text};
+ghost use Rattle.std.specs.Prelude.{◌≡◌, ◌≢◌, ◌<◌, IfErr, IfOk, string_bytes};
 ghost use Rattle.wm_event.specs.Fitting.{FitsLog};
-ghost use Rattle.wm_logfile.specs.Document.{IsWithinLimits, document_2};
-ghost use Rattle.wm_logfile.specs.DocumentBytes.{IsNoDocument};
-ghost use Rattle.wm_logfile.specs.Limits.{max_document_bytes};
+ghost use Rattle.wm_logfile.specs.Document.{IsWithinLimits};
+ghost use Rattle.wm_logfile.specs.DocumentBytes.{IsNoDocument, IsWrittenTooLarge};
 ghost use Rattle.wm_logfile.specs.Migration.{IsMigrated, IsMisplaced};
 
 use crate::document::read_document;
@@ -43,8 +41,7 @@ pub fn write_and_read(
     requires fits { FitsLog log.now witness.now }
     requires limits { IsWithinLimits log.now witness.now }
     ensures same { IfOk result (λ p. (p.0 ≡ log.now) × (p.1 ≡ witness.now)) }
-    ensures refused { IfErr result (λ e. e ≢ DocFault.OutOfMemory
-        → max_document_bytes < length (compact_text (document_2 log.now witness.now))) }
+    ensures refused { IfErr result (IsWrittenTooLarge log.now witness.now) }
 {
     let text = write_document(alloc, log, witness)?;
     read_document(alloc, text.as_bytes())

@@ -1,5 +1,5 @@
 //! The writer of a document, which writes version 2.
-ghost use Rattle.std.specs.Prelude.{◌≡◌, ◌≤◌, ◌∷◌, [], codes, map, IfOk, OnOk, length, string_bytes};
+ghost use Rattle.std.specs.Prelude.{◌≡◌, ◌∷◌, [], codes, map, IfOk, OnOk, string_bytes};
 ghost use Rattle.json.specs.Lex.{tokens};
 ghost use Rattle.json.specs.Print.{print};
 ghost use Rattle.serde_json.specs.Data.{Data, string};
@@ -7,9 +7,8 @@ ghost use Rattle.serde_json.specs.Written.{compact_text};
 ghost use Rattle.wm_event.specs.Event.{key_of};
 ghost use Rattle.wm_event.specs.Fitting.{FitsLog};
 ghost use Rattle.wm_event.specs.Witness.{writers_in};
-ghost use Rattle.wm_logfile.specs.Document.{by_cells, count, document_2, end, event_by, event_key, key_cells, list, thread_by, values, writer, IsWithinLimits};
-ghost use Rattle.wm_logfile.specs.DocumentBytes.{IsDocumentOf};
-ghost use Rattle.wm_logfile.specs.Limits.{max_document_bytes};
+ghost use Rattle.wm_logfile.specs.Document.{by_cells, count, document_2, end, event_by, event_key, key_cells, list, thread_by, values, writer};
+ghost use Rattle.wm_logfile.specs.DocumentBytes.{IsReadAgain};
 ghost use Rattle.wm_logfile.specs.Tokens.{Adds, cells_tokens, tokens_of};
 
 use crate::words::{word_of_kind, word_of_order, word_of_trap};
@@ -233,8 +232,7 @@ pub fn write_document(alloc: Global, log: &Log, witness: &Witness) -> Result<Str
     ensures text { IfOk result (λ s. string_bytes s ≡ compact_text (document_2 log.now witness.now)) }
 
     // Within the limits it is read again as the same pair.
-    ensures again { IfOk result (λ s. length (string_bytes s) ≤ max_document_bytes
-        → IsWithinLimits log.now witness.now → IsDocumentOf (string_bytes s) log.now witness.now) }
+    ensures again { IfOk result (λ s. IsReadAgain log.now witness.now (string_bytes s)) }
 {
     let mut out = Writer::new(Vec::new(alloc));
     write_whole(log.threads(), witness, &mut out)?;

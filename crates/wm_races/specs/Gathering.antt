@@ -1,8 +1,9 @@
 -- A report while pairs are added to it.
 use Rattle.std.specs.Prelude.{◌≡◌, ℕ, ◌+◌, List, [], ◌∷◌, ◌++◌, Some, map, slice_get, slice_set}
-use Rattle.wm_races.specs.Report.{line_sites}
+use Rattle.wm_races.specs.Report.{IsReport, line_sites}
 use Rattle.wm_races.specs.declared.pair.RacingPair.{RacingPair}
 use Rattle.wm_races.specs.declared.report.Report.{Report}
+use Rattle.wm_races.specs.declared.site.Site.{Site}
 use Rattle.wm_races.specs.declared.site.SitePair.{SitePair}
 use Rattle.wm_races.specs.declared.site.SiteRace.{SiteRace}
 
@@ -16,6 +17,10 @@ IsGathered report = report.index.keys ≡ map line_sites report.lines
 -- that line is of these sites
 abbrev pub HasSitesOf : List SiteRace → ℕ → SitePair → Type 0
 HasSitesOf lines n sites = (r : SiteRace) × (slice_get lines n ≡ Some r) × (line_sites r ≡ sites)
+
+-- what reports some pairs reports these too afterwards
+abbrev pub ReportsMore : List (List Site) → List RacingPair → List SiteRace → List SiteRace → Type 0
+ReportsMore sites pairs old new = (earlier : List RacingPair) → IsReport sites earlier old → IsReport sites (earlier ++ pairs) new
 
 -- a line that counts one more pair
 abbrev pub one_more : SiteRace → SiteRace

@@ -1,10 +1,10 @@
 -- What a part of the scan lists.
-use Rattle.std.specs.Prelude.{◌≡◌, ◌≢◌, ◌⊎◌, false, ℕ, ◌+◌, ◌*◌, ◌<◌, ◌≤◌, List, Option, None, Some, MatchOption, length, slice_get}
+use Rattle.std.specs.Prelude.{◌≡◌, ◌≢◌, ◌⊎◌, ◌↔◌, false, Bool, IsTrue, ℕ, ◌+◌, ◌*◌, ◌<◌, ◌≤◌, List, Option, None, Some, MatchOption, length, slice_get}
 use Rattle.wm_event.specs.declared.event.Event.{Event}
 use Rattle.wm_event.specs.declared.event.EventKey.{EventKey}
 use Rattle.wm_event.specs.Event.{writes}
 use Rattle.wm_event.specs.LoggedRun.{LoggedRun, execution}
-use Rattle.wm_races.specs.Races.{ComesBefore, IsIn, IsRacingPair, first_common}
+use Rattle.wm_races.specs.Races.{ComesBefore, IsIn, IsRacingPair, IsUnordered, first_common}
 use Rattle.wm_races.specs.declared.pair.RacingPair.{RacingPair}
 
 -- the racing pairs of which P holds, each once, in their order
@@ -27,6 +27,11 @@ IsKeyAt order place result = MatchOption result (slice_get order place ≡ None)
 -- the two places differ, and the event only reads or stands later than the write
 abbrev pub IsNamed : Event → ℕ → ℕ → Type 0
 IsNamed e place other = (other ≢ place) × ((writes e ≡ false) ⊎ (other < place))
+
+-- whether neither of the events at two places happens before the other
+abbrev pub TellsUnordered : LoggedRun → ℕ → ℕ → Bool → Type 0
+TellsUnordered run place other result = (a b : EventKey) → slice_get run.witness.order place ≡ Some a → slice_get run.witness.order other ≡ Some b
+    → IsTrue result ↔ IsUnordered (execution run) a b
 
 -- a racing pair of the events at these two places, whose first common byte this is
 abbrev pub IsPairAt : LoggedRun → ℕ → ℕ → ℕ → RacingPair → Type 0

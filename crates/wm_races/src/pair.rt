@@ -5,8 +5,8 @@ ghost use Rattle.wm_event.specs.LoggedRun.{execution};
 ghost use Rattle.wm_event.specs.Writes.{writes_byte};
 ghost use Rattle.wm_event.specs.declared.event.EventKey.{EventKey};
 ghost use Rattle.wm_hb.specs.Scan.{IsEventOf};
-ghost use Rattle.wm_races.specs.Races.{Accesses, IsUnordered, IsWeak};
-ghost use Rattle.wm_races.specs.Listing.{FindsPair, IsKeyAt, IsListAt, IsNamed};
+ghost use Rattle.wm_races.specs.Races.{Accesses, IsWeak};
+ghost use Rattle.wm_races.specs.Listing.{FindsPair, IsKeyAt, IsListAt, IsNamed, TellsUnordered};
 
 use std::alloc::{AllocError, Global};
 use wm_event::{Candidate, Event, EventId, EventKey};
@@ -38,8 +38,7 @@ fn is_named(event: &Event, place: usize, other: usize) -> bool
 
 /// Whether neither of the events at two places of the order happens before the other.
 fn is_unordered(before: &HappensBefore, place: usize, other: usize) -> bool
-    ensures { (a b : EventKey) → slice_get before.now.witness.order place ≡ Some a → slice_get before.now.witness.order other ≡ Some b
-        → IsTrue result ↔ IsUnordered (execution before.now) a b }
+    ensures { TellsUnordered before.now place other result }
 {
     !before.before_at(place, other) && !before.before_at(other, place)
 }

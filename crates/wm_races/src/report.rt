@@ -1,7 +1,7 @@
 //! Racing pairs, gathered by the sites of their events.
-ghost use Rattle.std.specs.Prelude.{◌≡◌, ◌+◌, ◌<◌, ◌≤◌, ◌^◌, ◌-◌, ◌++◌, [], List, OnOk, IsTrue, length, sum_by};
-ghost use Rattle.wm_races.specs.Gathering.{AddsPair, CountsIn, HasSitesOf, IsGathered, count_of};
-ghost use Rattle.wm_races.specs.Report.{HasPairSites, IsReport};
+ghost use Rattle.std.specs.Prelude.{◌≡◌, ◌+◌, ◌<◌, ◌^◌, ◌-◌, [], List, OnOk, IsTrue, length, sum_by};
+ghost use Rattle.wm_races.specs.Gathering.{AddsPair, CountsIn, HasSitesOf, IsGathered, ReportsMore, count_of};
+ghost use Rattle.wm_races.specs.Report.{HasPairSites};
 ghost use Rattle.wm_races.specs.declared.pair.RacingPair.{RacingPair};
 
 use crate::pair::RacingPair;
@@ -99,8 +99,7 @@ impl Report {
         requires room { sum_by count_of self.old.lines + length pairs.now < 2 ^ 64 }
         requires sites { HasPairSites sites.now pairs.now }
         ensures gathered { OnOk result (IsGathered self.new) }
-        ensures report { OnOk result ((earlier : List RacingPair) → IsReport sites.now earlier self.old.lines
-            → IsReport sites.now (earlier ++ pairs.now) self.new.lines) }
+        ensures report { OnOk result (ReportsMore sites.now pairs.now self.old.lines self.new.lines) }
         ensures total { OnOk result (sum_by count_of self.new.lines ≡ sum_by count_of self.old.lines + length pairs.now) }
     {
         for pair in pairs {

@@ -32,6 +32,10 @@ pub record IsDrainOver (initial : List ℕ) (threads : ℕ) (item : HistoryStep)
   pub is : IsLocked initial threads new
   pub left : MatchBool drained (Adds (item ∷ []) old new) ((new ≡ old) × CannotLeave t k old.memory)
 
+-- the same of the store with k older ones
+abbrev pub IsDrainAtOver : List ℕ → ℕ → ℕ → ℕ → Recording → Bool → Recording → Type 0
+IsDrainAtOver initial threads t k old drained new = IsDrainOver initial threads (DrainAt t k) t k old drained new
+
 -- a recorder over this Init, of so many threads, made this one access
 abbrev pub MadeOnce : List ℕ → ℕ → ℕ → Op → Result Reply AccessFault → Type 0
 MadeOnce initial threads t op answer = (old new : Recording) × IsAccessOver initial threads t op old answer new
@@ -41,4 +45,4 @@ abbrev pub DrainedOnce : List ℕ → ℕ → ℕ → Bool → Type 0
 DrainedOnce initial threads t drained = (old new : Recording) × IsDrainOver initial threads (Drain t) t 0 old drained new
 
 abbrev pub DrainedAtOnce : List ℕ → ℕ → ℕ → ℕ → Bool → Type 0
-DrainedAtOnce initial threads t k drained = (old new : Recording) × IsDrainOver initial threads (DrainAt t k) t k old drained new
+DrainedAtOnce initial threads t k drained = (old new : Recording) × IsDrainAtOver initial threads t k old drained new

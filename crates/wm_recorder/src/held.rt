@@ -2,8 +2,8 @@
 ghost use Rattle.std.specs.Prelude.{◌≡◌, IfOk};
 ghost use Rattle.wm_event.specs.Op.{kind_finds};
 ghost use Rattle.wm_event.specs.Reply.{ReadAnswers};
-ghost use Rattle.wm_memory.specs.declared.history_step.HistoryStep.TheVariants.{Drain, DrainAt};
-ghost use Rattle.wm_recorder.specs.Locked.{IsAccessOver, IsDrainOver, IsOver};
+ghost use Rattle.wm_memory.specs.declared.history_step.HistoryStep.TheVariants.{Drain};
+ghost use Rattle.wm_recorder.specs.Locked.{IsAccessOver, IsDrainAtOver, IsDrainOver, IsOver};
 ghost use Rattle.wm_recorder.specs.Recorder.{initial_of, threads_of};
 
 use crate::{AccessFault, Over, Recorder};
@@ -67,8 +67,7 @@ impl<N: Over> Held<N> {
 
     /// One drain of the store with so many older ones, as [`Recorder::step_drain_at`] makes it.
     pub fn drain_at(&mut self, thread: u32, index: u32) -> Result<bool, AllocError>
-        ensures { IfOk result (λ drained.
-            IsDrainOver N.initial N.threads (DrainAt thread index) thread index self.old.recorder drained self.new.recorder) }
+        ensures { IfOk result (λ drained. IsDrainAtOver N.initial N.threads thread index self.old.recorder drained self.new.recorder) }
     {
         let Held { recorder, of: _ } = self;
         recorder.recorded_log_is_valid();

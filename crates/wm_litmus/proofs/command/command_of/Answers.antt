@@ -36,13 +36,13 @@ pub returns-in_err-module-in-run-clause-none : goal.returns-in_err-module-in-run
 returns-in_err-module-in-run-clause-none c = λ _.
     no_command c.args.name.now (rows_of (found_of c.args.words.now)) (codes "module" ∷ codes "rounds" ∷ []) (ap (required_in forms) c.in-run.is) (c.in_err-module-in-run.ensures.none refl)
 
-pub returns-in_err-module-in-explain-clause-none : goal.returns-in_err-module-in-explain-clause-none
-returns-in_err-module-in-explain-clause-none c = λ _.
-    no_command c.args.name.now (rows_of (found_of c.args.words.now)) (codes "module" ∷ codes "document" ∷ []) (ap (required_in forms) c.in-explain.is) (c.in_err-module-in-explain.ensures.none refl)
+pub returns-in_err-file-in-explain-clause-none : goal.returns-in_err-file-in-explain-clause-none
+returns-in_err-file-in-explain-clause-none c = λ _.
+    no_command c.args.name.now (rows_of (found_of c.args.words.now)) (codes "file" ∷ []) (ap (required_in forms) c.in-explain.is) (c.in_err-file-in-explain.ensures.none refl)
 
-pub returns-in_err-module-in-graph-clause-none : goal.returns-in_err-module-in-graph-clause-none
-returns-in_err-module-in-graph-clause-none c = λ _.
-    no_command c.args.name.now (rows_of (found_of c.args.words.now)) (codes "module" ∷ codes "document" ∷ []) (ap (required_in forms) c.in-graph.is) (c.in_err-module-in-graph.ensures.none refl)
+pub returns-in_err-file-in-graph-clause-none : goal.returns-in_err-file-in-graph-clause-none
+returns-in_err-file-in-graph-clause-none c = λ _.
+    no_command c.args.name.now (rows_of (found_of c.args.words.now)) (codes "file" ∷ []) (ap (required_in forms) c.in-graph.is) (c.in_err-file-in-graph.ensures.none refl)
 
 pub returns-in_err-file-in-races-clause-none : goal.returns-in_err-file-in-races-clause-none
 returns-in_err-file-in-races-clause-none c = λ _.

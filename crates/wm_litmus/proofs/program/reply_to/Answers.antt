@@ -1,12 +1,13 @@
 use Rattle.std.proofs.Common.{◌≡◌, subst, string_bytes}
 use Rattle.wm_litmus.specs.Drive.{IsScriptAnswer}
+use Rattle.wm_litmus.specs.EventExplanation.{AnswersEventExplain, AnswersEventGraph}
 use Rattle.wm_litmus.specs.Explanation.{AnswersExplain, AnswersGraph}
 use Rattle.wm_litmus.specs.Races.{AnswersEventRaces, AnswersRaces}
 use Rattle.wm_litmus.specs.Rounds.{IsRoundsAnswer}
 use Rattle.wm_litmus.specs.Stream.{AnswersVerify}
 use Rattle.wm_litmus.specs.Replies.{AnswersCheck, AnswersComplete, AnswersMigrate}
 use Rattle.wm_litmus.specs.Rules.{AnswersRules}
-use Rattle.wm_litmus.specs.Replies.IsAnswer.{check_of, complete_of, drive_of, event_races_of, explain_of, graph_of, help_of, migrate_of, no_command, races_of, rules_of, run_of, verify_of, version_of}
+use Rattle.wm_litmus.specs.Replies.IsAnswer.{check_of, complete_of, drive_of, event_races_of, explain_events_of, explain_of, graph_events_of, graph_of, help_of, migrate_of, no_command, races_of, rules_of, run_of, verify_of, version_of}
 use Rattle.wm_litmus.proofs.program.reply_to.Goals as goal
 
 pub returns-in_ok-rules_answer-in-Ok-Rules-clause-answers : goal.returns-in_ok-rules_answer-in-Ok-Rules-clause-answers
@@ -142,3 +143,19 @@ returns-in_ok-event_races_answer-in-Ok-EventRaces-clause-answers g c =
     let slice : c.as_slice-in-Ok-EventRaces.result.now ≡ read.bytes.items = c.as_slice-in-Ok-EventRaces.ensures.value in
     event_races_of c.in-Ok-EventRaces.document read.bytes.items (rw c.in-Ok-EventRaces.field-0-is at c.in-Ok-EventRaces.ensures.read) read.ensures.known
     (subst (λ bytes. AnswersEventRaces bytes answer.status (string_bytes answer.text)) slice c.in_ok-event_races_answer-in-Ok-EventRaces.ensures)
+
+pub returns-in_ok-explain_events_answer-in-Ok-ExplainEvents-clause-answers : goal.returns-in_ok-explain_events_answer-in-Ok-ExplainEvents-clause-answers
+returns-in_ok-explain_events_answer-in-Ok-ExplainEvents-clause-answers g c =
+    let answer = c.in_ok-explain_events_answer-in-Ok-ExplainEvents.field-0 in
+    let read = c.in_ok-bytes-in-Ok-ExplainEvents in
+    let slice : c.as_slice-in-Ok-ExplainEvents.result.now ≡ read.bytes.items = c.as_slice-in-Ok-ExplainEvents.ensures.value in
+    explain_events_of c.in-Ok-ExplainEvents.document read.bytes.items (rw c.in-Ok-ExplainEvents.field-0-is at c.in-Ok-ExplainEvents.ensures.read) read.ensures.known
+    (subst (λ bytes. AnswersEventExplain bytes answer.status (string_bytes answer.text)) slice c.in_ok-explain_events_answer-in-Ok-ExplainEvents.ensures)
+
+pub returns-in_ok-graph_events_answer-in-Ok-GraphEvents-clause-answers : goal.returns-in_ok-graph_events_answer-in-Ok-GraphEvents-clause-answers
+returns-in_ok-graph_events_answer-in-Ok-GraphEvents-clause-answers g c =
+    let answer = c.in_ok-graph_events_answer-in-Ok-GraphEvents.field-0 in
+    let read = c.in_ok-bytes-in-Ok-GraphEvents in
+    let slice : c.as_slice-in-Ok-GraphEvents.result.now ≡ read.bytes.items = c.as_slice-in-Ok-GraphEvents.ensures.value in
+    graph_events_of c.in-Ok-GraphEvents.document read.bytes.items (rw c.in-Ok-GraphEvents.field-0-is at c.in-Ok-GraphEvents.ensures.read) read.ensures.known
+    (subst (λ bytes. AnswersEventGraph bytes answer.status (string_bytes answer.text)) slice c.in_ok-graph_events_answer-in-Ok-GraphEvents.ensures)

@@ -1,0 +1,58 @@
+-- What the commands `explain` and `graph` answer to a document alone.
+use Rattle.std.specs.Prelude.{◌≡◌, ◌≢◌, ℕ, List, ◌++◌, string_bytes}
+use Rattle.wm_event.specs.declared.log.ThreadLog.{ThreadLog}
+use Rattle.wm_event.specs.declared.rule.Judgement.{Judgement}
+use Rattle.wm_event.specs.declared.witness.Witness.{Witness}
+use Rattle.wm_event.specs.Faults.{Judges}
+use Rattle.wm_event.specs.LoggedRun.{LoggedRun, execution}
+use Rattle.wm_event.specs.Shape.{IsWellShaped}
+use Rattle.wm_logfile.specs.declared.fault.DocFault.{DocFault}
+use Rattle.wm_logfile.specs.declared.fault.DocFault.TheVariants.{OutOfMemory}
+use Rattle.wm_logfile.specs.DocumentBytes.{IsDocumentOf}
+use Rattle.wm_litmus.specs.declared.answer.Answer.{Answer}
+use Rattle.wm_litmus.specs.Lines.{document_line_text, judgement_status}
+use Rattle.wm_litmus.specs.Prints.{ended}
+use Rattle.wm_litmus.specs.Rules.{AnswersRules, AnswersRun, run_over}
+
+-- an answer with these sentences after its text
+pub record GainsReasons (old : Answer) (reasons : List ℕ) (new : Answer) : Type 0 where
+  pub status_is : new.status ≡ old.status
+  pub text_is : string_bytes new.text ≡ string_bytes old.text ++ reasons
+
+-- ---- the command `explain`
+
+-- an answer prints the refusal of a document, and sentences of which nothing more is said
+pub record ExplainsFault (fault : DocFault) (answer : Answer) : Type 0 where
+  pub answered : fault ≢ OutOfMemory
+  pub status_is : answer.status ≡ 2
+  pub reasons : List ℕ
+  pub text_is : string_bytes answer.text ≡ ended (document_line_text fault) ++ reasons
+
+-- the status and the text that answer a run: those of `rules`, and sentences of which nothing more is said
+pub record ExplainsRun (run : LoggedRun) (status : ℕ) (text : List ℕ) : Type 0 where
+  pub line : List ℕ
+  pub reasons : List ℕ
+  pub judged : AnswersRun run status line
+  pub text_is : text ≡ line ++ reasons
+
+-- the status and the text that answer a document: those of `rules`, and sentences of which nothing more is said
+pub record AnswersEventExplain (bytes : List ℕ) (status : ℕ) (text : List ℕ) : Type 0 where
+  pub line : List ℕ
+  pub reasons : List ℕ
+  pub rules : AnswersRules bytes status line
+  pub text_is : text ≡ line ++ reasons
+
+-- ---- the command `graph`
+
+-- the status and the text that answer a run: the status of its judgement with a picture, of which nothing more is said; of a misshapen one the
+-- answer of `rules`
+pub data GraphsRun (run : LoggedRun) (status : ℕ) (text : List ℕ) : Type 0 where
+  pictured : (judgement : Judgement) → IsWellShaped run → Judges (execution run) judgement
+      → status ≡ judgement_status judgement → GraphsRun run status text
+  told : status ≡ 2 → AnswersRun run status text → GraphsRun run status text
+
+-- the status and the text that answer a document
+pub data AnswersEventGraph (bytes : List ℕ) (status : ℕ) (text : List ℕ) : Type 0 where
+  read : (log : List ThreadLog) (witness : Witness) → IsDocumentOf bytes log witness
+      → GraphsRun (run_over 16 log witness) status text → AnswersEventGraph bytes status text
+  refused : status ≡ 2 → AnswersRules bytes status text → AnswersEventGraph bytes status text

@@ -1,0 +1,122 @@
+//! The commands `explain` and `graph` for a document alone: why `rules` answers what it answers, in sentences and as a
+//! picture. The document is read and judged once.
+ghost use Rattle.std.specs.Prelude.{◌≡◌, ◌≤◌, IfOk};
+ghost use Rattle.wm_litmus.specs.EventExplanation.{AnswersEventExplain, AnswersEventGraph, ExplainsFault, ExplainsRun, GraphsRun};
+ghost use Rattle.wm_litmus.specs.Lines.{judgement_status, verdict_status};
+ghost use Rattle.wm_litmus.specs.Prints.{Gives};
+ghost use Rattle.wm_litmus.specs.Rules.{run_over};
+
+use crate::INITIAL_PAGES;
+use crate::answer::Answer;
+use std::alloc::{AllocError, Global};
+use std::thread::Threads;
+use wm_check::{Breach, Certificate, Refusal, Verdict, count_events};
+use wm_event::{Candidate, Initial, Judgement, Log, ShapeFault, Witness};
+use wm_explain::{explain_events, explain_refusal, explain_shape};
+use wm_graph::draw;
+use wm_logfile::{DocFault, read_document};
+use wm_rules::judge;
+
+/// The explanation of a log with a witness, over this number of pages of zeros.
+fn explain_log<R: AllocGlobal + Threads + Sync>(
+    rt: &R,
+    log: Log,
+    witness: Witness,
+    pages: usize,
+) -> Result<Answer, AllocError>
+    requires { pages ≤ 65536 }
+    ensures { IfOk result (Gives (ExplainsRun (run_over pages log witness))) }
+{
+    let initial = Initial::zeros(rt.alloc(), pages);
+    match Candidate::of(rt.alloc(), log, witness, &initial) {
+        Ok(candidate) => {
+            let judgement = judge(rt, &candidate)?;
+            let reasons = explain_events(rt.alloc(), &judgement, &candidate)?;
+            let answer = Answer::judged(rt.alloc(), &judgement)?;
+            answer.with_reasons(reasons.as_str())
+        }
+        Err(misshapen) => {
+            let reasons = explain_shape(rt.alloc(), &misshapen, initial.len())?;
+            let answer = Answer::refused_shape(rt.alloc(), misshapen.fault)?;
+            answer.with_reasons(reasons.as_str())
+        }
+    }
+}
+
+/// The refusal of the bytes of a document, and its explanation; an allocation failure is no answer.
+fn explain_fault(alloc: Global, fault: DocFault, bytes: &[u8]) -> Result<Answer, AllocError>
+    ensures { IfOk result (ExplainsFault fault) }
+{
+    let answer = Answer::refused_document(alloc, &fault)?;
+    let reasons = explain_refusal(alloc, &Refusal::Document(fault), &[], bytes)?;
+    answer.with_reasons(reasons.as_str())
+}
+
+/// The line of `rules` for the bytes of a document, and its explanation.
+///
+/// # Errors
+///
+/// Only if memory was refused.
+pub(crate) fn explain_events_answer<R: AllocGlobal + Threads + Sync>(
+    rt: &R,
+    bytes: &[u8],
+) -> Result<Answer, AllocError>
+    ensures { IfOk result (Gives (AnswersEventExplain bytes.now)) }
+{
+    match read_document(rt.alloc(), bytes) {
+        Ok((log, witness)) => explain_log(rt, log, witness, INITIAL_PAGES),
+        Err(fault) => explain_fault(rt.alloc(), fault, bytes),
+    }
+}
+
+/// The verdict that a judgement of a candidate is, where no module is asked.
+fn verdict_of(judgement: &Judgement, candidate: &Candidate) -> Verdict
+    ensures { verdict_status result ≡ judgement_status judgement.now }
+{
+    let threads = candidate.log().threads();
+    match judgement {
+        Judgement::Valid => Verdict::Allowed(Certificate {
+            threads: threads.len(),
+            events: count_events(threads),
+        }),
+        Judgement::Broken(fault) => Verdict::Broken(Breach::Rule(*fault)),
+    }
+}
+
+/// The picture of a log with a witness, over this number of pages of zeros; if they are refused, the line of that.
+fn graph_log<R: AllocGlobal + Threads + Sync>(
+    rt: &R,
+    log: Log,
+    witness: Witness,
+    pages: usize,
+) -> Result<Answer, AllocError>
+    requires { pages ≤ 65536 }
+    ensures { IfOk result (Gives (GraphsRun (run_over pages log witness))) }
+{
+    let initial = Initial::zeros(rt.alloc(), pages);
+    let candidate = match Candidate::new(rt.alloc(), log, witness, &initial) {
+        Ok(candidate) => candidate,
+        Err(fault) => return Answer::refused_shape(rt.alloc(), fault),
+    };
+    let judgement = judge(rt, &candidate)?;
+    let verdict = verdict_of(&judgement, &candidate);
+    let picture = draw(rt.alloc(), &verdict, &candidate)?;
+    Ok(Answer::pictured(&verdict, picture))
+}
+
+/// The execution that the bytes of a document record, for Graphviz; where they are refused, the line of that.
+///
+/// # Errors
+///
+/// Only if memory was refused.
+pub(crate) fn graph_events_answer<R: AllocGlobal + Threads + Sync>(
+    rt: &R,
+    bytes: &[u8],
+) -> Result<Answer, AllocError>
+    ensures { IfOk result (Gives (AnswersEventGraph bytes.now)) }
+{
+    match read_document(rt.alloc(), bytes) {
+        Ok((log, witness)) => graph_log(rt, log, witness, INITIAL_PAGES),
+        Err(fault) => Answer::refused_document(rt.alloc(), &fault),
+    }
+}

@@ -1,0 +1,8 @@
+pub mod AllLemmas
+pub mod ListLemmas
+pub mod FitLaws
+pub mod FittingLemmas
+pub mod ForcedLaw
+pub mod ShownLemmas
+pub mod SourceLemmas
+pub mod AnswerLaw

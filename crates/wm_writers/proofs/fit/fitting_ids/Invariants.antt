@@ -1,0 +1,10 @@
+use Rattle.std.proofs.Common.{◌≡◌, ◌∷◌, map, take}
+use Rattle.std.specs.Prelude.{flat_map}
+use Rattle.std.specs.List.{filter}
+use Rattle.wm_event.specs.declared.event.EventId.TheVariants.{Init}
+use Rattle.wm_writers.specs.Fits.{fits, ids}
+use Rattle.wm_writers.proofs.fit.fitting_ids.Given as goal
+
+-- those of Init and the threads so far
+abbrev pub invariant-loop-thread : goal.invariant-loop-thread
+invariant-loop-thread l = l.fit ≡ filter (fits l.candidate.log l.candidate.initial l.event l.byte) (ids (take l.thread l.candidate.log))

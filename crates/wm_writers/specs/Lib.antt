@@ -1,0 +1,5 @@
+pub mod Fits
+pub mod Needs
+pub mod Forced
+pub mod Answer
+pub mod Found

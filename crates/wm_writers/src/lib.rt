@@ -1,0 +1,14 @@
+//! Whether a fault of a memory rule is the witness's: which events fit the bytes that the fault rests on.
+#![tactic(auto)]
+
+mod fit;
+mod law;
+mod need;
+mod premise;
+mod source;
+mod writers;
+
+pub use law::forced_fault_stays;
+pub use need::Need;
+pub use source::{ByteFit, Source};
+pub use writers::{FaultWriters, Writers, writers_that_fit};
