@@ -109,8 +109,8 @@ fn names_of<'m>(
     }
 }
 
-/// The names that the module's section `name` has for its functions, by their indices. A section against its format, as one
-/// with a name that is not UTF-8 or of a function that isn't there, has none.
+/// The names that the module's section `name` has for its functions, by their indices. There are none if its subsections or
+/// its names of functions are against the format, as with a name that is not UTF-8 or of a function that isn't there.
 ///
 /// # Errors
 ///

@@ -9,8 +9,7 @@ use std::thread::Threads;
 use wm_event::{Candidate, Event, EventId, EventKey};
 use wm_hb::{WriterRun, writer_runs};
 
-/// An event in a table: its place in the order, its name, what it does, who wrote what it read, and the instruction that
-/// makes it.
+/// An event in a table: its place in the order, its name, what it does, and who wrote what it read.
 #[derive(Clone, Copy)]
 struct EventRow<'a> {
     /// From 1, since Init is at 0.
@@ -19,7 +18,6 @@ struct EventRow<'a> {
     form: ValueForm,
     /// The bytes that it read, by their writers.
     runs: &'a [WriterRun],
-    site: Option<NamedSite<'a>>,
 }
 
 impl fmt::Display for EventRow<'_> {
@@ -29,17 +27,13 @@ impl fmt::Display for EventRow<'_> {
             event,
             form,
             runs,
-            site,
         } = *self;
         let key = event.key();
         write!(f, "{place:>7}  {key}  {}", EventPhrase { event, form })?;
-        if !runs.is_empty() {
-            write!(f, "; read {}", WritersPhrase(runs))?;
+        if runs.is_empty() {
+            return Ok(());
         }
-        match site {
-            Some(site) => write!(f, "; {site}"),
-            None => Ok(()),
-        }
+        write!(f, "; read {}", WritersPhrase(runs))
     }
 }
 
@@ -150,21 +144,21 @@ impl<'a> EventTables<'a> {
         mixed: &MixedAddresses,
     ) -> Result<(), AllocError> {
         let id = EventId::At(key);
-        let alloc = self.alloc;
-        let candidate = self.candidate;
-        let (Some(event), Some(place)) = (candidate.event(id), candidate.place(id)) else {
+        let (Some(event), Some(place)) = (self.candidate.event(id), self.candidate.place(id)) else {
             return Ok(());
         };
-        let runs = writer_runs(alloc, candidate, key)?;
-        let site = self.site(key)?;
+        let runs = writer_runs(self.alloc, self.candidate, key)?;
         let row = EventRow {
             place: place.saturating_add(1),
             event,
             form: mixed.form_of(event),
             runs: runs.as_slice(),
-            site,
         };
-        writeln!(text, "{row}")
+        write!(text, "{row}")?;
+        if let Some(site) = self.site(key)? {
+            write!(text, "; {site}")?;
+        }
+        Ok(text.push_str("\n")?)
     }
 
     /// Adds a table of these events.
