@@ -1,6 +1,6 @@
 -- The premises of a fault hold, and the order is kept where it has any.
-use Rattle.std.proofs.Common.{◌≡◌, ◌≢◌, ℕ, ◌+◌, ◌≤◌, List, [], ◌∷◌, Option, None, Some, map, length, Result, Ok, Err, refl, sym, ap, ◌∙◌, subst, arith}
-use Rattle.std.specs.Prelude.{All, IfOk}
+use Rattle.std.proofs.Common.{◌≡◌, ℕ, ◌≤◌, List, [], ◌∷◌, Option, None, Some, length, Result, Ok, Err, refl, sym, ◌∙◌, subst, arith}
+use Rattle.std.specs.Prelude.{IfOk}
 use Rattle.std.proofs.lemmas.List.Elements.{All-cons}
 use Rattle.std.proofs.lemmas.Option.{same_Some}
 use Rattle.wm_event.specs.declared.event.Event.{Event}
@@ -11,7 +11,7 @@ use Rattle.wm_event.specs.declared.rule.Rule.TheVariants.{WrittenValues, Order, 
 use Rattle.wm_event.specs.declared.rule.RuleFault.{RuleFault}
 use Rattle.wm_event.specs.declared.rule.Judgement.TheVariants.{Broken}
 use Rattle.wm_event.specs.Execution.{Execution}
-use Rattle.wm_event.specs.Faults.{Breaks, BreaksCoherence, BreaksRule, Judges, reads_future, rule_number, written_between}
+use Rattle.wm_event.specs.Faults.{BreaksCoherence, BreaksRule, Judges, reads_future, rule_number, written_between}
 use Rattle.wm_event.specs.HappensBefore.{HappensBefore}
 use Rattle.wm_hb.specs.Edges.{IsFirstBroken, fault_of}
 use Rattle.wm_hb.specs.declared.ordered.Edge.{Edge}
@@ -27,7 +27,6 @@ when-ok P Q follows (Ok a) h = follows a h
 when-ok P Q follows (Err e) h = tt
 
 module _ (x : Execution) where
-
   coherence_holds : (f : RuleFault) (e : Event) (c : ℕ) (o : Option EventId) → BreaksCoherence x f.event e f.byte f.writer c o → Hold x (coherence_premises f o)
   coherence_holds f e c None (reads_future is none before) =
       All-cons (λ (p : Premise). HappensBefore x p.from p.to) (record { from = At f.event; to = f.writer }) [] before (all-none (λ (p : Premise). HappensBefore x p.from p.to))

@@ -6,7 +6,6 @@ use Rattle.wm_writers.specs.Answer.{IsSource}
 use Rattle.wm_writers.specs.Forced.{IsForced}
 use Rattle.wm_writers.specs.Found.{FindsShown, HasForcedByte}
 use Rattle.wm_writers.specs.Needs.{IsOfOrder, Shows, needs}
-use Rattle.wm_writers.specs.declared.need.Need.{Need}
 use Rattle.wm_writers.specs.declared.source.Source.{Source}
 use Rattle.wm_writers.proofs.AnswerLaw.{all-forced, all-have}
 use Rattle.wm_writers.proofs.ForcedLaw.{forced-fault-stays}
@@ -22,8 +21,7 @@ returns-then-is_forced-clause-answer c =
     let shows : Shows (execution run) f chains = subst (FindsShown (execution run) f) c.in-Some.is c.in_ok-chains.ensures in
     let all : map (λ (s : Source). s.need) sources ≡ needs f chains = c.in_ok-sources.ensures.needs ∙ c.as_slice-2.ensures ∙ c.in_ok-needs.ensures ∙ ap (needs f) c.as_slice.ensures in
     let are : All (IsSource run) sources = c.in_ok-sources.ensures.sources in
-    let have : All HasForcedByte sources = subst (All HasForcedByte) c.as_slice-3.ensures (c.if-is_forced.ensures.0 refl) in
-    (
+    let have : All HasForcedByte sources = subst (All HasForcedByte) c.as_slice-3.ensures (c.if-is_forced.ensures.0 refl) in (
       (not, record { shows = shows; needs = all; sources = are }),
       subst (All (IsForced run)) all (all-forced run c.log-log.ensures.shape.keys sources are have),
     )
@@ -51,8 +49,7 @@ returns-clause-answer c =
     let not = λ (o : IsOfOrder f.rule). let clash : false ≡ true = c.if-is_of_order.ensures.1 o in let no : ⊥ = cc in no in
     let shows : Shows (execution run) f chains = subst (FindsShown (execution run) f) c.in-Some.is c.in_ok-chains.ensures in
     let all : map (λ (s : Source). s.need) sources ≡ needs f chains = c.in_ok-sources.ensures.needs ∙ c.as_slice-2.ensures ∙ c.in_ok-needs.ensures ∙ ap (needs f) c.as_slice.ensures in
-    let are : All (IsSource run) sources = c.in_ok-sources.ensures.sources in
-    (
+    let are : All (IsSource run) sources = c.in_ok-sources.ensures.sources in (
       (not, record { shows = shows; needs = all; sources = are }),
       λ forced.
           let have = all-have run c.log-log.ensures.shape.keys sources are (subst (All (IsForced run)) (sym all) forced) in
