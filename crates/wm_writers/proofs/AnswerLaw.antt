@@ -1,18 +1,16 @@
 -- A need is forced where a byte that meets it fits its writer alone, as the sources list them.
-use Rattle.std.proofs.Common.{◌≡◌, ℕ, ◌<◌, suc, List, [], ◌∷◌, Option, Some, IsSome, is_some, IsTrue, true, length, get_or, slice_get, map, refl, sym, ap, ◌∙◌, subst, arith}
+use Rattle.std.proofs.Common.{◌≡◌, ℕ, List, [], ◌∷◌, Some, is_some, get_or, slice_get, map, sym, ap, ◌∙◌, subst}
 use Rattle.std.specs.Prelude.{All}
 use Rattle.std.proofs.lemmas.List.Elements.{All-cons}
 use Rattle.std.proofs.lemmas.Option.{same_Some, slice_get-get_or, slice_get_within}
 use Rattle.wm_event.specs.declared.event.Event.{Event}
 use Rattle.wm_event.specs.declared.event.EventId.{EventId}
-use Rattle.wm_event.specs.Log.{HasKeys, event_in}
+use Rattle.wm_event.specs.Log.{HasKeys}
 use Rattle.wm_event.specs.LoggedRun.{LoggedRun}
 use Rattle.wm_writers.specs.Answer.{IsByteOf, IsSource}
 use Rattle.wm_writers.specs.Fits.{fits, fitting, ids}
 use Rattle.wm_writers.specs.Forced.{FitsOnly, IsForced}
 use Rattle.wm_writers.specs.Found.{AreOnly, HasForcedByte}
-use Rattle.wm_writers.specs.declared.need.Need.{Need}
-use Rattle.wm_writers.specs.declared.source.ByteFit.{ByteFit}
 use Rattle.wm_writers.specs.declared.source.Source.{Source}
 use Rattle.wm_writers.proofs.AllLemmas.{all-head, all-none, all-tail}
 use Rattle.wm_writers.proofs.FittingLemmas.{fit-listed, listed-fits}

@@ -1,7 +1,7 @@
 -- The ids that fit a byte, thread by thread, and that they are all of them.
-use Rattle.std.proofs.Common.{◌≡◌, ℕ, ◌+◌, ◌<◌, ◌==◌, ◌&&◌, not, zero, suc, List, [], ◌∷◌, ◌++◌, Bool, true, false, Option, Some, None, IsSome, is_some, IsTrue, length, get_or, slice_get, take, map, refl, sym, ap, ◌∙◌, subst, arith, if◌then◌else◌}
+use Rattle.std.proofs.Common.{◌≡◌, ℕ, ◌+◌, ◌<◌, ◌==◌, not, zero, suc, List, [], ◌∷◌, ◌++◌, Bool, true, false, Option, Some, None, IsSome, is_some, length, get_or, slice_get, take, map, refl, sym, ap, ◌∙◌, subst, arith, if◌then◌else◌}
 use Rattle.std.specs.List.{filter}
-use Rattle.std.specs.Prelude.{All, flat_map, option_and_then}
+use Rattle.std.specs.Prelude.{flat_map, option_and_then}
 use Rattle.std.specs.Option.{option_map, option_map_or}
 use Rattle.std.proofs.lemmas.Bool.{and_parts}
 use Rattle.std.proofs.lemmas.Grind.{common_steps}
@@ -17,7 +17,7 @@ use Rattle.wm_event.specs.Event.{byte_written, key_of}
 use Rattle.wm_event.specs.Log.{HasKeys, event_in}
 use Rattle.wm_event.specs.Writes.{thread_keys, writes_byte}
 use Rattle.wm_event.proofs.WritesLemmas.{in_filter}
-use Rattle.wm_writers.specs.Fits.{byte_left, fits, fitting, ids, is_from, leaves}
+use Rattle.wm_writers.specs.Fits.{fits, fitting, ids, is_from, leaves}
 use Rattle.wm_writers.proofs.FitLaws.{named_so}
 use Rattle.wm_writers.proofs.ListLemmas.{flat_map-more}
 

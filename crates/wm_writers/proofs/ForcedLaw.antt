@@ -1,5 +1,5 @@
 -- No witness mends a forced fault.
-use Rattle.std.proofs.Common.{◌≡◌, ◌≢◌, ℕ, ◌+◌, ◌<◌, ◌≤◌, List, [], ◌∷◌, ◌++◌, Option, None, Some, IsSome, is_some, slice_get, get_or, map, length, refl, sym, ap, ◌∙◌, subst, arith, inl, inr}
+use Rattle.std.proofs.Common.{◌≡◌, ◌≢◌, ℕ, ◌+◌, ◌<◌, List, [], ◌∷◌, Option, None, Some, IsSome, get_or, map, length, refl, sym, ◌∙◌, subst, arith, inl, inr}
 use Rattle.std.specs.Prelude.{All, flat_map}
 use Rattle.std.proofs.lemmas.Option.{same_Some, slice_get-get_or, slice_get_within}
 use Rattle.wm_event.specs.declared.event.Event.{Event}
@@ -11,9 +11,9 @@ use Rattle.wm_event.specs.declared.rule.Rule.TheVariants.{WrittenValues, Order, 
 use Rattle.wm_event.specs.declared.rule.RuleFault.{RuleFault}
 use Rattle.wm_event.specs.declared.witness.Witness.{Witness}
 use Rattle.wm_event.specs.Byte.{byte_of}
-use Rattle.wm_event.specs.Execution.{Execution, ReadsFrom, byte_by, event_at}
-use Rattle.wm_event.specs.Faults.{Breaks, BreaksCoherence, BreaksNoTearing, BreaksRule, BreaksWrittenValues, AtRead, reads_itself, not_written, other_value, reads_future, written_between}
-use Rattle.wm_event.specs.HappensBefore.{Chain, Edge, HappensBefore, SequencedBefore, SynchronizesWith}
+use Rattle.wm_event.specs.Execution.{ReadsFrom, byte_by, event_at}
+use Rattle.wm_event.specs.Faults.{BreaksCoherence, BreaksNoTearing, BreaksRule, BreaksWrittenValues, reads_itself, not_written, other_value, reads_future, written_between}
+use Rattle.wm_event.specs.HappensBefore.{Edge, HappensBefore}
 use Rattle.wm_event.specs.Log.{event_in}
 use Rattle.wm_event.specs.LoggedRun.{LoggedRun, execution}
 use Rattle.wm_event.specs.Rules.{IsTearFreeLike, IsValid, Writes}
@@ -24,8 +24,8 @@ use Rattle.wm_hb.specs.declared.chain.Link.{Link}
 use Rattle.wm_hb.specs.declared.chain.LinkKind.{LinkKind}
 use Rattle.wm_hb.specs.declared.chain.LinkKind.TheVariants.{Initial, Sequenced, Synchronizes}
 use Rattle.wm_hb.specs.declared.fault_chain.FaultChain.{FaultChain}
-use Rattle.wm_writers.specs.Forced.{ForcedFaultStays, IsForced, IsForcedFault, IsNamed, Meets, with_witness}
-use Rattle.wm_writers.specs.Needs.{IsOfOrder, Shows, byte_needs, coherence_premises, ends_of, link_needs, needs, own_needs, own_needs_by, premises_by, step_needs, tearing_needs, any_byte}
+use Rattle.wm_writers.specs.Forced.{ForcedFaultStays, IsForced, IsNamed, with_witness}
+use Rattle.wm_writers.specs.Needs.{IsOfOrder, byte_needs, coherence_premises, ends_of, link_needs, own_needs, own_needs_by, premises_by, step_needs, tearing_needs, any_byte}
 use Rattle.wm_writers.specs.declared.need.Need.{Need}
 use Rattle.wm_writers.specs.declared.premise.Premise.{Premise}
 use Rattle.wm_writers.proofs.AllLemmas.{all-first, all-head, all-second, all-tail}

@@ -1,6 +1,6 @@
 -- The premises of a fault hold, and the order is kept where it has any.
-use Rattle.std.proofs.Common.{◌≡◌, ◌≢◌, ℕ, ◌+◌, ◌≤◌, List, [], ◌∷◌, Option, None, Some, map, length, Result, Ok, Err, refl, sym, ap, ◌∙◌, subst, arith}
-use Rattle.std.specs.Prelude.{All, IfOk}
+use Rattle.std.proofs.Common.{◌≡◌, ℕ, ◌≤◌, List, [], ◌∷◌, Option, None, Some, length, Result, Ok, Err, refl, sym, ◌∙◌, subst, arith}
+use Rattle.std.specs.Prelude.{IfOk}
 use Rattle.std.proofs.lemmas.List.Elements.{All-cons}
 use Rattle.std.proofs.lemmas.Option.{same_Some}
 use Rattle.wm_event.specs.declared.event.Event.{Event}
@@ -11,7 +11,7 @@ use Rattle.wm_event.specs.declared.rule.Rule.TheVariants.{WrittenValues, Order, 
 use Rattle.wm_event.specs.declared.rule.RuleFault.{RuleFault}
 use Rattle.wm_event.specs.declared.rule.Judgement.TheVariants.{Broken}
 use Rattle.wm_event.specs.Execution.{Execution}
-use Rattle.wm_event.specs.Faults.{Breaks, BreaksCoherence, BreaksRule, Judges, reads_future, rule_number, written_between}
+use Rattle.wm_event.specs.Faults.{BreaksCoherence, BreaksRule, Judges, reads_future, rule_number, written_between}
 use Rattle.wm_event.specs.HappensBefore.{HappensBefore}
 use Rattle.wm_hb.specs.Edges.{IsFirstBroken, fault_of}
 use Rattle.wm_hb.specs.declared.ordered.Edge.{Edge}

@@ -1,5 +1,5 @@
 -- The bytes of a read that meet a need, while they are gathered.
-use Rattle.std.proofs.Common.{◌≡◌, ℕ, ◌+◌, ◌<◌, ◌≤◌, ◌++◌, zero, suc, List, [], ◌∷◌, Option, Some, None, IsSome, length, slice_get, refl, sym, ap, ◌∙◌, subst, arith, ◌⊎◌, inl, inr, ⊎_elim}
+use Rattle.std.proofs.Common.{◌≡◌, ℕ, ◌+◌, ◌<◌, ◌≤◌, ◌++◌, zero, suc, List, [], ◌∷◌, Some, length, slice_get, refl, ap, subst, arith, ◌⊎◌, inl, inr, ⊎_elim}
 use Rattle.std.specs.Prelude.{All}
 use Rattle.std.proofs.lemmas.Bool.{cases_lt}
 use Rattle.std.proofs.lemmas.Option.{same_Some, slice_get_within}
@@ -9,7 +9,6 @@ use Rattle.wm_writers.specs.Answer.{HasByte, IsByteOf, IsSource}
 use Rattle.wm_writers.specs.Forced.{Meets}
 use Rattle.wm_writers.specs.declared.need.Need.{Need}
 use Rattle.wm_writers.specs.declared.source.ByteFit.{ByteFit}
-use Rattle.wm_writers.specs.declared.source.Source.{Source}
 use Rattle.wm_writers.proofs.AllLemmas.{all-none}
 use Rattle.wm_writers.proofs.ListLemmas.{all-more, at-first, at-last}
 

@@ -1,5 +1,5 @@
 -- Which events fit a byte of a read, by the log and the initial memory alone.
-use Rattle.std.specs.Prelude.{◌≡◌, ℕ, ◌+◌, ◌==◌, ◌&&◌, List, ◌∷◌, Bool, false, not, leb, Option, map, flat_map, slice_get, option_and_then}
+use Rattle.std.specs.Prelude.{ℕ, ◌+◌, ◌==◌, ◌&&◌, List, ◌∷◌, Bool, false, not, leb, Option, map, flat_map, slice_get, option_and_then}
 use Rattle.std.specs.List.{filter}
 use Rattle.std.specs.Option.{option_map_or}
 use Rattle.wm_event.specs.declared.event.Event.{Event}

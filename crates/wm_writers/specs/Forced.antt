@@ -1,7 +1,6 @@
 -- Faults that no other witness mends.
 use Rattle.std.specs.Prelude.{◌≡◌, ℕ, List, Option, None, Some, All, IsTrue}
 use Rattle.wm_event.specs.declared.event.Event.{Event}
-use Rattle.wm_event.specs.declared.event.EventKey.{EventKey}
 use Rattle.wm_event.specs.declared.event.EventId.{EventId}
 use Rattle.wm_event.specs.declared.rule.RuleFault.{RuleFault}
 use Rattle.wm_event.specs.declared.witness.Witness.{Witness}

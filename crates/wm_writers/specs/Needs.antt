@@ -1,5 +1,5 @@
 -- What a fault of a memory rule rests on: chains of happens-before, and bytes that reads take from writers.
-use Rattle.std.specs.Prelude.{◌≡◌, ℕ, ◌==◌, List, [], ◌∷◌, ◌++◌, Option, None, Some, map, flat_map, if◌then◌else◌}
+use Rattle.std.specs.Prelude.{◌≡◌, List, [], ◌∷◌, ◌++◌, Option, None, Some, map, flat_map}
 use Rattle.wm_event.specs.declared.event.EventId.{EventId}
 use Rattle.wm_event.specs.declared.event.EventId.TheVariants.{At}
 use Rattle.wm_event.specs.declared.rule.Rule.{Rule}

@@ -45,7 +45,7 @@ fn is_of_order(rule: Rule) -> bool
 
 /// Whether other writers could mend a fault of written values, coherence or tearing, and which events fit the bytes that
 /// it rests on. An event fits a byte of a read if it leaves there the value that was read, and is neither the read nor a
-/// later event of its thread. A chain enters each thread once, so at most 30 reads are looked at.
+/// later event of its thread. Chains are shortest ones, and enter each thread once: so few reads are looked at.
 ///
 /// # Errors
 ///

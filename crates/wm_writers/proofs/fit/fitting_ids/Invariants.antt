@@ -1,7 +1,5 @@
-use Rattle.std.proofs.Common.{◌≡◌, ◌∷◌, map, take}
-use Rattle.std.specs.Prelude.{flat_map}
+use Rattle.std.proofs.Common.{◌≡◌, take}
 use Rattle.std.specs.List.{filter}
-use Rattle.wm_event.specs.declared.event.EventId.TheVariants.{Init}
 use Rattle.wm_writers.specs.Fits.{fits, ids}
 use Rattle.wm_writers.proofs.fit.fitting_ids.Given as goal
 

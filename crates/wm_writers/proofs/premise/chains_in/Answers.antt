@@ -1,4 +1,4 @@
-use Rattle.std.proofs.Common.{◌≡◌, ◌<◌, None, length, get_or, subst, sym, arith}
+use Rattle.std.proofs.Common.{◌<◌, None, length, get_or, subst, sym, arith}
 use Rattle.wm_event.specs.declared.event.EventId.TheVariants.{Init}
 use Rattle.wm_event.specs.HappensBefore.{HappensBefore}
 use Rattle.wm_event.specs.LoggedRun.{LoggedRun, execution}

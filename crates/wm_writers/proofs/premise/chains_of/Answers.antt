@@ -1,9 +1,8 @@
-use Rattle.std.proofs.Common.{◌≡◌, List, length, subst, sym, ap, ◌∙◌, true, false}
+use Rattle.std.proofs.Common.{◌≡◌, length, subst, ap, ◌∙◌, true, false}
 use Rattle.std.specs.Prelude.{IfOk}
 use Rattle.wm_event.specs.LoggedRun.{LoggedRun, execution}
 use Rattle.wm_writers.specs.Found.{FindsChains, FindsShown}
 use Rattle.wm_writers.specs.Needs.{premises}
-use Rattle.wm_writers.specs.declared.premise.Premise.{Premise}
 use Rattle.wm_writers.proofs.ShownLemmas.{order-kept, shown, when-ok}
 use Rattle.wm_writers.proofs.premise.chains_of.Goals as goal
 

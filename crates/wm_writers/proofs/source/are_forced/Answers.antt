@@ -1,8 +1,7 @@
-use Rattle.std.proofs.Common.{◌≡◌, ◌<◌, ◌≤◌, length, get_or, refl, subst, sym, arith, false, true}
+use Rattle.std.proofs.Common.{◌≡◌, ◌<◌, length, refl, subst, sym, arith, false, true}
 use Rattle.std.specs.Prelude.{All}
 use Rattle.std.proofs.lemmas.List.{take_all}
 use Rattle.wm_writers.specs.Found.{HasForcedByte}
-use Rattle.wm_writers.specs.declared.source.Source.{Source}
 use Rattle.wm_writers.proofs.ListLemmas.{all-taken}
 use Rattle.wm_writers.proofs.source.are_forced.Goals as goal
 

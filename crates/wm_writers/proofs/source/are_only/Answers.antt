@@ -1,4 +1,4 @@
-use Rattle.std.proofs.Common.{◌≡◌, ◌<◌, ◌≤◌, length, get_or, refl, subst, arith, rules}
+use Rattle.std.proofs.Common.{◌≡◌, get_or, refl, subst, arith, rules}
 use Rattle.std.specs.Prelude.{All}
 use Rattle.std.proofs.lemmas.List.{take_all}
 use Rattle.wm_event.specs.declared.event.EventId.{EventId}

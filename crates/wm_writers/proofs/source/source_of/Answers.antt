@@ -6,7 +6,7 @@ use Rattle.wm_event.specs.Log.{event_in}
 use Rattle.wm_event.specs.LoggedRun.{execution}
 use Rattle.wm_event.specs.Witness.{writers_in}
 use Rattle.wm_writers.specs.Answer.{IsByteOf}
-use Rattle.wm_writers.specs.Forced.{IsNamed, Meets}
+use Rattle.wm_writers.specs.Forced.{Meets}
 use Rattle.wm_writers.specs.declared.source.ByteFit.{ByteFit}
 use Rattle.wm_writers.proofs.SourceLemmas.{AreBelow, below-all, below-more, below-same}
 use Rattle.wm_writers.proofs.source.source_of.Goals as goal

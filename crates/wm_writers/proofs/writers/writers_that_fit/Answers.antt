@@ -6,7 +6,6 @@ use Rattle.wm_writers.specs.Answer.{IsSource}
 use Rattle.wm_writers.specs.Forced.{IsForced}
 use Rattle.wm_writers.specs.Found.{FindsShown, HasForcedByte}
 use Rattle.wm_writers.specs.Needs.{IsOfOrder, Shows, needs}
-use Rattle.wm_writers.specs.declared.need.Need.{Need}
 use Rattle.wm_writers.specs.declared.source.Source.{Source}
 use Rattle.wm_writers.proofs.AnswerLaw.{all-forced, all-have}
 use Rattle.wm_writers.proofs.ForcedLaw.{forced-fault-stays}
