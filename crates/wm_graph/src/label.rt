@@ -19,23 +19,91 @@ impl fmt::Display for NodeName {
     }
 }
 
-/// An event as people of the field write it: `R`, `W` or `U`, `sc` if it is atomic, its bytes and its values.
+/// A text inside of the quotes of a label: quotes, backslashes and the sign of entities are escaped, and a space is in
+/// the place of a control character.
 #[derive(Clone, Copy)]
-pub(crate) struct NodeLabel<'a>(pub &'a Event);
+pub(crate) struct LabelText<'a>(pub &'a str);
+
+impl fmt::Display for LabelText<'_> {
+    fn fmt<W: fmt::Write>(&self, f: &mut fmt::Formatter<W>) -> fmt::Result {
+        for character in self.0.chars() {
+            match character {
+                '"' => f.write_str("\\\"")?,
+                '\\' => f.write_str("\\\\")?,
+                '&' => f.write_str("&amp;")?,
+                '\u{0}'..='\u{1f}' | '\u{7f}'..='\u{9f}' => f.write_str(" ")?,
+                _ => write!(f, "{character}")?,
+            }
+        }
+        Ok(())
+    }
+}
+
+/// How much of what an event read is of the initial memory.
+#[derive(Clone, Copy, PartialEq, Eq)]
+pub(crate) enum InitialShare {
+    Nothing,
+    Part,
+    Whole,
+}
+
+impl InitialShare {
+    /// The share of a read whose bytes have these writers.
+    pub fn of(writers: &[EventId]) -> InitialShare {
+        let mut initial = 0usize;
+        for writer in writers {
+            if *writer == EventId::Init {
+                initial = initial.saturating_add(1);
+            }
+        }
+        if initial == 0 {
+            InitialShare::Nothing
+        } else if initial < writers.len() {
+            InitialShare::Part
+        } else {
+            InitialShare::Whole
+        }
+    }
+}
+
+impl fmt::Display for InitialShare {
+    fn fmt<W: fmt::Write>(&self, f: &mut fmt::Formatter<W>) -> fmt::Result {
+        f.write_str(match self {
+            InitialShare::Nothing => "",
+            InitialShare::Part => " partly from init",
+            InitialShare::Whole => " from init",
+        })
+    }
+}
+
+/// An event as people of the field write it: its place in the order, `R`, `W` or `U`, `sc` if it is atomic, its bytes and
+/// its values.
+#[derive(Clone, Copy)]
+pub(crate) struct NodeLabel<'a> {
+    pub event: &'a Event,
+    /// From 1, since Init is at 0.
+    pub place: usize,
+    pub share: InitialShare,
+}
 
 impl fmt::Display for NodeLabel<'_> {
     fn fmt<W: fmt::Write>(&self, f: &mut fmt::Formatter<W>) -> fmt::Result {
-        let event = self.0;
+        let NodeLabel {
+            event,
+            place,
+            share,
+        } = *self;
         let key = event.key();
         let order = if event.is_atomic() { "sc" } else { "" };
         let address = event.address;
         let last = u64::from(address).saturating_add(u64::from(event.width.bytes()) - 1);
         let read = event.read;
         let written = event.written;
+        write!(f, "#{place} {key}: ")?;
         match (event.reads(), event.writes()) {
-            (true, true) => { write!(f, "{key}: U{order} [{address}..{last}] {read} to {written}") }
-            (true, false) => write!(f, "{key}: R{order} [{address}..{last}] = {read}"),
-            (false, _) => write!(f, "{key}: W{order} [{address}..{last}] := {written}"),
+            (true, true) => { write!(f, "U{order} [{address}..{last}] {read} to {written}{share}") }
+            (true, false) => write!(f, "R{order} [{address}..{last}] = {read}{share}"),
+            (false, _) => write!(f, "W{order} [{address}..{last}] := {written}"),
         }
     }
 }

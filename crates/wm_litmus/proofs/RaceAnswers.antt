@@ -37,7 +37,7 @@ reports_own run sites races threads events answer own report of_threads of_event
   races = races;
   report = report;
   lists = subst (λ n. ListsRaces pair_text n (event_count run.log) races answer.status (string_bytes answer.text)) of_threads
-  (subst (λ n. ListsRaces pair_text threads n races answer.status (string_bytes answer.text)) of_events lists);
+      (subst (λ n. ListsRaces pair_text threads n races answer.status (string_bytes answer.text)) of_events lists);
 }
 
 -- the status of a broken run, or of a refused one, isn't that of an allowed one

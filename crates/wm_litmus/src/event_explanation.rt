@@ -8,6 +8,7 @@ ghost use Rattle.wm_litmus.specs.Rules.{run_over};
 
 use crate::INITIAL_PAGES;
 use crate::answer::Answer;
+use crate::line::rules_line;
 use std::alloc::{AllocError, Global};
 use std::thread::Threads;
 use wm_check::{Breach, Certificate, Refusal, Verdict, count_events};
@@ -100,7 +101,8 @@ fn graph_log<R: AllocGlobal + Threads + Sync>(
     };
     let judgement = judge(rt, &candidate)?;
     let verdict = verdict_of(&judgement, &candidate);
-    let picture = draw(rt.alloc(), &verdict, &candidate)?;
+    let title = rules_line(rt.alloc(), &judgement)?;
+    let picture = draw(rt.alloc(), title.as_str(), &verdict, &candidate)?;
     Ok(Answer::pictured(&verdict, picture))
 }
 

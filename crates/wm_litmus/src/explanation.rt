@@ -6,6 +6,7 @@ ghost use Rattle.wm_check.specs.declared.verdict.Verdict.TheVariants.{Refused};
 ghost use Rattle.wm_litmus.specs.Explanation.{AnswersExplain, AnswersGraph, Explains, ExplainsOver, GraphsOver, Shows};
 
 use crate::answer::Answer;
+use crate::line::verdict_line;
 use std::alloc::{AllocError, Global};
 use std::thread::Threads;
 use wm_check::{CheckedLog, Refusal, Unread, Verdict, check_log, read_module};
@@ -100,7 +101,8 @@ fn show_checked(alloc: Global, checked: &CheckedLog) -> Result<Answer, AllocErro
 {
     match &checked.candidate {
         Some(candidate) => {
-            let picture = draw(alloc, &checked.verdict, candidate)?;
+            let title = verdict_line(alloc, &checked.verdict)?;
+            let picture = draw(alloc, title.as_str(), &checked.verdict, candidate)?;
             Ok(Answer::pictured(&checked.verdict, picture))
         }
         None => Answer::of_verdict(alloc, &checked.verdict),

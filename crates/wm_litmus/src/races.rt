@@ -65,7 +65,10 @@ impl fmt::Display for SitePhrase {
             instruction,
             offset,
         } = self.0;
-        write!(f, " function={function} instruction={instruction} offset=0x{offset:x}")
+        write!(
+            f,
+            " function={function} instruction={instruction} offset=0x{offset:x}"
+        )
     }
 }
 
