@@ -12,8 +12,8 @@ use wm_machine::CodePosition;
 use wm_replay::follow;
 use wm_valid::ValidModule;
 
-/// From this number of steps on, of all threads together, the threads are worth processors of their own.
-const LONG_STEPS: u64 = 20_000;
+/// From this number of steps on a thread is worth a processor of its own.
+const LONG_STEPS: u32 = 20_000;
 
 /// Where a thread makes the events of its log; as many as it makes.
 fn positions_of(
@@ -70,15 +70,6 @@ fn positions_at_once<R: AllocGlobal + Threads + Sync>(
     Ok(positions)
 }
 
-/// How many steps the threads have together.
-fn count_steps(threads: &[ThreadLog]) -> u64 {
-    let mut steps = 0u64;
-    for stated in threads {
-        steps = steps.saturating_add(u64::from(stated.steps));
-    }
-    steps
-}
-
 /// By thread where it makes the events of its log; as many as it makes.
 ///
 /// # Errors
@@ -89,9 +80,9 @@ pub(crate) fn log_positions<R: AllocGlobal + Threads + Sync>(
     module: &ValidModule,
     log: &Log,
 ) -> Result<Vec<List<CodePosition>>, AllocError> {
-    if count_steps(log.threads()) < LONG_STEPS {
-        positions_in_order(rt.alloc(), module, log)
-    } else {
+    if log.threads().iter().any(|stated: &ThreadLog| -> bool { stated.steps >= LONG_STEPS }) {
         positions_at_once(rt, module, log)
+    } else {
+        positions_in_order(rt.alloc(), module, log)
     }
 }
