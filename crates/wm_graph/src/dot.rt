@@ -56,11 +56,14 @@ impl fmt::Display for Attributes {
             EdgeKind::Order => {
                 f.write_str("xlabel=\"order\", style=\"dotted\", constraint=false")
             }
+            EdgeKind::Chain(LinkKind::Sequenced) => write!(
+                f,
+                "label=\"sb\", color=\"{FAULT_COLOUR}\", fontcolor=\"{FAULT_COLOUR}\", penwidth=2"
+            ),
             EdgeKind::Chain(kind) => {
                 let name = match kind {
-                    LinkKind::Initial => "before all",
-                    LinkKind::Sequenced => "sb",
                     LinkKind::Synchronizes => "rf, sw",
+                    _ => "before all",
                 };
                 write!(
                     f,
