@@ -94,25 +94,25 @@ def literature_lines(rows):
 
 HEAD = """# Gallery of litmus tests
 
-What came of each test of [litmus/](../litmus/README.md), where names, outcomes and candidates are described. For people
+The results of each test of [litmus/](../litmus/README.md), which describes names, outcomes and candidates. For people
 who compare this model with another one, or an engine with the model. `litmus/gallery` writes this page.
 
-Seen on {date} with {version}. {engines}: {rounds} rounds of each test in the mode free. {run_rounds} rounds of
-`wmlab run`. {asked} candidates were asked in {seconds:.0f} s.
+Made on {date} with {version}. {engines}: {rounds} rounds of each test in the mode free. {run_rounds} rounds of
+`wmlab run`. {asked} candidates were judged in {seconds:.0f} s.
 
 | | Tests |
 |---|---|
 {counts}
 
 - **Rules**: *permitted by M of N* means that `wmlab stream` allows M of the N candidates with this outcome, and
-  `wmlab check` the first of them. *Not found among N* means that it refuses all, and by which rules: `V3 case 2` is the
-  second case of coherence.
+  `wmlab check` the first of them. *Not found among N* means that it allows none. How many break which rule follows:
+  `V3 case 2` is the second case of coherence.
 - **Store buffers**: the script with the fewest moves for `wmlab drive`, found by a search; then how often `wmlab run`
-  gave the outcome. *no*: a search over all moves of such buffers found none. They make loads in order, and all threads
-  see a published store at once. So load buffering (`LB`), and what needs a store that only some threads see (`IRIW`,
-  `WRC`), cannot come from them, although the rules permit the plain tests.
+  gave the outcome. *no*: a search over all moves of such buffers found none. The buffers make loads in order, and all
+  threads see a published store at once. So load buffering (`LB`), and what needs a store that only some threads see
+  (`IRIW`, `WRC`), cannot come from them, although the rules permit the plain tests.
 - **{names}**: how often the engine gave the outcome. Each of its logs was checked. Each thread runs once in a round and
-  ends within microseconds, so few threads meet.
+  ends within microseconds, so threads seldom overlap.
 """
 
 
@@ -121,8 +121,8 @@ def theorem_line(rows):
     free = [row for row in rows if row.test.is_free_of_races]
     permitted = [row.test.name for row in free if row.is_permitted]
     return (
-        f"Of {len(free)} tests all accesses are atomic, those of a location of one range. They have no races, so by "
-        f"SC-DRF none of their outcomes is permitted. Permitted here: {', '.join(permitted) or 'none'}."
+        f"In {len(free)} tests all accesses are atomic, and those of a location have one range. They have no races, so "
+        f"by SC-DRF none of their outcomes is permitted. Permitted here: {', '.join(permitted) or 'none'}."
     )
 
 
@@ -157,7 +157,8 @@ def table_lines(collected):
 def markdown(collected):
     lines = [head(collected), "## Beside the literature", "", *literature_lines(collected.rows), ""]
     lines += [theorem_line(collected.rows), ""]
-    lines += ["[MODEL.md](MODEL.md#beside-the-literature) explains what differs.", "", "## Tests"]
+    lines += ["[MODEL.md](MODEL.md#beside-the-literature) explains where the rules could be read differently.", ""]
+    lines += ["## Tests"]
     lines += table_lines(collected)
     finds = [f"- {find}" for row in collected.rows for find in row.finds]
     if finds:

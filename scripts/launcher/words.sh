@@ -52,7 +52,7 @@ look_at_words() {
         case $word in -) ;; -*) refuse_words ;; esac
     done
     case $1 in
-    drive | run)
+    drive | trace | run)
         # Words that may not be UTF-8 are left to the program.
         if ! are_ascii "${@:3}"; then return; fi
         if [ "$1" = run ]; then look_at_rounds "$3"; else look_at_turns "$3"; fi

@@ -3,7 +3,7 @@ use Rattle.std.proofs.Common.{◌≡◌, ◌≢◌, ℕ, ◌+◌, ◌-◌, ◌*�
 use Rattle.std.specs.Prelude.{slice_index}
 use Rattle.std.proofs.lemmas.Bool.{cases_eq, cases_lt}
 use Rattle.std.proofs.lemmas.List.{get_or-set_same, get_or-set_other}
-use Rattle.wm_closure.specs.Graph.{AreArrivals, HasBit, IsColumn, IsOrdered, IsReached, Lowers}
+use Rattle.wm_closure.specs.Graph.{AreArrivals, AreOthers, HasBit, IsColumn, IsOrdered, IsReached, Lowers}
 use Rattle.wm_closure.proofs.Chains.{reached_from}
 
 -- node first + i is of this lane and has bit s
@@ -27,6 +27,9 @@ below_or_at : (i n : ℕ) → i < n + 1 → (i < n) ⊎ (i ≡ n)
 below_or_at i n l = ⊎_elim (λ (b : i < n). inl b) (λ (b : n ≤ i). inr (omega arith)) (cases_lt i n)
 
 module _ (graph : List (List ℕ)) (lanes : List ℕ) (width first : ℕ) (column : List ℕ) (n : ℕ) where
+  abbrev at : ℕ
+  at = slice_index lanes (first + n)
+
   first_later : (lane s v : ℕ) → (IsHit lanes first column lane s n → v ≤ first + n) → IsFirst graph lanes first column n lane s v → IsFirst graph lanes first column (n + 1) lane s v
   first_later lane s v here is = record {
     least = λ i l hit. ⊎_elim
@@ -39,67 +42,62 @@ module _ (graph : List (List ℕ)) (lanes : List ℕ) (width first : ℕ) (colum
         is.there;
   }
 
-  -- a word that was seen in its lane changes nothing
-  pub firsts_kept : (seen arrivals : List ℕ) → slice_index column n ≡ slice_index seen (slice_index lanes (first + n))
-      → AreSeen width first n seen arrivals → AreFirsts graph lanes width first column n arrivals → AreFirsts graph lanes width first column (n + 1) arrivals
-  firsts_kept seen arrivals same passed firsts lane s inside small =
-      first_later lane s (slice_index arrivals (lane * 64 + s))
-      (λ hit. let bit : HasBit (slice_index seen lane) s = subst (λ l. HasBit (slice_index seen l) s) hit.0 (subst (λ m. HasBit m s) same hit.1) in
-      let l : slice_index arrivals (lane * 64 + s) < first + n = passed lane s inside small bit in
-      omega arith)
-      (firsts lane s inside small)
+  -- the bits of the node's word that its lane had not seen lower the lane's arrivals to the node
+  module _ (seen old new : List ℕ) (fresh : ℕ) (is : Lowers at fresh (first + n) 64 old new) (bits : AreOthers fresh (slice_index column n) (slice_index seen at))
+      (passed : AreSeen width first n seen old) where
+    -- each bit of the word has this node in its lane, or an earlier one
+    arrived : at < width → (s : ℕ) → s < 64 → HasBit (slice_index column n) s → slice_index new (at * 64 + s) ≤ first + n
+    arrived inside s small bit = ⊎_elim
+        (λ (f : HasBit fresh s). is.marked s small f)
+        (λ (o : HasBit (slice_index seen at) s).
+        let l : slice_index old (at * 64 + s) < first + n = passed at s inside small o in
+        let f : slice_index new (at * 64 + s) ≤ slice_index old (at * 64 + s) = is.falls (at * 64 + s) in
+        omega arith)
+        (bits.whole s small bit)
 
-  pub seen_kept : (seen arrivals : List ℕ) → AreSeen width first n seen arrivals → AreSeen width first (n + 1) seen arrivals
-  seen_kept seen arrivals passed lane s inside small bit = let l = passed lane s inside small bit in omega arith
+    pub firsts_lowered : AreFirsts graph lanes width first column n old → AreFirsts graph lanes width first column (n + 1) new
+    firsts_lowered firsts lane s inside small = record {
+      least = λ i l hit. ⊎_elim
+          (λ (b : i < n). let o : slice_index old k ≤ first + i = before.least i b hit in let f : slice_index new k ≤ slice_index old k = is.falls k in omega arith)
+          (λ (e : i ≡ n). subst (λ j. slice_index new k ≤ first + j) (sym e) (here (subst (λ j. IsHit lanes first column lane s j) e hit)))
+          (below_or_at i n l);
+      there = ⊎_elim
+          (λ (o : slice_index new k ≡ slice_index old k). ⊎_elim
+          (λ (e : slice_index old k ≡ length graph). inl (o ∙ e))
+          (λ (f : (i : ℕ) × (i < n) × (slice_index old k ≡ first + i) × IsHit lanes first column lane s i). inr (f.0, (let l = f.1 in omega arith), o ∙ f.2, f.3))
+          before.there)
+          (λ (o : (slice_index new k ≡ first + n) × ((m : ℕ) × (m < 64) × (k ≡ at * 64 + m) × HasBit fresh m)).
+          let m = o.1.0 in
+          let lm : m < 64 = o.1.1 in
+          let place : lane * 64 + s ≡ at * 64 + m = o.1.2 in
+          let same_lane : at ≡ lane = omega arith in
+          let same_bit : m ≡ s = omega arith in
+          let bit : HasBit (slice_index column n) m = bits.part m lm o.1.3 in
+          inr (n, omega arith, o.0, (same_lane, subst (λ b. HasBit (slice_index column n) b) same_bit bit)))
+          (is.kept k);
+    }
+      where
+        k : ℕ
+        k = lane * 64 + s
 
-  -- another word lowers the lane's arrivals to its node
-  pub firsts_lowered : (old new : List ℕ) → Lowers (slice_index lanes (first + n)) (slice_index column n) (first + n) 64 old new
-      → AreFirsts graph lanes width first column n old → AreFirsts graph lanes width first column (n + 1) new
-  firsts_lowered old new is firsts lane s inside small = record {
-    least = λ i l hit. ⊎_elim
-        (λ (b : i < n). let o : slice_index old k ≤ first + i = before.least i b hit in let f : slice_index new k ≤ slice_index old k = is.falls k in omega arith)
-        (λ (e : i ≡ n). subst (λ j. slice_index new k ≤ first + j) (sym e) (here (subst (λ j. IsHit lanes first column lane s j) e hit)))
-        (below_or_at i n l);
-    there = ⊎_elim
-        (λ (o : slice_index new k ≡ slice_index old k). ⊎_elim
-        (λ (e : slice_index old k ≡ length graph). inl (o ∙ e))
-        (λ (f : (i : ℕ) × (i < n) × (slice_index old k ≡ first + i) × IsHit lanes first column lane s i). inr (f.0, (let l = f.1 in omega arith), o ∙ f.2, f.3))
-        before.there)
-        (λ (o : (slice_index new k ≡ first + n) × ((m : ℕ) × (m < 64) × (k ≡ slice_index lanes (first + n) * 64 + m) × HasBit (slice_index column n) m)).
-        let m = o.1.0 in
-        let lm : m < 64 = o.1.1 in
-        let at : lane * 64 + s ≡ slice_index lanes (first + n) * 64 + m = o.1.2 in
-        let same_lane : slice_index lanes (first + n) ≡ lane = omega arith in
-        let same_bit : m ≡ s = omega arith in
-        inr (n, omega arith, o.0, (same_lane, subst (λ b. HasBit (slice_index column n) b) same_bit o.1.3)))
-        (is.kept k);
-  }
-    where
-      k : ℕ
-      k = lane * 64 + s
+        before : IsFirst graph lanes first column n lane s (slice_index old (lane * 64 + s))
+        before = firsts lane s inside small
 
-      before : IsFirst graph lanes first column n lane s (slice_index old (lane * 64 + s))
-      before = firsts lane s inside small
+        here : IsHit lanes first column lane s n → slice_index new (lane * 64 + s) ≤ first + n
+        here hit = subst (λ l. slice_index new (l * 64 + s) ≤ first + n) hit.0 (arrived (subst (λ l. l < width) (sym hit.0) inside) s small hit.1)
 
-      here : IsHit lanes first column lane s n → slice_index new (lane * 64 + s) ≤ first + n
-      here hit = subst (λ l. slice_index new (l * 64 + s) ≤ first + n) hit.0 (is.marked s small hit.1)
-
-  pub seen_lowered : (seen old new : List ℕ) → slice_index lanes (first + n) < length seen → Lowers (slice_index lanes (first + n)) (slice_index column n) (first + n) 64 old new
-      → AreSeen width first n seen old → AreSeen width first (n + 1) (set seen (slice_index lanes (first + n)) (slice_index column n)) new
-  seen_lowered seen old new there is passed lane s inside small bit = ⊎_elim
-      (λ (e : lane ≡ at).
-      let word : slice_index (set seen at (slice_index column n)) lane ≡ slice_index column n = subst (λ l. slice_index (set seen at (slice_index column n)) l ≡ slice_index column n) (sym e) (get_or-set_same seen at (slice_index column n) 0 there) in
-      let low : slice_index new (lane * 64 + s) ≤ first + n = subst (λ l. slice_index new (l * 64 + s) ≤ first + n) (sym e) (is.marked s small (subst (λ w. HasBit w s) word bit)) in
-      omega arith)
-      (λ (d : lane ≢ at).
-      let word : slice_index (set seen at (slice_index column n)) lane ≡ slice_index seen lane = get_or-set_other seen at lane (slice_index column n) 0 d in
-      let l : slice_index old (lane * 64 + s) < first + n = passed lane s inside small (subst (λ w. HasBit w s) word bit) in
-      let f : slice_index new (lane * 64 + s) ≤ slice_index old (lane * 64 + s) = is.falls (lane * 64 + s) in
-      omega arith)
-      (cases_eq lane at)
-    where
-      at : ℕ
-      at = slice_index lanes (first + n)
+    pub seen_lowered : at < length seen → AreSeen width first (n + 1) (set seen at (slice_index column n)) new
+    seen_lowered there lane s inside small bit = ⊎_elim
+        (λ (e : lane ≡ at).
+        let word : slice_index (set seen at (slice_index column n)) lane ≡ slice_index column n = subst (λ l. slice_index (set seen at (slice_index column n)) l ≡ slice_index column n) (sym e) (get_or-set_same seen at (slice_index column n) 0 there) in
+        let low : slice_index new (lane * 64 + s) ≤ first + n = subst (λ l. slice_index new (l * 64 + s) ≤ first + n) (sym e) (arrived (subst (λ l. l < width) e inside) s small (subst (λ w. HasBit w s) word bit)) in
+        omega arith)
+        (λ (d : lane ≢ at).
+        let word : slice_index (set seen at (slice_index column n)) lane ≡ slice_index seen lane = get_or-set_other seen at lane (slice_index column n) 0 d in
+        let l : slice_index old (lane * 64 + s) < first + n = passed lane s inside small (subst (λ w. HasBit w s) word bit) in
+        let f : slice_index new (lane * 64 + s) ≤ slice_index old (lane * 64 + s) = is.falls (lane * 64 + s) in
+        omega arith)
+        (cases_eq lane at)
 
 -- behind the last node they are the arrivals
 pub arrivals_of : (graph : List (List ℕ)) (lanes : List ℕ) (width first : ℕ) (column arrivals : List ℕ) → IsOrdered graph → IsColumn graph first column → length arrivals ≡ width * 64

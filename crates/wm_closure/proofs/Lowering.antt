@@ -62,3 +62,18 @@ lowers_set lane mask node n old now small inside bit less is = record {
 
     below_n : (s : ℕ) → s < n + 1 → lane * 64 + s ≢ lane * 64 + n → s < n
     below_n s below d = ⊎_elim (λ (l : s < n). l) (λ (l : n ≤ s). absurd (d (let e : s ≡ n = omega arith in omega arith))) (cases_lt s n)
+
+-- no bit from n on, up to m
+abbrev pub HasNone : ℕ → ℕ → ℕ → Type 0
+HasNone mask n m = (s : ℕ) → n ≤ s → s < m → HasBit mask s → ⊥
+
+-- bits that are not set need no arrival
+pub lowers_skipped : (lane mask node n m : ℕ) (old now : List ℕ) → HasNone mask n m → Lowers lane mask node n old now → Lowers lane mask node m old now
+lowers_skipped lane mask node n m old now none is = record {
+  falls = is.falls;
+  marked = λ s below bit. ⊎_elim
+      (λ (l : s < n). is.marked s l bit)
+      (λ (l : n ≤ s). absurd (none s l below bit))
+      (cases_lt s n);
+  kept = is.kept;
+}

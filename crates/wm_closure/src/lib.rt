@@ -2,7 +2,7 @@
 #![tactic(auto)]
 
 ghost use Rattle.std.specs.Prelude.{◌≡◌, ◌<◌, ◌≤◌, ◌+◌, ◌*◌, ◌↔◌, ℕ, length, IfOk, All, IsTrue};
-ghost use Rattle.wm_closure.specs.Graph.{HasBit, IsOrdered, IsOneSet, IsColumn, AreAllArrivals, AreArrivals, AreLanes, Lowers, Reaches};
+ghost use Rattle.wm_closure.specs.Graph.{HasBit, IsOrdered, IsOneSet, IsColumn, AreAllArrivals, AreArrivals, AreLanes, AreOthers, Lowers, Reaches};
 
 use rayon::prelude::*;
 use std::alloc::{AllocError, Global};
@@ -51,17 +51,27 @@ fn column(alloc: Global, graph: &[List<usize>], first: usize) -> Result<List<u64
     Ok(List::from_vec(column))
 }
 
+/// The bits of a word that are not set in another one.
+fn without(word: u64, other: u64) -> u64
+    ensures { AreOthers result word other }
+{
+    word & !other
+}
+
 /// Lowers what is known of each of 64 sources with a bit in `mask` to a node of this lane.
 fn lower(arrivals: &mut [usize], lane: usize, mask: u64, node: usize)
     requires { lane * 64 + 64 ≤ length arrivals.old }
     ensures size { length arrivals.new ≡ length arrivals.old }
     ensures lowered { Lowers lane mask node 64 arrivals.old arrivals.new }
 {
-    for number in 0..64usize {
+    let mut number = 0usize;
+    while number < 64 && mask >> number != 0 {
+        number += (mask >> number).trailing_zeros() as usize;
         let place = lane * 64 + number;
-        if has_bit(mask, number) && node < arrivals[place] {
+        if node < arrivals[place] {
             arrivals[place] = node;
         }
+        number += 1;
     }
 }
 
@@ -84,10 +94,9 @@ fn arrivals(
     let mut seen = vec![in alloc; 0u64; width]?;
     for (number, mask) in column.as_slice().iter().enumerate() {
         let lane = lanes[first + number];
-        if *mask != seen[lane] {
-            lower(&mut arrivals, lane, *mask, first + number);
-            seen[lane] = *mask;
-        }
+        let fresh = without(*mask, seen[lane]);
+        lower(&mut arrivals, lane, fresh, first + number);
+        seen[lane] = *mask;
     }
     Ok(List::from_vec(arrivals))
 }
@@ -211,12 +220,4 @@ impl Closure {
         let lane = self.lanes[to];
         self.arrivals[from / 64].as_slice()[lane * 64 + from % 64] <= to
     }
-}
-
-/// Whether a bit of a word is set.
-fn has_bit(word: u64, bit: usize) -> bool
-    requires { bit < 64 }
-    ensures { IsTrue result ↔ HasBit word bit }
-{
-    word >> bit & 1 == 1
 }

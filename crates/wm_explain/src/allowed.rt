@@ -1,10 +1,9 @@
 //! What an allowed run rests on.
 
-use crate::json_text::JsonText;
-use crate::phrase::{Count, EndPhrase};
 use crate::row::EventTables;
 use std::alloc::AllocError;
 use wm_event::{EventId, ThreadLog};
+use wm_phrase::{Count, EndPhrase, JsonText};
 
 /// Adds how a thread starts and ends.
 fn add_thread(text: &mut String, number: usize, thread: &ThreadLog) -> Result<(), AllocError> {
@@ -60,7 +59,7 @@ pub(crate) fn allowed_reason(mut tables: EventTables) -> Result<String, AllocErr
 pub(crate) fn permitted_reason(mut tables: EventTables) -> Result<String, AllocError> {
     let mut text = String::new(tables.alloc);
     text.push_str(
-        "The memory rules allow the events with these writers in this order. No module was given, so nothing is said of the threads' runs.\n",
+        "The memory rules allow the events with these writers in this order. No module was given, so the threads' runs were not checked: `explain MODULE DOC` checks them.\n",
     )?;
     add_events(&mut text, &mut tables)?;
     Ok(text)

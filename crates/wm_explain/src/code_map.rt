@@ -1,13 +1,12 @@
 //! The numbers and the byte offsets of a module's instructions.
 
-use crate::byte_reader::ByteReader;
-use crate::instruction::{Opcode, immediates_of, skip_immediates};
 use crate::module_code::ModuleCode;
 use crate::opcode_numbers::{BlockPosition, OpcodeNumbers, opcode_numbers};
 use std::alloc::{AllocError, Global};
 use wm_ast::Module;
 use wm_decode::MAX_MODULE_BYTES;
 use wm_machine::CodePosition;
+use wm_module_bytes::{ByteReader, Opcode, immediates_of, skip_immediates};
 use wm_races::Site;
 
 /// The number of the code section (Core 1.0, section 5.5.2).

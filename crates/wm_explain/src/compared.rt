@@ -4,11 +4,11 @@ ghost use Rattle.wm_explain.specs.Compared.{IsCompared, next_by_log, next_by_mod
 ghost use Rattle.wm_machine.specs.State.{need_of};
 ghost use Rattle.wm_replay.specs.Following.{HasPlaces};
 
-use crate::phrase::{EndPhrase, EventPhrase, OpPhrase};
 use std::alloc::{AllocError, Global};
 use std::fmt;
 use wm_event::{End, Event, MAX_STEPS, OpFields, ThreadLog};
 use wm_machine::{CodePosition, Need, Thread};
+use wm_phrase::{EndPhrase, EventPhrase, OpPhrase};
 use wm_replay::follow;
 use wm_valid::ValidModule;
 

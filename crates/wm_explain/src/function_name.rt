@@ -1,11 +1,11 @@
 //! The names of a module's functions.
 
-use crate::json_text::ShortText;
 use crate::module_code::ModuleCode;
-use crate::name_section::section_names;
 use std::alloc::{AllocError, Global};
 use std::fmt;
 use wm_ast::{ExportKind, Module};
+use wm_module_bytes::section_names;
+use wm_phrase::ShortText;
 
 /// How a function is named.
 #[derive(Clone, Copy)]

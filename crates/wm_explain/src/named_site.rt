@@ -4,11 +4,12 @@ use crate::event_positions::log_positions;
 use crate::function_name::{BriefName, FunctionName, FunctionNames};
 use crate::module_code::ModuleCode;
 use crate::sites::RunSites;
-use std::alloc::AllocError;
+use std::alloc::{AllocError, Global};
 use std::fmt;
 use std::thread::Threads;
-use wm_event::{EventKey, Log};
+use wm_event::{EventKey, Log, ThreadLog};
 use wm_races::Site;
+use wm_valid::ValidModule;
 
 /// An instruction with the name of its function.
 #[derive(Clone, Copy)]
@@ -76,4 +77,47 @@ impl<'a> NamedSites<'a> {
         let function = self.names.name(start, site.function as usize);
         Ok(Some(NamedSite { site, function }))
     }
+}
+
+/// The places of a thread's events.
+fn thread_places(
+    alloc: Global,
+    sites: &mut NamedSites,
+    thread: &ThreadLog,
+) -> Result<Vec<String>, AllocError> {
+    let mut places = Vec::new(alloc);
+    for event in thread.events.as_slice() {
+        let place = match sites.site(event.key())? {
+            Some(site) => format!(in alloc; "{site}")?,
+            None => String::new(alloc),
+        };
+        places.push(place)?;
+    }
+    Ok(places)
+}
+
+/// For each event of a log, by thread and number, the instruction that makes it, as
+/// `at 0x2e, instruction 2 of "a"`. The string of an event that its thread doesn't make is empty. `module_bytes` spell the
+/// module.
+///
+/// # Errors
+///
+/// Only if an allocation fails.
+pub fn event_places<R: AllocGlobal + Threads + Sync>(
+    rt: &R,
+    module: &ValidModule,
+    module_bytes: &[u8],
+    log: &Log,
+) -> Result<Vec<Vec<String>>, AllocError> {
+    let alloc = rt.alloc();
+    let code = ModuleCode {
+        module,
+        bytes: module_bytes,
+    };
+    let mut sites = NamedSites::of(rt, code, log)?;
+    let mut places = Vec::new(alloc);
+    for thread in log.threads() {
+        places.push(thread_places(alloc, &mut sites, thread)?)?;
+    }
+    Ok(places)
 }

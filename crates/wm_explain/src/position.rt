@@ -55,7 +55,7 @@ pub(crate) fn position_phrase(
                 ..
             },
         ) => format!(in alloc;
-            "{instr} at 0x{offset:x}, instruction {instruction} of {name} (counted from 0 in the order of the text, each else and end too)"
+            "{instr} at 0x{offset:x}, instruction {instruction} of {name} (counted from 0, else and end included)"
         ),
         None => format!(in alloc; "{instr} in {name}"),
     }

@@ -1,9 +1,7 @@
 //! Why a thread's log isn't its run.
 
 use crate::compared::{Compared, Next, compare};
-use crate::json_text::JsonText;
 use crate::module_code::ModuleCode;
-use crate::phrase::{Count, EndPhrase};
 use crate::position::position_phrase;
 use crate::row::EventTables;
 use crate::rule::add_fault_events;
@@ -11,9 +9,12 @@ use crate::start_refusal::start_reason;
 use std::alloc::{AllocError, Global};
 use std::cmp::Ordering;
 use std::thread::Threads;
+use wm_check::{Breach, Verdict};
 use wm_event::{Candidate, Judgement, MAX_STEPS, OpKind, Rule, RuleFault, ThreadLog};
+use wm_phrase::{Count, EndPhrase, JsonText};
 use wm_replay::{Place, ReplayAnswer};
 use wm_rules::judge;
+use wm_valid::ValidModule;
 
 /// A thread of a log, by its number.
 #[derive(Clone, Copy)]
@@ -29,7 +30,7 @@ fn add_difference(text: &mut String, compared: &Compared) -> Result<(), AllocErr
     let Compared { logged, made, .. } = *compared;
     writeln!(
         text,
-        "Run again on the values that the log reads, it makes {steps} and {events} as logged. Next,\n  the log has     {logged}\n  the module has  {made}"
+        "Run again with the values that its reads have in the log, it makes {steps} and {events} as logged. Next,\n  the log has     {logged}\n  the module has  {made}"
     )
 }
 
@@ -153,16 +154,16 @@ fn add_position(
 /// What a fault of V1 at a read of the thread says about the thread's run.
 fn hint(compared: &Compared, fault: &RuleFault) -> &'static str {
     if fault.case != 3 {
-        return "That is about who wrote a byte; a thread's run depends on the values that it reads alone.";
+        return "That is about who wrote a byte. A thread's run depends only on the values that it reads, not on who wrote them.";
     }
     if (fault.event.number as usize) < compared.events {
-        return "That read comes before the difference: a wrong value often shows later, as another step.";
+        return "That read comes before the difference and may be its cause. Check how its value was recorded.";
     }
     match compared.made {
         Next::Access(op)
             if fault.event.number as usize == compared.events
-                && matches!(op.kind, OpKind::CmpXchg(_, _)) => {
-            "That read is at the difference: what a compare-exchange writes depends on the value that it reads."
+                && matches!(op.kind, OpKind::Rmw(_, _) | OpKind::CmpXchg(_, _)) => {
+            "That read is at the difference and may be its cause: what an update or a compare-exchange writes depends on the value that it reads."
         }
         _ => "That read doesn't come before the difference, so it isn't its cause.",
     }
@@ -218,6 +219,20 @@ fn thread_reason(
     Ok(text)
 }
 
+/// Runs the thread of this number by its log; None if there is none, or if it doesn't start.
+fn compare_thread(
+    alloc: Global,
+    module: &ValidModule,
+    candidate: &Candidate,
+    number: usize,
+) -> Result<Option<Compared>, AllocError> {
+    let threads = candidate.log().threads();
+    if number >= threads.len() {
+        return Ok(None);
+    }
+    compare(alloc, module, &threads[number], number)
+}
+
 /// Why the log of the thread of this number isn't its run, and what the memory rules say of the events.
 fn differing_reason<R: AllocGlobal + Threads + Sync>(
     rt: &R,
@@ -227,12 +242,10 @@ fn differing_reason<R: AllocGlobal + Threads + Sync>(
     place: Place,
 ) -> Result<String, AllocError> {
     let alloc = rt.alloc();
-    let threads = candidate.log().threads();
-    if number >= threads.len() {
+    let Some(log) = candidate.log().threads().get(number) else {
         return Ok(String::new(alloc));
-    }
-    let log = &threads[number];
-    let Some(compared) = compare(alloc, code.module, log, number)? else {
+    };
+    let Some(compared) = compare_thread(alloc, code.module, candidate, number)? else {
         return Ok(String::new(alloc));
     };
     let thread = LoggedThread { number, log };
@@ -268,5 +281,26 @@ pub(crate) fn replay_reason<R: AllocGlobal + Threads + Sync>(
         ReplayAnswer::Differs(number, place) => differing_reason(
             rt, code, candidate, number, place,
         ),
+    }
+}
+
+/// What the module does where a thread differs from its log, as `plain read of 4 bytes at address 4`. The string is empty if
+/// no thread that starts differs.
+///
+/// # Errors
+///
+/// Only if an allocation fails.
+pub fn module_does(
+    alloc: Global,
+    module: &ValidModule,
+    verdict: &Verdict,
+    candidate: &Candidate,
+) -> Result<String, AllocError> {
+    let Verdict::Broken(Breach::Replay(ReplayAnswer::Differs(number, _))) = verdict else {
+        return Ok(String::new(alloc));
+    };
+    match compare_thread(alloc, module, candidate, *number)? {
+        Some(compared) => format!(in alloc; "{}", compared.made),
+        None => Ok(String::new(alloc)),
     }
 }

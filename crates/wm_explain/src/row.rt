@@ -2,12 +2,12 @@
 
 use crate::module_code::ModuleCode;
 use crate::named_site::{NamedSite, NamedSites};
-use crate::phrase::{EventPhrase, ValueForm, WritersPhrase};
 use std::alloc::{AllocError, Global};
 use std::fmt;
 use std::thread::Threads;
 use wm_event::{Candidate, Event, EventId, EventKey};
 use wm_hb::{WriterRun, writer_runs};
+use wm_phrase::{EventPhrase, ValueForm, WritersPhrase};
 
 /// An event in a table: its place in the order, its name, what it does, and who wrote what it read.
 #[derive(Clone, Copy)]

@@ -150,7 +150,7 @@ impl RuleSentence {
         let other = OtherName(other);
         write!(
             f,
-            "{event} takes its byte {byte} from {writer} and an earlier byte from {other}. All three are accesses of one range that may not tear (atomic, or plain of at most 4 bytes at a multiple of their width): {event} has to read one of the two writes whole."
+            "{event} takes its byte {byte} from {writer} and an earlier byte from {other}. All three are accesses of one range that may not tear (atomic, or plain of at most 4 bytes at a multiple of their width): {event} may take bytes from only one of the two writes."
         )
     }
 
@@ -167,15 +167,15 @@ impl RuleSentence {
         match case {
             1 => write!(
                 f,
-                "{event} reads from {writer}, which synchronizes with it, but {other}, an atomic write of the same range, is between the two in the order: {event} has to read from {other} or a later write."
+                "{event} reads from {writer}, which synchronizes with it, but {other}, an atomic write of the same range, is between the two in the order: with this order {event} can't read from {writer}."
             ),
             2 => write!(
                 f,
-                "{event} reads from {writer}, but {other}, an atomic write of the range of {writer}, is between the two in the order, and both writes are atomic and happen before {event}: {event} has to read from {other} or a later write."
+                "{event} reads from {writer}, but {other}, an atomic write of the range of {writer}, is between the two in the order, and both writes are atomic and happen before {event}: with this order {event} can't read from {writer}."
             ),
             _ => write!(
                 f,
-                "{event} is atomic and reads from {writer}, but {other}, an atomic write of the same range, is between the two in the order, and {writer} happens before both: {event} has to read from {other} or a later write."
+                "{event} is atomic and reads from {writer}, but {other}, an atomic write of the same range, is between the two in the order, and {writer} happens before both: with this order {event} can't read from {writer}."
             ),
         }
     }
@@ -210,10 +210,10 @@ impl fmt::Display for RuleName {
                 "V3, coherence: a read doesn't happen before its writer, and no write of the byte happens between the two.",
             ),
             Rule::NoTearing => f.write_str(
-                "V4, no tearing: a read that may not tear sees at most one such write of its range.",
+                "V4, no tearing: a read that may not tear takes bytes from at most one write of its range that may not tear.",
             ),
             Rule::SequentialConsistency => f.write_str(
-                "V5, sequential consistency: no atomic write is in the order between a read and its writer if atomic accesses order the two.",
+                "V5, sequential consistency: in three cases no atomic write may be between a read and its writer in the order.",
             ),
         }
     }

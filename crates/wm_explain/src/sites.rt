@@ -54,6 +54,13 @@ impl<'m> RunSites<'m> {
     }
 }
 
+/// The first instruction of function 0.
+const FIRST_SITE: Site = Site {
+    function: 0,
+    instruction: 0,
+    offset: 0,
+};
+
 /// A site for each event of a thread; an event that the thread doesn't make gets the first instruction of function 0.
 fn thread_sites(
     alloc: Global,
@@ -64,11 +71,7 @@ fn thread_sites(
 {
     let mut sites = List::new(alloc);
     for event in thread.events.as_slice() {
-        let site = run.site(event.key())?.unwrap_or(Site {
-            function: 0,
-            instruction: 0,
-            offset: 0,
-        });
+        let site = run.site(event.key())?.unwrap_or(FIRST_SITE);
         sites.push(site)?;
     }
     Ok(sites)
@@ -97,6 +100,33 @@ pub fn event_sites(
     let mut sites = Vec::new(alloc);
     for thread in log.threads() {
         sites.push(thread_sites(alloc, &mut run, thread)?)?;
+    }
+    Ok(sites)
+}
+
+/// For each of these positions, in their order, the instruction of the module there; a position that the module doesn't
+/// have gets the first instruction of function 0. `module_bytes` spell the module.
+///
+/// # Errors
+///
+/// Only if an allocation fails.
+pub fn position_sites(
+    alloc: Global,
+    module: &ValidModule,
+    module_bytes: &[u8],
+    positions: &[CodePosition],
+) -> Result<List<Site>, AllocError>
+    ensures { IfOk result (λ sites. length sites ≡ length positions.now) }
+{
+    let code = ModuleCode {
+        module,
+        bytes: module_bytes,
+    };
+    let mut map = CodeMap::new(alloc, code)?;
+    let mut sites = List::new(alloc);
+    for position in positions {
+        let found = map.site(*position)?;
+        sites.push(found.unwrap_or(FIRST_SITE))?;
     }
     Ok(sites)
 }

@@ -1,12 +1,11 @@
 //! Why a thread doesn't start.
 
-use crate::json_text::JsonText;
-use crate::phrase::Count;
 use std::alloc::{AllocError, Global};
 use std::fmt;
 use wm_ast::{ExportKind, Module};
 use wm_event::ThreadLog;
 use wm_machine::StartFault;
+use wm_phrase::{Count, JsonText};
 
 /// Why a thread doesn't start.
 #[derive(Clone, Copy)]

@@ -1,17 +1,22 @@
 -- The edges of a picture, by what they state of the run.
-use Rattle.std.specs.Prelude.{◌≡◌, ◌↔◌, ℕ, ◌+◌, ◌<◌, ◌≤◌, Some, IsTrue, length, slice_get}
+use Rattle.std.specs.Prelude.{◌≡◌, ◌↔◌, ℕ, ◌+◌, ◌<◌, ◌≤◌, List, Some, All, Contains, IsTrue, length, slice_get}
+use Rattle.wm_event.specs.declared.event.Event.{Event}
 use Rattle.wm_event.specs.declared.event.EventId.{EventId}
 use Rattle.wm_event.specs.declared.event.EventId.TheVariants.{Init, At}
 use Rattle.wm_event.specs.declared.event.EventKey.{EventKey}
+use Rattle.wm_event.specs.declared.log.ThreadLog.{ThreadLog}
+use Rattle.wm_event.specs.Event.{key_of}
+use Rattle.wm_event.specs.Execution.{ReadsFrom}
 use Rattle.wm_event.specs.HappensBefore.{SynchronizesWith}
 use Rattle.wm_event.specs.LoggedRun.{LoggedRun, execution}
+use Rattle.wm_event.specs.Rules.{Writes}
 use Rattle.wm_event.specs.Shape.{IsListedAt}
 use Rattle.wm_event.specs.Witness.{writers_in}
 use Rattle.wm_hb.specs.declared.fault_chain.FaultChain.{FaultChain}
 use Rattle.wm_hb.specs.Chain.{IsEdge, IsShortestChain}
 use Rattle.wm_graph.specs.declared.edges.Edge.{Edge}
 use Rattle.wm_graph.specs.declared.edges.EdgeKind.{EdgeKind}
-use Rattle.wm_graph.specs.declared.edges.EdgeKind.TheVariants.{Sequenced, ReadsFrom, Order, Chain}
+use Rattle.wm_graph.specs.declared.edges.EdgeKind.TheVariants.{Sequenced, ReadsFrom as ReadsBytes, Order, Coherence, FromRead, Chain}
 use Rattle.wm_graph.specs.declared.edges.ReadsFrom.{ReadsFrom as Bytes}
 
 -- b is the next event of a's thread
@@ -19,14 +24,31 @@ abbrev pub IsNext : EventId → EventKey → Type 0
 IsNext Init b = ⊥
 IsNext (At a) b = (a.thread ≡ b.thread) × (a.number + 1 ≡ b.number)
 
+-- the edge from an event to the next one of its thread
+abbrev pub sequenced : EventKey → EventKey → Edge
+sequenced a b = record { from = At a; to = b; kind = Sequenced }
+
 -- a synchronizes with b
 abbrev pub SyncsWith : LoggedRun → EventId → EventKey → Type 0
 SyncsWith x Init b = ⊥
 SyncsWith x (At a) b = SynchronizesWith (execution x) a b
 
--- the order lists a before b
+-- the order lists a before b; Init is before each event that it lists
 abbrev pub Precedes : LoggedRun → EventId → EventKey → Type 0
-Precedes x a b = (i : ℕ) × (j : ℕ) × IsListedAt x.witness.order i a × IsListedAt x.witness.order j (At b) × (i < j)
+Precedes x Init b = (j : ℕ) × IsListedAt x.witness.order j (At b)
+Precedes x (At a) b = (i : ℕ) × (j : ℕ) × IsListedAt x.witness.order i (At a) × IsListedAt x.witness.order j (At b) × (i < j)
+
+-- b writes a byte that a wrote, later in the order
+pub record Overwrites (x : LoggedRun) (a : EventId) (b : EventKey) : Type 0 where
+  pub address : ℕ
+  pub first : Writes (execution x) a address
+  pub second : Writes (execution x) (At b) address
+  pub order : Precedes x a b
+
+-- a reads a byte from a write that b overwrites
+abbrev pub ReadsBefore : LoggedRun → EventId → EventKey → Type 0
+ReadsBefore x Init b = ⊥
+ReadsBefore x (At a) b = (k : ℕ) × (w : EventId) × ReadsFrom (execution x) a k w × Overwrites x w b
 
 -- b reads these bytes from a
 pub record ReadsFromBy (x : LoggedRun) (a : EventId) (b : EventKey) (bytes : Bytes) : Type 0 where
@@ -41,10 +63,47 @@ IsChainOf x chain = IsShortestChain (execution x) chain.from chain.links chain.t
 -- an edge of this kind from a to b is right
 abbrev pub States : LoggedRun → EdgeKind → EventId → EventKey → Type 0
 States x Sequenced a b = IsNext a b
-States x (ReadsFrom bytes) a b = ReadsFromBy x a b bytes
+States x (ReadsBytes bytes) a b = ReadsFromBy x a b bytes
 States x Order a b = Precedes x a b
+States x Coherence a b = Overwrites x a b
+States x FromRead a b = ReadsBefore x a b
 States x (Chain kind) a b = IsEdge (execution x) kind a b
 
 -- an edge is right
 abbrev pub IsRight : LoggedRun → Edge → Type 0
 IsRight x edge = States x edge.kind edge.from edge.to
+
+-- ---- no edge is missing
+
+-- among these edges is one from a to b whose kind is so
+abbrev pub HasEdge : List Edge → (EdgeKind → Type 0) → EventId → EventKey → Type 0
+HasEdge edges P a b = (kind : EdgeKind) × P kind × Contains edges record { from = a; to = b; kind = kind }
+
+-- the edge is of reads-from, and byte k is one of its bytes
+abbrev pub ReadsByte : ℕ → EdgeKind → Type 0
+ReadsByte k (ReadsBytes bytes) = (bytes.first ≤ k) × (k ≤ bytes.last)
+ReadsByte k _ = ⊥
+
+-- an edge leads to b from the event before it in its thread
+abbrev pub HasSequenced : List Edge → EventKey → Type 0
+HasSequenced edges b = (a : EventKey) → IsNext (At a) b → HasEdge edges (λ kind. kind ≡ Sequenced) (At a) b
+
+-- an edge leads to b from the writer of each byte that it reads
+abbrev pub HasReads : LoggedRun → List Edge → EventKey → Type 0
+HasReads x edges b = (k : ℕ) (w : EventId) → ReadsFrom (execution x) b k w → HasEdge edges (ReadsByte k) w b
+
+-- the edges to an event are there
+abbrev pub HasEdgesTo : LoggedRun → List Edge → Event → Type 0
+HasEdgesTo x edges event = HasSequenced edges (key_of event) × HasReads x edges (key_of event)
+
+-- the edges to the events of a thread are there
+abbrev pub HasEdgesOf : LoggedRun → List Edge → ThreadLog → Type 0
+HasEdgesOf x edges thread = All (HasEdgesTo x edges) thread.events
+
+-- the edges to all events of the log are there
+abbrev pub AreComplete : LoggedRun → List Edge → Type 0
+AreComplete x edges = All (HasEdgesOf x edges) x.log
+
+-- these edges are still among those
+abbrev pub Keeps : List Edge → List Edge → Type 0
+Keeps old new = (edge : Edge) → Contains old edge → Contains new edge

@@ -1,144 +1,26 @@
 //! A picture in the language of Graphviz.
 
+use crate::caption::Caption;
 use crate::columns::{Column, Node};
-use crate::edges::{Edge, EdgeKind, ReadsFrom};
-use crate::label::{FAULT_COLOUR, InitialShare, LabelText, NodeLabel, NodeName};
+use crate::label::{
+    FAULT_COLOUR, FAULT_COLOURS, InitialShare, LabelText, NodeLabel, NodeName, PlaceLabel,
+};
+use crate::lines::add_lines;
 use crate::picture::{Picture, picture_of};
+use crate::shown::Shown;
 use std::alloc::{AllocError, Global};
 use std::fmt;
 use wm_check::{Breach, Verdict};
 use wm_event::{Candidate, EventId};
-use wm_hb::LinkKind;
-
-/// Which bytes are read from a writer, if these aren't all.
-#[derive(Clone, Copy)]
-struct BytesLabel(ReadsFrom);
-
-impl fmt::Display for BytesLabel {
-    fn fmt<W: fmt::Write>(&self, f: &mut fmt::Formatter<W>) -> fmt::Result {
-        let ReadsFrom {
-            first,
-            last,
-            is_whole,
-            ..
-        } = self.0;
-        if is_whole {
-            f.write_str("rf")
-        } else if first == last {
-            write!(f, "rf {first}")
-        } else {
-            write!(f, "rf {first}..{last}")
-        }
-    }
-}
-
-/// The attributes of an edge.
-#[derive(Clone, Copy)]
-struct Attributes(EdgeKind);
-
-impl fmt::Display for Attributes {
-    fn fmt<W: fmt::Write>(&self, f: &mut fmt::Formatter<W>) -> fmt::Result {
-        match self.0 {
-            EdgeKind::Sequenced => f.write_str("label=\"sb\""),
-            EdgeKind::ReadsFrom(reads_from) => {
-                let label = BytesLabel(reads_from);
-                if reads_from.synchronizes {
-                    return write!(
-                        f,
-                        "xlabel=\"{label}, sw\", color=\"blue\", fontcolor=\"blue\", constraint=false"
-                    );
-                }
-                write!(
-                    f,
-                    "xlabel=\"{label}\", color=\"darkgreen\", fontcolor=\"darkgreen\", constraint=false"
-                )
-            }
-            EdgeKind::Order => {
-                f.write_str("xlabel=\"order\", style=\"dotted\", constraint=false")
-            }
-            EdgeKind::Chain(LinkKind::Sequenced) => write!(
-                f,
-                "label=\"sb\", color=\"{FAULT_COLOUR}\", fontcolor=\"{FAULT_COLOUR}\", penwidth=2"
-            ),
-            EdgeKind::Chain(kind) => {
-                let name = match kind {
-                    LinkKind::Synchronizes => "rf, sw",
-                    _ => "before all",
-                };
-                write!(
-                    f,
-                    "xlabel=\"{name}\", color=\"{FAULT_COLOUR}\", fontcolor=\"{FAULT_COLOUR}\", penwidth=2, constraint=false"
-                )
-            }
-        }
-    }
-}
-
-/// Adds an edge.
-fn add_edge(text: &mut String, edge: &Edge) -> Result<(), AllocError> {
-    let from = NodeName(edge.from);
-    let to = NodeName(EventId::At(edge.to));
-    let attributes = Attributes(edge.kind);
-    writeln!(text, "  {from} -> {to} [{attributes}];")
-}
-
-/// Whether a chain has an edge in the place of another one.
-fn is_recoloured(edge: &Edge, edges: &[Edge]) -> bool {
-    let is_the_same = |other: &Edge| -> bool {
-        let is_same_kind = match (edge.kind, other.kind) {
-            (EdgeKind::Sequenced, EdgeKind::Chain(LinkKind::Sequenced)) => true,
-            (EdgeKind::ReadsFrom(bytes), EdgeKind::Chain(LinkKind::Synchronizes)) => bytes.is_whole,
-            (_, _) => false,
-        };
-        is_same_kind && edge.from == other.from && edge.to == other.to
-    };
-    edges.iter().any(is_the_same)
-}
-
-/// Whether an edge is drawn. Of the reads from Init only that of a fault is; the labels of the others say it. An edge of
-/// a chain is drawn once, in its colour.
-fn is_drawn(edge: &Edge, chain: &[Edge], verdict: &Verdict) -> bool {
-    match (edge.from, edge.kind) {
-        (EventId::Init, EdgeKind::ReadsFrom(_)) => match verdict {
-            Verdict::Broken(Breach::Rule(fault)) => {
-                fault.event == edge.to
-                    && (fault.writer == EventId::Init || fault.other == Some(EventId::Init))
-            }
-            _ => false,
-        },
-        (_, _) => !is_recoloured(edge, chain),
-    }
-}
-
-/// The edges of chains.
-fn chain_edges(alloc: Global, edges: &[Edge]) -> Result<Vec<Edge>, AllocError> {
-    let mut chain = Vec::new(alloc);
-    for edge in edges {
-        if let EdgeKind::Chain(_) = edge.kind {
-            chain.push(*edge)?;
-        }
-    }
-    Ok(chain)
-}
-
-/// Adds the edges that are drawn.
-fn add_edges(
-    alloc: Global,
-    text: &mut String,
-    edges: &[Edge],
-    verdict: &Verdict,
-) -> Result<(), AllocError> {
-    let chain = chain_edges(alloc, edges)?;
-    for edge in edges {
-        if is_drawn(edge, chain.as_slice(), verdict) {
-            add_edge(text, edge)?;
-        }
-    }
-    Ok(())
-}
+use wm_replay::{Place, ReplayAnswer};
 
 /// Adds the node of an event; that of an atomic one has two borders.
-fn add_node(text: &mut String, node: &Node, candidate: &Candidate) -> Result<(), AllocError> {
+fn add_node(
+    text: &mut String,
+    node: &Node,
+    candidate: &Candidate,
+    caption: Caption,
+) -> Result<(), AllocError> {
     let key = node.event.key();
     let id = EventId::At(key);
     let name = NodeName(id);
@@ -147,28 +29,113 @@ fn add_node(text: &mut String, node: &Node, candidate: &Candidate) -> Result<(),
         place: candidate.place(id).unwrap_or(0).saturating_add(1),
         share: InitialShare::of(candidate.writers(key)),
     };
+    let made = PlaceLabel(caption.place(key.thread, key.number));
     let border = if node.event.is_atomic() {
         ", peripheries=2"
     } else {
         ""
     };
-    if node.is_marked {
-        writeln!(
-            text,
-            "    {name} [label=\"{label}\"{border}, color=\"{FAULT_COLOUR}\", fontcolor=\"{FAULT_COLOUR}\"];"
-        )
-    } else {
-        writeln!(text, "    {name} [label=\"{label}\"{border}];")
+    let colour = if node.is_marked { FAULT_COLOURS } else { "" };
+    writeln!(
+        text,
+        "    {name} [label=\"{label}{made}\"{border}{colour}];"
+    )
+}
+
+/// Adds the events of a thread that are shown, and between them how many are left out.
+fn add_nodes(
+    text: &mut String,
+    column: &Column,
+    shown: &Shown,
+    candidate: &Candidate,
+    caption: Caption,
+) -> Result<(), AllocError> {
+    let mut last = None;
+    let mut left_out = 0usize;
+    for node in column.nodes.as_slice() {
+        let id = EventId::At(node.event.key());
+        if !shown.has(id) {
+            left_out = left_out.saturating_add(1);
+            continue;
+        }
+        add_node(text, node, candidate, caption)?;
+        if left_out > 0 {
+            add_gap(text, last, left_out, id)?;
+        }
+        left_out = 0;
+        last = Some(id);
+    }
+    Ok(())
+}
+
+/// Adds an edge in the place of events that are left out, after the last one that is shown.
+fn add_gap(
+    text: &mut String,
+    last: Option<EventId>,
+    left_out: usize,
+    next: EventId,
+) -> Result<(), AllocError> {
+    let Some(last) = last else { return Ok(()) };
+    let (from, to) = (NodeName(last), NodeName(next));
+    writeln!(
+        text,
+        "    {from} -> {to} [label=\"sb, {left_out} left out\", style=\"dashed\"];"
+    )
+}
+
+/// The thread that differs from its log, or doesn't start.
+fn differing_thread(verdict: &Verdict) -> Option<usize> {
+    match verdict {
+        Verdict::Broken(
+            Breach::Replay(
+                ReplayAnswer::Differs(thread, _) | ReplayAnswer::StartRefused(thread, _),
+            ),
+        ) => Some(*thread),
+        _ => None,
     }
 }
 
-/// Adds the column of a thread, under the name of its function.
+/// Adds what the module does after the log's last event that it makes.
+fn add_module_does(
+    text: &mut String,
+    number: usize,
+    verdict: &Verdict,
+    caption: Caption,
+) -> Result<(), AllocError> {
+    if caption.module_does.is_empty() {
+        return Ok(());
+    }
+    let does = LabelText(caption.module_does);
+    writeln!(
+        text,
+        "    module_{number} [label=\"the module has {does}\", shape=\"note\"{FAULT_COLOURS}];"
+    )?;
+    let Verdict::Broken(Breach::Replay(ReplayAnswer::Differs(_, Place::Event(event)))) = verdict
+    else {
+        return Ok(());
+    };
+    match event.checked_sub(1) {
+        Some(before) => writeln!(
+            text,
+            "    e{number}_{before} -> module_{number} [style=\"dotted\"{FAULT_COLOURS}];"
+        ),
+        None => Ok(()),
+    }
+}
+
+/// Adds the column of a thread, under the name of its function. That of a thread that differs from its log is red.
 fn add_column(
     text: &mut String,
     number: usize,
     column: &Column,
-    candidate: &Candidate,
+    shown: &Shown,
+    drawing: Drawing,
 ) -> Result<(), AllocError> {
+    let Drawing {
+        caption,
+        verdict,
+        candidate,
+    } = drawing;
     let function = match candidate.log().threads().get(number) {
         Some(thread) => thread.start.name.as_str(),
         None => "",
@@ -178,15 +145,23 @@ fn add_column(
         text,
         "  subgraph cluster_{number} {{\n    label=\"thread {number}: {function}\";"
     )?;
-    for node in column.nodes.as_slice() {
-        add_node(text, node, candidate)?;
+    let differs = differing_thread(verdict) == Some(number);
+    if differs {
+        writeln!(
+            text,
+            "    color=\"{FAULT_COLOUR}\";\n    fontcolor=\"{FAULT_COLOUR}\";"
+        )?;
+    }
+    add_nodes(text, column, shown, candidate, caption)?;
+    if differs {
+        add_module_does(text, number, verdict, caption)?;
     }
     text.push_str("  }\n")?;
     Ok(())
 }
 
-/// Adds the node of Init, above the first event of each thread.
-fn add_init(text: &mut String, picture: &Picture) -> Result<(), AllocError> {
+/// Adds the node of Init, above the first event of each thread that is shown.
+fn add_init(text: &mut String, picture: &Picture, shown: &Shown) -> Result<(), AllocError> {
     let colour = if picture.is_init_marked {
         FAULT_COLOUR
     } else {
@@ -197,7 +172,10 @@ fn add_init(text: &mut String, picture: &Picture) -> Result<(), AllocError> {
         "  init [label=\"init\", color=\"{colour}\", fontcolor=\"{colour}\"];"
     )?;
     for column in picture.columns.as_slice() {
-        if let Some(node) = column.nodes.get(0) {
+        let first = column.nodes.as_slice().iter().find(|node: &&Node| -> bool {
+            shown.has(EventId::At(node.event.key()))
+        });
+        if let Some(node) = first {
             let name = NodeName(EventId::At(node.event.key()));
             writeln!(text, "  init -> {name} [style=\"invis\"];")?;
         }
@@ -205,43 +183,80 @@ fn add_init(text: &mut String, picture: &Picture) -> Result<(), AllocError> {
     Ok(())
 }
 
-/// A picture as text for Graphviz.
-fn print(
-    alloc: Global,
-    title: &str,
-    picture: &Picture,
-    verdict: &Verdict,
-    candidate: &Candidate,
-) -> Result<String, AllocError> {
-    let title = LabelText(title);
-    let mut text = format!(in alloc;
-        "digraph execution {{\n  label=\"{title}\";\n  labelloc=\"t\";\n  fontname=\"monospace\";\n  node [shape=\"box\", fontname=\"monospace\"];\n  edge [fontname=\"monospace\"];\n"
-    )?;
-    add_init(&mut text, picture)?;
-    for (number, column) in picture.columns.as_slice().iter().enumerate() {
-        add_column(&mut text, number, column, candidate)?;
+/// What is drawn beside a picture's data.
+#[derive(Clone, Copy)]
+struct Drawing<'a> {
+    caption: Caption<'a>,
+    verdict: &'a Verdict,
+    candidate: &'a Candidate<'a>,
+}
+
+/// The second line of the title, if not all events are shown.
+#[derive(Clone, Copy)]
+struct CountLabel {
+    shown: usize,
+    total: usize,
+}
+
+impl fmt::Display for CountLabel {
+    fn fmt<W: fmt::Write>(&self, f: &mut fmt::Formatter<W>) -> fmt::Result {
+        let CountLabel { shown, total } = *self;
+        if shown == total {
+            return Ok(());
+        }
+        write!(f, "\\n{shown} of {total} events are shown")
     }
-    add_edges(alloc, &mut text, picture.edges.as_slice(), verdict)?;
+}
+
+/// A picture as text for Graphviz.
+fn print(alloc: Global, picture: &Picture, drawing: Drawing) -> Result<String, AllocError> {
+    let Drawing {
+        caption,
+        verdict,
+        candidate,
+    } = drawing;
+    let shown = Shown::of(alloc, picture, candidate)?;
+    let title = LabelText(caption.title);
+    let count = CountLabel {
+        shown: shown.count(),
+        total: shown.total,
+    };
+    let mut text = format!(in alloc;
+        "digraph execution {{\n  label=\"{title}{count}\";\n  labelloc=\"t\";\n  nodesep=0.6;\n  ranksep=0.7;\n  fontname=\"monospace\";\n  node [shape=\"box\", fontname=\"monospace\"];\n  edge [fontname=\"monospace\"];\n"
+    )?;
+    add_init(&mut text, picture, &shown)?;
+    for (number, column) in picture.columns.as_slice().iter().enumerate() {
+        add_column(&mut text, number, column, &shown, drawing)?;
+    }
+    add_lines(alloc, &mut text, picture.edges.as_slice(), verdict, &shown)?;
     text.push_str("}\n")?;
     Ok(text)
 }
 
-/// The execution that a candidate is, as text for Graphviz, where `verdict` is what a check gave on it, and `title` its
-/// line. A column for each thread with the name of its function, a node for each event, with its place in the order, and
-/// for Init; edges for sequenced-before (`sb`), reads-from (`rf`, with the bytes if a read has several writers),
-/// synchronizes-with (`sw`), and for the order if it goes against one of these; in red the events of a fault and the chains
-/// of happens-before that it rests on, or the event at which a thread differs from its log. A read from Init says so in its
-/// label; it has an edge only where it is the fault.
+/// The execution that a candidate is, as text for Graphviz, where `verdict` is what a check gave on it. A column for each
+/// thread with the name of its function; a node for Init and for each event, with its place in the order and, if `caption`
+/// has it, in the module; edges for sequenced-before (`sb`), reads-from (`rf`, with the bytes if a read has several
+/// writers), synchronizes-with (`sw`), and for the order if it goes against one of these. In red are the events of a fault
+/// and the chains of happens-before that it rests on; with them what else it needs: the order of its writes, and that one
+/// overwrites the other (`co`) after the read took its byte (`fr`). If a thread differs from its log, that thread is red,
+/// with what the module does instead. A read from Init says so in its label; it has an edge only where it is the fault.
+///
+/// Of more than 60 events the fault's are shown with their neighbours, or without a fault the first 60 of the order.
 ///
 /// # Errors
 ///
 /// Only if an allocation fails.
 pub fn draw(
     alloc: Global,
-    title: &str,
+    caption: Caption,
     verdict: &Verdict,
     candidate: &Candidate,
 ) -> Result<String, AllocError> {
     let picture = picture_of(alloc, verdict, candidate)?;
-    print(alloc, title, &picture, verdict, candidate)
+    let drawing = Drawing {
+        caption,
+        verdict,
+        candidate,
+    };
+    print(alloc, &picture, drawing)
 }

@@ -1,10 +1,14 @@
 //! The edges of a picture.
-ghost use Rattle.std.specs.Prelude.{◌≡◌, ◌↔◌, ℕ, All, IfOk, IfSome, IsTrue, Some, slice_get};
+ghost use Rattle.std.specs.Prelude.{◌≡◌, ◌↔◌, ℕ, All, Contains, IfOk, IfSome, IsTrue, OnOk, Some, slice_get};
+ghost use Rattle.wm_event.specs.Event.{key_of};
+ghost use Rattle.wm_event.specs.declared.event.EventId.TheVariants.{At};
+ghost use Rattle.wm_event.specs.declared.event.EventKey.{EventKey};
 ghost use Rattle.wm_event.specs.LoggedRun.{LoggedRun};
 ghost use Rattle.wm_event.specs.Witness.{writers_in};
-ghost use Rattle.wm_graph.specs.Edges.{IsChainOf, IsRight, SyncsWith};
-ghost use Rattle.wm_hb.specs.ReadsFrom.{NamesByte};
+ghost use Rattle.wm_graph.specs.Edges.{AreComplete, HasEdgesOf, HasEdgesTo, HasReads, HasSequenced, IsChainOf, IsNext, IsRight, Keeps, ReadsByte, SyncsWith, sequenced};
+ghost use Rattle.wm_hb.specs.ReadsFrom.{AreFromWriters, NamesByte};
 
+use crate::fault_edges::add_fault_edges;
 use std::alloc::{AllocError, Global};
 use wm_event::{Candidate, Event, EventId, EventKey, RuleFault, ThreadLog};
 use wm_hb::{FaultChain, LinkKind, WriterRun, fault_chains, synchronizes, writer_runs};
@@ -29,8 +33,12 @@ pub(crate) enum EdgeKind {
     Sequenced,
     /// The second event reads bytes that the first one wrote.
     ReadsFrom(ReadsFrom),
-    /// The order lists the first event before the second, against another edge.
+    /// The order lists the first event before the second: against another edge, or as a fault needs it.
     Order,
+    /// The second event overwrites a byte of the first one, later in the order.
+    Coherence,
+    /// The first event reads a byte from a write that the second one overwrites.
+    FromRead,
     /// A link of a chain that a fault rests on.
     Chain(LinkKind),
 }
@@ -44,10 +52,13 @@ pub(crate) struct Edge {
 }
 
 /// Adds an edge, and one of the order if that lists the edge's second event before its first.
+#[tactic(auto, using(crate::proofs::EdgeLaws::keeps_after, crate::proofs::EdgeLaws::keeps_pushed))]
 fn add_edge(edges: &mut List<Edge>, candidate: &Candidate, edge: Edge) -> Result<(), AllocError>
     requires edges { All (IsRight candidate.now) edges.old }
     requires edge { IsRight candidate.now edge }
-    ensures { All (IsRight candidate.now) edges.new }
+    ensures right { All (IsRight candidate.now) edges.new }
+    ensures kept { OnOk result (Keeps edges.old edges.new) }
+    ensures added { OnOk result (Contains edges.new edge) }
 {
     edges.push(edge)?;
     let EventId::At(from) = edge.from else {
@@ -80,7 +91,10 @@ fn is_synchronized(candidate: &Candidate, writer: EventId, reader: EventKey) -> 
 /// The edge to a read from the writer of a run of its bytes.
 fn read_edge(candidate: &Candidate, run: &WriterRun, reader: EventKey) -> Edge
     requires { (k : ℕ) → NamesByte run.now k → slice_get (writers_in candidate.now.witness reader) k ≡ Some run.now.writer }
-    ensures { IsRight candidate.now result }
+    ensures right { IsRight candidate.now result }
+    ensures from { result.from ≡ run.now.writer }
+    ensures to { result.to ≡ reader }
+    ensures bytes { (k : ℕ) → NamesByte run.now k → ReadsByte k result.kind }
 {
     let bytes = candidate.writers(reader).len();
     Edge {
@@ -97,7 +111,8 @@ fn read_edge(candidate: &Candidate, run: &WriterRun, reader: EventKey) -> Edge
 
 /// The edge to an event from the one before it in its thread; None to the first one.
 fn sequenced_edge(event: &Event) -> Option<Edge>
-    ensures { (x : LoggedRun) → IfSome result (IsRight x) }
+    ensures right { (x : LoggedRun) → IfSome result (IsRight x) }
+    ensures next { (a : EventKey) → IsNext (At a) (key_of event.now) → result ≡ Some (sequenced a (key_of event.now)) }
 {
     let number = event.number.checked_sub(1)?;
     Some(Edge {
@@ -110,6 +125,75 @@ fn sequenced_edge(event: &Event) -> Option<Edge>
     })
 }
 
+/// Adds the edges to a read from the writers of its bytes, which are these.
+fn add_runs(
+    edges: &mut List<Edge>,
+    candidate: &Candidate,
+    reader: EventKey,
+    runs: &[WriterRun],
+) -> Result<(), AllocError>
+    requires edges { All (IsRight candidate.now) edges.old }
+    requires runs { AreFromWriters (writers_in candidate.now.witness reader) runs.now }
+    ensures right { All (IsRight candidate.now) edges.new }
+    ensures kept { OnOk result (Keeps edges.old edges.new) }
+    ensures reads { OnOk result (HasReads candidate.now edges.new reader) }
+{
+    for run in runs {
+        add_edge(edges, candidate, read_edge(candidate, run, reader))?;
+    }
+    Ok(())
+}
+
+/// Adds the edges to an event from the writers of the bytes that it reads.
+fn add_reads(
+    alloc: Global,
+    edges: &mut List<Edge>,
+    candidate: &Candidate,
+    reader: EventKey,
+) -> Result<(), AllocError>
+    requires { All (IsRight candidate.now) edges.old }
+    ensures right { All (IsRight candidate.now) edges.new }
+    ensures kept { OnOk result (Keeps edges.old edges.new) }
+    ensures reads { OnOk result (HasReads candidate.now edges.new reader) }
+{
+    let runs = writer_runs(alloc, candidate, reader)?;
+    add_runs(edges, candidate, reader, runs.as_slice())
+}
+
+/// Adds the edge to an event from the one before it in its thread, if there is one.
+fn add_sequenced(
+    edges: &mut List<Edge>,
+    candidate: &Candidate,
+    event: &Event,
+) -> Result<(), AllocError>
+    requires { All (IsRight candidate.now) edges.old }
+    ensures right { All (IsRight candidate.now) edges.new }
+    ensures kept { OnOk result (Keeps edges.old edges.new) }
+    ensures sequenced { OnOk result (HasSequenced edges.new (key_of event.now)) }
+{
+    match sequenced_edge(event) {
+        Some(edge) => add_edge(edges, candidate, edge),
+        None => Ok(()),
+    }
+}
+
+/// Adds the edges to an event.
+fn add_event(
+    alloc: Global,
+    edges: &mut List<Edge>,
+    candidate: &Candidate,
+    event: &Event,
+) -> Result<(), AllocError>
+    requires { All (IsRight candidate.now) edges.old }
+    ensures right { All (IsRight candidate.now) edges.new }
+    ensures kept { OnOk result (Keeps edges.old edges.new) }
+    ensures complete { OnOk result (HasEdgesTo candidate.now edges.new event.now) }
+{
+    add_sequenced(edges, candidate, event)?;
+    add_reads(alloc, edges, candidate, event.key())?;
+    Ok(())
+}
+
 /// Adds the edges to the events of a thread.
 fn add_thread(
     alloc: Global,
@@ -118,23 +202,20 @@ fn add_thread(
     thread: &ThreadLog,
 ) -> Result<(), AllocError>
     requires { All (IsRight candidate.now) edges.old }
-    ensures { All (IsRight candidate.now) edges.new }
+    ensures right { All (IsRight candidate.now) edges.new }
+    ensures kept { OnOk result (Keeps edges.old edges.new) }
+    ensures complete { OnOk result (HasEdgesOf candidate.now edges.new thread.now) }
 {
     for event in thread.events.as_slice() {
-        if let Some(edge) = sequenced_edge(event) {
-            add_edge(edges, candidate, edge)?;
-        }
-        let reader = event.key();
-        for run in writer_runs(alloc, candidate, reader)?.as_slice() {
-            add_edge(edges, candidate, read_edge(candidate, run, reader))?;
-        }
+        add_event(alloc, edges, candidate, event)?;
     }
     Ok(())
 }
 
 /// Adds the links of a chain.
 fn add_chain(edges: &mut List<Edge>, chain: &FaultChain) -> Result<(), AllocError>
-    ensures { (x : LoggedRun) → IsChainOf x chain.now → All (IsRight x) edges.old → All (IsRight x) edges.new }
+    ensures right { (x : LoggedRun) → IsChainOf x chain.now → All (IsRight x) edges.old → All (IsRight x) edges.new }
+    ensures kept { OnOk result (Keeps edges.old edges.new) }
 {
     let mut from = chain.from;
     for link in chain.links.as_slice() {
@@ -148,7 +229,38 @@ fn add_chain(edges: &mut List<Edge>, chain: &FaultChain) -> Result<(), AllocErro
     Ok(())
 }
 
-/// The edges of a candidate's picture: thread by thread those to its events, and then the chains that a fault rests on.
+/// Adds the edges that a fault needs: its chains, and then the others.
+fn add_fault(
+    alloc: Global,
+    edges: &mut List<Edge>,
+    candidate: &Candidate,
+    fault: &RuleFault,
+) -> Result<(), AllocError>
+    requires { All (IsRight candidate.now) edges.old }
+    ensures right { All (IsRight candidate.now) edges.new }
+    ensures kept { OnOk result (Keeps edges.old edges.new) }
+{
+    for chain in fault_chains(alloc, candidate, fault)?.as_slice() {
+        add_chain(edges, chain)?;
+    }
+    add_fault_edges(edges, candidate, fault)?;
+    Ok(())
+}
+
+/// The edges to the events of a log, thread by thread.
+fn log_edges(alloc: Global, candidate: &Candidate) -> Result<List<Edge>, AllocError>
+    ensures right { IfOk result (All (IsRight candidate.now)) }
+    ensures complete { IfOk result (AreComplete candidate.now) }
+{
+    let mut edges = List::new(alloc);
+    for thread in candidate.log().threads() {
+        add_thread(alloc, &mut edges, candidate, thread)?;
+    }
+    Ok(edges)
+}
+
+/// The edges of a candidate's picture: thread by thread those to its events, then the chains that a fault rests on, and then
+/// its other edges.
 ///
 /// # Errors
 ///
@@ -158,16 +270,13 @@ pub(crate) fn edges(
     candidate: &Candidate,
     fault: Option<&RuleFault>,
 ) -> Result<List<Edge>, AllocError>
-    ensures { IfOk result (All (IsRight candidate.now)) }
+    ensures right { IfOk result (All (IsRight candidate.now)) }
+    ensures complete { IfOk result (AreComplete candidate.now) }
 {
-    let mut edges = List::new(alloc);
-    for thread in candidate.log().threads() {
-        add_thread(alloc, &mut edges, candidate, thread)?;
-    }
-    if let Some(fault) = fault {
-        for chain in fault_chains(alloc, candidate, fault)?.as_slice() {
-            add_chain(&mut edges, chain)?;
-        }
-    }
+    let mut edges = log_edges(alloc, candidate)?;
+    let Some(fault) = fault else {
+        return Ok(edges);
+    };
+    add_fault(alloc, &mut edges, candidate, fault)?;
     Ok(edges)
 }

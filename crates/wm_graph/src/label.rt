@@ -6,6 +6,9 @@ use wm_event::{Event, EventId, EventKey};
 /// The colour of what a fault names.
 pub(crate) const FAULT_COLOUR: &str = "red";
 
+/// The attributes of a node or an edge in that colour, after others.
+pub(crate) const FAULT_COLOURS: &str = ", color=\"red\", fontcolor=\"red\"";
+
 /// The name of a node.
 #[derive(Clone, Copy)]
 pub(crate) struct NodeName(pub EventId);
@@ -105,5 +108,18 @@ impl fmt::Display for NodeLabel<'_> {
             (true, false) => write!(f, "R{order} [{address}..{last}] = {read}{share}"),
             (false, _) => write!(f, "W{order} [{address}..{last}] := {written}"),
         }
+    }
+}
+
+/// Where an event is made, on a line of its own; nothing if that is not known.
+#[derive(Clone, Copy)]
+pub(crate) struct PlaceLabel<'a>(pub &'a str);
+
+impl fmt::Display for PlaceLabel<'_> {
+    fn fmt<W: fmt::Write>(&self, f: &mut fmt::Formatter<W>) -> fmt::Result {
+        if self.0.is_empty() {
+            return Ok(());
+        }
+        write!(f, "\\n{}", LabelText(self.0))
     }
 }

@@ -1,10 +1,15 @@
 //! An execution as a picture: its data, and its text in the language of Graphviz.
 #![tactic(auto)]
 
+mod caption;
 mod columns;
 mod dot;
 mod edges;
+mod fault_edges;
 mod label;
+mod lines;
 mod picture;
+mod shown;
 
+pub use caption::Caption;
 pub use dot::draw;

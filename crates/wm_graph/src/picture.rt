@@ -2,7 +2,7 @@
 ghost use Rattle.std.specs.Prelude.{◌↔◌, All, IfOk, IsTrue};
 ghost use Rattle.wm_event.specs.declared.event.EventId.TheVariants.{Init};
 ghost use Rattle.wm_graph.specs.Columns.{AreColumnsOf, IsMarked, IsMarkedBy};
-ghost use Rattle.wm_graph.specs.Edges.{IsRight};
+ghost use Rattle.wm_graph.specs.Edges.{AreComplete, IsRight};
 
 use crate::columns::{Column, columns, is_marked};
 use crate::edges::{Edge, edges};
@@ -42,6 +42,7 @@ pub(crate) fn picture_of(
     ensures columns { IfOk result (λ p. AreColumnsOf candidate.now.log p.columns) }
     ensures marks { IfOk result (λ p. All (λ column. All (IsMarkedBy verdict.now) column.nodes) p.columns) }
     ensures edges { IfOk result (λ p. All (IsRight candidate.now) p.edges) }
+    ensures complete { IfOk result (λ p. AreComplete candidate.now p.edges) }
 {
     Ok(Picture {
         is_init_marked: is_marked(verdict, EventId::Init),

@@ -1,5 +1,5 @@
 -- The subcommand that was met, and what its words mean.
-use Rattle.std.proofs.Common.{◌≡◌, ℕ, zero, suc, ◌+◌, ◌<◌, ◌≤◌, inl, inr, true, false, List, [], ◌∷◌, ◌++◌, codes, length, get_or, map, Option, None, Some, option_map, refl, sym, ap, ap₂, subst, ◌∙◌, arith, Bor}
+use Rattle.std.proofs.Common.{◌≡◌, ℕ, zero, suc, ◌<◌, ◌≤◌, inl, inr, true, false, List, [], ◌∷◌, ◌++◌, codes, length, get_or, map, Option, None, Some, option_map, refl, sym, ap, ap₂, subst, ◌∙◌, arith, Bor}
 use Rattle.std.specs.Prelude.{Contains, IfSome, if◌then◌else◌}
 use Rattle.std.specs.Str.{bytes_eq}
 use Rattle.std.proofs.lemmas.List.{length-map}
@@ -11,7 +11,7 @@ use Rattle.clap.specs.declared.parser.matches.Found.{Found}
 use Rattle.clap.proofs.WalkLemmas.{first_value-rows}
 use Rattle.wm_litmus.specs.Commands.{Form, HasFields, IsNamed, LacksField, LacksFields, Means, absent_of, fields_of, forms, name_of}
 use Rattle.wm_litmus.specs.declared.command.Command.{Command}
-use Rattle.wm_litmus.specs.declared.command.Command.TheVariants.{Rules, Check, Migrate, Complete, Verify, Stream, Drive, Run, Races, EventRaces, Explain, ExplainEvents, Graph, GraphEvents, Help, Version}
+use Rattle.wm_litmus.specs.declared.command.Command.TheVariants.{Rules, Check, Migrate, Complete, Verify, Stream, Drive, Trace, Run, Races, EventRaces, Explain, ExplainEvents, Graph, GraphEvents, Help, Version}
 
 -- the first parts of pairs
 first_parts : {X Y Z : Type 0} (f : X → Y) (g : X → Z) (o : Option X) → option_map f o ≡ option_map (λ (p : Y × Z). p.0) (option_map (λ x. (f x, g x)) o)
@@ -63,6 +63,7 @@ fields_begin (Complete m d) = ([], refl)
 fields_begin (Verify m d) = ([], refl)
 fields_begin (Stream m) = ([], refl)
 fields_begin (Drive m t) = ([], refl)
+fields_begin (Trace m t) = ([], refl)
 fields_begin (Run m r) = ([], refl)
 fields_begin (Races m d) = (codes "document" ∷ [], refl)
 fields_begin (EventRaces d) = ([], refl)

@@ -1,5 +1,5 @@
 -- Rounds that were made, one after the other.
-use Rattle.std.proofs.Common.{◌≡◌, ◌+◌, ◌<◌, ◌≤◌, ◌^◌, ℕ, List, [], ◌∷◌, ◌++◌, get_or, take, length, map, refl, sym, ap, ◌∙◌, subst, arith}
+use Rattle.std.proofs.Common.{◌≡◌, ◌+◌, ◌<◌, ◌≤◌, ◌^◌, ℕ, List, [], ◌∷◌, ◌++◌, get_or, take, length, refl, sym, ap, ◌∙◌, subst, arith}
 use Rattle.std.specs.BTreeMap.{BTreeMap}
 use Rattle.std.specs.List.{All}
 use Rattle.std.specs.Prelude.{String}

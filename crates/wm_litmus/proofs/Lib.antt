@@ -12,3 +12,4 @@ pub mod RaceAnswers
 pub mod RaceTexts
 pub mod Explaining
 pub mod Streaming
+pub mod TraceTexts

@@ -86,6 +86,10 @@ drive_is_taken : fault_of wmlab_app (codes "drive" ∷ codes "a.wasm" ∷ codes 
 unfolding clap_on_literals
 drive_is_taken = refl
 
+trace_is_taken : fault_of wmlab_app (codes "trace" ∷ codes "a.wasm" ∷ codes "0" ∷ codes "f" ∷ codes "g" ∷ []) ≡ []
+unfolding clap_on_literals
+trace_is_taken = refl
+
 run_is_taken : fault_of wmlab_app (codes "run" ∷ codes "a.wasm" ∷ codes "1" ∷ codes "f" ∷ codes "g" ∷ []) ≡ []
 unfolding clap_on_literals
 run_is_taken = refl

@@ -63,8 +63,8 @@ DrivesOver «module» script answer =
 
 -- the status and the text that answer the words of a script over the module of a file, whose bytes may be known: those of the
 -- script that a word of turns and the words of the starts spell, or a refusal of the first of them that spells nothing
-pub data IsScriptAnswer (known : Option (List ℕ)) (turns : List ℕ) (starts : List (List ℕ)) (status : ℕ) (text : List ℕ) : Type 0 where
+pub data IsScriptAnswer (Answers : List ℕ → Plan → List Turn → ℕ → List ℕ → Type 0) (known : Option (List ℕ)) (turns : List ℕ) (starts : List (List ℕ)) (status : ℕ) (text : List ℕ) : Type 0 where
   played : (script : Script) (module_bytes : List ℕ) → IsScriptOf turns starts script → IsReadOf known max_module_bytes module_bytes
-      → AnswersDrive module_bytes script.plan script.turns status text → IsScriptAnswer known turns starts status text
+      → Answers module_bytes script.plan script.turns status text → IsScriptAnswer Answers known turns starts status text
   no_script : (fault : WordFault) → fault ≢ word.OutOfMemory → SpellNoScript turns starts fault
-      → status ≡ 2 → text ≡ ended (word_line_text fault) → IsScriptAnswer known turns starts status text
+      → status ≡ 2 → text ≡ ended (word_line_text fault) → IsScriptAnswer Answers known turns starts status text

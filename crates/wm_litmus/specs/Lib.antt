@@ -1,5 +1,6 @@
 pub mod Replies
 pub mod Drive
+pub mod Trace
 pub mod EventExplanation
 pub mod Explanation
 pub mod Rounds

@@ -1,5 +1,5 @@
 -- What the program answers: what it prints, and the exit status.
-use Rattle.std.specs.Prelude.{◌≡◌, ◌<◌, ℕ, ◌*◌, List, Option, drop, map, replicate, string_bytes}
+use Rattle.std.specs.Prelude.{◌≡◌, ◌<◌, ℕ, List, Option, drop, map}
 use Rattle.std.specs.Borrow.{Bor}
 use Rattle.std.specs.Io.KnownBytes.{Appends}
 use Rattle.wm_check.specs.declared.verdict.Breach.{Breach}
@@ -13,25 +13,25 @@ use Rattle.wm_check.specs.Verdicts.{IsAllowed, IsBrokenBy, IsRefusedFor}
 use Rattle.wm_decode.specs.Bounds.{max_module_bytes}
 use Rattle.wm_logfile.specs.declared.fault.DocFault.{DocFault}
 use Rattle.wm_logfile.specs.declared.fault.DocFault.TheVariants.{Misplaced}
-use Rattle.wm_logfile.specs.DocumentBytes.{IsDocumentOf, IsNoDocument}
+use Rattle.wm_logfile.specs.DocumentBytes.{IsNoDocument}
 use Rattle.wm_logfile.specs.Migration.{IsMigrated, IsMisplaced}
 use Rattle.wm_replay.specs.declared.answer.ReplayAnswer.{ReplayAnswer}
 use Rattle.clap.specs.Words.{Text}
-use Rattle.wm_litmus.specs.declared.answer.Answer.{Answer}
-use Rattle.wm_litmus.specs.declared.command.Command.TheVariants.{Rules, Check, Migrate, Complete, Verify, Stream, Drive, Run, Races, EventRaces, Explain, ExplainEvents, Graph, GraphEvents, Help, Version}
+use Rattle.wm_litmus.specs.declared.command.Command.TheVariants.{Rules, Check, Migrate, Complete, Verify, Stream, Drive, Trace, Run, Races, EventRaces, Explain, ExplainEvents, Graph, GraphEvents, Help, Version}
 use Rattle.wm_litmus.specs.Commands.{IsCommand, IsNoCommand}
-use Rattle.wm_litmus.specs.Drive.{IsScriptAnswer}
+use Rattle.wm_litmus.specs.Drive.{AnswersDrive, IsScriptAnswer}
 use Rattle.wm_litmus.specs.EventExplanation.{AnswersEventExplain, AnswersEventGraph}
 use Rattle.wm_litmus.specs.Explanation.{AnswersExplain, AnswersGraph}
 use Rattle.wm_litmus.specs.Help.{help_text, version_text}
 use Rattle.wm_litmus.specs.Races.{AnswersEventRaces, AnswersRaces}
 use Rattle.wm_litmus.specs.Rounds.{IsRoundsAnswer}
 use Rattle.wm_litmus.specs.Rules.{AnswersRules}
+use Rattle.wm_litmus.specs.Trace.{AnswersTrace}
 use Rattle.wm_litmus.specs.Input.{IsDocumentRead, IsReadOf}
 use Rattle.wm_stream.specs.Output.{AppendsFront}
 use Rattle.wm_litmus.specs.Prints.{ended}
 use Rattle.wm_litmus.specs.Stream.{AnswersFirstLines, AnswersStream, AnswersVerify}
-use Rattle.wm_litmus.specs.Lines.{document_line_text, judgement_status, judgement_text, shape_line_text, verdict_text, words_line_text}
+use Rattle.wm_litmus.specs.Lines.{document_line_text, verdict_text, words_line_text}
 
 -- ---- the command `check`
 
@@ -105,7 +105,9 @@ pub data IsAnswer (given : Given) (status : ℕ) (text : List ℕ) : Type 0 wher
       → IsReadOf (given.files file.now) max_module_bytes module_bytes
       → AnswersStream module_bytes given.input status text → IsAnswer given status text
   drive_of : (file turns : Bor Text) → IsCommand given.words (Drive file turns)
-      → IsScriptAnswer (given.files file.now) turns.now (drop 3 given.words) status text → IsAnswer given status text
+      → IsScriptAnswer AnswersDrive (given.files file.now) turns.now (drop 3 given.words) status text → IsAnswer given status text
+  trace_of : (file turns : Bor Text) → IsCommand given.words (Trace file turns)
+      → IsScriptAnswer AnswersTrace (given.files file.now) turns.now (drop 3 given.words) status text → IsAnswer given status text
   run_of : (file rounds : Bor Text) → IsCommand given.words (Run file rounds)
       → IsRoundsAnswer (given.files file.now) rounds.now (drop 3 given.words) status text → IsAnswer given status text
   races_of : (file document : Bor Text) (module_bytes bytes : List ℕ) → IsCommand given.words (Races file document)

@@ -1,5 +1,5 @@
 -- What the command `run` answers.
-use Rattle.std.specs.Prelude.{◌≡◌, ◌≢◌, ◌+◌, ◌<◌, ◌^◌, ℕ, List, [], ◌∷◌, ◌++◌, MatchOption, Option, String, true, codes, length, map, string_bytes}
+use Rattle.std.specs.Prelude.{◌≡◌, ◌≢◌, ◌<◌, ℕ, List, ◌++◌, MatchOption, Option, String, true, codes, length, map, string_bytes}
 use Rattle.std.specs.BTreeMap.{BTreeMap}
 use Rattle.std.specs.declared.alloc.Global.{Global}
 use Rattle.std.specs.Fmt.{decimal}
@@ -20,7 +20,7 @@ use Rattle.wm_run.specs.declared.plan.Plan.{Plan}
 use Rattle.wm_run.specs.Rounds.{IsRound, IsRoundFault}
 use Rattle.wm_run.specs.Run.{Record}
 use Rattle.wm_litmus.specs.declared.answer.Answer.{Answer}
-use Rattle.wm_litmus.specs.Counts.{Counts, CountsOneMore}
+use Rattle.wm_litmus.specs.Counts.{CountsOneMore}
 use Rattle.wm_litmus.specs.Own.{run_text}
 use Rattle.wm_litmus.specs.Input.{IsReadOf}
 use Rattle.wm_litmus.specs.Lines.{run_fault_line_text, verdict_text, word_line_text}

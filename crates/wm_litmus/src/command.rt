@@ -26,6 +26,8 @@ pub enum Command<'a> {
     Stream { module: &'a str },
     /// Plays a script over a module; the remaining words are what its threads start with.
     Drive { module: &'a str, turns: &'a str },
+    /// Plays a script over a module, and shows each of its turns.
+    Trace { module: &'a str, turns: &'a str },
     /// Makes this number of rounds of a module's threads; the remaining words are what these start with.
     Run { module: &'a str, rounds: &'a str },
     /// Checks a run against a module, and lists its data races by the instructions.
@@ -221,6 +223,7 @@ fn with_commands<'a>(alloc: Global, parser: Parser<'a>) -> Result<Parser<'a>, Al
     let parser = with_checked(alloc, parser, "verify")?;
     let parser = with_module(alloc, parser, "stream")?;
     let parser = with_started(alloc, parser, "drive", "turns")?;
+    let parser = with_started(alloc, parser, "trace", "turns")?;
     let parser = with_started(alloc, parser, "run", "rounds")?;
     let parser = with_log(alloc, parser, "races")?;
     let parser = with_log(alloc, parser, "explain")?;
@@ -293,6 +296,10 @@ fn command_of<'a>(name: &str, words: &ArgMatches<'a>) -> Option<Command<'a>>
         "drive" => {
             let (module, turns) = two_words(words, "module", "turns")?;
             Some(Command::Drive { module, turns })
+        }
+        "trace" => {
+            let (module, turns) = two_words(words, "module", "turns")?;
+            Some(Command::Trace { module, turns })
         }
         "run" => {
             let (module, rounds) = two_words(words, "module", "rounds")?;

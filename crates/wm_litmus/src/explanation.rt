@@ -10,8 +10,9 @@ use crate::line::verdict_line;
 use std::alloc::{AllocError, Global};
 use std::thread::Threads;
 use wm_check::{CheckedLog, Refusal, Unread, Verdict, check_log, read_module};
-use wm_explain::{explain_refusal, explain_run, explain_shape};
-use wm_graph::draw;
+use wm_event::Candidate;
+use wm_explain::{event_places, explain_refusal, explain_run, explain_shape, module_does};
+use wm_graph::{Caption, draw};
 use wm_valid::ValidModule;
 
 /// The explanation of the verdict on a document: of its candidate, or of what was refused.
@@ -94,18 +95,42 @@ pub(crate) fn explain_answer<R: AllocGlobal + Threads + Sync>(
     }
 }
 
+/// The picture of a candidate with this verdict, with the places of its events in the module.
+fn picture_of<R: AllocGlobal + Threads + Sync>(
+    rt: &R,
+    module: &ValidModule,
+    module_bytes: &[u8],
+    verdict: &Verdict,
+    candidate: &Candidate,
+) -> Result<String, AllocError> {
+    let alloc = rt.alloc();
+    let title = verdict_line(alloc, verdict)?;
+    let places = event_places(rt, module, module_bytes, candidate.log())?;
+    let does = module_does(alloc, module, verdict, candidate)?;
+    let caption = Caption {
+        title: title.as_str(),
+        places: places.as_slice(),
+        module_does: does.as_str(),
+    };
+    draw(alloc, caption, verdict, candidate)
+}
+
 /// The picture of what was checked; where it is refused, the line of that.
-fn show_checked(alloc: Global, checked: &CheckedLog) -> Result<Answer, AllocError>
+fn show_checked<R: AllocGlobal + Threads + Sync>(
+    rt: &R,
+    module: &ValidModule,
+    module_bytes: &[u8],
+    checked: &CheckedLog,
+) -> Result<Answer, AllocError>
     requires { HasCandidate checked.now.verdict checked.now.candidate }
     ensures { IfOk result (Shows checked.now.verdict) }
 {
     match &checked.candidate {
         Some(candidate) => {
-            let title = verdict_line(alloc, &checked.verdict)?;
-            let picture = draw(alloc, title.as_str(), &checked.verdict, candidate)?;
+            let picture = picture_of(rt, module, module_bytes, &checked.verdict, candidate)?;
             Ok(Answer::pictured(&checked.verdict, picture))
         }
-        None => Answer::of_verdict(alloc, &checked.verdict),
+        None => Answer::of_verdict(rt.alloc(), &checked.verdict),
     }
 }
 
@@ -113,12 +138,13 @@ fn show_checked(alloc: Global, checked: &CheckedLog) -> Result<Answer, AllocErro
 fn show_log<R: AllocGlobal + Threads + Sync>(
     rt: &R,
     module: &ValidModule,
+    module_bytes: &[u8],
     document_bytes: &[u8],
 ) -> Result<Answer, AllocError>
     ensures { IfOk result (GraphsOver «module».now document_bytes.now) }
 {
     let checked = check_log(rt, module, document_bytes)?;
-    show_checked(rt.alloc(), &checked)
+    show_checked(rt, module, module_bytes, &checked)
 }
 
 /// The execution that these bytes record, for Graphviz; where they are refused, the line of that.
@@ -135,7 +161,7 @@ pub(crate) fn graph_answer<R: AllocGlobal + Threads + Sync>(
         AnswersGraph module_bytes.now document_bytes.now answer.status (string_bytes answer.text)) }
 {
     match read_module(rt.alloc(), module_bytes) {
-        Ok(module) => show_log(rt, &module, document_bytes),
+        Ok(module) => show_log(rt, &module, module_bytes, document_bytes),
         Err(Unread::Refused(refusal)) => Answer::of_verdict(rt.alloc(), &Verdict::Refused(refusal)),
         Err(Unread::OutOfMemory) => Err(AllocError),
     }

@@ -26,6 +26,7 @@ COMMANDS
     stream MODULE                 verify each line of standard input as a log; answer each by a line
     migrate DOC                   print a log in version 2 of its format
     drive MODULE TURNS START..    run threads by a script; print the outcome and the log
+    trace MODULE TURNS START..    show what each turn of a script did, and the outcome
     run MODULE ROUNDS START..     run threads in parallel; check each log and count the outcomes
     help                          print this text
     version                       print the versions of the program, the log format and the logic
@@ -49,6 +50,7 @@ EXAMPLES
     wmlab stream store-buffering.wasm < recorded.jsonl > answers.txt
     wmlab migrate version-1.json > version-2.json
     wmlab drive store-buffering.wasm 0*3,d0,0*3,1*6 a b
+    wmlab trace store-buffering.wasm 0*3,d0,0*3,1*6 a b
     wmlab run store-buffering.wasm 100 a b
     wmlab help
     wmlab version

@@ -41,6 +41,7 @@ mod rounds;
 mod rules;
 mod stream;
 mod table;
+mod trace;
 
 pub use files::{FileFault, Files};
 pub use input::read_limited;

@@ -4,7 +4,8 @@ ghost use Rattle.wm_decode.specs.Bounds.{max_module_bytes};
 ghost use Rattle.wm_litmus.specs.Replies.{Serves, StopsAt3, given, words_of};
 ghost use Rattle.wm_litmus.specs.Prints.{Gives};
 ghost use Rattle.wm_litmus.specs.Serving.{IsOfLines, IsReply, StreamsAll, StreamsFront};
-ghost use Rattle.wm_litmus.specs.Drive.{IsScriptAnswer};
+ghost use Rattle.wm_litmus.specs.Drive.{AnswersDrive, IsScriptAnswer};
+ghost use Rattle.wm_litmus.specs.Trace.{AnswersTrace};
 ghost use Rattle.wm_litmus.specs.Failures.{IsUnreadFile};
 ghost use Rattle.wm_litmus.specs.Input.{IsDocumentRead, IsReadOf};
 ghost use Rattle.wm_litmus.specs.Rounds.{IsRoundsAnswer};
@@ -25,6 +26,7 @@ use crate::races::{event_races_answer, races_answer};
 use crate::rounds::rounds_answer;
 use crate::rules::rules_answer;
 use crate::stream::{judge_of, verify_answer};
+use crate::trace::trace_answer;
 use std::alloc::{AllocError, Global};
 use std::io::{Read, Write};
 use std::sync::Wait;
@@ -158,7 +160,7 @@ fn script_of<'a, R: AllocGlobal + Threads + Sync, F: Files>(
     starts: &[&str],
 ) -> Result<Answer, Failure<'a>>
     requires { F.failures_of files.old + 1 < 2 ^ 64 }
-    ensures answers { IfOk result (Gives (IsScriptAnswer (F.content_of files.old name.now) turns.now (words_of starts.now))) }
+    ensures answers { IfOk result (Gives (IsScriptAnswer AnswersDrive (F.content_of files.old name.now) turns.now (words_of starts.now))) }
     ensures unread { IfErr result (λ stop. IsUnreadFile stop
         → F.failures_of files.old < F.failures_of files.new) }
 {
@@ -166,6 +168,32 @@ fn script_of<'a, R: AllocGlobal + Threads + Sync, F: Files>(
         Ok(script) => {
             let bytes = read_file(files, name, MAX_MODULE_BYTES)?;
             let answer = drive_answer(rt, bytes.as_slice(), &script)?;
+            Ok(answer)
+        }
+        Err(fault) => {
+            let answer = Answer::refused_word(rt.alloc(), fault)?;
+            Ok(answer)
+        }
+    }
+}
+
+/// The turns of a script over the module `name`.
+fn trace_of<'a, R: AllocGlobal, F: Files>(
+    rt: &R,
+    files: &mut F,
+    name: &'a str,
+    turns: &str,
+    starts: &[&str],
+) -> Result<Answer, Failure<'a>>
+    requires { F.failures_of files.old + 1 < 2 ^ 64 }
+    ensures answers { IfOk result (Gives (IsScriptAnswer AnswersTrace (F.content_of files.old name.now) turns.now (words_of starts.now))) }
+    ensures unread { IfErr result (λ stop. IsUnreadFile stop
+        → F.failures_of files.old < F.failures_of files.new) }
+{
+    match read_script(rt.alloc(), turns, starts) {
+        Ok(script) => {
+            let bytes = read_file(files, name, MAX_MODULE_BYTES)?;
+            let answer = trace_answer(rt.alloc(), bytes.as_slice(), &script)?;
             Ok(answer)
         }
         Err(fault) => {
@@ -295,6 +323,10 @@ fn reply_to<'a, R: AllocGlobal + Threads + Wait + Sync, F: Files, I: Read>(
             let answer = script_of(rt, files, module, turns, starts)?;
             Ok(Reply::Answer(answer))
         }
+        Ok(Command::Trace { module, turns }) => {
+            let answer = trace_of(rt, files, module, turns, starts)?;
+            Ok(Reply::Answer(answer))
+        }
         Ok(Command::Run { module, rounds }) => {
             let answer = rounds_of(rt, files, module, rounds, starts)?;
             Ok(Reply::Answer(answer))
@@ -332,7 +364,8 @@ fn report<E: Write>(err: &mut E, failure: Failure) -> u8
 /// the execution for Graphviz, or the line of a refusal, each with the status of `check`. Without a module these two read a
 /// document as `rules` does, and explain or draw what `rules` judges.
 /// `drive MODULE TURNS START..` plays a script over a module, and prints the outcome, the verdict on what was logged, and
-/// its document. `run MODULE ROUNDS START..` lets the threads run at the same time, ROUNDS times over, checks each log,
+/// its document. `trace MODULE TURNS START..` plays a script too, and prints a line for each turn, and then the outcome.
+/// `run MODULE ROUNDS START..` lets the threads run at the same time, ROUNDS times over, checks each log,
 /// and prints how often each outcome came; it is the one command that may wait for other threads.
 /// `help` and `version` print fixed texts, and read nothing.
 ///

@@ -54,7 +54,7 @@ enum RaceLine {
 
 /// An instruction, as it prints after what happens there.
 #[derive(Clone, Copy)]
-struct SitePhrase(Site);
+pub(crate) struct SitePhrase(pub Site);
 
 impl fmt::Display for SitePhrase {
     ghost output = { λ phrase. Some (site_text phrase.0) };

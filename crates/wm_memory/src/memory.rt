@@ -166,6 +166,17 @@ impl Memory {
         }
     }
 
+    /// The stores of a thread that wait, the oldest first; none if there is no such thread.
+    pub fn stores(&self, thread: u32) -> &[Event]
+        ensures waiting { (b : Buffered) → slice_get self.now.buffers thread ≡ Some b → result.now ≡ b.stores }
+        ensures none { length self.now.buffers ≤ thread → result.now ≡ [] }
+    {
+        match self.buffers.get(thread as usize) {
+            Some(buffer) => buffer.stores(),
+            None => &[],
+        }
+    }
+
     /// Whether an access of the thread would drain its oldest store first: a plain store where as many wait as may.
     pub fn drains_first(&self, thread: u32, op: Op) -> bool
         requires { thread < length self.now.buffers }

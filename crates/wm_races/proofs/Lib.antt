@@ -3,6 +3,9 @@ pub mod ReportLemmas
 pub mod ListingLemmas
 pub mod RaceLemmas
 pub mod ScanLemmas
+pub mod WindowLemmas
+pub mod ThreadLemmas
+pub mod BoundLemmas
 pub mod CountLemmas
 pub mod RaceListLaws
 pub mod SiteLaws

@@ -14,13 +14,13 @@ use Rattle.wm_event.specs.Log.{event_in}
 use Rattle.wm_event.specs.LoggedRun.{LoggedRun, execution}
 use Rattle.wm_event.specs.Shape.{ListsEachOnce}
 use Rattle.wm_event.specs.Writes.{listed_from, writes_byte, writes_from}
-use Rattle.wm_event.proofs.WritesLemmas.{write_listed}
 use Rattle.wm_races.specs.Listing.{IsPairAt, Lists, ListsAt, event_place, write_place}
 use Rattle.wm_races.specs.Races.{Accesses, ComesBefore, IsRacingPair, first_common}
 use Rattle.wm_races.specs.Races.ComesBefore.{by_byte, by_write}
+use Rattle.wm_races.specs.Window.{AreRacingWrites}
 use Rattle.wm_races.specs.declared.pair.RacingPair.{RacingPair}
 use Rattle.wm_races.proofs.ListingLemmas.{lists_append, lists_none, lists_one, lists_same}
-use Rattle.wm_races.proofs.RaceLemmas.{first-accessed, first-written, stands}
+use Rattle.wm_races.proofs.RaceLemmas.{first-accessed, stands}
 
 -- one of the first of the writes stands at this place
 abbrev pub IsAmong : List ByteWrite → ℕ → ℕ → Type 0
@@ -143,7 +143,7 @@ module _ (run : LoggedRun) (j a : ℕ) (writes : List ByteWrite) where
 
 module _ (run : LoggedRun) (once : ListsEachOnce run.log run.witness.order) (e : Event) (j : ℕ) (listed : event_in run.log (key_of e) ≡ Some e) (at_e : slice_get run.witness.order j ≡ Some (key_of e)) where
   -- a pair of the event's place is one of the event
-  event-is : (p : RacingPair) (racing : IsRacingPair (execution run) p) → event_place run p ≡ j → racing.race.first ≡ e
+  pub event-is : (p : RacingPair) (racing : IsRacingPair (execution run) p) → event_place run p ≡ j → racing.race.first ≡ e
   event-is p racing by_event =
       let at_p : slice_get run.witness.order j ≡ Some p.event = stands run once p.event racing.race.first j racing.race.is_first by_event in
       let same : p.event ≡ key_of e = same_Some p.event (key_of e) (sym at_p ∙ at_e) in
@@ -161,32 +161,30 @@ module _ (run : LoggedRun) (once : ListsEachOnce run.log run.witness.order) (e :
       (λ p racing h. (h, (let l = (accessed p racing h).1 in omega (arith, l, all))))
       lists
 
-  pub write-done : (a i : ℕ) (xs : List RacingPair) → length (writes_from run.log a 0 run.witness.order) ≤ i
-      → Lists run (IsBelowWrite run j a (writes_from run.log a 0 run.witness.order) i) xs → Lists run (IsBelowByte run j (a + 1)) xs
-  write-done a i xs all lists = lists_same run (IsBelowWrite run j a (writes_from run.log a 0 run.witness.order) i) (IsBelowByte run j (a + 1)) xs
-      (λ p racing h. (
+  pub write-done : (a i : ℕ) (writes : List ByteWrite) (xs : List RacingPair) → AreRacingWrites run j a writes → length writes ≤ i
+      → Lists run (IsBelowWrite run j a writes i) xs → Lists run (IsBelowByte run j (a + 1)) xs
+  write-done a i writes xs racing all lists = lists_same run (IsBelowWrite run j a writes i) (IsBelowByte run j (a + 1)) xs
+      (λ p racing_p h. (
         h.0,
         ⊎_elim (λ (l : first_common (execution run) p < a). omega (arith, l))
-            (λ (r : (first_common (execution run) p ≡ a) × IsAmong (writes_from run.log a 0 run.witness.order) i (write_place run p)). let d = r.0 in omega (arith, d)) h.1,
+            (λ (r : (first_common (execution run) p ≡ a) × IsAmong writes i (write_place run p)). let d = r.0 in omega (arith, d)) h.1,
       ))
-      (λ p racing h. (
+      (λ p racing_p h. (
         h.0,
         ⊎_elim (λ (l : first_common (execution run) p < a). inl l)
             (λ (r : a ≤ first_common (execution run) p).
             let k = h.1 in
             let d : first_common (execution run) p ≡ a = omega (arith, r, k) in
-            inr (d, among p racing d))
+            inr (d, among p racing_p h.0 d))
             (cases_lt (first_common (execution run) p) a),
       ))
       lists
     where
-      among : (p : RacingPair) → IsRacingPair (execution run) p → first_common (execution run) p ≡ a → IsAmong (writes_from run.log a 0 run.witness.order) i (write_place run p)
-      among p racing d =
-          let n = write_place run p in
-          let at : slice_get run.witness.order n ≡ Some p.write = stands run once p.write racing.race.second n racing.race.is_second refl in
-          let w = write_listed (writes_byte run.log a) a 0 run.witness.order n p.write at (subst (λ (b : ℕ). writes_byte run.log b p.write ≡ true) d (first-written run once p racing)) in
-          let within = slice_get_within (writes_from run.log a 0 run.witness.order) w.0 (record { address = a; place = 0 + n }) w.1 in
-          (w.0, omega (arith, within, all), (record { address = a; place = 0 + n }, w.1, (let z : 0 + n ≡ n = omega arith in z)))
+      among : (p : RacingPair) → IsRacingPair (execution run) p → event_place run p ≡ j → first_common (execution run) p ≡ a → IsAmong writes i (write_place run p)
+      among p racing_p here d =
+          let w = racing.all p racing_p here d in
+          let within = slice_get_within writes w.0 w.1.0 w.1.1 in
+          (w.0, omega (arith, within, all), w.1)
 
   -- there is one pair at a byte with a write
   pub one-pair : (a o : ℕ) (p q : RacingPair) → IsPairAt run j a o p → IsPairAt run j a o q → p ≡ q

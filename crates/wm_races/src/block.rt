@@ -1,7 +1,9 @@
 //! The races of some events that stand one after the other, worked in parallel.
 ghost use Rattle.std.specs.Prelude.{◌≡◌, ◌≤◌, ◌<◌, ◌+◌, ◌^◌, IfOk, length};
 ghost use Rattle.wm_races.specs.Listing.{AreListsFrom, IsListAt};
+ghost use Rattle.wm_races.specs.Window.{HasBegins};
 
+use crate::begins::Begins;
 use crate::pair::{RacingPair, pairs_of};
 use rayon::prelude::*;
 use std::alloc::{AllocError, Global};
@@ -14,11 +16,13 @@ pub(crate) fn pairs_from(
     rt: &(impl Threads + Sync),
     alloc: Global,
     before: &HappensBefore,
+    begins: &Begins,
     start: usize,
     count: usize,
 ) -> Result<Vec<List<RacingPair>>, AllocError>
     requires inside { start + count ≤ length before.now.witness.order }
     requires fits { start + count < 2 ^ 64 }
+    requires begins { HasBegins before.now begins.now }
     ensures count { IfOk result (λ lists. length lists.items ≡ count) }
     ensures lists { IfOk result (λ lists. AreListsFrom before.now start lists.items) }
 {
@@ -29,8 +33,9 @@ pub(crate) fn pairs_from(
             |index: usize| -> Result<List<RacingPair>, AllocError>
                 requires inside { start + index < length before.now.witness.order }
                 requires fits { start + index < 2 ^ 64 }
+                requires begins { HasBegins before.now begins.now }
                 ensures { IfOk result (IsListAt before.entry.now (start + index)) }
-            { pairs_of(alloc, before, start + index) },
+            { pairs_of(alloc, before, begins, start + index) },
         )
         .collect::<Result<Vec<List<RacingPair>>, AllocError>>(rt, alloc)?
 }

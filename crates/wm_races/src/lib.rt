@@ -1,12 +1,15 @@
 //! The data races of a candidate, counted by the sites of their events.
 #![tactic(auto)]
 
+mod begins;
 mod block;
+mod bounds;
 mod law;
 mod pair;
 mod report;
 mod scan;
 mod site;
+mod window;
 
 pub use law::one_race_report;
 pub use pair::RacingPair;

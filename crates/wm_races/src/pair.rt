@@ -7,7 +7,10 @@ ghost use Rattle.wm_event.specs.declared.event.EventKey.{EventKey};
 ghost use Rattle.wm_hb.specs.Scan.{IsEventOf};
 ghost use Rattle.wm_races.specs.Races.{Accesses, IsWeak};
 ghost use Rattle.wm_races.specs.Listing.{FindsPair, IsKeyAt, IsListAt, IsNamed, TellsUnordered};
+ghost use Rattle.wm_races.specs.Window.{HasBegins};
 
+use crate::begins::Begins;
+use crate::window::racing_writes;
 use std::alloc::{AllocError, Global};
 use wm_event::{Candidate, Event, EventId, EventKey};
 use wm_hb::HappensBefore;
@@ -91,9 +94,11 @@ fn pair_at(
 pub(crate) fn pairs_of(
     alloc: Global,
     before: &HappensBefore,
+    begins: &Begins,
     place: usize,
 ) -> Result<List<RacingPair>, AllocError>
-    requires { place < length before.now.witness.order }
+    requires place { place < length before.now.witness.order }
+    requires begins { HasBegins before.now begins.now }
     ensures { IfOk result (IsListAt before.now place) }
 {
     let mut pairs = List::new(alloc);
@@ -105,7 +110,7 @@ pub(crate) fn pairs_of(
     };
     for byte in 0..event.width.bytes() {
         let address = u64::from(event.address) + u64::from(byte);
-        for write in candidate.byte_writes(address) {
+        for write in racing_writes(before, begins, event, place, address) {
             if let Some(pair) = pair_at(before, event, place, address, write.place) {
                 pairs.push(pair)?;
             }

@@ -3,7 +3,9 @@ ghost use Rattle.std.specs.Prelude.{◌≤◌, ◌<◌, ◌+◌, ◌^◌, IfOk, 
 ghost use Rattle.wm_event.specs.LoggedRun.{execution};
 ghost use Rattle.wm_races.specs.Progress.{IsReportBelow};
 ghost use Rattle.wm_races.specs.Report.{HasSites, IsRaceReport};
+ghost use Rattle.wm_races.specs.Window.{HasBegins};
 
+use crate::begins::Begins;
 use crate::block::pairs_from;
 use crate::report::Report;
 use crate::site::{Site, SiteRace};
@@ -20,6 +22,7 @@ fn add_block(
     rt: &(impl Threads + Sync),
     alloc: Global,
     before: &HappensBefore,
+    begins: &Begins,
     sites: &[List<Site>],
     report: &mut Report,
     start: usize,
@@ -28,11 +31,12 @@ fn add_block(
     requires sites { HasSites before.now.log sites.now }
     requires inside { start + count ≤ length before.now.witness.order }
     requires fits { start + count < 2 ^ 64 }
+    requires begins { HasBegins before.now begins.now }
     requires report { IsReportBelow before.now sites.now start report.old }
     ensures { OnOk result (IsReportBelow before.now sites.now (start + count) report.new) }
 {
     let _log = before.candidate().log();
-    let lists = pairs_from(rt, alloc, before, start, count)?;
+    let lists = pairs_from(rt, alloc, before, begins, start, count)?;
     for pairs in lists.as_slice() {
         report.add_all(sites, pairs.as_slice())?;
     }
@@ -62,11 +66,12 @@ pub fn races(
     let candidate = before.candidate();
     let _log = candidate.log();
     let events = candidate.witness().order.len();
+    let begins = Begins::of(alloc, candidate)?;
     let mut report = Report::new(alloc);
     let mut start = 0usize;
     while start < events {
         let count = BLOCK.min(events - start);
-        add_block(rt, alloc, before, sites, &mut report, start, count)?;
+        add_block(rt, alloc, before, &begins, sites, &mut report, start, count)?;
         start += count;
     }
     Ok(report.into_lines())

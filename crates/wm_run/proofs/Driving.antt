@@ -105,7 +105,7 @@ pub record Drives (m : Module) (plan : Plan) (turns : List Turn) (xs : List Runn
 as_many : (m : Module) (plan : Plan) (turns : List Turn) (xs : List Runner) (r : Recording) (ys : List Runner) (r' : Recording) (run : Record) → Drives m plan turns xs r ys r' run → length ys ≡ length plan.starts
 as_many m plan turns xs r ys r' run d = d.plays.count ∙ d.launched.count
 
-logged : (m : Module) (plan : Plan) (turns : List Turn) (xs : List Runner) (r : Recording) (ys : List Runner) (r' : Recording) (run : Record) → Drives m plan turns xs r ys r' run
+pub logged : (m : Module) (plan : Plan) (turns : List Turn) (xs : List Runner) (r : Recording) (ys : List Runner) (r' : Recording) (run : Record) → Drives m plan turns xs r ys r' run
     → IsLogOf plan.starts (map runner_state ys) (done (setting_of m r plan.steps) r'.history) run
 logged m plan turns xs r ys r' run d =
     let count = as_many m plan turns xs r ys r' run d in

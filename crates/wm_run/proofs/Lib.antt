@@ -13,6 +13,7 @@ pub mod Logging
 pub mod Runs
 pub mod Limits
 pub mod Driving
+pub mod TracedTurns
 pub mod Together
 pub mod Rounds
 pub mod Refusing

@@ -36,7 +36,7 @@ last_follows old new drain adds k =
     there.1
 
 -- what waits in the buffer of a thread
-buffered : (r : Recording) (t : ℕ) → IsRecording r → t < threads_of r → (b : Buffered) × (slice_get r.memory.buffers t ≡ Some b) × (reverse b.stores ≡ waiting (steps_of r) t)
+pub buffered : (r : Recording) (t : ℕ) → IsRecording r → t < threads_of r → (b : Buffered) × (slice_get r.memory.buffers t ≡ Some b) × (reverse b.stores ≡ waiting (steps_of r) t)
 buffered r t k there =
     let some : Buffered = record { stores = []; accesses = 0 } in
     let b = get_or r.memory.buffers t some in

@@ -5,6 +5,8 @@ pub mod Run
 pub mod Script
 pub mod Runner
 pub mod Scripted
+pub mod Traced
+pub mod Tracing
 pub mod Launch
 pub mod Finish
 pub mod Own

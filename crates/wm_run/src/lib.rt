@@ -14,6 +14,8 @@ mod round;
 mod run;
 mod runner;
 mod script;
+mod traced;
+mod tracing;
 mod turn;
 mod worker;
 
@@ -27,6 +29,8 @@ pub use plan::Plan;
 pub use round::{WorkPromise, run_round};
 pub use run::{Run, write_run};
 pub use script::{drive, one_scripted_run};
+pub use traced::{Rest, Trace, TracedTurn, TurnDone};
+pub use tracing::trace;
 pub use turn::Turn;
 pub use worker::work;
 

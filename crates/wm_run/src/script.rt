@@ -65,7 +65,7 @@ fn logs_of(
 }
 
 /// The run that was recorded.
-fn finish(
+pub(crate) fn finish(
     alloc: Global,
     starts: &[Start],
     runners: &[Runner],

@@ -1,10 +1,9 @@
-use Rattle.std.proofs.Common.{◌≡◌, ◌+◌, ◌<◌, ◌≤◌, length, set, ap, arith, ◌∙◌}
+use Rattle.std.proofs.Common.{◌≡◌, ◌+◌, ◌<◌, ◌≤◌, length, ap, arith, ◌++◌, take, drop, ◌∙◌}
 use Rattle.std.specs.Prelude.{slice_index}
 use Rattle.std.proofs.lemmas.List.{get_or_default, length-set, with_items_is}
-use Rattle.wm_closure.specs.Graph.{IsColumn, Lowers}
-use Rattle.wm_closure.proofs.Arriving.{AreFirsts, arrivals_of, firsts_kept, firsts_lowered, seen_kept, seen_lowered}
+use Rattle.wm_closure.specs.Graph.{AreOthers, IsColumn, Lowers}
+use Rattle.wm_closure.proofs.Arriving.{AreFirsts, arrivals_of, firsts_lowered, seen_lowered}
 use Rattle.wm_closure.proofs.arrivals.Goals as goal
-use Rattle.wm_closure.proofs.arrivals.Goals.{then-mask-index, else-mask-index}
 
 pub loop-number-preserved : goal.loop-number-preserved
 loop-number-preserved c =
@@ -16,35 +15,24 @@ loop-number-preserved c =
     let n = c.loop-number.number in
     let old = c.loop-number.arrivals.items in
     let seen = c.loop-number.seen.items in
+    let at = slice_index lanes (first + n) in
     let before = c.loop-number.invariant in
     let whole : first + length column ≡ length graph = rw c.as_slice-mask-items.ensures c.in_ok-column.ensures.0 in
     let here : n < length column = c.loop-number-test.true in
-    let inside : slice_index lanes (first + n) < length seen = (let w : slice_index lanes (first + n) < width = c.requires.lanes.inside (first + n) (omega (arith, whole, here)) in let k : length seen ≡ width = before.known in omega (arith, w, k)) in
-    elim c.if-mask-index.branch [
-      | then-mask-index w ↦ (
-          let new = w.lower.new.arrivals in
-          let low : Lowers (slice_index lanes (first + n)) (slice_index column n) (first + n) 64 old new = rw w.deref_mut.ensures.value at w.lower.ensures.lowered in
-          let arrivals : c.if-mask-index.arrivals.items ≡ new = ap (λ v. v.items) w.arrivals-is ∙ with_items_is c.loop-number.arrivals new (w.lower.ensures.size ∙ w.deref_mut.ensures.len) in
-          let marked : c.if-mask-index.seen.items ≡ set seen (slice_index lanes (first + n)) (slice_index column n) = ap (λ v. v.items) w.seen-is in
-          record {
-            size = ap length arrivals ∙ w.lower.ensures.size ∙ ap length w.deref_mut.ensures.value ∙ before.size;
-            known = ap length marked ∙ length-set seen (slice_index lanes (first + n)) (slice_index column n) ∙ before.known;
-            firsts = rw arrivals (firsts_lowered graph lanes width first column n old new low before.firsts);
-            passed = rw (arrivals, marked) (seen_lowered graph lanes width first column n seen old new inside low before.passed);
-          }
-          )
-      | else-mask-index w ↦ (
-          let arrivals : c.if-mask-index.arrivals.items ≡ old = ap (λ v. v.items) w.arrivals-is in
-          let same_seen : c.if-mask-index.seen.items ≡ seen = ap (λ v. v.items) w.seen-is in
-          let read : c.index.result.now ≡ slice_index seen (slice_index lanes (first + n)) = c.index.ensures ∙ get_or_default seen (slice_index lanes (first + n)) c.index.result.now 0 inside in
-          record {
-            size = ap length arrivals ∙ before.size;
-            known = ap length same_seen ∙ before.known;
-            firsts = rw arrivals (firsts_kept graph lanes width first column n seen old (w.if-mask-index.false ∙ read) before.passed before.firsts);
-            passed = rw (arrivals, same_seen) (seen_kept graph lanes width first column n seen old before.passed);
-          }
-          )
-    ]
+    let lane : at < width = c.requires.lanes.inside (first + n) (omega (arith, whole, here)) in
+    let inside : at < length seen = (let k : length seen ≡ width = before.known in omega (arith, lane, k)) in
+    let fresh = c.without-fresh.result in
+    let new = c.lower.new.arrivals in
+    let read : c.index.result.now ≡ slice_index seen at = c.index.ensures ∙ get_or_default seen at c.index.result.now 0 inside in
+    let low : Lowers at fresh (first + n) 64 old new = rw c.deref_mut.ensures.value at c.lower.ensures.lowered in
+    let arrivals : take c.loop-number.arrivals.len (new ++ drop (length new) old) ≡ new = with_items_is c.loop-number.arrivals new (c.lower.ensures.size ∙ c.deref_mut.ensures.len) in
+    let bits : AreOthers fresh (slice_index column n) (slice_index seen at) = rw read at c.without-fresh.ensures in
+    record {
+      size = ap length arrivals ∙ c.lower.ensures.size ∙ ap length c.deref_mut.ensures.value ∙ before.size;
+      known = length-set seen at (slice_index column n) ∙ before.known;
+      firsts = rw arrivals (firsts_lowered graph lanes width first column n seen old new fresh low bits before.passed before.firsts);
+      passed = rw arrivals (seen_lowered graph lanes width first column n seen old new fresh low bits before.passed inside);
+    }
 
 pub returns : goal.returns
 returns c =

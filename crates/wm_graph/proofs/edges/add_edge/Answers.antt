@@ -1,4 +1,4 @@
-use Rattle.std.proofs.Common.{◌≡◌, ◌++◌, ◌∷◌, [], All, subst, sym}
+use Rattle.std.proofs.Common.{All, subst, sym}
 use Rattle.std.proofs.lemmas.List.Elements.{All-push}
 use Rattle.wm_event.specs.Shape.{IsListedAt}
 use Rattle.wm_event.specs.declared.event.EventId.TheVariants.{At}
@@ -6,8 +6,8 @@ use Rattle.wm_graph.specs.Edges.{IsRight}
 use Rattle.wm_graph.specs.declared.edges.EdgeKind.TheVariants.{Order}
 use Rattle.wm_graph.proofs.edges.add_edge.Goals as goal
 
-pub returns-in_ok-push-in-Some-Some : goal.returns-in_ok-push-in-Some-Some
-returns-in_ok-push-in-Some-Some c =
+pub returns-in_ok-push-in-Some-Some-clause-right : goal.returns-in_ok-push-in-Some-Some-clause-right
+returns-in_ok-push-in-Some-Some-clause-right c =
     let x = c.args.candidate.now in
     let edge = c.args.edge in
     let first = c.in-Some-Some.first in

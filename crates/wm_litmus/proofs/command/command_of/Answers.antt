@@ -32,6 +32,10 @@ pub returns-in_err-module-in-drive-clause-none : goal.returns-in_err-module-in-d
 returns-in_err-module-in-drive-clause-none c = λ _.
     no_command c.args.name.now (rows_of (found_of c.args.words.now)) (codes "module" ∷ codes "turns" ∷ []) (ap (required_in forms) c.in-drive.is) (c.in_err-module-in-drive.ensures.none refl)
 
+pub returns-in_err-module-in-trace-clause-none : goal.returns-in_err-module-in-trace-clause-none
+returns-in_err-module-in-trace-clause-none c = λ _.
+    no_command c.args.name.now (rows_of (found_of c.args.words.now)) (codes "module" ∷ codes "turns" ∷ []) (ap (required_in forms) c.in-trace.is) (c.in_err-module-in-trace.ensures.none refl)
+
 pub returns-in_err-module-in-run-clause-none : goal.returns-in_err-module-in-run-clause-none
 returns-in_err-module-in-run-clause-none c = λ _.
     no_command c.args.name.now (rows_of (found_of c.args.words.now)) (codes "module" ∷ codes "rounds" ∷ []) (ap (required_in forms) c.in-run.is) (c.in_err-module-in-run.ensures.none refl)

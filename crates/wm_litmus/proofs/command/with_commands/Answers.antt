@@ -16,9 +16,10 @@ returns c =
     let verify = c.in_ok-parser-5.ensures ∙ ap (add (checked_form (codes "verify"))) complete in
     let stream = c.in_ok-parser-6.ensures ∙ ap (add (module_form (codes "stream"))) verify in
     let drive = c.in_ok-parser-7.ensures ∙ ap (add (started_form (codes "drive") (codes "turns"))) stream in
-    let run = c.in_ok-parser-8.ensures ∙ ap (add (started_form (codes "run") (codes "rounds"))) drive in
-    let races = c.in_ok-parser-9.ensures ∙ ap (add (log_form (codes "races"))) run in
-    let explain = c.in_ok-parser-10.ensures ∙ ap (add (log_form (codes "explain"))) races in
-    let graph = c.in_ok-parser-11.ensures ∙ ap (add (log_form (codes "graph"))) explain in
-    let help = c.in_ok-parser-12.ensures ∙ ap (add (plain_form (codes "help"))) graph in
+    let trace = c.in_ok-parser-8.ensures ∙ ap (add (started_form (codes "trace") (codes "turns"))) drive in
+    let run = c.in_ok-parser-9.ensures ∙ ap (add (started_form (codes "run") (codes "rounds"))) trace in
+    let races = c.in_ok-parser-10.ensures ∙ ap (add (log_form (codes "races"))) run in
+    let explain = c.in_ok-parser-11.ensures ∙ ap (add (log_form (codes "explain"))) races in
+    let graph = c.in_ok-parser-12.ensures ∙ ap (add (log_form (codes "graph"))) explain in
+    let help = c.in_ok-parser-13.ensures ∙ ap (add (plain_form (codes "help"))) graph in
     IfOk-weaker c.with_plain-2.result _ _ (λ parser more. more ∙ ap (add (plain_form (codes "version"))) help) c.with_plain-2.ensures

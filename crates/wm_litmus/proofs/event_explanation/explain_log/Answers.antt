@@ -1,4 +1,4 @@
-use Rattle.std.proofs.Common.{◌≡◌, List, rules, string_bytes, subst, sym, ℕ}
+use Rattle.std.proofs.Common.{◌≡◌, List, rules, subst, ℕ}
 use Rattle.std.proofs.lemmas.Result.{IfOk-weaker}
 use Rattle.wm_event.specs.First.{IsFirst}
 use Rattle.wm_event.specs.LoggedRun.{LoggedRun, execution}

@@ -1,5 +1,6 @@
 use Rattle.std.proofs.Common.{◌≡◌, subst, string_bytes}
-use Rattle.wm_litmus.specs.Drive.{IsScriptAnswer}
+use Rattle.wm_litmus.specs.Drive.{AnswersDrive, IsScriptAnswer}
+use Rattle.wm_litmus.specs.Trace.{AnswersTrace}
 use Rattle.wm_litmus.specs.EventExplanation.{AnswersEventExplain, AnswersEventGraph}
 use Rattle.wm_litmus.specs.Explanation.{AnswersExplain, AnswersGraph}
 use Rattle.wm_litmus.specs.Races.{AnswersEventRaces, AnswersRaces}
@@ -7,7 +8,7 @@ use Rattle.wm_litmus.specs.Rounds.{IsRoundsAnswer}
 use Rattle.wm_litmus.specs.Stream.{AnswersVerify}
 use Rattle.wm_litmus.specs.Replies.{AnswersCheck, AnswersComplete, AnswersMigrate}
 use Rattle.wm_litmus.specs.Rules.{AnswersRules}
-use Rattle.wm_litmus.specs.Replies.IsAnswer.{check_of, complete_of, drive_of, event_races_of, explain_events_of, explain_of, graph_events_of, graph_of, help_of, migrate_of, no_command, races_of, rules_of, run_of, verify_of, version_of}
+use Rattle.wm_litmus.specs.Replies.IsAnswer.{check_of, complete_of, drive_of, event_races_of, explain_events_of, explain_of, graph_events_of, graph_of, help_of, migrate_of, no_command, races_of, rules_of, run_of, trace_of, verify_of, version_of}
 use Rattle.wm_litmus.proofs.program.reply_to.Goals as goal
 
 pub returns-in_ok-rules_answer-in-Ok-Rules-clause-answers : goal.returns-in_ok-rules_answer-in-Ok-Rules-clause-answers
@@ -97,7 +98,15 @@ returns-in_ok-answer-in-Ok-Drive-clause-answers g c =
     let turns = c.in-Ok-Drive.turns in
     let answer = c.in_ok-answer-in-Ok-Drive.answer in
     let file = g.F.Files.content_of c.args.files.now c.in-Ok-Drive.module.now in
-    drive_of c.in-Ok-Drive.module turns read (subst (λ starts. IsScriptAnswer file turns.now starts answer.status (string_bytes answer.text)) c.starts_of-starts.ensures c.in_ok-answer-in-Ok-Drive.ensures.answers)
+    drive_of c.in-Ok-Drive.module turns read (subst (λ starts. IsScriptAnswer AnswersDrive file turns.now starts answer.status (string_bytes answer.text)) c.starts_of-starts.ensures c.in_ok-answer-in-Ok-Drive.ensures.answers)
+
+pub returns-in_ok-answer-in-Ok-Trace-clause-answers : goal.returns-in_ok-answer-in-Ok-Trace-clause-answers
+returns-in_ok-answer-in-Ok-Trace-clause-answers g c =
+    let read = rw c.in-Ok-Trace.field-0-is at c.in-Ok-Trace.ensures.read in
+    let turns = c.in-Ok-Trace.turns in
+    let answer = c.in_ok-answer-in-Ok-Trace.answer in
+    let file = g.F.Files.content_of c.args.files.now c.in-Ok-Trace.module.now in
+    trace_of c.in-Ok-Trace.module turns read (subst (λ starts. IsScriptAnswer AnswersTrace file turns.now starts answer.status (string_bytes answer.text)) c.starts_of-starts.ensures c.in_ok-answer-in-Ok-Trace.ensures.answers)
 
 pub returns-in_ok-answer-in-Ok-Run-clause-answers : goal.returns-in_ok-answer-in-Ok-Run-clause-answers
 returns-in_ok-answer-in-Ok-Run-clause-answers g c =

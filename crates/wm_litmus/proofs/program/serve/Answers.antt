@@ -1,7 +1,7 @@
-use Rattle.std.proofs.Common.{◌≡◌, List, map, string_bytes, subst}
+use Rattle.std.proofs.Common.{map, string_bytes, subst}
 use Rattle.wm_litmus.specs.Replies.{given}
 use Rattle.wm_litmus.specs.Replies.WritesFront.{front}
-use Rattle.wm_litmus.specs.Serving.{IsOfLines, IsReply, StreamsAll, StreamsFront}
+use Rattle.wm_litmus.specs.Serving.{StreamsAll, StreamsFront}
 use Rattle.wm_litmus.proofs.Streaming.{writes_all, writes_front}
 use Rattle.wm_stream.specs.Output.{AppendsFront}
 use Rattle.wm_litmus.proofs.program.serve.Goals as goal

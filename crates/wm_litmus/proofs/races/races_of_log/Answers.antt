@@ -1,4 +1,4 @@
-use Rattle.std.proofs.Common.{◌≡◌, subst}
+use Rattle.std.proofs.Common.{subst}
 use Rattle.std.proofs.lemmas.Result.{IfOk-weaker}
 use Rattle.wm_check.specs.Reading.{IsCertified, IsRecordedOver}
 use Rattle.wm_check.specs.Verdicts.{Says}

@@ -16,7 +16,7 @@ pub collect-requires-clause-ready : goal.collect-requires-clause-ready
 collect-requires-clause-ready g c κs within =
     let ends = c.into_par_iter.ensures in
     let inside = nat_range-All (λ i. (c.args.start + i < length c.args.before.now.witness.order) × (c.args.start + i < 2 ^ 64)) 0 c.args.count (λ i low high. (omega arith, omega arith)) in
-    rw (c.map.ensures.base, c.map.ensures.f, c.with_min_len.ensures.base, ends.0, ends.1) (λ k d lt. let w = inside k d lt in ((w.0, w.1), λ y p. tt))
+    rw (c.map.ensures.base, c.map.ensures.f, c.with_min_len.ensures.base, ends.0, ends.1) (λ k d lt. let w = inside k d lt in ((w.0, (w.1, c.requires.begins)), λ y p. tt))
 
 pub returns-clause-count : goal.returns-clause-count
 returns-clause-count g c =
@@ -27,10 +27,10 @@ returns-clause-count g c =
     let base : c.map.result.base.base ≡ c.into_par_iter.result = (λ i. (c.map.ensures.base i).base) ∙ c.with_min_len.ensures.base in
     let places : h.1.0 ≡ range_with_len 0 n = h.1.1 ∙ (λ i. nat_range (base i).start (base i).end) ∙ (λ i. nat_range (ends.0 i) (ends.1 i)) ∙ ap (range_with_len 0) whole in
     let run : c.map.result.f.1.now ≡ c.args.before.now = λ i. (c.map.ensures.f i).1.now in
-    let start : c.map.result.f.2.now ≡ c.args.start = λ i. (c.map.ensures.f i).2.now in
-    let zipped : AllZip (λ i r. IfOk r (IsListAt c.map.result.f.1.now (c.map.result.f.2.now + i))) h.1.0 h.0 = h.1.2 in
+    let start : c.map.result.f.3.now ≡ c.args.start = λ i. (c.map.ensures.f i).3.now in
+    let zipped : AllZip (λ i r. IfOk r (IsListAt c.map.result.f.1.now (c.map.result.f.3.now + i))) h.1.0 h.0 = h.1.2 in
     let moved : AllZip (λ i r. IfOk r (IsListAt c.args.before.now (c.args.start + i))) h.1.0 h.0 =
-    subst (λ (s : ℕ). AllZip (λ i r. IfOk r (IsListAt c.args.before.now (s + i))) h.1.0 h.0) start (subst (λ (x : LoggedRun). AllZip (λ i r. IfOk r (IsListAt x (c.map.result.f.2.now + i))) h.1.0 h.0) run zipped) in
+    subst (λ (s : ℕ). AllZip (λ i r. IfOk r (IsListAt c.args.before.now (s + i))) h.1.0 h.0) start (subst (λ (x : LoggedRun). AllZip (λ i r. IfOk r (IsListAt x (c.map.result.f.3.now + i))) h.1.0 h.0) run zipped) in
     let R = λ (i : ℕ) (list : List RacingPair). IsListAt c.args.before.now (c.args.start + i) list in
     MatchResult-weaker c.in_ok-collect.field-0 h.2
     (λ v p.
@@ -48,10 +48,10 @@ returns-clause-lists g c =
     let base : c.map.result.base.base ≡ c.into_par_iter.result = (λ i. (c.map.ensures.base i).base) ∙ c.with_min_len.ensures.base in
     let places : h.1.0 ≡ range_with_len 0 n = h.1.1 ∙ (λ i. nat_range (base i).start (base i).end) ∙ (λ i. nat_range (ends.0 i) (ends.1 i)) ∙ ap (range_with_len 0) whole in
     let run : c.map.result.f.1.now ≡ c.args.before.now = λ i. (c.map.ensures.f i).1.now in
-    let start : c.map.result.f.2.now ≡ c.args.start = λ i. (c.map.ensures.f i).2.now in
-    let zipped : AllZip (λ i r. IfOk r (IsListAt c.map.result.f.1.now (c.map.result.f.2.now + i))) h.1.0 h.0 = h.1.2 in
+    let start : c.map.result.f.3.now ≡ c.args.start = λ i. (c.map.ensures.f i).3.now in
+    let zipped : AllZip (λ i r. IfOk r (IsListAt c.map.result.f.1.now (c.map.result.f.3.now + i))) h.1.0 h.0 = h.1.2 in
     let moved : AllZip (λ i r. IfOk r (IsListAt c.args.before.now (c.args.start + i))) h.1.0 h.0 =
-    subst (λ (s : ℕ). AllZip (λ i r. IfOk r (IsListAt c.args.before.now (s + i))) h.1.0 h.0) start (subst (λ (x : LoggedRun). AllZip (λ i r. IfOk r (IsListAt x (c.map.result.f.2.now + i))) h.1.0 h.0) run zipped) in
+    subst (λ (s : ℕ). AllZip (λ i r. IfOk r (IsListAt c.args.before.now (s + i))) h.1.0 h.0) start (subst (λ (x : LoggedRun). AllZip (λ i r. IfOk r (IsListAt x (c.map.result.f.3.now + i))) h.1.0 h.0) run zipped) in
     let R = λ (i : ℕ) (list : List RacingPair). IsListAt c.args.before.now (c.args.start + i) list in
     MatchResult-weaker c.in_ok-collect.field-0 h.2
     (λ v p.

@@ -1,4 +1,4 @@
-use Rattle.std.proofs.Common.{◌≡◌, ◌+◌, ◌*◌, ◌<◌, ◌≤◌, ℕ, ◌++◌, ◌∷◌, [], List, Some, length, get_or, slice_get, sym, ap, subst, ◌∙◌, rules, arith}
+use Rattle.std.proofs.Common.{◌≡◌, ◌+◌, ◌*◌, ◌<◌, ◌≤◌, ℕ, ◌++◌, ◌∷◌, [], Some, length, get_or, slice_get, sym, ap, subst, ◌∙◌, rules, arith}
 use Rattle.std.proofs.lemmas.Option.{slice_get-get_or}
 use Rattle.std.proofs.lemmas.List.{length-append}
 use Rattle.std.proofs.Math.Nat.{mul-le-mul_right}
@@ -8,11 +8,9 @@ use Rattle.wm_event.specs.Event.{key_of}
 use Rattle.wm_event.specs.Log.{HasKeys, event_in}
 use Rattle.wm_event.specs.LoggedRun.{LoggedRun}
 use Rattle.wm_event.specs.Shape.{ListsEachOnce}
-use Rattle.wm_event.specs.Writes.{writes_byte, writes_from}
-use Rattle.wm_event.proofs.WritesLemmas.{rises_from}
 use Rattle.wm_races.specs.Listing.{Lists}
 use Rattle.wm_races.proofs.RaceLemmas.{named_so}
-use Rattle.wm_races.proofs.ScanLemmas.{IsBelowByte, IsBelowWrite, byte-done, byte-init, few_bytes, few_listed, listed-writes, one-pair, write-done, write-none, write-some}
+use Rattle.wm_races.proofs.ScanLemmas.{IsBelowByte, IsBelowWrite, byte-done, byte-init, few_bytes, one-pair, write-done, write-none, write-some}
 use Rattle.wm_races.proofs.pair.pairs_of.Goals as goal
 use Rattle.wm_races.proofs.pair.pairs_of.Goals.{in-Some-pair_at+in_ok-push, in_default-pair_at}
 
@@ -24,7 +22,7 @@ loop-byte-init c =
     let d : EventKey = record { thread = 0; number = 0 } in
     let once : ListsEachOnce run.log run.witness.order = search rules in
     let keys : HasKeys run.log = subst (λ (x : LoggedRun). HasKeys x.log) c.candidate-candidate.ensures.value c.log-log.ensures.shape.keys in
-    let at_key : slice_get run.witness.order j ≡ Some (get_or run.witness.order j d) = slice_get-get_or run.witness.order j d c.requires in
+    let at_key : slice_get run.witness.order j ≡ Some (get_or run.witness.order j d) = slice_get-get_or run.witness.order j d c.requires.place in
     let there : event_in run.log (get_or run.witness.order j d) ≡ Some e = search rules in
     let same : key_of e ≡ get_or run.witness.order j d = named_so run.log keys (get_or run.witness.order j d) e there in
     let listed : event_in run.log (key_of e) ≡ Some e = ap (event_in run.log) same ∙ there in
@@ -42,7 +40,7 @@ pair_at-requires-clause-listed c =
     let d : EventKey = record { thread = 0; number = 0 } in
     let once : ListsEachOnce run.log run.witness.order = search rules in
     let keys : HasKeys run.log = subst (λ (x : LoggedRun). HasKeys x.log) c.candidate-candidate.ensures.value c.log-log.ensures.shape.keys in
-    let at_key : slice_get run.witness.order j ≡ Some (get_or run.witness.order j d) = slice_get-get_or run.witness.order j d c.requires in
+    let at_key : slice_get run.witness.order j ≡ Some (get_or run.witness.order j d) = slice_get-get_or run.witness.order j d c.requires.place in
     let there : event_in run.log (get_or run.witness.order j d) ≡ Some e = search rules in
     let same : key_of e ≡ get_or run.witness.order j d = named_so run.log keys (get_or run.witness.order j d) e there in
     let listed : event_in run.log (key_of e) ≡ Some e = ap (event_in run.log) same ∙ there in
@@ -57,7 +55,7 @@ pair_at-requires-clause-place c =
     let d : EventKey = record { thread = 0; number = 0 } in
     let once : ListsEachOnce run.log run.witness.order = search rules in
     let keys : HasKeys run.log = subst (λ (x : LoggedRun). HasKeys x.log) c.candidate-candidate.ensures.value c.log-log.ensures.shape.keys in
-    let at_key : slice_get run.witness.order j ≡ Some (get_or run.witness.order j d) = slice_get-get_or run.witness.order j d c.requires in
+    let at_key : slice_get run.witness.order j ≡ Some (get_or run.witness.order j d) = slice_get-get_or run.witness.order j d c.requires.place in
     let there : event_in run.log (get_or run.witness.order j d) ≡ Some e = search rules in
     let same : key_of e ≡ get_or run.witness.order j d = named_so run.log keys (get_or run.witness.order j d) e there in
     let listed : event_in run.log (key_of e) ≡ Some e = ap (event_in run.log) same ∙ there in
@@ -70,12 +68,11 @@ pair_at-requires-clause-write c key at_w =
     let a = c.from.result + c.from-in-loop-byte.result in
     let i = c.loop-write.write-index in
     let z : ByteWrite = record { address = 0; place = 0 } in
-    let items = c.byte_writes-write-items.result.now in
+    let items = c.racing_writes-write-items.result.now in
     let w = get_or items i z in
     let inside : i < length items = omega arith in
     let at : slice_get items i ≡ Some w = slice_get-get_or items i z inside in
-    let listed : slice_get (writes_from run.log a 0 run.witness.order) i ≡ Some w = subst (λ (ws : List ByteWrite). slice_get ws i ≡ Some w) c.loop-write.invariant.items at in
-    listed-writes run.log a run.witness.order i w key listed at_w
+    c.loop-write.invariant.racing.written i w key at at_w
 
 pub loop-write-preserved : goal.loop-write-preserved
 loop-write-preserved c =
@@ -85,7 +82,7 @@ loop-write-preserved c =
     let d : EventKey = record { thread = 0; number = 0 } in
     let once : ListsEachOnce run.log run.witness.order = search rules in
     let keys : HasKeys run.log = subst (λ (x : LoggedRun). HasKeys x.log) c.candidate-candidate.ensures.value c.log-log.ensures.shape.keys in
-    let at_key : slice_get run.witness.order j ≡ Some (get_or run.witness.order j d) = slice_get-get_or run.witness.order j d c.requires in
+    let at_key : slice_get run.witness.order j ≡ Some (get_or run.witness.order j d) = slice_get-get_or run.witness.order j d c.requires.place in
     let there : event_in run.log (get_or run.witness.order j d) ≡ Some e = search rules in
     let same : key_of e ≡ get_or run.witness.order j d = named_so run.log keys (get_or run.witness.order j d) e there in
     let listed : event_in run.log (key_of e) ≡ Some e = ap (event_in run.log) same ∙ there in
@@ -93,24 +90,22 @@ loop-write-preserved c =
     let a = c.from.result + c.from-in-loop-byte.result in
     let i = c.loop-write.write-index in
     let z : ByteWrite = record { address = 0; place = 0 } in
-    let items = c.byte_writes-write-items.result.now in
+    let items = c.racing_writes-write-items.result.now in
     let w = get_or items i z in
     let inside : i < length items = omega arith in
     let at : slice_get items i ≡ Some w = slice_get-get_or items i z inside in
-    let items_are = c.loop-write.invariant.items in
+    let racing = c.loop-write.invariant.racing in
     let lists = c.loop-write.invariant.lists in
     let few = c.loop-write.invariant.few in
-    let rises = λ (m n : ℕ) (v u : ByteWrite) (l : m < n) (p : slice_get items m ≡ Some v) (q : slice_get items n ≡ Some u).
-    rises_from (writes_byte run.log a) a 0 run.witness.order m n v u l (ap (λ (ws : List ByteWrite). slice_get ws m) (sym items_are) ∙ p) (ap (λ (ws : List ByteWrite). slice_get ws n) (sym items_are) ∙ q) in
     elim c.match-pair_at.branch [
       | in-Some-pair_at+in_ok-push v ↦
           let q = v.in-Some-pair_at.pair in
           let is : c.match-pair_at.pairs ≡ c.loop-write.pairs ++ q ∷ [] = v.pairs-is ∙ v.in_ok-push.ensures.ok in
-          let more = write-some run j a items rises i w q c.loop-write.pairs at v.in-Some-pair_at.ensures (λ p found. one-pair run once e j listed at_e a w.place p q found v.in-Some-pair_at.ensures) lists in
+          let more = write-some run j a items racing.rises i w q c.loop-write.pairs at v.in-Some-pair_at.ensures (λ p found. one-pair run once e j listed at_e a w.place p q found v.in-Some-pair_at.ensures) lists in
           let size : length c.match-pair_at.pairs ≡ length c.loop-write.pairs + 1 = ap length is ∙ length-append c.loop-write.pairs (q ∷ []) in
           record {
             address = c.loop-write.invariant.address;
-            items = items_are;
+            racing = racing;
             lists = subst (Lists run (IsBelowWrite run j a items (i + 1))) (sym is) more;
             few = omega (arith, few, size);
           }
@@ -119,7 +114,7 @@ loop-write-preserved c =
           let size = ap length v.pairs-is in
           record {
             address = c.loop-write.invariant.address;
-            items = items_are;
+            racing = racing;
             lists = subst (Lists run (IsBelowWrite run j a items (i + 1))) (sym v.pairs-is) more;
             few = omega (arith, few, size);
           }
@@ -133,25 +128,24 @@ loop-byte-preserved c =
     let d : EventKey = record { thread = 0; number = 0 } in
     let once : ListsEachOnce run.log run.witness.order = search rules in
     let keys : HasKeys run.log = subst (λ (x : LoggedRun). HasKeys x.log) c.candidate-candidate.ensures.value c.log-log.ensures.shape.keys in
-    let at_key : slice_get run.witness.order j ≡ Some (get_or run.witness.order j d) = slice_get-get_or run.witness.order j d c.requires in
+    let at_key : slice_get run.witness.order j ≡ Some (get_or run.witness.order j d) = slice_get-get_or run.witness.order j d c.requires.place in
     let there : event_in run.log (get_or run.witness.order j d) ≡ Some e = search rules in
     let same : key_of e ≡ get_or run.witness.order j d = named_so run.log keys (get_or run.witness.order j d) e there in
     let listed : event_in run.log (key_of e) ≡ Some e = ap (event_in run.log) same ∙ there in
     let at_e : slice_get run.witness.order j ≡ Some (key_of e) = at_key ∙ ap Some (sym same) in
     let a = c.from.result + c.from-in-loop-byte.result in
-    let items = c.byte_writes-write-items.result.now in
+    let items = c.racing_writes-write-items.result.now in
     let i = c.loop-write.write-index in
     let all : length items ≤ i = omega arith in
-    let short : length (writes_from run.log a 0 run.witness.order) ≤ length run.witness.order = few_listed (writes_byte run.log a) a 0 run.witness.order in
-    let long = ap length c.loop-write.invariant.items in
+    let racing = c.loop-write.invariant.racing in
+    let short = racing.few in
     let few = c.loop-write.invariant.few in
     let end = c.loop-write.auto.write-index-end in
-    let lists = subst (λ (ws : List ByteWrite). Lists run (IsBelowWrite run j a ws i) c.loop-write.pairs) c.loop-write.invariant.items c.loop-write.invariant.lists in
-    let done = write-done run once e j listed at_e a i c.loop-write.pairs (omega (arith, all, long)) lists in
+    let done = write-done run once e j listed at_e a i items c.loop-write.pairs racing all c.loop-write.invariant.lists in
     let next : a + 1 ≡ e.address + (c.loop-byte.byte + 1) = (let h = c.loop-write.invariant.address in omega (arith, h)) in
     record {
       lists = subst (λ (b : ℕ). Lists run (IsBelowByte run j b) c.loop-write.pairs) next done;
-      few = omega (arith, few, end, long, short);
+      few = omega (arith, few, end, short);
     }
 
 pub returns : goal.returns
@@ -162,7 +156,7 @@ returns c =
     let d : EventKey = record { thread = 0; number = 0 } in
     let once : ListsEachOnce run.log run.witness.order = search rules in
     let keys : HasKeys run.log = subst (λ (x : LoggedRun). HasKeys x.log) c.candidate-candidate.ensures.value c.log-log.ensures.shape.keys in
-    let at_key : slice_get run.witness.order j ≡ Some (get_or run.witness.order j d) = slice_get-get_or run.witness.order j d c.requires in
+    let at_key : slice_get run.witness.order j ≡ Some (get_or run.witness.order j d) = slice_get-get_or run.witness.order j d c.requires.place in
     let there : event_in run.log (get_or run.witness.order j d) ≡ Some e = search rules in
     let same : key_of e ≡ get_or run.witness.order j d = named_so run.log keys (get_or run.witness.order j d) e there in
     let listed : event_in run.log (key_of e) ≡ Some e = ap (event_in run.log) same ∙ there in

@@ -1,6 +1,6 @@
 use Rattle.std.proofs.Common.{◌≡◌, ◌+◌, ◌*◌, ◌≤◌, length}
-use Rattle.wm_event.specs.Writes.{writes_from}
 use Rattle.wm_races.specs.Listing.{Lists}
+use Rattle.wm_races.specs.Window.{AreRacingWrites}
 use Rattle.wm_races.proofs.ScanLemmas.{IsBelowByte, IsBelowWrite}
 use Rattle.wm_races.proofs.pair.pairs_of.Given as goal
 
@@ -8,7 +8,7 @@ use Rattle.wm_races.proofs.pair.pairs_of.Given as goal
 abbrev pub invariant-loop-write : goal.invariant-loop-write
 invariant-loop-write l = record {
   address : l.address ≡ l.event.address + l.byte;
-  items : l.write-items ≡ writes_from l.before.log l.address 0 l.before.witness.order;
+  racing : AreRacingWrites l.before l.place l.address l.write-items;
   lists : Lists l.before (IsBelowWrite l.before l.place l.address l.write-items l.write-index) l.pairs;
   few : length l.pairs ≤ l.byte * length l.before.witness.order + l.write-index;
 }

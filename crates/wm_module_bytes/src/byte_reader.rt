@@ -1,0 +1,127 @@
+//! Reading the bytes of a module without judging them.
+
+use std::str;
+
+/// How many bytes come before the first section of a module: the magic number and the version.
+const HEADER_BYTES: usize = 8;
+
+/// A section of a module, or a subsection of one.
+#[derive(Clone, Copy)]
+pub struct Section<'a> {
+    /// Its number.
+    pub id: u8,
+    /// Where its contents begin.
+    pub start: usize,
+    pub contents: &'a [u8],
+}
+
+/// A place in the bytes of a module, from which they are read on.
+#[derive(Clone, Copy)]
+pub struct ByteReader<'a> {
+    pub bytes: &'a [u8],
+    pub at: usize,
+}
+
+impl<'a> ByteReader<'a> {
+    /// Before the first of these bytes.
+    pub fn new(bytes: &'a [u8]) -> Self {
+        ByteReader { bytes, at: 0 }
+    }
+
+    /// Before the first section of a module.
+    pub fn at_sections(module_bytes: &'a [u8]) -> Self {
+        ByteReader {
+            bytes: module_bytes,
+            at: HEADER_BYTES,
+        }
+    }
+
+    /// Whether there is no further byte.
+    pub fn is_at_end(&self) -> bool {
+        self.at >= self.bytes.len()
+    }
+
+    /// The next byte.
+    pub fn byte(&mut self) -> Option<u8> {
+        let byte = self.bytes.get(self.at).copied()?;
+        self.skip(1);
+        Some(byte)
+    }
+
+    /// The unsigned number of at most 32 bits that begins here (Core 1.0, section 5.2.2), if one ends within its bytes.
+    pub fn number(&mut self) -> Option<usize> {
+        let mut number = 0usize;
+        let mut scale = 1usize;
+        for _ in 0..5usize {
+            let byte = self.byte()?;
+            number = number.saturating_add(usize::from(byte & 127).saturating_mul(scale));
+            scale = scale.saturating_mul(128);
+            if byte < 128 {
+                return Some(number);
+            }
+        }
+        None
+    }
+
+    /// Leaves out this many bytes.
+    pub fn skip(&mut self, count: usize) {
+        self.at = self.at.saturating_add(count);
+    }
+
+    /// Leaves out a number of at most 64 bits, with or without a sign.
+    pub fn skip_number(&mut self) -> Option<()> {
+        for _ in 0..10usize {
+            if self.byte()? < 128 {
+                return Some(());
+            }
+        }
+        None
+    }
+
+    /// Leaves out this many numbers.
+    pub fn skip_numbers(&mut self, count: usize) -> Option<()> {
+        for _ in 0..count {
+            self.skip_number()?;
+        }
+        Some(())
+    }
+
+    /// Leaves out a name, or other bytes after their number.
+    pub fn skip_vector(&mut self) -> Option<()> {
+        let size = self.number()?;
+        self.skip(size);
+        Some(())
+    }
+
+    /// This many bytes, if there are so many.
+    fn take(&mut self, count: usize) -> Option<&'a [u8]> {
+        let end = self.at.checked_add(count)?;
+        let taken = self.bytes.get(self.at..end)?;
+        self.at = end;
+        Some(taken)
+    }
+
+    /// A name (Core 1.0, section 5.2.4); None where it is cut off or not UTF-8.
+    pub fn name(&mut self) -> Option<&'a str> {
+        let size = self.number()?;
+        str::from_utf8(self.take(size)?).ok()
+    }
+
+    /// A section or a subsection (Core 1.0, section 5.5.2); None where it is cut off.
+    pub fn section(&mut self) -> Option<Section<'a>> {
+        let id = self.byte()?;
+        let size = self.number()?;
+        let start = self.at;
+        let contents = self.take(size)?;
+        Some(Section {
+            id,
+            start,
+            contents,
+        })
+    }
+
+    /// The bytes that are left.
+    pub fn rest(&self) -> &'a [u8] {
+        self.bytes.get(self.at..).unwrap_or(&[])
+    }
+}

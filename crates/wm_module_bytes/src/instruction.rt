@@ -1,0 +1,125 @@
+//! Instructions of any part of WebAssembly, as far as is needed to find the next one.
+
+use crate::byte_reader::ByteReader;
+
+/// An opcode, with the code after its prefix, 0 without one.
+#[derive(Clone, Copy)]
+pub struct Opcode {
+    pub byte: u8,
+    pub code: usize,
+}
+
+impl Opcode {
+    /// Reads an opcode.
+    pub fn read(reader: &mut ByteReader) -> Option<Opcode> {
+        let byte = reader.byte()?;
+        let code = match byte {
+            0xFC | 0xFD | 0xFE => reader.number()?,
+            _ => 0,
+        };
+        Some(Opcode { byte, code })
+    }
+}
+
+/// What follows an opcode.
+#[derive(Clone, Copy, PartialEq, Eq)]
+pub enum Immediates {
+    /// Numbers, and then bytes.
+    Fixed { numbers: usize, bytes: usize },
+    /// The alignment and the offset of an access, and then bytes. An alignment of 64 or more is followed by the index of a
+    /// memory.
+    Access { bytes: usize },
+    /// A vector of numbers, and then numbers.
+    Vector { numbers: usize },
+    /// The type of a block.
+    BlockType,
+}
+
+/// Numbers.
+fn numbers(count: usize) -> Option<Immediates> {
+    Some(Immediates::Fixed {
+        numbers: count,
+        bytes: 0,
+    })
+}
+
+/// Bytes.
+fn bytes(count: usize) -> Option<Immediates> {
+    Some(Immediates::Fixed {
+        numbers: 0,
+        bytes: count,
+    })
+}
+
+/// What follows an opcode with the prefix `FC`.
+fn after_bulk(code: usize) -> Option<Immediates> {
+    match code {
+        0x00..=0x07 => numbers(0),
+        0x09 | 0x0B | 0x0D | 0x0F | 0x10 | 0x11 => numbers(1),
+        0x08 | 0x0A | 0x0C | 0x0E => numbers(2),
+        _ => None,
+    }
+}
+
+/// What follows an opcode with the prefix `FD`.
+fn after_simd(code: usize) -> Option<Immediates> {
+    match code {
+        0x00..=0x0B | 0x5C | 0x5D => Some(Immediates::Access { bytes: 0 }),
+        0x0C | 0x0D => bytes(16),
+        0x15..=0x22 => bytes(1),
+        0x54..=0x5B => Some(Immediates::Access { bytes: 1 }),
+        _ => numbers(0),
+    }
+}
+
+/// What follows an opcode without a prefix.
+fn after_plain(byte: u8) -> Option<Immediates> {
+    match byte {
+        0x02..=0x04 | 0x06 => Some(Immediates::BlockType),
+        0x07..=0x09 | 0x0C | 0x0D | 0x10 | 0x12 | 0x18 => numbers(1),
+        0x11 | 0x13 => numbers(2),
+        0x0E => Some(Immediates::Vector { numbers: 1 }),
+        0x1C => Some(Immediates::Vector { numbers: 0 }),
+        0x20..=0x26 | 0x3F..=0x42 | 0xD0 | 0xD2 => numbers(1),
+        0x28..=0x3E => Some(Immediates::Access { bytes: 0 }),
+        0x43 => bytes(4),
+        0x44 => bytes(8),
+        0x00 | 0x01 | 0x05 | 0x0A | 0x0B | 0x0F | 0x19..=0x1B | 0x45..=0xC4 | 0xD1 => numbers(0),
+        _ => None,
+    }
+}
+
+/// What follows an opcode; None where it is not known.
+pub fn immediates_of(opcode: Opcode) -> Option<Immediates> {
+    match opcode.byte {
+        0xFC => after_bulk(opcode.code),
+        0xFD => after_simd(opcode.code),
+        0xFE if opcode.code == 0x03 => bytes(1),
+        0xFE => Some(Immediates::Access { bytes: 0 }),
+        byte => after_plain(byte),
+    }
+}
+
+/// Leaves out what follows an opcode.
+pub fn skip_immediates(reader: &mut ByteReader, immediates: Immediates) -> Option<()> {
+    match immediates {
+        Immediates::Fixed { numbers, bytes } => {
+            reader.skip_numbers(numbers)?;
+            reader.skip(bytes);
+        }
+        Immediates::Access { bytes } => {
+            if reader.number()? >= 64 {
+                reader.skip_number()?;
+            }
+            reader.skip_number()?;
+            reader.skip(bytes);
+        }
+        Immediates::Vector { numbers } => {
+            let count = reader.number()?;
+            reader.skip_numbers(count)?;
+            reader.skip_numbers(numbers)?;
+        }
+        Immediates::BlockType => reader.skip_number()?,
+    }
+    Some(())
+}

@@ -1,0 +1,52 @@
+//! Strings as a document writes them.
+
+use std::fmt;
+
+/// A string in quotes, with the escapes of JSON (RFC 8259, section 7). Control characters are escaped, U+007F too, so
+/// that no name can write to the terminal.
+#[derive(Clone, Copy)]
+pub struct JsonText<'a>(pub &'a str);
+
+/// Writes a character of a string.
+fn write_char<W: fmt::Write>(f: &mut fmt::Formatter<W>, character: char) -> fmt::Result {
+    match character {
+        '"' => f.write_str("\\\""),
+        '\\' => f.write_str("\\\\"),
+        '\n' => f.write_str("\\n"),
+        '\r' => f.write_str("\\r"),
+        '\t' => f.write_str("\\t"),
+        '\u{0}'..='\u{1f}' | '\u{7f}'..='\u{9f}' => write!(f, "\\u{:04x}", character as u32),
+        _ => write!(f, "{character}"),
+    }
+}
+
+impl fmt::Display for JsonText<'_> {
+    fn fmt<W: fmt::Write>(&self, f: &mut fmt::Formatter<W>) -> fmt::Result {
+        f.write_str("\"")?;
+        for character in self.0.chars() {
+            write_char(f, character)?;
+        }
+        f.write_str("\"")
+    }
+}
+
+/// The most characters that are shown of a name that stands in many rows.
+const MAX_CHARACTERS: usize = 100;
+
+/// A string as [`JsonText`] has it; after [`MAX_CHARACTERS`] of its characters `..` stands for the rest.
+#[derive(Clone, Copy)]
+pub struct ShortText<'a>(pub &'a str);
+
+impl fmt::Display for ShortText<'_> {
+    fn fmt<W: fmt::Write>(&self, f: &mut fmt::Formatter<W>) -> fmt::Result {
+        f.write_str("\"")?;
+        for (number, character) in self.0.chars().enumerate() {
+            if number == MAX_CHARACTERS {
+                f.write_str("..")?;
+                break;
+            }
+            write_char(f, character)?;
+        }
+        f.write_str("\"")
+    }
+}

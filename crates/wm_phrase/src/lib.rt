@@ -1,0 +1,8 @@
+//! Events, accesses, writers, ends and names in words.
+#![tactic(auto)]
+
+mod json_text;
+mod phrase;
+
+pub use json_text::{JsonText, ShortText};
+pub use phrase::{Count, EndPhrase, EventPhrase, OpPhrase, ValueForm, WritersPhrase};

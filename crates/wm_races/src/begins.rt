@@ -1,0 +1,37 @@
+//! Where writes begin.
+ghost use Rattle.std.specs.Prelude.{◌↔◌, IfOk, IsTrue};
+ghost use Rattle.wm_races.specs.Window.{HasBegins, IsAmongBegins};
+
+use indexmap::IndexSet;
+use std::alloc::{AllocError, Global};
+use wm_event::{Candidate, EventId};
+
+/// The first bytes of the ranges of a candidate's writes.
+#[derive(Drop)]
+pub(crate) struct Begins {
+    addresses: IndexSet<u64>,
+}
+
+impl Begins {
+    /// The first byte of each write.
+    pub fn of(alloc: Global, candidate: &Candidate) -> Result<Self, AllocError>
+        ensures { IfOk result (HasBegins candidate.now) }
+    {
+        let mut addresses = IndexSet::new(alloc);
+        for key in candidate.witness().order.as_slice() {
+            if let Some(event) = candidate.event(EventId::At(*key)) {
+                if event.writes() {
+                    addresses.insert(u64::from(event.address))?;
+                }
+            }
+        }
+        Ok(Begins { addresses })
+    }
+
+    /// Whether a write begins at an address.
+    pub fn contains(&self, address: u64) -> bool
+        ensures { IsTrue result ↔ IsAmongBegins self.now address }
+    {
+        self.addresses.contains(&address)
+    }
+}

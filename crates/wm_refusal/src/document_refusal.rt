@@ -1,0 +1,226 @@
+//! Why bytes are not a document.
+ghost use Rattle.std.specs.Prelude.{◌≤◌, length};
+
+use crate::document_part::{PartPhrase, count_threads};
+use crate::expected::ExpectedPhrase;
+use serde_json::{Category, Error, Value};
+use std::alloc::{AllocError, Global};
+use std::fmt;
+use wm_event::MAX_THREADS;
+use wm_logfile::{DocFault, MAX_DOCUMENT_BYTES};
+
+/// What a document has at a path, and what it has to have there.
+#[derive(Clone, Copy)]
+struct FoundAndExpected<'a> {
+    document: &'a [u8],
+    path: &'a [u32],
+}
+
+impl fmt::Display for FoundAndExpected<'_> {
+    fn fmt<W: fmt::Write>(&self, f: &mut fmt::Formatter<W>) -> fmt::Result {
+        let FoundAndExpected { document, path } = *self;
+        let found = PartPhrase { document, path };
+        let expected = ExpectedPhrase { document, path };
+        write!(f, "Found: {found}\nExpected: {expected}")
+    }
+}
+
+/// Of what a document has too much.
+#[derive(Clone, Copy)]
+struct TooLargeSentence<'a>(&'a [u8]);
+
+impl fmt::Display for TooLargeSentence<'_> {
+    fn fmt<W: fmt::Write>(&self, f: &mut fmt::Formatter<W>) -> fmt::Result {
+        let size = self.0.len();
+        if size > MAX_DOCUMENT_BYTES {
+            return write!(
+                f,
+                "The document has more than {MAX_DOCUMENT_BYTES} bytes, the most that are read."
+            );
+        }
+        match count_threads(self.0) {
+            Some(threads) => write!(
+                f,
+                "The document has {threads} threads. At most {MAX_THREADS} are read."
+            ),
+            None => write!(
+                f,
+                "The document has too many threads. At most {MAX_THREADS} are read."
+            ),
+        }
+    }
+}
+
+/// A byte of a text, by its offset and by its line and column, which count from 1.
+#[derive(Clone, Copy, Debug, PartialEq, Eq)]
+pub(crate) struct TextPosition {
+    pub offset: usize,
+    pub line: usize,
+    pub column: usize,
+}
+
+impl TextPosition {
+    /// The byte at an offset.
+    pub(crate) fn of(bytes: &[u8], offset: usize) -> TextPosition {
+        let mut line = 1usize;
+        let mut column = 1usize;
+        for byte in bytes.iter().take(offset) {
+            if *byte == b'\n' {
+                line = line.saturating_add(1);
+                column = 1;
+            } else {
+                column = column.saturating_add(1);
+            }
+        }
+        TextPosition {
+            offset,
+            line,
+            column,
+        }
+    }
+}
+
+impl fmt::Display for TextPosition {
+    fn fmt<W: fmt::Write>(&self, f: &mut fmt::Formatter<W>) -> fmt::Result {
+        let TextPosition {
+            offset,
+            line,
+            column,
+        } = *self;
+        write!(f, "byte {offset} (line {line}, column {column})")
+    }
+}
+
+/// The offset of a line's column, both from 1.
+fn offset_of(bytes: &[u8], line: usize, column: usize) -> usize
+    ensures inside { result ≤ length bytes.now }
+{
+    let mut seen = 1usize;
+    let mut start = 0usize;
+    for (offset, byte) in bytes.iter().enumerate() {
+        if seen >= line {
+            break;
+        }
+        if *byte == b'\n' {
+            seen = seen.saturating_add(1);
+            start = offset.saturating_add(1);
+        }
+    }
+    start
+        .saturating_add(column.saturating_sub(1))
+        .min(bytes.len())
+}
+
+/// What JSON (RFC 8259) has at an offset of a text that is faulted there.
+fn expected_at(bytes: &[u8], offset: usize) -> &'static str {
+    let before = bytes
+        .iter()
+        .take(offset)
+        .rev()
+        .find(|byte| !matches!(**byte, b' ' | b'\t' | b'\n' | b'\r'));
+    let is_value = matches!(before, None | Some(b',' | b':' | b'['));
+    match bytes.get(offset) {
+        Some(b'[' | b'{' | b'"' | b'-' | b'0'..=b'9') if is_value => {
+            "JSON (RFC 8259) with at most 127 nested lists"
+        }
+        _ if before == Some(&b'[') => "a value or ]",
+        _ if is_value => "a value",
+        _ => "JSON (RFC 8259)",
+    }
+}
+
+/// Why a text is not JSON where a fault was found, which isn't its end.
+fn fault_inside(alloc: Global, bytes: &[u8], fault: &Error) -> Result<String, AllocError> {
+    let offset = offset_of(bytes, fault.line(), fault.column());
+    let position = TextPosition::of(bytes, offset);
+    let words = format!(in alloc; "{fault}")?;
+    if words.as_str().starts_with("number out of range") {
+        return format!(in alloc;
+            "The document is not JSON as it is read here: the number before {position} is out of the range of a double.\n"
+        );
+    }
+    let expected = expected_at(bytes, offset);
+    let found = PartPhrase {
+        document: &bytes[offset..],
+        path: &[],
+    };
+    format!(in alloc;
+        "The document is not JSON at {position}.\nFound: {found}\nExpected: {expected}\n"
+    )
+}
+
+/// Why a text that is UTF-8 is not JSON.
+fn json_fault(alloc: Global, bytes: &[u8]) -> Result<String, AllocError> {
+    let fault = match Value::from_slice(alloc, bytes) {
+        Ok(_) => return Ok(String::new(alloc)),
+        Err(fault) => fault,
+    };
+    let end = TextPosition::of(bytes, bytes.len());
+    match fault.classify() {
+        Category::Memory => Err(AllocError),
+        Category::Eof => format!(in alloc;
+            "The document is not JSON: it ends too early, at {end}. Expected: the rest of a value, with its closing quotes and brackets.\n"
+        ),
+        _ => fault_inside(alloc, bytes, &fault),
+    }
+}
+
+/// Why bytes are not JSON, and where.
+fn not_json_reason(alloc: Global, bytes: &[u8]) -> Result<String, AllocError> {
+    match str::from_utf8(bytes) {
+        Ok(_) => json_fault(alloc, bytes),
+        Err(fault) => {
+            let position = TextPosition::of(bytes, fault.valid_up_to());
+            format!(in alloc; "The document is not JSON: it is not UTF-8 at {position}.\n")
+        }
+    }
+}
+
+/// Why bytes are not a document, and where.
+///
+/// # Errors
+///
+/// Only if an allocation fails.
+pub fn document_reason(
+    alloc: Global,
+    fault: &DocFault,
+    bytes: &[u8],
+) -> Result<String, AllocError> {
+    match fault {
+        DocFault::NotJson => not_json_reason(alloc, bytes),
+        DocFault::BadVersion => {
+            let found = PartPhrase {
+                document: bytes,
+                path: &[1],
+            };
+            format!(in alloc;
+                "The document's version, its second item, is not one of the integers 1 and 2.\nFound: {found}\nExpected: 1 or 2\n"
+            )
+        }
+        DocFault::TooLarge => format!(in alloc; "{}\n", TooLargeSentence(bytes)),
+        DocFault::BadShape(path) => {
+            let found = FoundAndExpected {
+                document: bytes,
+                path: path.indices(),
+            };
+            format!(in alloc;
+                "At {path} the document has a value of the wrong kind, a list of the wrong length, or an unknown word.\n{found}\n"
+            )
+        }
+        DocFault::NumberRange(path) => {
+            let found = FoundAndExpected {
+                document: bytes,
+                path: path.indices(),
+            };
+            format!(in alloc;
+                "At {path} the document has a number that is out of range, or that has a sign, a fraction or an exponent.\n{found}\n"
+            )
+        }
+        DocFault::Misplaced => {
+            format!(in alloc;
+                "The witness doesn't have a list of writers for each event, or has writers for a write.\n"
+            )
+        }
+        DocFault::OutOfMemory => Err(AllocError),
+    }
+}

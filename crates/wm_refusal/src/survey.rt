@@ -1,0 +1,398 @@
+//! All parts of a module that are not supported, where each is used first, and how often.
+//!
+//! The decoder stops at the first of them. This reads on, and leaves out what it cannot read: the rest of a body or of a
+//! section.
+
+use crate::feature::{Part, remedy, unsupported_part, unsupported_type};
+use std::alloc::{AllocError, AllocFailed, Global};
+use std::fmt;
+use wm_decode::Feature;
+use wm_module_bytes::{ByteReader, Immediates, Opcode, immediates_of, skip_immediates};
+
+/// Where a part is used.
+#[derive(Clone, Copy, PartialEq, Eq)]
+pub(crate) enum Location {
+    Module,
+    Type(usize),
+    Import(usize),
+    Global(usize),
+    /// Functions count from the first imported one.
+    Function(usize),
+    Segment(usize),
+}
+
+impl fmt::Display for Location {
+    fn fmt<W: fmt::Write>(&self, f: &mut fmt::Formatter<W>) -> fmt::Result {
+        match self {
+            Location::Module => Ok(()),
+            Location::Type(number) => write!(f, " in type {number}"),
+            Location::Import(number) => write!(f, " (import {number})"),
+            Location::Global(number) => write!(f, " in global {number}"),
+            Location::Function(number) => write!(f, " in function {number}"),
+            Location::Segment(number) => write!(f, " (data segment {number})"),
+        }
+    }
+}
+
+/// A part that is used: where first, and how often.
+#[derive(Clone, Copy)]
+pub(crate) struct Use {
+    pub part: Part,
+    pub location: Location,
+    pub offset: usize,
+    pub count: usize,
+}
+
+impl fmt::Display for Use {
+    fn fmt<W: fmt::Write>(&self, f: &mut fmt::Formatter<W>) -> fmt::Result {
+        let Use {
+            part,
+            location,
+            offset,
+            count,
+        } = *self;
+        f.write_str(part.name)?;
+        if count > 1 {
+            write!(f, ", {count} times, first")?;
+        }
+        write!(f, "{location} at byte {offset}. {}.", remedy(part.feature))
+    }
+}
+
+/// Why reading stops.
+#[derive(Clone, Copy)]
+enum Stop {
+    /// The bytes can't be read on.
+    Unread,
+    OutOfMemory,
+}
+
+impl From<AllocError> for Stop {
+    fn from(_refused: AllocError) -> Stop {
+        Stop::OutOfMemory
+    }
+}
+
+impl<T: Drop> From<AllocFailed<T>> for Stop {
+    fn from(_refused: AllocFailed<T>) -> Stop {
+        Stop::OutOfMemory
+    }
+}
+
+/// What was found, or that the bytes can't be read on.
+fn read<T: Drop>(found: Option<T>) -> Result<T, Stop> {
+    match found {
+        Some(found) => Ok(found),
+        None => Err(Stop::Unread),
+    }
+}
+
+/// What was found so far.
+#[derive(Drop)]
+struct Survey {
+    uses: Vec<Use>,
+    location: Location,
+    imported_functions: usize,
+    memories: usize,
+}
+
+impl Survey {
+    /// Adds that a part is used at an offset.
+    fn add(&mut self, part: Part, offset: usize) -> Result<(), Stop> {
+        for known in self.uses.iter_mut() {
+            if known.part == part {
+                known.count = known.count.saturating_add(1);
+                return Ok(());
+            }
+        }
+        self.uses.push(Use {
+            part,
+            location: self.location,
+            offset,
+            count: 1,
+        })?;
+        Ok(())
+    }
+
+    /// A value type.
+    fn value_type(&mut self, reader: &mut ByteReader) -> Result<(), Stop> {
+        let offset = reader.at;
+        let byte = read(reader.byte())?;
+        match unsupported_type(byte) {
+            Some(part) => self.add(part, offset),
+            None if byte == 0x7F || byte == 0x7E => Ok(()),
+            None => Err(Stop::Unread),
+        }
+    }
+
+    /// Value types.
+    fn value_types(&mut self, reader: &mut ByteReader, count: usize) -> Result<(), Stop> {
+        for _ in 0..count {
+            self.value_type(reader)?;
+        }
+        Ok(())
+    }
+
+    /// The section of types.
+    fn types(&mut self, reader: &mut ByteReader) -> Result<(), Stop> {
+        for number in 0..read(reader.number())? {
+            self.location = Location::Type(number);
+            if read(reader.byte())? != 0x60 {
+                return Err(Stop::Unread);
+            }
+            let parameters = read(reader.number())?;
+            self.value_types(reader, parameters)?;
+            let offset = reader.at;
+            let results = read(reader.number())?;
+            if results > 1 {
+                self.add(Part::of(Feature::MultiValue), offset)?;
+            }
+            self.value_types(reader, results)?;
+        }
+        Ok(())
+    }
+
+    /// The limits of a table or of a memory, after their flag.
+    fn skip_limits(reader: &mut ByteReader, flag: u8) -> Result<(), Stop> {
+        let count = if flag & 1 == 1 { 2 } else { 1 };
+        read(reader.skip_numbers(count))
+    }
+
+    /// A memory.
+    fn memory(&mut self, reader: &mut ByteReader) -> Result<(), Stop> {
+        let offset = reader.at;
+        let flag = read(reader.byte())?;
+        self.memories = self.memories.saturating_add(1);
+        if flag & 2 == 0 {
+            self.add(Part::of(Feature::UnsharedMemory), offset)?;
+        }
+        Survey::skip_limits(reader, flag)
+    }
+
+    /// An import after its names.
+    fn import(&mut self, reader: &mut ByteReader) -> Result<(), Stop> {
+        let offset = reader.at;
+        match read(reader.byte())? {
+            0x00 => {
+                self.imported_functions = self.imported_functions.saturating_add(1);
+                self.add(Part::named(Feature::Import, "an imported function"), offset)?;
+                read(reader.skip_number())
+            }
+            0x01 => {
+                self.add(Part::named(Feature::Import, "an imported table"), offset)?;
+                reader.skip(1);
+                let flag = read(reader.byte())?;
+                Survey::skip_limits(reader, flag)
+            }
+            0x02 => {
+                if self.memories > 0 {
+                    self.add(Part::of(Feature::SeveralMemories), offset)?;
+                }
+                self.memory(reader)
+            }
+            0x03 => {
+                self.add(Part::named(Feature::Import, "an imported global"), offset)?;
+                reader.skip(2);
+                Ok(())
+            }
+            _ => Err(Stop::Unread),
+        }
+    }
+
+    /// The section of imports.
+    fn imports(&mut self, reader: &mut ByteReader) -> Result<(), Stop> {
+        for number in 0..read(reader.number())? {
+            self.location = Location::Import(number);
+            read(reader.skip_vector())?;
+            read(reader.skip_vector())?;
+            self.import(reader)?;
+        }
+        Ok(())
+    }
+
+    /// A section of which each item is of a part.
+    fn items(&mut self, reader: &mut ByteReader, name: &'static str) -> Result<(), Stop> {
+        let offset = reader.at;
+        if read(reader.number())? > 0 {
+            self.add(Part::named(Feature::Table, name), offset)?;
+        }
+        Ok(())
+    }
+
+    /// The section of memories.
+    fn memories(&mut self, reader: &mut ByteReader) -> Result<(), Stop> {
+        let offset = reader.at;
+        let count = read(reader.number())?;
+        if count.saturating_add(self.memories) > 1 {
+            self.add(Part::of(Feature::SeveralMemories), offset)?;
+        }
+        for _ in 0..count {
+            self.memory(reader)?;
+        }
+        Ok(())
+    }
+
+    /// An initial value, up to its end.
+    fn initial_value(&mut self, reader: &mut ByteReader) -> Result<(), Stop> {
+        let size = reader.bytes.len();
+        for number in 0..size {
+            let offset = reader.at;
+            let opcode = read(Opcode::read(reader))?;
+            let is_end = opcode.byte == 0x0B;
+            let is_constant = opcode.byte == 0x41 || opcode.byte == 0x42;
+            if (number == 0 && !is_constant) || (number == 1 && !is_end) {
+                self.add(Part::of(Feature::ConstExpression), offset)?;
+            }
+            if is_end {
+                return Ok(());
+            }
+            let immediates = read(immediates_of(opcode))?;
+            read(skip_immediates(reader, immediates))?;
+        }
+        Err(Stop::Unread)
+    }
+
+    /// The section of globals.
+    fn globals(&mut self, reader: &mut ByteReader) -> Result<(), Stop> {
+        for number in 0..read(reader.number())? {
+            self.location = Location::Global(number);
+            self.value_type(reader)?;
+            reader.skip(1);
+            self.initial_value(reader)?;
+        }
+        Ok(())
+    }
+
+    /// The section of data segments.
+    fn segments(&mut self, reader: &mut ByteReader) -> Result<(), Stop> {
+        for number in 0..read(reader.number())? {
+            self.location = Location::Segment(number);
+            let offset = reader.at;
+            match read(reader.byte())? {
+                0x00 => self.initial_value(reader)?,
+                0x01 => self.add(Part::of(Feature::PassiveData), offset)?,
+                0x02 => {
+                    self.add(Part::of(Feature::DataMemoryIndex), offset)?;
+                    read(reader.skip_number())?;
+                    self.initial_value(reader)?;
+                }
+                _ => return Err(Stop::Unread),
+            }
+            read(reader.skip_vector())?;
+        }
+        Ok(())
+    }
+
+    /// The type of a block.
+    fn block_type(&mut self, reader: &mut ByteReader) -> Result<(), Stop> {
+        let offset = reader.at;
+        let Some(byte) = reader.bytes.get(offset).copied() else {
+            return Err(Stop::Unread);
+        };
+        match unsupported_type(byte) {
+            Some(part) => self.add(part, offset)?,
+            None if byte < 0x40 || byte >= 0x80 => {
+                self.add(Part::of(Feature::MultiValue), offset)?;
+            }
+            None => {}
+        }
+        read(reader.skip_number())
+    }
+
+    /// An instruction.
+    fn instruction(&mut self, reader: &mut ByteReader) -> Result<(), Stop> {
+        let offset = reader.at;
+        let opcode = read(Opcode::read(reader))?;
+        if let Some(part) = unsupported_part(opcode) {
+            self.add(part, offset)?;
+        }
+        let immediates = read(immediates_of(opcode))?;
+        if immediates == Immediates::BlockType {
+            return self.block_type(reader);
+        }
+        read(skip_immediates(reader, immediates))
+    }
+
+    /// The locals and the instructions of a function, which are all the bytes.
+    fn body(&mut self, reader: &mut ByteReader) -> Result<(), Stop> {
+        for _ in 0..read(reader.number())? {
+            read(reader.skip_number())?;
+            self.value_type(reader)?;
+        }
+        for _ in reader.at..reader.bytes.len() {
+            if reader.at >= reader.bytes.len() {
+                return Ok(());
+            }
+            self.instruction(reader)?;
+        }
+        Ok(())
+    }
+
+    /// The section of code.
+    fn code(&mut self, reader: &mut ByteReader) -> Result<(), Stop> {
+        for number in 0..read(reader.number())? {
+            self.location = Location::Function(number.saturating_add(self.imported_functions));
+            let size = read(reader.number())?;
+            let mut body = part_of(reader, size);
+            if let Err(Stop::OutOfMemory) = self.body(&mut body) {
+                return Err(Stop::OutOfMemory);
+            }
+            reader.skip(size);
+        }
+        Ok(())
+    }
+
+    /// A section, whose number is at an offset.
+    fn section(&mut self, number: u8, offset: usize, reader: &mut ByteReader) -> Result<(), Stop> {
+        self.location = Location::Module;
+        match number {
+            1 => self.types(reader),
+            2 => self.imports(reader),
+            4 => self.items(reader, "a table"),
+            5 => self.memories(reader),
+            6 => self.globals(reader),
+            8 => self.add(Part::of(Feature::Start), offset),
+            9 => self.items(reader, "an element segment"),
+            10 => self.code(reader),
+            11 => self.segments(reader),
+            13 => self.add(Part::named(Feature::Reserved, "an exception tag"), offset),
+            _ => Ok(()),
+        }
+    }
+}
+
+/// The next bytes of a reader, by their number.
+fn part_of<'a>(reader: &ByteReader<'a>, size: usize) -> ByteReader<'a> {
+    let end = reader.at.saturating_add(size);
+    ByteReader {
+        bytes: reader.bytes.get(..end).unwrap_or(reader.bytes),
+        at: reader.at,
+    }
+}
+
+/// The parts of a module that are not supported, in the order of their first uses.
+///
+/// # Errors
+///
+/// Only if an allocation fails.
+pub(crate) fn unsupported_parts(alloc: Global, bytes: &[u8]) -> Result<Vec<Use>, AllocError> {
+    let mut survey = Survey {
+        uses: Vec::new(alloc),
+        location: Location::Module,
+        imported_functions: 0,
+        memories: 0,
+    };
+    let mut reader = ByteReader { bytes, at: 8 };
+    for _ in 0..bytes.len() {
+        let offset = reader.at;
+        let Some(number) = reader.byte() else { break };
+        let Some(size) = reader.number() else { break };
+        let mut content = part_of(&reader, size);
+        if let Err(Stop::OutOfMemory) = survey.section(number, offset, &mut content) {
+            return Err(AllocError);
+        }
+        reader.skip(size);
+    }
+    let Survey { uses, .. } = survey;
+    Ok(uses)
+}

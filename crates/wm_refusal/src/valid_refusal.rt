@@ -1,0 +1,136 @@
+//! Why a module is not valid.
+
+use crate::instr_at::{InstrAt, find_instr};
+use crate::type_fault::{OpcodePhrase, section_fault, type_fault};
+use std::alloc::{AllocError, Global};
+use std::fmt;
+use wm_ast::Module;
+use wm_decode::{DecodeFault, decode};
+use wm_valid::{FaultKind, Location, ValidFault};
+
+/// Which rule a module breaks.
+#[derive(Clone, Copy)]
+pub(crate) struct ValidSentence(pub FaultKind);
+
+impl fmt::Display for ValidSentence {
+    fn fmt<W: fmt::Write>(&self, f: &mut fmt::Formatter<W>) -> fmt::Result {
+        match self.0 {
+            FaultKind::BadType => f.write_str(
+                "The operands, a label, a global or an offset don't have the types that are expected there, or an immutable global is set.",
+            ),
+            FaultKind::Index => f.write_str(
+                "An index names no type, function, local, global or memory.",
+            ),
+            FaultKind::Label => {
+                f.write_str(
+                    "A branch names a label that is greater than the number of blocks around it.",
+                )
+            }
+            FaultKind::Alignment => f.write_str(
+                "The alignment of a plain access may not be greater than its width, and that of an atomic access has to be its width.",
+            ),
+            FaultKind::DataOutOfRange => {
+                f.write_str("A data segment isn't inside the initial memory.")
+            }
+            FaultKind::MemoryAbsent => {
+                f.write_str(
+                    "An instruction or a data segment needs a memory, and the module has none.",
+                )
+            }
+            FaultKind::MemoryLimits => f.write_str(
+                "The memory's maximum is below its minimum, or above 65536 pages.",
+            ),
+        }
+    }
+}
+
+/// Where a module breaks a rule.
+#[derive(Clone, Copy)]
+struct LocationPhrase(Location);
+
+impl fmt::Display for LocationPhrase {
+    fn fmt<W: fmt::Write>(&self, f: &mut fmt::Formatter<W>) -> fmt::Result {
+        match self.0 {
+            Location::Module => f.write_str("outside the functions' instructions"),
+            Location::Instr { func, instr } => write!(
+                f,
+                "at instruction {instr} of function {func} (both counted from 0, else and end included)"
+            ),
+        }
+    }
+}
+
+/// The module that is not valid; None if the bytes spell none.
+fn read_again(alloc: Global, bytes: &[u8]) -> Result<Option<Module>, AllocError> {
+    match decode(alloc, bytes) {
+        Ok(module) => Ok(Some(module)),
+        Err(DecodeFault::OutOfMemory) => Err(AllocError),
+        Err(DecodeFault::At(_, _)) => Ok(None),
+    }
+}
+
+/// What is wrong at an opcode of a function.
+fn fault_at(
+    alloc: Global,
+    kind: FaultKind,
+    module: &Module,
+    found: &InstrAt,
+) -> Result<String, AllocError> {
+    if kind == FaultKind::BadType {
+        return type_fault(alloc, module, found);
+    }
+    let sentence = ValidSentence(kind);
+    match found.instr {
+        Some(_) => {
+            let opcode = OpcodePhrase {
+                instr: found.instr,
+                is_body: false,
+            };
+            format!(in alloc; "The instruction is {opcode}. {sentence}")
+        }
+        None => format!(in alloc; "{sentence}"),
+    }
+}
+
+/// What is wrong at a place of a module.
+fn fault_text(
+    alloc: Global,
+    kind: FaultKind,
+    location: Location,
+    module: &Module,
+) -> Result<String, AllocError> {
+    match location {
+        Location::Instr { func, instr } => {
+            if let Some(found) = find_instr(alloc, module, func, instr)? {
+                return fault_at(alloc, kind, module, &found);
+            }
+        }
+        Location::Module if kind == FaultKind::BadType => {
+            if let Some(text) = section_fault(alloc, module)? {
+                return Ok(text);
+            }
+        }
+        Location::Module => {}
+    }
+    let sentence = ValidSentence(kind);
+    format!(in alloc; "{sentence}")
+}
+
+/// Why the module of these bytes isn't valid. It is decoded again, since the fault keeps nothing of it.
+///
+/// # Errors
+///
+/// Only if an allocation fails.
+pub fn valid_reason(alloc: Global, fault: &ValidFault, bytes: &[u8]) -> Result<String, AllocError> {
+    match *fault {
+        ValidFault::OutOfMemory => Err(AllocError),
+        ValidFault::At(kind, location) => {
+            let text = match read_again(alloc, bytes)? {
+                Some(module) => fault_text(alloc, kind, location, &module)?,
+                None => format!(in alloc; "{}", ValidSentence(kind))?,
+            };
+            let place = LocationPhrase(location);
+            format!(in alloc; "The module isn't valid, {place}. {text}\n")
+        }
+    }
+}

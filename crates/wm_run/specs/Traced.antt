@@ -1,0 +1,100 @@
+-- What each turn of a script did.
+use Rattle.std.specs.Prelude.{◌≡◌, ℕ, ◌<◌, ◌≤◌, List, [], ◌∷◌, length, map, reverse, slice_get, Option, None, Some, if◌then◌else◌}
+use Rattle.wm_ast.specs.declared.module.Module.{Module}
+use Rattle.wm_event.specs.declared.event.EventKey.{EventKey}
+use Rattle.wm_event.specs.declared.op.OpFields.{OpFields}
+use Rattle.wm_event.specs.Event.{key_of}
+use Rattle.wm_event.specs.Limits.{max_events}
+use Rattle.wm_machine.specs.declared.thread.CodePosition.{CodePosition}
+use Rattle.wm_machine.specs.Reach.{HasEnded}
+use Rattle.wm_machine.specs.State.{State, config_of, position_of}
+use Rattle.wm_machine.specs.Step.{access_of, step}
+use Rattle.wm_memory.specs.Memory.{drains_first, ready}
+use Rattle.wm_memory.specs.Visibility.{Passes, Step as Done, events, made_after, waiting}
+use Rattle.wm_valid.specs.Valid.{IsInit}
+use Rattle.wm_run.specs.declared.plan.Plan.{Plan}
+use Rattle.wm_run.specs.declared.traced.Rest.TheVariants.{Ended, Spent, Full}
+use Rattle.wm_run.specs.declared.traced.TracedTurn.{TracedTurn}
+use Rattle.wm_run.specs.declared.traced.TurnDone.{TurnDone}
+use Rattle.wm_run.specs.declared.traced.TurnDone.TheVariants.{Stepped, Accessed, Rested, Drained, Absent, Held}
+use Rattle.wm_run.specs.declared.turn.Turn.{Turn}
+use Rattle.wm_run.specs.declared.turn.Turn.TheVariants as turn
+use Rattle.wm_run.specs.Plan.{thread_of}
+use Rattle.wm_run.specs.Run.{Record}
+use Rattle.wm_run.specs.Script.{ScriptState, Setting, ThreadState, TurnLeads, done}
+use Rattle.wm_run.specs.Scripted.{IsFirstState, IsLogOf}
+
+-- the stores in the buffer of thread t by their events, the oldest first
+abbrev pub pending : List Done → ℕ → List EventKey
+pending s t = map key_of (reverse (waiting s t))
+
+-- the oldest store of thread t, if its buffer is full and the access is a plain store
+abbrev pub store_before : List Done → ℕ → OpFields → Option EventKey
+store_before s t op = if drains_first s t op then slice_get (pending s t) 0 else None
+
+-- the event that the access makes, after that drain
+abbrev pub event_of : Setting → List Done → ℕ → OpFields → EventKey
+event_of g s t op = key_of (made_after g.initial (ready s t op) t op)
+
+-- the next step makes this access, whatever it reads
+abbrev pub Asks : Setting → ThreadState → OpFields → Type 0
+Asks g thread op = (read : ℕ) → access_of (step g.program read thread.config) ≡ Some op
+
+-- what a step of thread t does: of a thread that has ended, else has made all its steps, else is before an access, nothing, if
+-- the log is full
+pub data StepDoes (g : Setting) (s : List Done) (t : ℕ) (thread : ThreadState) : TurnDone → Type 0 where
+  ended : HasEnded thread.config → StepDoes g s t thread (Rested Ended)
+  spent : (HasEnded thread.config → ⊥) → g.limit ≤ thread.made → StepDoes g s t thread (Rested Spent)
+  full : (op : OpFields) → thread.made < g.limit → Asks g thread op → max_events ≤ length (events s) → StepDoes g s t thread (Rested Full)
+  accessed : (op : OpFields) → thread.made < g.limit → Asks g thread op → length (events s) < max_events
+      → StepDoes g s t thread (Accessed (event_of g s t op) (store_before s t op))
+  stepped : (HasEnded thread.config → ⊥) → thread.made < g.limit → access_of (step g.program 0 thread.config) ≡ None → StepDoes g s t thread Stepped
+
+-- what a drain of the store of thread t does that has k older ones
+pub data DrainDoes (s : List Done) (t k : ℕ) : TurnDone → Type 0 where
+  drained : (store : EventKey) → slice_get (pending s t) k ≡ Some store → Passes k (waiting s t) → DrainDoes s t k (Drained store)
+  held : k < length (waiting s t) → (Passes k (waiting s t) → ⊥) → DrainDoes s t k Held
+  absent : length (waiting s t) ≤ k → DrainDoes s t k Absent
+
+-- what a turn does in this state
+abbrev pub Does : Setting → ScriptState → Turn → TurnDone → Type 0
+Does g state (turn.Step t) what = (thread : ThreadState) × (slice_get state.threads t ≡ Some thread) × StepDoes g (done g state.history) t thread what
+Does g state (turn.Drain t) what = DrainDoes (done g state.history) t 0 what
+Does g state (turn.DrainAt t k) what = DrainDoes (done g state.history) t k what
+
+-- thread t is at this position of the module's code
+pub record IsAt (g : Setting) (state : ScriptState) (t : ℕ) (position : CodePosition) : Type 0 where
+  pub thread : ThreadState
+  pub listed : slice_get state.threads t ≡ Some thread
+  pub machine : State
+  pub program : machine.module ≡ g.program
+  pub config : config_of machine ≡ thread.config
+  pub stands : position_of machine ≡ position
+
+-- what the turn did, from the one state to the other
+pub record IsTracedTurn (g : Setting) (old : ScriptState) (turn : Turn) (entry : TracedTurn) (new : ScriptState) : Type 0 where
+  pub turn_is : entry.turn ≡ turn
+  pub leads : TurnLeads g old turn new
+  pub does : Does g old turn entry.done
+  pub at : IsAt g old (thread_of turn) entry.position
+  pub left : entry.pending ≡ pending (done g new.history) (thread_of turn)
+
+-- the same of turns one after the other, an entry for each
+abbrev pub TracesTurns : Setting → ScriptState → List Turn → List TracedTurn → ScriptState → Type 0
+TracesTurns g first [] [] last = first ≡ last
+TracesTurns g first (turn ∷ turns) (entry ∷ entries) last =
+    (next : ScriptState) × IsTracedTurn g first turn entry next × TracesTurns g next turns entries last
+TracesTurns g first [] (entry ∷ entries) last = ⊥
+TracesTurns g first (turn ∷ turns) [] last = ⊥
+
+-- the entries say what each turn did of the scripted run that was recorded so
+pub record IsTraced (m : Module) (plan : Plan) (turns : List Turn) (run : Record) (entries : List TracedTurn) : Type 0 where
+  pub setting : Setting
+  pub program : setting.program ≡ m
+  pub initial : IsInit m setting.initial
+  pub limit : setting.limit ≡ plan.steps
+  pub first : ScriptState
+  pub last : ScriptState
+  pub begins : IsFirstState m plan.starts first
+  pub traces : TracesTurns setting first turns entries last
+  pub logged : IsLogOf plan.starts last.threads (done setting last.history) run

@@ -1,0 +1,58 @@
+//! What the turns of a script did.
+
+use crate::run::Run;
+use crate::turn::Turn;
+use wm_event::EventKey;
+use wm_list::List;
+use wm_machine::CodePosition;
+
+/// Why a thread makes no step. The first that applies is named.
+#[derive(Clone, Copy, Debug, PartialEq, Eq)]
+pub enum Rest {
+    /// It has ended.
+    Ended,
+    /// It has made as many steps as its plan lets it make.
+    Spent,
+    /// It is before an access, and the log has [`wm_event::MAX_EVENTS`] events.
+    Full,
+}
+
+/// What a turn of a script did.
+#[derive(Clone, Copy, Debug, PartialEq, Eq)]
+pub enum TurnDone {
+    /// The thread made a step without an access.
+    Stepped,
+    /// The thread made an access.
+    Accessed {
+        /// The event of the run that the access made.
+        event: EventKey,
+        /// The oldest store, if it left the full buffer before the access.
+        drained: Option<EventKey>,
+    },
+    /// The thread made no step.
+    Rested(Rest),
+    /// The store that made this event left the thread's buffer.
+    Drained(EventKey),
+    /// No such store is in the buffer.
+    Absent,
+    /// The store overlaps an older one in the buffer, and stays there.
+    Held,
+}
+
+/// A turn of a script with what it did.
+#[derive(Drop)]
+pub struct TracedTurn {
+    pub turn: Turn,
+    /// Where the thread is before the turn. A thread that has ended is where it made its last step.
+    pub position: CodePosition,
+    pub done: TurnDone,
+    /// The stores in the thread's buffer after the turn by their events, the oldest first.
+    pub pending: List<EventKey>,
+}
+
+/// A scripted run with what each of its turns did, in their order.
+#[derive(Drop)]
+pub struct Trace {
+    pub run: Run,
+    pub turns: List<TracedTurn>,
+}

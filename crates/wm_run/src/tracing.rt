@@ -1,0 +1,235 @@
+//! Scripted runs with what each turn did.
+ghost use Rattle.std.specs.Prelude.{◌≡◌, ◌<◌, ℕ, Some, length, map, slice_get, IfErr, IfOk, OnOk};
+ghost use Rattle.wm_event.specs.Event.{key_of};
+ghost use Rattle.wm_machine.specs.declared.thread.Need.TheVariants as Need;
+ghost use Rattle.wm_machine.specs.State.{need_of};
+ghost use Rattle.wm_recorder.specs.Recorder.{steps_of, threads_of};
+ghost use Rattle.wm_run.specs.Own.{IsOwnRun, IsWithinPlan};
+ghost use Rattle.wm_run.specs.Plan.{AreTurnsOf, IsPlan, thread_of};
+ghost use Rattle.wm_run.specs.Refusal.{IsScriptFault};
+ghost use Rattle.wm_run.specs.Runner.{IsSet, runner_state, script_state, setting_of};
+ghost use Rattle.wm_run.specs.Scripted.{IsScripted};
+ghost use Rattle.wm_run.specs.Traced.{Does, DrainDoes, IsTraced, StepDoes, pending, store_before};
+ghost use Rattle.wm_run.specs.Tracing.{PlaysTraced, TakesTraced, TurnDoes};
+
+use crate::fault::RunFault;
+use crate::launch::launch;
+use crate::plan::Plan;
+use crate::runner::{Runner, take};
+use crate::script::finish;
+use crate::traced::{Rest, Trace, TracedTurn, TurnDone};
+use crate::turn::Turn;
+use std::alloc::{AllocError, Global};
+use wm_event::{Event, EventKey, MAX_EVENTS, Op};
+use wm_list::List;
+use wm_machine::Need;
+use wm_recorder::Recorder;
+use wm_valid::ValidModule;
+
+/// The event of the store that has `index` older ones among these, if there is one.
+fn key_at(stores: &[Event], index: usize) -> Option<EventKey>
+    ensures { result ≡ slice_get (map key_of stores.now) index }
+{
+    match stores.get(index) {
+        Some(store) => Some(store.key()),
+        None => None,
+    }
+}
+
+/// The event of the store that has `index` older ones in the buffer of a thread, if there is one.
+fn pending_key(recorder: &Recorder, thread: u32, index: u32) -> Option<EventKey>
+    requires there { thread < threads_of recorder.now }
+    ensures { result ≡ slice_get (pending (steps_of recorder.now) thread) index }
+{
+    recorder.recorded_log_is_valid();
+    key_at(recorder.memory().stores(thread), index as usize)
+}
+
+/// The oldest store of a thread, if it leaves the full buffer before this access.
+fn store_before(recorder: &Recorder, thread: u32, op: Op) -> Option<EventKey>
+    requires there { thread < threads_of recorder.now }
+    ensures { result ≡ store_before (steps_of recorder.now) thread op }
+{
+    recorder.recorded_log_is_valid();
+    if !recorder.memory().drains_first(thread, op) {
+        return None;
+    }
+    pending_key(recorder, thread, 0)
+}
+
+/// What a step of a thread is about to do that may make one, which needs this access.
+fn access_ahead(runner: &Runner, number: u32, recorder: &Recorder, op: Op) -> TurnDone
+    requires there { number < threads_of recorder.now }
+    requires needed { (read : ℕ) → Need.Access op ≡ need_of read runner.now.thread }
+    ensures { (limit : ℕ) → runner.now.made < limit
+        → StepDoes (setting_of runner.now.thread.module recorder.now limit) (steps_of recorder.now) number
+        (runner_state runner.now) result }
+{
+    recorder.recorded_log_is_valid();
+    if recorder.order().len() >= MAX_EVENTS {
+        return TurnDone::Rested(Rest::Full);
+    }
+    let event = EventKey {
+        thread: number,
+        number: recorder.memory().accesses(number),
+    };
+    let drained = store_before(recorder, number, op);
+    TurnDone::Accessed { event, drained }
+}
+
+/// What a step of a thread is about to do that makes at most `limit`.
+fn step_ahead(runner: &Runner, number: u32, recorder: &Recorder, limit: u32) -> TurnDone
+    requires there { number < threads_of recorder.now }
+    ensures { StepDoes (setting_of runner.now.thread.module recorder.now limit) (steps_of recorder.now) number
+        (runner_state runner.now) result }
+{
+    let may_step = runner.made < limit;
+    match runner.thread.next() {
+        Need::Ended(_) => TurnDone::Rested(Rest::Ended),
+        Need::Access(op) if may_step => access_ahead(runner, number, recorder, op),
+        Need::Local if may_step => TurnDone::Stepped,
+        Need::Access(_) | Need::Local => TurnDone::Rested(Rest::Spent),
+    }
+}
+
+/// What a drain of this store, which has `index` older ones, is about to do.
+fn store_ahead(recorder: &Recorder, thread: u32, index: u32, store: EventKey) -> TurnDone
+    requires there { thread < threads_of recorder.now }
+    requires listed { slice_get (pending (steps_of recorder.now) thread) index ≡ Some store }
+    ensures { DrainDoes (steps_of recorder.now) thread index result }
+{
+    recorder.recorded_log_is_valid();
+    if !recorder.memory().may_leave(thread, index as usize) {
+        return TurnDone::Held;
+    }
+    TurnDone::Drained(store)
+}
+
+/// What a drain of the store that has `index` older ones is about to do.
+fn drain_ahead(recorder: &Recorder, thread: u32, index: u32) -> TurnDone
+    requires there { thread < threads_of recorder.now }
+    ensures { DrainDoes (steps_of recorder.now) thread index result }
+{
+    match pending_key(recorder, thread, index) {
+        Some(store) => store_ahead(recorder, thread, index, store),
+        None => TurnDone::Absent,
+    }
+}
+
+/// What a turn is about to do.
+fn turn_ahead(runner: &Runner, recorder: &Recorder, limit: u32, turn: Turn) -> TurnDone
+    requires there { thread_of turn < threads_of recorder.now }
+    ensures { TurnDoes runner.now recorder.now limit turn result }
+{
+    match turn {
+        Turn::Step(thread) => step_ahead(runner, thread, recorder, limit),
+        Turn::Drain(thread) => drain_ahead(recorder, thread, 0),
+        Turn::DrainAt(thread, index) => drain_ahead(recorder, thread, index),
+    }
+}
+
+/// The events of these stores.
+fn keys_of(alloc: Global, stores: &[Event]) -> Result<List<EventKey>, AllocError>
+    ensures { IfOk result (λ keys. keys ≡ map key_of stores.now) }
+{
+    let mut keys = Vec::with_capacity(alloc, stores.len())?;
+    for store in stores {
+        keys.push(store.key())?;
+    }
+    Ok(List::from_vec(keys))
+}
+
+/// What is in the buffer of a thread.
+fn pending_of(alloc: Global, recorder: &Recorder, thread: u32) -> Result<List<EventKey>, AllocError>
+    requires there { thread < threads_of recorder.now }
+    ensures { IfOk result (λ keys. keys ≡ pending (steps_of recorder.now) thread) }
+{
+    recorder.recorded_log_is_valid();
+    keys_of(alloc, recorder.memory().stores(thread))
+}
+
+/// Takes a turn of a script, and tells what it did.
+fn take_traced(
+    alloc: Global,
+    module: &ValidModule,
+    runners: &mut Vec<Runner>,
+    recorder: &mut Recorder,
+    limit: u32,
+    turn: Turn,
+) -> Result<TracedTurn, AllocError>
+    requires set { IsSet «module».now runners.old.items recorder.old }
+    requires there { thread_of turn < length runners.old.items }
+    ensures { IfOk result (λ entry.
+        TakesTraced «module».now limit turn runners.old.items recorder.old entry runners.new.items recorder.new) }
+{
+    let thread = turn.thread();
+    let runner = &runners[thread as usize];
+    let position = runner.thread.position();
+    let done = turn_ahead(runner, recorder, limit, turn);
+    take(module, runners, recorder, limit, turn)?;
+    let pending = pending_of(alloc, recorder, thread)?;
+    Ok(TracedTurn {
+        turn,
+        position,
+        done,
+        pending,
+    })
+}
+
+/// Takes the turns of a script, one after the other, and tells what each did.
+fn play_traced(
+    alloc: Global,
+    module: &ValidModule,
+    runners: &mut Vec<Runner>,
+    recorder: &mut Recorder,
+    limit: u32,
+    turns: &[Turn],
+) -> Result<List<TracedTurn>, AllocError>
+    requires set { IsSet «module».now runners.old.items recorder.old }
+    requires there { AreTurnsOf (length runners.old.items) turns.now }
+    ensures { IfOk result (λ entries.
+        PlaysTraced «module».now limit turns.now runners.old.items recorder.old entries runners.new.items recorder.new) }
+{
+    let mut entries = Vec::new(alloc);
+    for turn in turns {
+        let entry = take_traced(alloc, module, runners, recorder, limit, *turn)?;
+        entries.push(entry)?;
+    }
+    Ok(List::from_vec(entries))
+}
+
+/// The scripted run, as [`crate::drive`] makes it, with what each turn did.
+///
+/// # Errors
+///
+/// Those of [`crate::drive`].
+pub fn trace(
+    alloc: Global,
+    module: &ValidModule,
+    plan: &Plan,
+    turns: &[Turn],
+) -> Result<Trace, RunFault>
+    ensures scripted { IfOk result (λ trace. IsScripted «module».now plan.now turns.now trace.run) }
+    ensures traced { IfOk result (λ trace. IsTraced «module».now plan.now turns.now trace.run trace.turns) }
+    ensures own { IfOk result (λ trace. IsOwnRun «module».now trace.run) }
+    ensures within { IfOk result (λ trace. IsWithinPlan trace.run) }
+    ensures planned { OnOk result (IsPlan plan.now turns.now) }
+    ensures refused { IfErr result (IsScriptFault «module».now plan.now turns.now) }
+{
+    if let Err(fault) = plan.follows(turns) {
+        return Err(RunFault::Plan(fault));
+    }
+    let starts = plan.starts.as_slice();
+    let mut runners = launch(alloc, module, starts)?;
+    let mut recorder = Recorder::new(alloc, module.initial(), starts.len())?;
+    let traced = play_traced(
+        alloc,
+        module,
+        &mut runners,
+        &mut recorder,
+        plan.steps,
+        turns,
+    )?;
+    let run = finish(alloc, starts, runners.as_slice(), recorder)?;
+    Ok(Trace { run, turns: traced })
+}
