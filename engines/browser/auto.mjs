@@ -9,13 +9,19 @@ import { startThread } from './threads.mjs';
 let recorder = null;
 
 const TASKS = {
-  open({ module, starts, options }) {
+  async open({ module, starts, options }) {
+    await TASKS.close();
     recorder = new Recorder(bytesOf(module), starts.map(parseStart), options, startThread);
     return {};
   },
   async round({ seed, items }) {
     const { ends, document, isOpen, turns } = await recorder.round(seed, items);
     return { ends: json(ends), document, isOpen, turns };
+  },
+  async close() {
+    await recorder?.close();
+    recorder = null;
+    return {};
   },
 };
 

@@ -38,9 +38,10 @@ class Desk {
   }
 }
 
-class BrowserRecorder {
-  constructor({ kind, program, version, initial }) {
-    Object.assign(this, { kind, program, version, initial, desk: new Desk() });
+/** A browser with one page, which records for one recorder after the other. */
+class Browser {
+  constructor({ kind, program, version }) {
+    Object.assign(this, { kind, program, version, desk: new Desk() });
   }
 
   async open() {
@@ -68,9 +69,13 @@ class BrowserRecorder {
     return this.answer(SECONDS_OF_A_ROUND, 'did not answer');
   }
 
-  async round(seed, items = null) {
-    const { ends, document, isOpen, turns } = await this.ask({ kind: 'round', seed, items });
-    return { ends: parse(ends), document, isOpen, turns };
+  /** A recorder for a module and starts. The page closes the one before it. */
+  async openRecorder(bytes, options) {
+    const starts = wordsOfStarts(bytes, options);
+    const { mode, events, turn, wrong } = options;
+    const given = { mode, events, turn, wrong }; // JSON leaves out what is not defined
+    await this.ask({ kind: 'open', module: Buffer.from(bytes).toString('base64'), starts, options: given });
+    return new BrowserRecorder(this, initialOf(bytes));
   }
 
   async close() {
@@ -79,21 +84,50 @@ class BrowserRecorder {
   }
 }
 
-/** Opens a browser's recorder for a module and starts. */
-export async function openBrowser(bytes, options) {
-  const { engine, starts } = options;
-  refuseOptions(options, starts);
-  const unsigned = startsOf(bytes, starts);
-  const recorder = new BrowserRecorder({ kind: engine, ...requireBrowser(engine), initial: initialOf(bytes) });
+class BrowserRecorder {
+  constructor(browser, initial) {
+    Object.assign(this, { browser, initial, version: browser.version });
+  }
+
+  async round(seed, items = null) {
+    const { ends, document, isOpen, turns } = await this.browser.ask({ kind: 'round', seed, items });
+    return { ends: parse(ends), document, isOpen, turns };
+  }
+
+  /** Ends its threads; the browser stays. */
+  async close() {
+    await this.browser.ask({ kind: 'close' });
+  }
+}
+
+/** The starts as words; refuses starts and options that no recorder takes. */
+function wordsOfStarts(bytes, options) {
+  refuseOptions(options, options.starts);
+  return startsOf(bytes, options.starts).map(({ name, args }) => [name, ...args].join(':'));
+}
+
+/** Opens a browser. */
+export async function openBrowser(kind) {
+  const browser = new Browser({ kind, ...requireBrowser(kind) });
   try {
-    await recorder.open();
-    const words = unsigned.map(({ name, args }) => [name, ...args].join(':'));
-    const { mode, events, turn, wrong } = options;
-    const given = { mode, events, turn, wrong }; // JSON leaves out what is not defined
-    await recorder.ask({ kind: 'open', module: Buffer.from(bytes).toString('base64'), starts: words, options: given });
+    await browser.open();
+    return browser;
+  } catch (error) {
+    await browser.close();
+    throw error;
+  }
+}
+
+/** Opens a browser for one recorder, which closes it. */
+export async function openBrowserRecorder(bytes, options) {
+  wordsOfStarts(bytes, options);
+  const browser = await openBrowser(options.engine);
+  try {
+    const recorder = await browser.openRecorder(bytes, options);
+    recorder.close = () => browser.close();
     return recorder;
   } catch (error) {
-    await recorder.close();
+    await browser.close();
     throw error;
   }
 }

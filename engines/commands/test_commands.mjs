@@ -84,28 +84,38 @@ function testMistakes({ note, wmlab, folder }) {
   }
 }
 
+/** A program that answers `run` with these lines and all else as `wmlab` does: which outcomes come is then no chance. */
+function programOf(folder, wmlab, lines) {
+  const path = join(folder, 'with-a-table');
+  const script = `#!/bin/sh\nif [ "$1" != run ]; then exec '${wmlab}' "$@"; fi\ncat <<'END'\n${lines.join('\n')}\nEND\n`;
+  writeFileSync(path, script, { mode: 0o755 });
+  return path;
+}
+
 function testRunUntil({ note, wmlab, folder }) {
-  const args = ['--wmlab', wmlab, '--kept', 'until', '--forbid', '0 0', '--want', '* *', module('store-buffering'), '200', 'a', 'b'];
-  const ran = runIn(folder, 'engines/run-until', args);
-  const { status, out } = ran;
-  const rows = [...out.matchAll(/^ +(\d+) {2}(\d \d) {2}(until\/outcome-\d\.json)$/gm)];
-  const hasOutcome = ([, , outcome, path]) => {
-    const log = textOf(join(folder, path)) || '[0,0,[]]';
-    return outcome.split(' ').every((value, thread) => JSON.parse(log)[2][thread]?.[2].join() === `done,${value}`);
-  };
-  note(rows.length >= 2 && rows.every(hasOutcome), 'run-until keeps a log of each outcome', ran);
-  note(rows.every(([, , , path]) => existsSync(join(folder, path.replace('.json', '.txt')))), 'with its explanation', ran);
-  const isForbidden = rows.some(([, , outcome]) => outcome === '0 0');
-  note(
-    status === (isForbidden ? 1 : 0) && /^ok --want "\* \*": came: \d+ of 200 rounds$/m.test(out),
-    'run-until looks at its conditions',
-    ran,
-  );
-  const never = runIn(
+  const until = (program, ...words) => runIn(
     folder,
     'engines/run-until',
-    ['--wmlab', wmlab, '--kept', 'until', '--want', '7 7', module('store-buffering'), '5', 'a', 'b'],
+    ['--wmlab', program, '--kept', 'until', ...words, module('store-buffering'), '200', 'a', 'b'],
   );
+  const rowsOf = ({ out }) => [...out.matchAll(/^ +(\d+) {2}(\d \d) {2}(until\/outcome-\d\.json)$/gm)];
+  const hasLog = ([, , outcome, path]) => {
+    const log = textOf(join(folder, path)) || '[0,0,[]]';
+    const isEnd = (value, thread) => JSON.parse(log)[2][thread]?.[2].join() === `done,${value}`;
+    return outcome.split(' ').every(isEnd) && existsSync(join(folder, path.replace('.json', '.txt')));
+  };
+  const ran = until(wmlab, '--want', '* *');
+  const isRight = ran.status === 0 && /^ok --want "\* \*": came: \d+ of 200 rounds$/m.test(ran.out);
+  note(isRight && rowsOf(ran).length >= 1 && rowsOf(ran).every(hasLog), 'run-until runs the module', ran);
+
+  const program = programOf(folder, wmlab, ['     120  0 0', '      40  0 1', '      39  1 0', '       1  1 1', 'allowed rounds=200']);
+  const kept = until(program, '--forbid', '5 *', '--want', '1 1');
+  note(kept.status === 0 && rowsOf(kept).length === 4, 'run-until keeps a log of each outcome', kept);
+  note(rowsOf(kept).every(hasLog), 'with its explanation', kept);
+  const forbidden = until(program, '--forbid', '0 0', '--want', '* *');
+  const saysSo = forbidden.out.includes('FAILED --forbid "0 0": came: 120 of 200 rounds\n');
+  note(forbidden.status === 1 && saysSo, 'a forbidden outcome that came is status 1', forbidden);
+  const never = until(program, '--want', '7 7');
   note(
     never.status === 1 && /^FAILED --want "7 7": never came$/m.test(never.out),
     'a wanted outcome that never came is status 1',
