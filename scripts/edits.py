@@ -7,8 +7,8 @@
     scripts/edits.py --sync          copies those that edits/gate.txt lists to crates/CRATE/must-fail/
     scripts/edits.py --functions     tries those that edits/gate.txt lists with a function, on that function alone
 
-Each is tried on a copy, over the proofs that are there; --functions needs what `rt ci` left in out/. The last line is
-`N passed, N failed`.
+Each is tried on a copy, over the proofs that are there. --functions needs what `rt ci` left in out/, and first proves
+the functions without the edits. The last line is `N passed, N failed`.
 """
 import argparse
 import concurrent.futures
@@ -93,24 +93,37 @@ def try_all(tally, crates, jobs, with_gate):
                 print(f"{crate}: {count} of {len(names)} refused", flush=True)
 
 
-def is_proved(crate, function, texts):
-    """Whether the prover proves a function, and what it calls, of a copy of the crate with these texts in place of its
-    own; and what it said. Nothing if it did not come so far."""
-    with tempfile.TemporaryDirectory() as room:
+class Copy:
+    """A copy of a crate in a folder, in which functions are proved. What was proved is kept there, so that an edit
+    costs only what it changes."""
+
+    def __init__(self, crate, room):
+        self.crate, self.room = crate, room
+        kept = f"{room}/kept"
+        os.makedirs(kept)
+        self.words = prover.check_words(crate, "--incremental", kept)
         for part in ("src", "specs", "proofs"):
             if os.path.isdir(f"{TOP}/crates/{crate}/{part}"):
                 shutil.copytree(f"{TOP}/crates/{crate}/{part}", f"{room}/{part}")
+
+    def write(self, texts):
         for path, text in texts.items():
-            with open(path.replace(f"{TOP}/crates/{crate}", room, 1), "w", encoding="utf-8") as file:
+            copied = path.replace(f"{TOP}/crates/{self.crate}", self.room, 1)
+            with open(copied, "w", encoding="utf-8") as file:
                 file.write(text)
-        words = prover.check_words(crate, "--only", f"{crate}::{function}")
+
+    def prove(self, functions):
+        """Whether the prover proves these functions, and what they call; and what it said. Nothing if it did not come
+        so far."""
+        only = [word for function in functions for word in ("--only", f"{self.crate}::{function}")]
+        words = [*self.words, *only]
         ran = subprocess.run(
-            words, cwd=room, stdout=subprocess.PIPE, stderr=subprocess.STDOUT, text=True, check=False
+            words, cwd=self.room, stdout=subprocess.PIPE, stderr=subprocess.STDOUT, text=True, check=False
         )
-    counts = re.search(r"^only=(\d+) proved=(\d+)$", ran.stdout, re.MULTILINE)
-    if not counts or counts[1] == "0" or ran.returncode not in (0, 1):
-        return None, ran.stdout
-    return counts[1] == counts[2], ran.stdout
+        counts = re.search(r"^only=(\d+) proved=(\d+)$", ran.stdout, re.MULTILINE)
+        if not counts or counts[1] == "0" or ran.returncode not in (0, 1):
+            return None, ran.stdout
+        return counts[1] == counts[2], ran.stdout
 
 
 # What the prover says at a place of a file, and of a proof that names what an edit took away: the latter shows nothing
@@ -119,27 +132,39 @@ GOAL = re.compile(r"note: \S+:\d+:\d+: |\S+:\d+:\d+: error")
 NAMES = re.compile(r"proofs/.*(has no field|is not in scope|has no `|was not admitted)")
 
 
-def refused(edit, function):
-    """Whether the prover refuses a function with the edit that it proves without, by a goal of its contract; and what
-    it said."""
-    crate = edit.split("/")[1]
-    is_proved_before, said = is_proved(crate, function, {})
-    if not is_proved_before:
-        return False, f"{function} is not proved without the edit: {said[-500:]}"
-    is_proved_after, said = is_proved(crate, function, edits.changed_files(edit))
+def refused(copy, edit, function):
+    """Whether the prover refuses a function with the edit, by a goal of its contract; and what it said."""
+    changed = edits.changed_files(edit)
+    copy.write(changed)
+    is_proved, said = copy.prove([function])
+    copy.write({path: edits.text_of(path) for path in changed})
     told = [line for line in said.split("\n") if GOAL.match(line) and not NAMES.search(line)]
-    if is_proved_after is None or is_proved_after or not told:
+    if is_proved is None or is_proved or not told:
         return False, f"it is not refused: {said[-500:]}"
     return True, told[0][:200]
 
 
+def try_crate(crate, listed):
+    """For each edit of a crate, with its function, whether it is refused, and what is said of it. First the functions
+    are proved without the edits."""
+    with tempfile.TemporaryDirectory() as room:
+        copy = Copy(crate, room)
+        is_proved, said = copy.prove(sorted(set(listed.values())))
+        if not is_proved:
+            return {edit: (False, f"not proved without the edit: {said[-500:]}") for edit in listed}
+        return {edit: refused(copy, edit, function) for edit, function in listed.items()}
+
+
 def try_functions(tally, jobs):
-    listed = {edit: function for edit, function in edits.gate_edits().items() if function}
+    by_crate = {}
+    for edit, function in edits.gate_edits().items():
+        if function:
+            by_crate.setdefault(edit.split("/")[1], {})[edit] = function
     with concurrent.futures.ThreadPoolExecutor(jobs) as pool:
-        answers = pool.map(lambda each: refused(*each), listed.items())
-        for edit, (is_refused, said) in zip(listed, answers):
-            tally.check(is_refused, edit, said)
-            print(f"{edit}: {said}", flush=True)
+        for answers in pool.map(try_crate, by_crate, by_crate.values()):
+            for edit, (is_refused, said) in answers.items():
+                tally.check(is_refused, edit, said)
+                print(f"{edit}: {said}", flush=True)
 
 
 def main():
