@@ -10,3 +10,9 @@ pub mod CountLemmas
 pub mod RaceListLaws
 pub mod SiteLaws
 pub mod OneReportLaw
+pub mod PartLemmas
+pub mod ClassLemmas
+pub mod GroupLemmas
+pub mod ByteLemmas
+pub mod KindLemmas
+pub mod GroupReportLaws

@@ -55,7 +55,7 @@ module _ {X : Type 0} (Before : X → X → Type 0) (never_both : (a b : X) → 
       let rest = one-order xs ys (tail-order x xs up_x) (tail-order y ys up_y) (tail-in x y xs ys e up_x there) (tail-in y x ys xs (sym e) up_y back) in
       λ i. e i ∷ rest i
 
-never-both : (x : Execution) (p q : RacingPair) → ComesBefore x p q → ComesBefore x q p → ⊥
+pub never-both : (x : Execution) (p q : RacingPair) → ComesBefore x p q → ComesBefore x q p → ⊥
 never-both x p q (by_event a) (by_event b) = omega (arith, a, b)
 never-both x p q (by_event a) (by_byte e b) = omega (arith, a, e)
 never-both x p q (by_event a) (by_write e f b) = omega (arith, a, e)

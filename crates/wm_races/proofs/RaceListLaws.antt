@@ -2,7 +2,7 @@
 use Rattle.std.proofs.Common.{◌≡◌, ℕ, ◌+◌, ◌<◌, ◌≤◌, List, [], ◌++◌, true, false, length, slice_get, Option, Some, IsSome, is_some, IsTrue, refl, sym, ap, ◌∙◌, subst, arith, ◌⊎◌, inl, inr, ⊎_elim}
 use Rattle.std.specs.Prelude.{sum_by}
 use Rattle.std.proofs.lemmas.Bool.{cases_Bool, cases_lt, false≢true}
-use Rattle.std.proofs.lemmas.List.{length-append}
+use Rattle.std.proofs.lemmas.List.Sums.{sum_by-append}
 use Rattle.std.proofs.lemmas.Option.{same_Some, slice_get_within}
 use Rattle.wm_event.specs.declared.event.Event.{Event}
 use Rattle.wm_event.specs.declared.event.EventKey.{EventKey}
@@ -11,44 +11,44 @@ use Rattle.wm_event.specs.Limits.{max_events}
 use Rattle.wm_event.specs.Log.{event_in}
 use Rattle.wm_event.specs.LoggedRun.{LoggedRun, execution}
 use Rattle.wm_event.specs.Shape.{ListsEachOnce}
-use Rattle.wm_races.specs.Gathering.{IsGathered, count_of}
-use Rattle.wm_races.specs.Listing.{IsListAt, ListsAt, ListsBelow, event_place}
+use Rattle.wm_races.specs.Gathering.{HasGroupSites, IsGathered, IsGroupReport, ReportsMore, count_of}
+use Rattle.wm_races.specs.Groups.{AreGroupsAt, AreGroupsOf, size_of}
+use Rattle.wm_races.specs.Listing.{Lists, event_place}
 use Rattle.wm_races.specs.Progress.{IsReportBelow}
 use Rattle.wm_races.specs.Races.{IsRaceList, IsRacingPair, IsWeak, Race}
 use Rattle.wm_races.specs.Races.ComesBefore.{by_event}
-use Rattle.wm_races.specs.Report.{HasSites, IsRaceReport, IsReport, site_in}
+use Rattle.wm_races.specs.Report.{HasSites, IsRaceReport}
+use Rattle.wm_races.specs.declared.group.Group.{Group}
 use Rattle.wm_races.specs.declared.pair.RacingPair.{RacingPair}
 use Rattle.wm_races.specs.declared.report.Report.{Report}
 use Rattle.wm_races.specs.declared.site.Site.{Site}
 use Rattle.wm_races.specs.declared.site.SiteRace.{SiteRace}
-use Rattle.wm_races.proofs.ListingLemmas.{lists_append, lists_none}
+use Rattle.wm_races.proofs.GroupLemmas.{groups_append, groups_none}
+use Rattle.wm_races.proofs.GroupReportLaws.{group-report}
 use Rattle.wm_races.proofs.RaceLemmas.{stands}
 
-pub below-none : (run : LoggedRun) → ListsBelow run 0 []
-below-none run = lists_none run (λ p. event_place run p < 0) (λ p racing l. omega arith)
-
 -- the races of one event more
-pub below-more : (run : LoggedRun) (place : ℕ) (xs ys : List RacingPair) → ListsBelow run place xs → ListsAt run place ys → ListsBelow run (place + 1) (xs ++ ys)
-below-more run place xs ys first second = lists_append run (λ p. event_place run p < place) (λ p. event_place run p ≡ place) (λ p. event_place run p < place + 1) xs ys
+pub groups_below : (run : LoggedRun) (sites : List (List Site)) (place : ℕ) (groups more : List Group) → AreGroupsOf run sites (λ p. event_place run p < place) groups → AreGroupsOf run sites (λ p. event_place run p ≡ place) more
+    → AreGroupsOf run sites (λ p. event_place run p < place + 1) (groups ++ more)
+groups_below run sites place groups more first second = groups_append run sites (λ p. event_place run p < place) (λ p. event_place run p ≡ place) (λ p. event_place run p < place + 1) groups more
     (λ p q racing_p racing_q l e. by_event (omega (arith, l, e)))
     (λ p racing l. omega (arith, l))
     (λ p racing e. omega (arith, e))
     (λ p racing l. ⊎_elim (λ (h : event_place run p < place). inl h) (λ (h : place ≤ event_place run p). inr (omega (arith, l, h))) (cases_lt (event_place run p) place))
     first second
 
-pub report-more : (run : LoggedRun) (sites : List (List Site)) (place : ℕ) (ys : List RacingPair) (old new : Report) → length run.witness.order ≤ max_events
-    → IsReportBelow run sites place old → IsListAt run place ys → IsGathered new
-    → ((earlier : List RacingPair) → IsReport sites earlier old.lines → IsReport sites (earlier ++ ys) new.lines)
-    → sum_by count_of new.lines ≡ sum_by count_of old.lines + length ys → IsReportBelow run sites (place + 1) new
-report-more run sites place ys old new few below list gathered more total =
-    let size = length-append below.pairs ys in
+pub report-more : (run : LoggedRun) (sites : List (List Site)) (place : ℕ) (more : List Group) (old new : Report) → length run.witness.order ≤ max_events
+    → IsReportBelow run sites place old → AreGroupsAt run sites place more → IsGathered new → ReportsMore sites more old.lines new.lines
+    → sum_by count_of new.lines ≡ sum_by count_of old.lines + sum_by size_of more → IsReportBelow run sites (place + 1) new
+report-more run sites place more old new few below at gathered reports total =
+    let size = sum_by-append size_of below.groups more in
     let sum = below.total in
     let before = below.few in
-    let short = list.few in
+    let short = at.few in
     record {
-      pairs = below.pairs ++ ys;
-      list = below-more run place below.pairs ys below.list list.lists;
-      report_of = more below.pairs below.report_of;
+      groups = below.groups ++ more;
+      groups_of = groups_below run sites place below.groups more below.groups_of at.groups_of;
+      report_of = reports below.groups below.report_of;
       total = omega (arith, size, sum, total);
       few = omega (arith, size, before, short, few);
       gathered = gathered;
@@ -107,7 +107,7 @@ module _ (run : LoggedRun) (once : ListsEachOnce run.log run.witness.order) wher
       let l = slice_get_within run.witness.order (event_place run p) p.event at in
       omega (arith, l, all)
 
-  pub all-races : (n : ℕ) (pairs : List RacingPair) → length run.witness.order ≤ n → ListsBelow run n pairs → IsRaceList (execution run) pairs
+  pub all-races : (n : ℕ) (pairs : List RacingPair) → length run.witness.order ≤ n → Lists run (λ p. event_place run p < n) pairs → IsRaceList (execution run) pairs
   all-races n pairs all lists = record {
     sound = λ p h. (lists.sound h.0 p h.1).0;
     complete = λ a b race. ⊎_elim
@@ -118,30 +118,33 @@ module _ (run : LoggedRun) (once : ListsEachOnce run.log run.witness.order) wher
   }
 
   pub race-report : (sites : List (List Site)) (n : ℕ) (report : Report) → length run.witness.order ≤ n → IsReportBelow run sites n report → IsRaceReport (execution run) sites report.lines
-  race-report sites n report all below = record {
-    pairs = below.pairs;
-    list = all-races n below.pairs all below.list;
-    report = below.report_of;
-    total = below.total;
-  }
+  race-report sites n report all below =
+      let is = below.groups_of in
+      record {
+        pairs = is.pairs;
+        list = all-races n is.pairs all is.list;
+        report = group-report (execution run) sites below.groups is.pairs is.gathers is.list.sorted is.order report.lines below.report_of;
+        total = below.total ∙ is.gathers.total;
+      }
 
--- an event of a race has a site
+-- the first pair of a group has its sites
 some_there : {X : Type 0} (o : Option X) (x : X) → o ≡ Some x → IsSome o
 some_there o x e = ap is_some e
 
-pub pair-sites-there : (run : LoggedRun) (sites : List (List Site)) → HasSites run.log sites → (place : ℕ) (ys : List RacingPair) → IsListAt run place ys
-    → (n : ℕ) (p : RacingPair) → slice_get ys n ≡ Some p → IsSome (site_in sites p.event) × IsSome (site_in sites p.write)
-pair-sites-there run sites has place ys list n p at =
-    let racing = (list.lists.sound n p at).0 in
-    (has p.event (some_there (event_in run.log p.event) racing.race.first racing.race.is_first), has p.write (some_there (event_in run.log p.write) racing.race.second racing.race.is_second))
+pub group-sites-there : (run : LoggedRun) (sites : List (List Site)) → HasSites run.log sites → (place : ℕ) (groups : List Group) → AreGroupsAt run sites place groups → HasGroupSites sites groups
+group-sites-there run sites has place groups are n g at =
+    let k = are.groups_of.gathers.among n g at in
+    let racing = (are.groups_of.list.sound k.0 g.pair k.1).0 in
+    (has g.pair.event (some_there (event_in run.log g.pair.event) racing.race.first racing.race.is_first), has g.pair.write (some_there (event_in run.log g.pair.write) racing.race.second racing.race.is_second))
 
 -- no line yet
 pub report-none : (run : LoggedRun) (sites : List (List Site)) (report : Report) → report.lines ≡ [] → IsGathered report → IsReportBelow run sites 0 report
 report-none run sites report empty gathered = record {
-  pairs = [];
-  list = below-none run;
-  report_of = subst (IsReport sites []) (sym empty) (record {
-    each = λ n r h. absurd (nothing n r h);
+  groups = [];
+  groups_of = groups_none run sites (λ p. event_place run p < 0) (λ p racing l. omega arith);
+  report_of = subst (IsGroupReport sites []) (sym empty) (record {
+    first = λ n r h. absurd (nothing n r h);
+    count = λ n r h. absurd (nothing n r h);
     all = λ p h. absurd (no_pair h.0 p h.1);
     order = λ m n r s l h. absurd (nothing m r h);
   });

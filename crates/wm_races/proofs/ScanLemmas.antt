@@ -14,12 +14,15 @@ use Rattle.wm_event.specs.Log.{event_in}
 use Rattle.wm_event.specs.LoggedRun.{LoggedRun, execution}
 use Rattle.wm_event.specs.Shape.{ListsEachOnce}
 use Rattle.wm_event.specs.Writes.{listed_from, writes_byte, writes_from}
-use Rattle.wm_races.specs.Listing.{IsPairAt, Lists, ListsAt, event_place, write_place}
+use Rattle.wm_races.specs.Groups.{AreGroupsOf, IsAtByte}
+use Rattle.wm_races.specs.Listing.{IsPairAt, event_place, write_place}
 use Rattle.wm_races.specs.Races.{Accesses, ComesBefore, IsRacingPair, first_common}
 use Rattle.wm_races.specs.Races.ComesBefore.{by_byte, by_write}
 use Rattle.wm_races.specs.Window.{AreRacingWrites}
+use Rattle.wm_races.specs.declared.group.Group.{Group}
 use Rattle.wm_races.specs.declared.pair.RacingPair.{RacingPair}
-use Rattle.wm_races.proofs.ListingLemmas.{lists_append, lists_none, lists_one, lists_same}
+use Rattle.wm_races.specs.declared.site.Site.{Site}
+use Rattle.wm_races.proofs.GroupLemmas.{groups_append, groups_none, groups_one, groups_same, single}
 use Rattle.wm_races.proofs.RaceLemmas.{first-accessed, stands}
 
 -- one of the first of the writes stands at this place
@@ -30,10 +33,9 @@ IsAmong writes count place = (k : ℕ) × (k < count) × ((w : ByteWrite) × (sl
 abbrev pub IsBelowByte : LoggedRun → ℕ → ℕ → RacingPair → Type 0
 IsBelowByte run place byte p = (event_place run p ≡ place) × (first_common (execution run) p < byte)
 
--- or at this one with one of its first writes
-abbrev pub IsBelowWrite : LoggedRun → ℕ → ℕ → List ByteWrite → ℕ → RacingPair → Type 0
-IsBelowWrite run place byte writes count p = (event_place run p ≡ place)
-    × ((first_common (execution run) p < byte) ⊎ ((first_common (execution run) p ≡ byte) × IsAmong writes count (write_place run p)))
+-- or at this one, with one of the first of some writes
+abbrev pub IsOfWrites : LoggedRun → ℕ → ℕ → List ByteWrite → ℕ → RacingPair → Type 0
+IsOfWrites run place byte writes count p = IsAtByte run place byte p × IsAmong writes count (write_place run p)
 
 pub few_listed : (p : EventKey → Bool) (a n : ℕ) (keys : List EventKey) → length (listed_from p a n keys) ≤ length keys
 few_listed p a n [] = omega arith
@@ -74,72 +76,66 @@ few_bytes Two = omega arith
 few_bytes Four = omega arith
 few_bytes Eight = omega arith
 
-module _ (run : LoggedRun) (j a : ℕ) (writes : List ByteWrite) where
-  pub write-init : (xs : List RacingPair) → Lists run (IsBelowByte run j a) xs → Lists run (IsBelowWrite run j a writes 0) xs
-  write-init xs lists = lists_same run (IsBelowByte run j a) (IsBelowWrite run j a writes 0) xs
-      (λ p racing h. (h.0, inl h.1))
-      (λ p racing h. (
-        h.0,
-        ⊎_elim (λ (l : first_common (execution run) p < a). l)
-            (λ (r : (first_common (execution run) p ≡ a) × IsAmong writes 0 (write_place run p)). let l = r.1.1 in absurd (omega (arith, l))) h.1,
-      ))
-      lists
+module _ (run : LoggedRun) (sites : List (List Site)) (j a : ℕ) (writes : List ByteWrite) where
+  pub of_no_write : (p : RacingPair) → IsOfWrites run j a writes 0 p → ⊥
+  of_no_write p is = let l = is.1.1 in omega (arith, l)
 
-  pub write-none : (i : ℕ) (w : ByteWrite) (xs : List RacingPair) → slice_get writes i ≡ Some w → ((p : RacingPair) → IsPairAt run j a w.place p → ⊥)
-      → Lists run (IsBelowWrite run j a writes i) xs → Lists run (IsBelowWrite run j a writes (i + 1)) xs
-  write-none i w xs at none lists = lists_same run (IsBelowWrite run j a writes i) (IsBelowWrite run j a writes (i + 1)) xs
-      (λ p racing h. (
-        h.0,
-        ⊎_elim (λ (l : first_common (execution run) p < a). inl l)
-            (λ (r : (first_common (execution run) p ≡ a) × IsAmong writes i (write_place run p)). let l = r.1.1 in inr (r.0, (r.1.0, omega (arith, l), r.1.2))) h.1,
-      ))
-      (λ p racing h. (
-        h.0,
-        ⊎_elim (λ (l : first_common (execution run) p < a). inl l)
-            (λ (r : (first_common (execution run) p ≡ a) × IsAmong writes (i + 1) (write_place run p)).
-            let l = r.1.1 in
-            ⊎_elim
-            (λ (k : r.1.0 < i). inr (r.0, (r.1.0, k, r.1.2)))
-            (λ (k : i ≤ r.1.0).
-            let e : i ≡ r.1.0 = omega (arith, k, l) in
-            let s : w ≡ r.1.2.0 = same_Some w r.1.2.0 (sym at ∙ ap (slice_get writes) e ∙ r.1.2.1) in
-            absurd (none p (racing, h.0, r.0, sym (ap (λ (v : ByteWrite). v.place) s ∙ r.1.2.2))))
-            (cases_lt r.1.0 i))
-            h.1,
-      ))
-      lists
+  more_writes : (i : ℕ) (p : RacingPair) → IsOfWrites run j a writes i p → IsOfWrites run j a writes (i + 1) p
+  more_writes i p (at, (k, l, w)) = (at, (k, omega (arith, l), w))
 
-  module _ (rises : (i j : ℕ) (v w : ByteWrite) → i < j → slice_get writes i ≡ Some v → slice_get writes j ≡ Some w → v.place < w.place) where
-    pub write-some : (i : ℕ) (w : ByteWrite) (q : RacingPair) (xs : List RacingPair) → slice_get writes i ≡ Some w → IsPairAt run j a w.place q
-        → ((p : RacingPair) → IsPairAt run j a w.place p → p ≡ q)
-        → Lists run (IsBelowWrite run j a writes i) xs → Lists run (IsBelowWrite run j a writes (i + 1)) (xs ++ q ∷ [])
-    write-some i w q xs at (racing, by_event, by_first, by_place) one lists =
-        lists_append run (IsBelowWrite run j a writes i) (λ p. p ≡ q) (IsBelowWrite run j a writes (i + 1)) xs (q ∷ [])
+  module _ (i : ℕ) (w : ByteWrite) (at : slice_get writes i ≡ Some w) where
+    either_write : (p : RacingPair) → IsRacingPair (execution run) p → IsOfWrites run j a writes (i + 1) p → IsOfWrites run j a writes i p ⊎ IsPairAt run j a w.place p
+    either_write p racing (at_byte, (k, l, (v, at_v, place_v))) = ⊎_elim
+        (λ (h : k < i). inl (at_byte, (k, h, (v, at_v, place_v))))
+        (λ (h : i ≤ k).
+        let e : i ≡ k = omega (arith, h, l) in
+        let s : w ≡ v = same_Some w v (sym at ∙ ap (slice_get writes) e ∙ at_v) in
+        inr (racing, at_byte.0, at_byte.1, sym (ap (λ (u : ByteWrite). u.place) s ∙ place_v)))
+        (cases_lt k i)
+
+    pub write_none : (groups : List Group) → ((p : RacingPair) → IsPairAt run j a w.place p → ⊥) → AreGroupsOf run sites (IsOfWrites run j a writes i) groups → AreGroupsOf run sites (IsOfWrites run j a writes (i + 1)) groups
+    write_none groups none is = groups_same run sites (IsOfWrites run j a writes i) (IsOfWrites run j a writes (i + 1)) groups
+        (λ p racing h. more_writes i p h)
+        (λ p racing h. ⊎_elim (λ (l : IsOfWrites run j a writes i p). l) (λ (r : IsPairAt run j a w.place p). absurd (none p r)) (either_write p racing h))
+        is
+
+    pub write_some : (rises : (i j : ℕ) (v w : ByteWrite) → i < j → slice_get writes i ≡ Some v → slice_get writes j ≡ Some w → v.place < w.place) (q : RacingPair) (groups : List Group)
+        → IsPairAt run j a w.place q → ((p : RacingPair) → IsPairAt run j a w.place p → p ≡ q)
+        → AreGroupsOf run sites (IsOfWrites run j a writes i) groups → AreGroupsOf run sites (IsOfWrites run j a writes (i + 1)) (groups ++ single q w.place ∷ [])
+    write_some rises q groups (racing, by_event, by_first, by_place) one is =
+        groups_append run sites (IsOfWrites run j a writes i) (λ p. p ≡ q) (IsOfWrites run j a writes (i + 1)) groups (single q w.place ∷ [])
         (λ p r racing_p racing_r h e. subst (ComesBefore (execution run) p) (sym e) (before p h))
-        (λ p racing_p h. (
-          h.0,
-          ⊎_elim (λ (l : first_common (execution run) p < a). inl l)
-              (λ (r : (first_common (execution run) p ≡ a) × IsAmong writes i (write_place run p)). let l = r.1.1 in inr (r.0, (r.1.0, omega (arith, l), r.1.2))) h.1,
-        ))
-        (λ p racing_p e. subst (IsBelowWrite run j a writes (i + 1)) (sym e) (by_event, inr (by_first, (i, omega arith, (w, at, sym by_place)))))
-        (λ p racing_p h. ⊎_elim (λ (l : first_common (execution run) p < a). inl (h.0, inl l))
-        (λ (r : (first_common (execution run) p ≡ a) × IsAmong writes (i + 1) (write_place run p)).
-        let l = r.1.1 in
-        ⊎_elim
-        (λ (k : r.1.0 < i). inl (h.0, inr (r.0, (r.1.0, k, r.1.2))))
-        (λ (k : i ≤ r.1.0).
-        let e : i ≡ r.1.0 = omega (arith, k, l) in
-        let s : w ≡ r.1.2.0 = same_Some w r.1.2.0 (sym at ∙ ap (slice_get writes) e ∙ r.1.2.1) in
-        inr (one p (racing_p, h.0, r.0, sym (ap (λ (v : ByteWrite). v.place) s ∙ r.1.2.2))))
-        (cases_lt r.1.0 i))
-        h.1)
-        lists (lists_one run q racing)
+        (λ p racing_p h. more_writes i p h)
+        (λ p racing_p e. subst (IsOfWrites run j a writes (i + 1)) (sym e) ((by_event, by_first), (i, omega arith, (w, at, sym by_place))))
+        (λ p racing_p h. ⊎_elim (λ (l : IsOfWrites run j a writes i p). inl l) (λ (r : IsPairAt run j a w.place p). inr (one p r)) (either_write p racing_p h))
+        is (groups_one run sites q w.place racing)
       where
-        before : (p : RacingPair) → IsBelowWrite run j a writes i p → ComesBefore (execution run) p q
-        before p (at_p, inl l) = by_byte (at_p ∙ sym by_event) (omega (arith, l, by_first))
-        before p (at_p, inr (e, (k, below, (v, at_v, place_v)))) =
+        before : (p : RacingPair) → IsOfWrites run j a writes i p → ComesBefore (execution run) p q
+        before p ((at_p, e), (k, below, (v, at_v, place_v))) =
             let r = rises k i v w below at_v at in
             by_write (at_p ∙ sym by_event) (e ∙ sym by_first) (omega (arith, r, place_v, by_place))
+
+  pub writes_done : (i : ℕ) (groups : List Group) → AreRacingWrites run j a writes → length writes ≤ i → AreGroupsOf run sites (IsOfWrites run j a writes i) groups → AreGroupsOf run sites (IsAtByte run j a) groups
+  writes_done i groups racing all is = groups_same run sites (IsOfWrites run j a writes i) (IsAtByte run j a) groups
+      (λ p racing_p h. h.0)
+      (λ p racing_p h.
+      let w = racing.all p racing_p h.0 h.1 in
+      let within = slice_get_within writes w.0 w.1.0 w.1.1 in
+      (h, (w.0, omega (arith, within, all), w.1)))
+      is
+
+-- the races at one byte more
+pub byte_more : (run : LoggedRun) (sites : List (List Site)) (j a : ℕ) (groups more : List Group) → AreGroupsOf run sites (IsBelowByte run j a) groups → AreGroupsOf run sites (IsAtByte run j a) more
+    → AreGroupsOf run sites (IsBelowByte run j (a + 1)) (groups ++ more)
+byte_more run sites j a groups more first second = groups_append run sites (IsBelowByte run j a) (IsAtByte run j a) (IsBelowByte run j (a + 1)) groups more
+    (λ p q racing_p racing_q h k. let l = h.1 in let e = k.1 in by_byte (h.0 ∙ sym k.0) (omega (arith, l, e)))
+    (λ p racing h. (h.0, (let l = h.1 in omega (arith, l))))
+    (λ p racing h. (h.0, (let l = h.1 in omega (arith, l))))
+    (λ p racing h. ⊎_elim
+    (λ (l : first_common (execution run) p < a). inl (h.0, l))
+    (λ (l : a ≤ first_common (execution run) p). let k = h.1 in inr (h.0, omega (arith, l, k)))
+    (cases_lt (first_common (execution run) p) a))
+    first second
 
 module _ (run : LoggedRun) (once : ListsEachOnce run.log run.witness.order) (e : Event) (j : ℕ) (listed : event_in run.log (key_of e) ≡ Some e) (at_e : slice_get run.witness.order j ≡ Some (key_of e)) where
   -- a pair of the event's place is one of the event
@@ -152,39 +148,14 @@ module _ (run : LoggedRun) (once : ListsEachOnce run.log run.witness.order) (e :
   accessed : (p : RacingPair) (racing : IsRacingPair (execution run) p) → event_place run p ≡ j → Accesses e (first_common (execution run) p)
   accessed p racing by_event = subst (λ (f : Event). Accesses f (first_common (execution run) p)) (event-is p racing by_event) (first-accessed run once p racing)
 
-  pub byte-init : Lists run (IsBelowByte run j (e.address + 0)) []
-  byte-init = lists_none run (IsBelowByte run j (e.address + 0)) (λ p racing h. let l = (accessed p racing h.0).0 in let k = h.1 in omega (arith, l, k))
+  pub byte_init : (sites : List (List Site)) → AreGroupsOf run sites (IsBelowByte run j (e.address + 0)) []
+  byte_init sites = groups_none run sites (IsBelowByte run j (e.address + 0)) (λ p racing h. let l = (accessed p racing h.0).0 in let k = h.1 in omega (arith, l, k))
 
-  pub byte-done : (n : ℕ) (xs : List RacingPair) → bytes_of e.width ≤ n → Lists run (IsBelowByte run j (e.address + n)) xs → ListsAt run j xs
-  byte-done n xs all lists = lists_same run (IsBelowByte run j (e.address + n)) (λ p. event_place run p ≡ j) xs
+  pub byte_done : (sites : List (List Site)) (n : ℕ) (groups : List Group) → bytes_of e.width ≤ n → AreGroupsOf run sites (IsBelowByte run j (e.address + n)) groups → AreGroupsOf run sites (λ p. event_place run p ≡ j) groups
+  byte_done sites n groups all is = groups_same run sites (IsBelowByte run j (e.address + n)) (λ p. event_place run p ≡ j) groups
       (λ p racing h. h.0)
       (λ p racing h. (h, (let l = (accessed p racing h).1 in omega (arith, l, all))))
-      lists
-
-  pub write-done : (a i : ℕ) (writes : List ByteWrite) (xs : List RacingPair) → AreRacingWrites run j a writes → length writes ≤ i
-      → Lists run (IsBelowWrite run j a writes i) xs → Lists run (IsBelowByte run j (a + 1)) xs
-  write-done a i writes xs racing all lists = lists_same run (IsBelowWrite run j a writes i) (IsBelowByte run j (a + 1)) xs
-      (λ p racing_p h. (
-        h.0,
-        ⊎_elim (λ (l : first_common (execution run) p < a). omega (arith, l))
-            (λ (r : (first_common (execution run) p ≡ a) × IsAmong writes i (write_place run p)). let d = r.0 in omega (arith, d)) h.1,
-      ))
-      (λ p racing_p h. (
-        h.0,
-        ⊎_elim (λ (l : first_common (execution run) p < a). inl l)
-            (λ (r : a ≤ first_common (execution run) p).
-            let k = h.1 in
-            let d : first_common (execution run) p ≡ a = omega (arith, r, k) in
-            inr (d, among p racing_p h.0 d))
-            (cases_lt (first_common (execution run) p) a),
-      ))
-      lists
-    where
-      among : (p : RacingPair) → IsRacingPair (execution run) p → event_place run p ≡ j → first_common (execution run) p ≡ a → IsAmong writes i (write_place run p)
-      among p racing_p here d =
-          let w = racing.all p racing_p here d in
-          let within = slice_get_within writes w.0 w.1.0 w.1.1 in
-          (w.0, omega (arith, within, all), w.1)
+      is
 
   -- there is one pair at a byte with a write
   pub one-pair : (a o : ℕ) (p q : RacingPair) → IsPairAt run j a o p → IsPairAt run j a o q → p ≡ q

@@ -76,6 +76,10 @@ before_join x a b c h k = (h.0 ++ b ∷ k.0, join h.0 a h.1)
     join [] a e = (e, k.1)
     join (m ∷ ms) a e = (e.0, join ms m e.1)
 
+-- of two events of a thread the one of the lower number happens before the other
+pub in_program : (run : LoggedRun) (a b : EventKey) → IsSome (event_in run.log a) → IsSome (event_in run.log b) → a.thread ≡ b.thread → a.number < b.number → HappensBefore (execution run) (At a) (At b)
+in_program run a b there_a there_b same less = ([], inl (record { first = there_a; second = there_b; same_thread = same; earlier = less }))
+
 -- what stands in the names of a thread
 module _ (log : List ThreadLog) (keys : HasKeys log) (t : ℕ) where
   key_of_event : (thread : ThreadLog) → slice_get log t ≡ Some thread → (i : ℕ) (o : Option Event) → slice_get thread.events i ≡ o → (k : EventKey) → option_map key_of o ≡ Some k

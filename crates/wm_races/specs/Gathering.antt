@@ -1,6 +1,10 @@
--- A report while pairs are added to it.
-use Rattle.std.specs.Prelude.{◌≡◌, ℕ, ◌+◌, List, [], ◌∷◌, ◌++◌, Some, map, slice_get, slice_set}
-use Rattle.wm_races.specs.Report.{IsReport, line_sites}
+-- A report while groups of pairs are added to it.
+use Rattle.std.specs.Prelude.{◌≡◌, ℕ, ◌+◌, ◌<◌, List, [], ◌∷◌, ◌++◌, Some, IsSome, map, slice_get, slice_set, sum_by}
+use Rattle.std.specs.List.{find}
+use Rattle.wm_races.specs.Groups.{count_between, first_pair}
+use Rattle.wm_races.specs.Races.{IsIn}
+use Rattle.wm_races.specs.Report.{HasLine, first_at, has_sites, line_sites, pair_of, site_in}
+use Rattle.wm_races.specs.declared.group.Group.{Group}
 use Rattle.wm_races.specs.declared.pair.RacingPair.{RacingPair}
 use Rattle.wm_races.specs.declared.report.Report.{Report}
 use Rattle.wm_races.specs.declared.site.Site.{Site}
@@ -18,23 +22,44 @@ IsGathered report = report.index.keys ≡ map line_sites report.lines
 abbrev pub HasSitesOf : List SiteRace → ℕ → SitePair → Type 0
 HasSitesOf lines n sites = (r : SiteRace) × (slice_get lines n ≡ Some r) × (line_sites r ≡ sites)
 
--- what reports some pairs reports these too afterwards
-abbrev pub ReportsMore : List (List Site) → List RacingPair → List SiteRace → List SiteRace → Type 0
-ReportsMore sites pairs old new = (earlier : List RacingPair) → IsReport sites earlier old → IsReport sites (earlier ++ pairs) new
+-- a line for each two sites of some first pairs, in the order of these, with the number of its sites
+pub record IsNumbered (sites : List (List Site)) (firsts : List RacingPair) (number : SitePair → ℕ) (lines : List SiteRace) : Type 0 where
+  pub first : (n : ℕ) (r : SiteRace) → slice_get lines n ≡ Some r → find (has_sites sites (line_sites r)) firsts ≡ Some (pair_of r)
+  pub count : (n : ℕ) (r : SiteRace) → slice_get lines n ≡ Some r → r.count ≡ number (line_sites r)
+  pub all : (p : RacingPair) → IsIn firsts p → HasLine sites lines p
+  pub order : (m n : ℕ) (r s : SiteRace) → m < n → slice_get lines m ≡ Some r → slice_get lines n ≡ Some s
+      → first_at sites firsts r < first_at sites firsts s
 
--- a line that counts one more pair
-abbrev pub one_more : SiteRace → SiteRace
-one_more r = record r { count = r.count + 1 }
+-- how many pairs of two sites the groups have
+abbrev pub number_in : List (List Site) → List Group → SitePair → ℕ
+number_in sites groups between = sum_by (count_between sites between) groups
 
--- that line counts one more
-abbrev pub CountsIn : ℕ → List SiteRace → List SiteRace → Type 0
-CountsIn n old new = (r : SiteRace) × (slice_get old n ≡ Some r) × (new ≡ slice_set old n (one_more r))
+-- the groups, reported by the sites of their pairs
+abbrev pub IsGroupReport : List (List Site) → List Group → List SiteRace → Type 0
+IsGroupReport sites groups lines = IsNumbered sites (map first_pair groups) (number_in sites groups) lines
 
--- the line of a first pair
-abbrev pub first_line : SitePair → RacingPair → SiteRace
-first_line sites p = record { site = sites.site; other = sites.other; event = p.event; write = p.write; count = 1 }
+-- what reports some groups reports these too afterwards
+abbrev pub ReportsMore : List (List Site) → List Group → List SiteRace → List SiteRace → Type 0
+ReportsMore sites groups old new = (earlier : List Group) → IsGroupReport sites earlier old → IsGroupReport sites (earlier ++ groups) new
 
--- the line of these sites counts one more, or the pair is the first of these sites
-pub data AddsPair (sites : SitePair) (p : RacingPair) (old new : List SiteRace) : Type 0 where
-  counts : (n : ℕ) → HasSitesOf old n sites → CountsIn n old new → AddsPair sites p old new
-  begins : ((n : ℕ) → HasSitesOf old n sites → ⊥) → new ≡ old ++ first_line sites p ∷ [] → AddsPair sites p old new
+-- a line that counts so many more pairs
+abbrev pub counts_more : ℕ → SiteRace → SiteRace
+counts_more more r = record r { count = r.count + more }
+
+-- that line counts so many more
+abbrev pub CountsIn : ℕ → ℕ → List SiteRace → List SiteRace → Type 0
+CountsIn n more old new = (r : SiteRace) × (slice_get old n ≡ Some r) × (new ≡ slice_set old n (counts_more more r))
+
+-- the line of a first group
+abbrev pub first_line : SitePair → Group → SiteRace
+first_line sites g = record { site = sites.site; other = sites.other; event = g.pair.event; write = g.pair.write; count = g.count }
+
+-- the line of these sites counts the group's pairs, or the group is the first of these sites
+pub data AddsGroup (sites : SitePair) (g : Group) (old new : List SiteRace) : Type 0 where
+  counts : (n : ℕ) → HasSitesOf old n sites → CountsIn n g.count old new → AddsGroup sites g old new
+  begins : ((n : ℕ) → HasSitesOf old n sites → ⊥) → new ≡ old ++ first_line sites g ∷ [] → AddsGroup sites g old new
+
+-- the table has the sites of the first pairs
+abbrev pub HasGroupSites : List (List Site) → List Group → Type 0
+HasGroupSites sites groups = (n : ℕ) (g : Group) → slice_get groups n ≡ Some g
+    → IsSome (site_in sites g.pair.event) × IsSome (site_in sites g.pair.write)

@@ -1,6 +1,9 @@
 pub mod Races
 pub mod Report
 pub mod Listing
+pub mod Classes
+pub mod Groups
+pub mod Parts
 pub mod Gathering
 pub mod Progress
 pub mod Window

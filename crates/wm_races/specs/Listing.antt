@@ -1,5 +1,5 @@
 -- What a part of the scan lists.
-use Rattle.std.specs.Prelude.{◌≡◌, ◌≢◌, ◌⊎◌, ◌↔◌, false, Bool, IsTrue, ℕ, ◌+◌, ◌*◌, ◌<◌, ◌≤◌, List, Option, None, Some, MatchOption, length, slice_get}
+use Rattle.std.specs.Prelude.{◌≡◌, ◌≢◌, ◌⊎◌, ◌↔◌, false, Bool, IsTrue, ℕ, ◌<◌, List, Option, None, Some, MatchOption, slice_get}
 use Rattle.wm_event.specs.declared.event.Event.{Event}
 use Rattle.wm_event.specs.declared.event.EventKey.{EventKey}
 use Rattle.wm_event.specs.Event.{writes}
@@ -42,20 +42,3 @@ IsPairAt run place byte other p = IsRacingPair (execution run) p
 abbrev pub FindsPair : LoggedRun → ℕ → ℕ → ℕ → Option RacingPair → Type 0
 FindsPair run place byte other result =
     MatchOption result ((p : RacingPair) → IsPairAt run place byte other p → ⊥) (IsPairAt run place byte other)
-
--- the races of the event at a place
-abbrev pub ListsAt : LoggedRun → ℕ → List RacingPair → Type 0
-ListsAt run place pairs = Lists run (λ p. event_place run p ≡ place) pairs
-
--- the races of the events before a place
-abbrev pub ListsBelow : LoggedRun → ℕ → List RacingPair → Type 0
-ListsBelow run place pairs = Lists run (λ p. event_place run p < place) pairs
-
--- the races of the event at a place, which aren't many
-pub record IsListAt (run : LoggedRun) (place : ℕ) (pairs : List RacingPair) : Type 0 where
-  pub lists : ListsAt run place pairs
-  pub few : length pairs ≤ 8 * length run.witness.order
-
--- list k is that of the event at k behind a place
-abbrev pub AreListsFrom : LoggedRun → ℕ → List (List RacingPair) → Type 0
-AreListsFrom run start lists = (k : ℕ) (pairs : List RacingPair) → slice_get lists k ≡ Some pairs → IsListAt run (start + k) pairs

@@ -34,4 +34,14 @@ impl Begins {
     {
         self.addresses.contains(&address)
     }
+
+    /// How many there are.
+    pub fn len(&self) -> usize {
+        self.addresses.len()
+    }
+
+    /// One of them, None past the last.
+    pub fn get(&self, index: usize) -> Option<u64> {
+        self.addresses.get_index(index).copied()
+    }
 }

@@ -1,41 +1,47 @@
 //! The races of some events that stand one after the other, worked in parallel.
 ghost use Rattle.std.specs.Prelude.{◌≡◌, ◌≤◌, ◌<◌, ◌+◌, ◌^◌, IfOk, length};
-ghost use Rattle.wm_races.specs.Listing.{AreListsFrom, IsListAt};
+ghost use Rattle.wm_races.specs.Groups.{AreGroupsFrom, IsGroupedAt};
+ghost use Rattle.wm_races.specs.Classes.{HasClasses};
 ghost use Rattle.wm_races.specs.Window.{HasBegins};
 
 use crate::begins::Begins;
-use crate::pair::{RacingPair, pairs_of};
+use crate::classes::ClassTable;
+use crate::group::Group;
+use crate::groups::groups_of;
 use rayon::prelude::*;
 use std::alloc::{AllocError, Global};
 use std::thread::Threads;
 use wm_hb::HappensBefore;
 use wm_list::List;
 
-/// For each of the events from a place of the order on the list of its races.
-pub(crate) fn pairs_from(
+/// For each of the events from a place of the order on its races in groups.
+pub(crate) fn groups_from(
     rt: &(impl Threads + Sync),
     alloc: Global,
     before: &HappensBefore,
     begins: &Begins,
+    table: &ClassTable,
     start: usize,
     count: usize,
-) -> Result<Vec<List<RacingPair>>, AllocError>
+) -> Result<Vec<List<Group>>, AllocError>
     requires inside { start + count ≤ length before.now.witness.order }
     requires fits { start + count < 2 ^ 64 }
     requires begins { HasBegins before.now begins.now }
+    requires classes { HasClasses before.now table.now }
     ensures count { IfOk result (λ lists. length lists.items ≡ count) }
-    ensures lists { IfOk result (λ lists. AreListsFrom before.now start lists.items) }
+    ensures lists { IfOk result (λ lists. AreGroupsFrom before.now table.now start lists.items) }
 {
     (0..count)
         .into_par_iter()
         .with_min_len(1)
         .map(
-            |index: usize| -> Result<List<RacingPair>, AllocError>
+            |index: usize| -> Result<List<Group>, AllocError>
                 requires inside { start + index < length before.now.witness.order }
                 requires fits { start + index < 2 ^ 64 }
                 requires begins { HasBegins before.now begins.now }
-                ensures { IfOk result (IsListAt before.entry.now (start + index)) }
-            { pairs_of(alloc, before, begins, start + index) },
+                requires classes { HasClasses before.now table.now }
+                ensures { IfOk result (IsGroupedAt before.entry.now table.entry.now (start + index)) }
+            { groups_of(alloc, before, begins, table, start + index) },
         )
-        .collect::<Result<Vec<List<RacingPair>>, AllocError>>(rt, alloc)?
+        .collect::<Result<Vec<List<Group>>, AllocError>>(rt, alloc)?
 }

@@ -4,8 +4,12 @@
 mod begins;
 mod block;
 mod bounds;
+mod classes;
+mod group;
+mod groups;
 mod law;
 mod pair;
+mod part;
 mod report;
 mod scan;
 mod site;

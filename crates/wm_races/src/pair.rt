@@ -1,20 +1,15 @@
-//! Whether two events race, and the races of one event.
-ghost use Rattle.std.specs.Prelude.{◌≡◌, ◌<◌, ◌↔◌, IsTrue, IfOk, Some, length, slice_get, true};
+//! Whether two events race.
+ghost use Rattle.std.specs.Prelude.{◌≡◌, ◌↔◌, IsTrue, Some, slice_get, true};
 ghost use Rattle.wm_event.specs.Event.{key_of};
 ghost use Rattle.wm_event.specs.LoggedRun.{execution};
 ghost use Rattle.wm_event.specs.Writes.{writes_byte};
 ghost use Rattle.wm_event.specs.declared.event.EventKey.{EventKey};
 ghost use Rattle.wm_hb.specs.Scan.{IsEventOf};
 ghost use Rattle.wm_races.specs.Races.{Accesses, IsWeak};
-ghost use Rattle.wm_races.specs.Listing.{FindsPair, IsKeyAt, IsListAt, IsNamed, TellsUnordered};
-ghost use Rattle.wm_races.specs.Window.{HasBegins};
+ghost use Rattle.wm_races.specs.Listing.{FindsPair, IsKeyAt, IsNamed, TellsUnordered};
 
-use crate::begins::Begins;
-use crate::window::racing_writes;
-use std::alloc::{AllocError, Global};
 use wm_event::{Candidate, Event, EventId, EventKey};
 use wm_hb::HappensBefore;
-use wm_list::List;
 
 /// Two events that race.
 #[derive(Clone, Copy, Debug, PartialEq, Eq)]
@@ -47,7 +42,7 @@ fn is_unordered(before: &HappensBefore, place: usize, other: usize) -> bool
 }
 
 /// The event at a place of the order, None past its end.
-fn key_at(candidate: &Candidate, place: usize) -> Option<EventKey>
+pub(crate) fn key_at(candidate: &Candidate, place: usize) -> Option<EventKey>
     ensures { IsKeyAt candidate.now.witness.order place result }
 {
     candidate.witness().order.as_slice().get(place).copied()
@@ -55,7 +50,7 @@ fn key_at(candidate: &Candidate, place: usize) -> Option<EventKey>
 
 /// The race of the event at a place of the order with the write of a byte at another, if it is one and this is the first
 /// byte that both access.
-fn pair_at(
+pub(crate) fn pair_at(
     before: &HappensBefore,
     event: &Event,
     place: usize,
@@ -88,33 +83,4 @@ fn pair_at(
     } else {
         None
     }
-}
-
-/// The races of the event at a place of the order, byte by byte and then in the order of the writes.
-pub(crate) fn pairs_of(
-    alloc: Global,
-    before: &HappensBefore,
-    begins: &Begins,
-    place: usize,
-) -> Result<List<RacingPair>, AllocError>
-    requires place { place < length before.now.witness.order }
-    requires begins { HasBegins before.now begins.now }
-    ensures { IfOk result (IsListAt before.now place) }
-{
-    let mut pairs = List::new(alloc);
-    let candidate = before.candidate();
-    let _log = candidate.log();
-    let key = candidate.witness().order.as_slice()[place];
-    let Some(event) = candidate.event(EventId::At(key)) else {
-        return Ok(pairs);
-    };
-    for byte in 0..event.width.bytes() {
-        let address = u64::from(event.address) + u64::from(byte);
-        for write in racing_writes(before, begins, event, place, address) {
-            if let Some(pair) = pair_at(before, event, place, address, write.place) {
-                pairs.push(pair)?;
-            }
-        }
-    }
-    Ok(pairs)
 }

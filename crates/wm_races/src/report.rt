@@ -1,10 +1,9 @@
-//! Racing pairs, gathered by the sites of their events.
-ghost use Rattle.std.specs.Prelude.{◌≡◌, ◌+◌, ◌<◌, ◌^◌, ◌-◌, [], List, OnOk, IsTrue, length, sum_by};
-ghost use Rattle.wm_races.specs.Gathering.{AddsPair, CountsIn, HasSitesOf, IsGathered, ReportsMore, count_of};
-ghost use Rattle.wm_races.specs.Report.{HasPairSites};
-ghost use Rattle.wm_races.specs.declared.pair.RacingPair.{RacingPair};
+//! Groups of racing pairs, gathered by the sites of their events.
+ghost use Rattle.std.specs.Prelude.{◌≡◌, ◌+◌, ◌<◌, ◌^◌, [], List, OnOk, IsTrue, length, sum_by};
+ghost use Rattle.wm_races.specs.Gathering.{AddsGroup, CountsIn, HasGroupSites, HasSitesOf, IsGathered, ReportsMore, count_of};
+ghost use Rattle.wm_races.specs.Groups.{size_of};
 
-use crate::pair::RacingPair;
+use crate::group::Group;
 use crate::site::{Site, SitePair, SiteRace, site_of};
 use indexmap::IndexSet;
 use std::alloc::{AllocError, Global};
@@ -16,7 +15,7 @@ pub(crate) struct Report {
     lines: List<SiteRace>,
     /// The sites of each line.
     index: IndexSet<SitePair>,
-    /// The line that counted the pair before.
+    /// The line that counted the group before.
     last: usize,
 }
 
@@ -50,31 +49,31 @@ impl Report {
         }
     }
 
-    /// Counts one more pair in a line.
-    fn count(&mut self, line: usize)
+    /// Counts so many more pairs in a line.
+    fn count(&mut self, line: usize, more: u64)
         requires line { line < length self.old.lines }
-        requires room { sum_by count_of self.old.lines < 2 ^ 64 - 1 }
-        ensures lines { CountsIn line self.old.lines self.new.lines }
+        requires room { sum_by count_of self.old.lines + more < 2 ^ 64 }
+        ensures lines { CountsIn line more self.old.lines self.new.lines }
         ensures index { self.new.index ≡ self.old.index }
     {
         if let Some(race) = self.lines.get(line) {
             let race = SiteRace {
-                count: race.count + 1,
+                count: race.count + more,
                 ..*race
             };
             self.lines.set(line, race);
         }
     }
 
-    /// Adds a pair between two sites.
-    fn add(&mut self, sites: SitePair, pair: RacingPair) -> Result<(), AllocError>
+    /// Adds a group of pairs between two sites.
+    fn add(&mut self, sites: SitePair, group: Group) -> Result<(), AllocError>
         requires gathered { IsGathered self.old }
-        requires room { sum_by count_of self.old.lines < 2 ^ 64 - 1 }
+        requires room { sum_by count_of self.old.lines + group.count < 2 ^ 64 }
         ensures gathered { OnOk result (IsGathered self.new) }
-        ensures adds { OnOk result (AddsPair sites pair self.old.lines self.new.lines) }
+        ensures adds { OnOk result (AddsGroup sites group self.old.lines self.new.lines) }
     {
         if self.is_line_of(self.last, sites) {
-            self.count(self.last);
+            self.count(self.last, group.count);
             return Ok(());
         }
         let (line, is_new) = self.index.insert_full(sites)?;
@@ -83,31 +82,31 @@ impl Report {
             self.lines.push(SiteRace {
                 site: sites.site,
                 other: sites.other,
-                event: pair.event,
-                write: pair.write,
-                count: 1,
+                event: group.pair.event,
+                write: group.pair.write,
+                count: group.count,
             })?;
         } else {
-            self.count(line);
+            self.count(line, group.count);
         }
         Ok(())
     }
 
-    /// Adds pairs in their order.
-    pub fn add_all(&mut self, sites: &[List<Site>], pairs: &[RacingPair]) -> Result<(), AllocError>
+    /// Adds groups in their order.
+    pub fn add_all(&mut self, sites: &[List<Site>], groups: &[Group]) -> Result<(), AllocError>
         requires gathered { IsGathered self.old }
-        requires room { sum_by count_of self.old.lines + length pairs.now < 2 ^ 64 }
-        requires sites { HasPairSites sites.now pairs.now }
+        requires room { sum_by count_of self.old.lines + sum_by size_of groups.now < 2 ^ 64 }
+        requires sites { HasGroupSites sites.now groups.now }
         ensures gathered { OnOk result (IsGathered self.new) }
-        ensures report { OnOk result (ReportsMore sites.now pairs.now self.old.lines self.new.lines) }
-        ensures total { OnOk result (sum_by count_of self.new.lines ≡ sum_by count_of self.old.lines + length pairs.now) }
+        ensures report { OnOk result (ReportsMore sites.now groups.now self.old.lines self.new.lines) }
+        ensures total { OnOk result (sum_by count_of self.new.lines ≡ sum_by count_of self.old.lines + sum_by size_of groups.now) }
     {
-        for pair in pairs {
+        for group in groups {
             let between = SitePair {
-                site: site_of(sites, pair.event),
-                other: site_of(sites, pair.write),
+                site: site_of(sites, group.pair.event),
+                other: site_of(sites, group.pair.write),
             };
-            self.add(between, *pair)?;
+            self.add(between, *group)?;
         }
         Ok(())
     }

@@ -1,12 +1,14 @@
 //! All races of a candidate, block by block.
 ghost use Rattle.std.specs.Prelude.{◌≤◌, ◌<◌, ◌+◌, ◌^◌, IfOk, OnOk, length};
 ghost use Rattle.wm_event.specs.LoggedRun.{execution};
+ghost use Rattle.wm_races.specs.Classes.{HasClassSites, HasClasses};
 ghost use Rattle.wm_races.specs.Progress.{IsReportBelow};
 ghost use Rattle.wm_races.specs.Report.{HasSites, IsRaceReport};
 ghost use Rattle.wm_races.specs.Window.{HasBegins};
 
 use crate::begins::Begins;
-use crate::block::pairs_from;
+use crate::block::groups_from;
+use crate::classes::ClassTable;
 use crate::report::Report;
 use crate::site::{Site, SiteRace};
 use std::alloc::{AllocError, Global};
@@ -23,6 +25,7 @@ fn add_block(
     alloc: Global,
     before: &HappensBefore,
     begins: &Begins,
+    table: &ClassTable,
     sites: &[List<Site>],
     report: &mut Report,
     start: usize,
@@ -32,13 +35,15 @@ fn add_block(
     requires inside { start + count ≤ length before.now.witness.order }
     requires fits { start + count < 2 ^ 64 }
     requires begins { HasBegins before.now begins.now }
+    requires classes { HasClasses before.now table.now }
+    requires class_sites { HasClassSites before.now sites.now table.now }
     requires report { IsReportBelow before.now sites.now start report.old }
     ensures { OnOk result (IsReportBelow before.now sites.now (start + count) report.new) }
 {
     let _log = before.candidate().log();
-    let lists = pairs_from(rt, alloc, before, begins, start, count)?;
-    for pairs in lists.as_slice() {
-        report.add_all(sites, pairs.as_slice())?;
+    let lists = groups_from(rt, alloc, before, begins, table, start, count)?;
+    for groups in lists.as_slice() {
+        report.add_all(sites, groups.as_slice())?;
     }
     Ok(())
 }
@@ -67,11 +72,22 @@ pub fn races(
     let _log = candidate.log();
     let events = candidate.witness().order.len();
     let begins = Begins::of(alloc, candidate)?;
+    let table = ClassTable::of(alloc, candidate, sites, &begins)?;
     let mut report = Report::new(alloc);
     let mut start = 0usize;
     while start < events {
         let count = BLOCK.min(events - start);
-        add_block(rt, alloc, before, &begins, sites, &mut report, start, count)?;
+        add_block(
+            rt,
+            alloc,
+            before,
+            &begins,
+            &table,
+            sites,
+            &mut report,
+            start,
+            count,
+        )?;
         start += count;
     }
     Ok(report.into_lines())

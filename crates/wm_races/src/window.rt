@@ -14,8 +14,8 @@ use crate::bounds::{end_of, start_of};
 use wm_event::{ByteWrite, Event, EventId};
 use wm_hb::HappensBefore;
 
-/// How many writes are all looked at; among more of them those of each thread are searched.
-const FEW: usize = 16;
+/// How many writes are all looked at; among more of them those of each thread or class are searched.
+pub(crate) const FEW: usize = 16;
 
 /// How many of the writes stand before a place.
 fn count_below(writes: &[ByteWrite], place: usize) -> usize

@@ -1,6 +1,7 @@
 use Rattle.std.proofs.Common.{length, sym, ap, subst, arith}
 use Rattle.wm_event.specs.LoggedRun.{LoggedRun, execution}
 use Rattle.wm_event.specs.Shape.{ListsEachOnce}
+use Rattle.wm_races.specs.Classes.{HasClassSites}
 use Rattle.wm_races.specs.Report.{IsRaceReport}
 use Rattle.wm_races.proofs.RaceListLaws.{race-report, report-none}
 use Rattle.wm_races.proofs.scan.races.Goals as goal
@@ -10,6 +11,9 @@ loop-start-init g c = record {
   within = omega arith;
   report = report-none c.args.before.now c.args.sites.now c.new-report.result c.new-report.ensures.empty c.new-report.ensures.gathered;
 }
+
+pub add_block-requires-clause-class_sites : goal.add_block-requires-clause-class_sites
+add_block-requires-clause-class_sites g c κs within = subst (λ (x : LoggedRun). HasClassSites x c.args.sites.now c.in_ok-table.table) c.candidate-candidate.ensures.value c.in_ok-table.ensures.sites
 
 pub returns : goal.returns
 returns g c =

@@ -3,15 +3,16 @@ use Rattle.std.specs.Prelude.{map}
 use Rattle.std.specs.List.{list_any}
 use Rattle.wm_races.specs.Report.{line_sites}
 use Rattle.wm_races.specs.declared.site.SitePair.{SitePair}
-use Rattle.wm_races.proofs.ReportLemmas.{line_at, no_line, not_false, not_true, pair-same, same_pair, sites-kept}
+use Rattle.wm_races.proofs.ReportLemmas.{line_at, no_line, pair-same, same_pair, sites-kept}
+use Rattle.wm_races.proofs.ListLemmas.{not_false, not_true}
 use Rattle.wm_races.specs.Gathering.{HasSitesOf}
-use Rattle.wm_races.specs.Gathering.AddsPair.{counts, begins}
+use Rattle.wm_races.specs.Gathering.AddsGroup.{counts, begins}
 use Rattle.wm_races.proofs.report.Report.add.Goals as goal
 
 pub returns-then-is_line_of-clause-gathered : goal.returns-then-is_line_of-clause-gathered
 returns-then-is_line_of-clause-gathered c =
     let h = c.count.ensures.lines in
-    let kept = sites-kept c.args.self.now.lines c.args.self.now.last h.0 h.1 in
+    let kept = sites-kept c.args.self.now.lines c.args.self.now.last c.args.group.count h.0 h.1 in
     ap (λ s. s.keys) c.count.ensures.index ∙ c.requires.gathered ∙ sym kept ∙ ap (map line_sites) (sym h.2)
 
 pub returns-then-is_line_of-clause-adds : goal.returns-then-is_line_of-clause-adds
@@ -29,7 +30,7 @@ returns-else-is_new-clause-gathered c =
     let old : list_any (same_pair c.args.sites) keys ≡ true = not_false (list_any (same_pair c.args.sites) keys) (sym c.in_ok-line.ensures.added ∙ c.if-is_new.false) in
     let same : c.insert_full.new.self.keys ≡ keys = c.in_ok-line.ensures.keys ∙ ap (λ (b : Bool). if b then keys else keys ++ c.args.sites ∷ []) old in
     let h = c.count-else-is_new.ensures.lines in
-    let kept = sites-kept c.args.self.now.lines c.in_ok-line.line h.0 h.1 in
+    let kept = sites-kept c.args.self.now.lines c.in_ok-line.line c.args.group.count h.0 h.1 in
     ap (λ s. s.keys) c.count-else-is_new.ensures.index ∙ same ∙ c.requires.gathered ∙ sym kept ∙ ap (map line_sites) (sym h.2)
 
 pub returns-else-is_new-clause-adds : goal.returns-else-is_new-clause-adds

@@ -1,5 +1,6 @@
 use Rattle.std.proofs.Common.{sym, arith}
-use Rattle.wm_races.proofs.ReportLemmas.{count-le, get_inside}
+use Rattle.wm_races.proofs.ListLemmas.{get_inside}
+use Rattle.wm_races.proofs.ReportLemmas.{count-le}
 use Rattle.wm_races.proofs.report.Report.count.Goals as goal
 
 pub overflow_add-race : goal.overflow_add-race

@@ -1,0 +1,14 @@
+use Rattle.std.proofs.Common.{◌-◌, ◌≡◌, ◌<◌, ◌≤◌, ℕ, Some, length, slice_get}
+use Rattle.wm_races.proofs.part.count_below.Given as goal
+
+-- below `low` the places are lower, from `high` on they are not
+abbrev pub invariant-loop-low : goal.invariant-loop-low
+invariant-loop-low l = record {
+  order : l.low ≤ l.high;
+  bound : l.high ≤ length l.places;
+  first : (i o : ℕ) → i < l.low → slice_get l.places i ≡ Some o → o < l.place;
+  rest : (i o : ℕ) → l.high ≤ i → slice_get l.places i ≡ Some o → l.place ≤ o;
+}
+
+abbrev pub decreases-loop-low : goal.decreases-loop-low
+decreases-loop-low l = l.high - l.low

@@ -1,0 +1,177 @@
+//! The writes of a byte, parted into classes that race alike.
+ghost use Rattle.std.specs.Prelude.{◌≡◌, ◌↔◌, IfOk, IfSome, IsTrue, Some, nat_eq};
+ghost use Rattle.indexmap.specs.IndexMap.{get};
+ghost use Rattle.wm_event.specs.Writes.{writes_from};
+ghost use Rattle.wm_races.specs.Bounds.{Rises};
+ghost use Rattle.wm_races.specs.Classes.{AreClasses, AreMembers, AreOfSites, HasClassSites, HasClasses, HasKind, kind_of as spec_kind_of};
+ghost use Rattle.wm_races.specs.Report.{HasSites};
+
+use crate::begins::Begins;
+use crate::pair::key_at;
+use crate::site::{Site, site_of};
+use crate::window::FEW;
+use indexmap::IndexMap;
+use std::alloc::{AllocError, Global};
+use wm_event::{ByteWrite, Candidate, EventId, Range};
+use wm_list::List;
+
+/// How many classes a byte has at most: where there would be more, its writes are taken one by one.
+const MANY: usize = 32;
+
+/// What the events of a class have in common.
+#[derive(Clone, Copy, PartialEq, Eq)]
+pub(crate) struct Kind {
+    pub thread: u32,
+    pub site: Site,
+    pub range: Range,
+    pub atomic: bool,
+}
+
+/// The writes of a byte by events of one kind.
+#[derive(Drop)]
+pub(crate) struct Class {
+    pub kind: Kind,
+    /// Where they stand in the order.
+    pub places: List<usize>,
+}
+
+/// The classes of the bytes that many events write.
+#[derive(Drop)]
+pub(crate) struct ClassTable {
+    of_byte: IndexMap<u64, List<Class>>,
+}
+
+/// Whether two kinds are one.
+fn is_same(first: Kind, second: Kind) -> bool
+    ensures { IsTrue result ↔ (first ≡ second) }
+{
+    first == second
+}
+
+/// The kind of the event at a place.
+fn kind_of(candidate: &Candidate, sites: &[List<Site>], place: usize) -> Option<Kind>
+    requires { HasSites candidate.now.log sites.now }
+    ensures { result ≡ spec_kind_of candidate.now sites.now place }
+{
+    let _order = candidate.witness();
+    let key = key_at(candidate, place)?;
+    let event = candidate.event(EventId::At(key))?;
+    Some(Kind {
+        thread: key.thread,
+        site: site_of(sites, key),
+        range: event.range(),
+        atomic: event.is_atomic(),
+    })
+}
+
+/// Whether the event at a place is of a kind.
+fn is_of_kind(candidate: &Candidate, sites: &[List<Site>], kind: Kind, place: usize) -> bool
+    requires { HasSites candidate.now.log sites.now }
+    ensures { IsTrue result ↔ (spec_kind_of candidate.now sites.now place ≡ Some kind) }
+{
+    match kind_of(candidate, sites, place) {
+        Some(other) => is_same(other, kind),
+        None => false,
+    }
+}
+
+/// The places of those of some writes whose event is of a kind.
+fn members(
+    alloc: Global,
+    candidate: &Candidate,
+    sites: &[List<Site>],
+    writes: &[ByteWrite],
+    kind: Kind,
+) -> Result<List<usize>, AllocError>
+    requires sites { HasSites candidate.now.log sites.now }
+    requires rises { Rises writes.now }
+    ensures { IfOk result (AreMembers candidate.now sites.now writes.now kind) }
+{
+    let mut places = List::new(alloc);
+    for write in writes {
+        if is_of_kind(candidate, sites, kind, write.place) {
+            places.push(write.place)?;
+        }
+    }
+    Ok(places)
+}
+
+/// Whether some class is of a kind.
+fn has_kind(classes: &[Class], kind: Kind) -> bool
+    ensures { IsTrue result ↔ HasKind classes.now kind }
+{
+    for class in classes {
+        if is_same(class.kind, kind) {
+            return true;
+        }
+    }
+    false
+}
+
+/// The classes of the writes of a byte, None where they are many.
+fn classes_of(
+    alloc: Global,
+    candidate: &Candidate,
+    sites: &[List<Site>],
+    address: u64,
+) -> Result<Option<List<Class>>, AllocError>
+    requires { HasSites candidate.now.log sites.now }
+    ensures classes { IfOk result (λ found. IfSome found (AreClasses candidate.now address)) }
+    ensures sites { IfOk result (λ found. IfSome found (AreOfSites candidate.now sites.now)) }
+{
+    let _log = candidate.log();
+    let writes = candidate.byte_writes(address);
+    let mut classes = List::new(alloc);
+    for write in writes {
+        let Some(kind) = kind_of(candidate, sites, write.place) else {
+            continue;
+        };
+        if has_kind(classes.as_slice(), kind) {
+            continue;
+        }
+        if classes.len() >= MANY {
+            return Ok(None);
+        }
+        let places = members(alloc, candidate, sites, writes, kind)?;
+        classes.push(Class { kind, places })?;
+    }
+    Ok(Some(classes))
+}
+
+impl ClassTable {
+    /// The classes of each byte that many events write and at which one begins.
+    pub fn of(
+        alloc: Global,
+        candidate: &Candidate,
+        sites: &[List<Site>],
+        begins: &Begins,
+    ) -> Result<Self, AllocError>
+        requires { HasSites candidate.now.log sites.now }
+        ensures classes { IfOk result (HasClasses candidate.now) }
+        ensures sites { IfOk result (HasClassSites candidate.now sites.now) }
+    {
+        let mut of_byte = IndexMap::new(alloc);
+        for index in 0..begins.len() {
+            let Some(address) = begins.get(index) else {
+                continue;
+            };
+            if candidate.byte_writes(address).len() <= FEW {
+                continue;
+            }
+            if let Some(classes) = classes_of(alloc, candidate, sites, address)? {
+                of_byte.insert(address, classes)?;
+            }
+        }
+        Ok(ClassTable { of_byte })
+    }
+
+    /// The classes of a byte, if they are known.
+    pub fn at(&self, address: u64) -> Option<&[Class]>
+        ensures { IfSome result (λ classes. get nat_eq self.now.of_byte address ≡ Some classes.now) }
+    {
+        match self.of_byte.get(&address) {
+            Some(classes) => Some(classes.as_slice()),
+            None => None,
+        }
+    }
+}

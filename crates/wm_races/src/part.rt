@@ -1,0 +1,137 @@
+//! The part of a class of writes that races with an event.
+ghost use Rattle.std.specs.Prelude.{◌≡◌, ◌↔◌, ◌<◌, ◌≤◌, Some, IsTrue, ltb, length, slice_get};
+ghost use Rattle.wm_event.specs.Event.{is_atomic, key_of, range_of};
+ghost use Rattle.wm_event.specs.LoggedRun.{execution};
+ghost use Rattle.wm_hb.specs.Scan.{IsEventOf};
+ghost use Rattle.wm_races.specs.Classes.{IsClass, RisePlaces};
+ghost use Rattle.wm_races.specs.Parts.{AreInSequenceAt, AreParted, FindsGroup, IsBeforeAt, IsNotBeforeAt, IsPairWith, IsPart, IsWeakWith};
+ghost use Rattle.wm_races.specs.Races.{Accesses};
+
+use crate::classes::{Class, Kind};
+use crate::group::Group;
+use crate::pair::{RacingPair, key_at};
+use wm_event::Event;
+use wm_hb::HappensBefore;
+
+/// How many of the events at some places, all of them first, happen before the event at another.
+fn count_before(before: &HappensBefore, places: &[usize], place: usize) -> usize
+    requires { AreInSequenceAt before.now places.now }
+    ensures { AreParted (λ o. IsBeforeAt before.now o place) (λ o. IsNotBeforeAt before.now o place) places.now result }
+{
+    let mut low = 0usize;
+    let mut high = places.len();
+    while low < high {
+        let middle = low + (high - low) / 2;
+        if before.before_at(places[middle], place) {
+            low = middle + 1;
+        } else {
+            high = middle;
+        }
+    }
+    low
+}
+
+/// How many of the events at some places, all of them first, the event at another does not happen before.
+fn count_not_after(before: &HappensBefore, places: &[usize], place: usize) -> usize
+    requires { AreInSequenceAt before.now places.now }
+    ensures { AreParted (λ o. IsNotBeforeAt before.now place o) (λ o. IsBeforeAt before.now place o) places.now result }
+{
+    let mut low = 0usize;
+    let mut high = places.len();
+    while low < high {
+        let middle = low + (high - low) / 2;
+        if before.before_at(place, places[middle]) {
+            high = middle;
+        } else {
+            low = middle + 1;
+        }
+    }
+    low
+}
+
+/// How many of the places, all of them first, are before another.
+fn count_below(places: &[usize], place: usize) -> usize
+    requires { RisePlaces places.now }
+    ensures { AreParted (λ o. o < place) (λ o. place ≤ o) places.now result }
+{
+    let mut low = 0usize;
+    let mut high = places.len();
+    while low < high {
+        let middle = low + (high - low) / 2;
+        if places[middle] < place {
+            low = middle + 1;
+        } else {
+            high = middle;
+        }
+    }
+    low
+}
+
+/// Where the part of a class begins that races with the event at a place, and where it ends.
+fn part_of(
+    before: &HappensBefore,
+    event: &Event,
+    place: usize,
+    address: u64,
+    class: &Class,
+) -> (usize, usize)
+    requires listed { IsEventOf (execution before.now) event.now }
+    requires place { slice_get before.now.witness.order place ≡ Some (key_of event.now) }
+    requires class { IsClass before.now address class.now }
+    ensures { IsPart before.now event.now place class.now.places result.0 result.1 }
+{
+    let candidate = before.candidate();
+    let _log = candidate.log();
+    let places = class.places.as_slice();
+    let low = count_before(before, places, place);
+    if event.writes() {
+        (low, count_below(places, place))
+    } else {
+        (low, count_not_after(before, places, place))
+    }
+}
+
+/// Whether an event or those of a kind are plain, or their ranges differ.
+fn is_weak_with(event: &Event, kind: Kind) -> bool
+    ensures { IsTrue result ↔ IsWeakWith event.now kind }
+{
+    !event.is_atomic() || !kind.atomic || event.range() != kind.range
+}
+
+/// The races of the event at a place with a class of writes of a byte, if this is the first byte that both access.
+pub(crate) fn group_with(
+    before: &HappensBefore,
+    event: &Event,
+    place: usize,
+    address: u64,
+    class: &Class,
+) -> Option<Group>
+    requires listed { IsEventOf (execution before.now) event.now }
+    requires place { slice_get before.now.witness.order place ≡ Some (key_of event.now) }
+    requires byte { Accesses event.now address }
+    requires class { IsClass before.now address class.now }
+    ensures { FindsGroup before.now (IsPairWith before.now place address class.now.places) result }
+{
+    let candidate = before.candidate();
+    let _log = candidate.log();
+    let kind = class.kind;
+    if address != u64::from(event.address.max(kind.range.address)) || !is_weak_with(event, kind) {
+        return None;
+    }
+    let (low, high) = part_of(before, event, place, address, class);
+    if high <= low {
+        return None;
+    }
+    let first = class.places.as_slice()[low];
+    match key_at(candidate, first) {
+        Some(write) => Some(Group {
+            pair: RacingPair {
+                event: event.key(),
+                write,
+            },
+            place: first,
+            count: (high - low) as u64,
+        }),
+        None => None,
+    }
+}
