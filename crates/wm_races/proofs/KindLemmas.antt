@@ -1,5 +1,5 @@
 -- The classes of a byte's writes by their kinds.
-use Rattle.std.proofs.Common.{◌≡◌, ◌≢◌, ℕ, ◌+◌, ◌<◌, ◌≤◌, List, [], ◌∷◌, ◌++◌, Option, None, Some, IsSome, length, slice_get, Bool, true, false, cond, eqb, refl, sym, ap, ◌∙◌, subst, arith, ◌⊎◌, inl, inr, ⊎_elim}
+use Rattle.std.proofs.Common.{◌≡◌, ℕ, ◌+◌, ◌<◌, ◌≤◌, List, [], ◌∷◌, ◌++◌, Option, None, Some, IsSome, length, slice_get, Bool, true, false, cond, eqb, refl, sym, ap, ◌∙◌, subst, arith, ◌⊎◌, inl, inr, ⊎_elim}
 use Rattle.std.specs.Option.{option_map}
 use Rattle.std.specs.Prelude.{option_and_then}
 use Rattle.std.proofs.lemmas.Bool.{cases_lt, eqb-true, false≢true}
@@ -14,7 +14,7 @@ use Rattle.wm_event.specs.Shape.{ListsEachOnce}
 use Rattle.wm_event.specs.Writes.{writes_byte, writes_from}
 use Rattle.wm_event.proofs.WritesLemmas.{write_listed}
 use Rattle.wm_races.specs.Bounds.{Rises}
-use Rattle.wm_races.specs.Classes.{AreClasses, AreKinds, AreMembers, AreOfSites, HasKind, IsListed, IsMember, RisePlaces, kind_in, kind_of}
+use Rattle.wm_races.specs.Classes.{AreClasses, AreKinds, AreMembers, AreOfSites, HasKind, IsListed, RisePlaces, kind_in, kind_of}
 use Rattle.wm_races.specs.Report.{site_at}
 use Rattle.wm_races.specs.declared.classes.Class.{Class}
 use Rattle.wm_races.specs.declared.classes.Kind.{Kind}

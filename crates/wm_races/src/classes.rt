@@ -1,7 +1,6 @@
 //! The writes of a byte, parted into classes that race alike.
 ghost use Rattle.std.specs.Prelude.{◌≡◌, ◌↔◌, IfOk, IfSome, IsTrue, Some, nat_eq};
 ghost use Rattle.indexmap.specs.IndexMap.{get};
-ghost use Rattle.wm_event.specs.Writes.{writes_from};
 ghost use Rattle.wm_races.specs.Bounds.{Rises};
 ghost use Rattle.wm_races.specs.Classes.{AreClasses, AreMembers, AreOfSites, HasClassSites, HasClasses, HasKind, kind_of as spec_kind_of};
 ghost use Rattle.wm_races.specs.Report.{HasSites};

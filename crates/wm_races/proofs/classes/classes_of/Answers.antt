@@ -1,8 +1,8 @@
-use Rattle.std.proofs.Common.{◌≡◌, ◌+◌, ◌<◌, ◌++◌, ◌∷◌, [], ℕ, List, length, get_or, None, Some, slice_get, sym, ap, subst, ◌∙◌, arith}
+use Rattle.std.proofs.Common.{◌≡◌, ◌+◌, ◌<◌, List, length, get_or, Some, slice_get, sym, ap, subst, ◌∙◌, arith}
 use Rattle.std.proofs.lemmas.Bool.{false≢true}
 use Rattle.std.proofs.lemmas.Option.{same_Some, slice_get-get_or}
 use Rattle.wm_event.specs.declared.writes.ByteWrite.{ByteWrite}
-use Rattle.wm_event.specs.Writes.{writes_byte, writes_from}
+use Rattle.wm_event.specs.Writes.{writes_byte}
 use Rattle.wm_event.proofs.WritesLemmas.{rises_from}
 use Rattle.wm_races.specs.Bounds.{Rises}
 use Rattle.wm_races.specs.Classes.{AreKinds, HasKind, kind_of}
