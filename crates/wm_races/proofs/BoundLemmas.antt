@@ -27,7 +27,7 @@ use Rattle.wm_races.specs.Window.{AreRacingWrites}
 use Rattle.wm_races.specs.declared.pair.RacingPair.{RacingPair}
 use Rattle.wm_races.proofs.RaceLemmas.{first-written, place-is, stands}
 use Rattle.wm_races.proofs.ScanLemmas.{event-is}
-use Rattle.wm_races.proofs.ThreadLemmas.{few_passes, from_filter, in_sequence, rises_kept, thread_ids, write_among}
+use Rattle.wm_races.proofs.ThreadLemmas.{from_filter, in_sequence, rises_kept, thread_ids, write_among}
 use Rattle.wm_races.proofs.WindowLemmas.{racing_all}
 
 -- where an id is listed is inside the list
@@ -123,7 +123,6 @@ module _ (run : LoggedRun) (once : ListsEachOnce run.log run.witness.order) (e :
   racing_between a start end from to = record {
     written = λ i w key at at_key. let k = from_filter passes all i w at in whole.written k.0 w key k.1 at_key;
     rises = rises_kept passes all whole.rises;
-    few = (let f = few_passes passes all in let g = whole.few in omega (arith, f, g));
     all = λ p racing here d.
         let k = whole.all p racing here d in
         let w = k.1.0 in

@@ -1,10 +1,8 @@
 -- The races of an event at a byte, class by class.
 use Rattle.std.proofs.Common.{◌≡◌, ℕ, ◌+◌, ◌<◌, ◌≤◌, List, length, slice_get, get_or, true, Some, refl, sym, ap, ◌∙◌, subst, arith, ◌⊎◌, inl, inr, ⊎_elim}
-use Rattle.std.specs.List.{insert}
 use Rattle.std.proofs.lemmas.Bool.{cases_lt}
 use Rattle.std.proofs.lemmas.List.Sorted.{IsNonDecreasingBy-insert}
 use Rattle.std.proofs.lemmas.Option.{same_Some, slice_get-get_or, slice_get_within}
-use Rattle.wm_event.specs.declared.event.EventKey.{EventKey}
 use Rattle.wm_event.specs.LoggedRun.{LoggedRun, execution}
 use Rattle.wm_event.specs.Shape.{ListsEachOnce}
 use Rattle.wm_event.specs.Writes.{writes_byte}
@@ -12,7 +10,7 @@ use Rattle.wm_races.specs.Classes.{AreClasses, AreOfSites, IsListed}
 use Rattle.wm_races.specs.Groups.{AreGroupsOf, ArePlaced, Inserts, IsAtByte, RiseInPlace}
 use Rattle.wm_races.specs.Listing.{write_place}
 use Rattle.wm_races.specs.Parts.{IsGroupOf, IsPairWith}
-use Rattle.wm_races.specs.Races.{IsRacingPair, first_common}
+use Rattle.wm_races.specs.Races.{IsRacingPair}
 use Rattle.wm_races.specs.Report.{pair_sites, site_at}
 use Rattle.wm_races.specs.declared.classes.Class.{Class}
 use Rattle.wm_races.specs.declared.group.Group.{Group}

@@ -1,9 +1,9 @@
 -- The races of an event with a class of writes.
-use Rattle.std.proofs.Common.{◌≡◌, ◌≢◌, ℕ, ◌+◌, ◌-◌, ◌<◌, ◌≤◌, List, [], true, false, length, map, max, slice_get, get_or, take, drop, Some, None, refl, sym, ap, ◌∙◌, subst, arith, ◌⊎◌, inl, inr, ⊎_elim}
+use Rattle.std.proofs.Common.{◌≡◌, ◌≢◌, ℕ, ◌+◌, ◌-◌, ◌<◌, ◌≤◌, List, true, false, map, max, slice_get, get_or, take, drop, Some, None, refl, sym, ap, ◌∙◌, subst, arith, ◌⊎◌, inl, inr, ⊎_elim}
 use Rattle.std.specs.Option.{option_map}
 use Rattle.std.proofs.lemmas.Bool.{cases_lt, false≢true}
 use Rattle.std.proofs.lemmas.List.{length-map}
-use Rattle.std.proofs.lemmas.Option.{get_or_from_slice_get, same_Some, slice_get-map, slice_get_within}
+use Rattle.std.proofs.lemmas.Option.{get_or_from_slice_get, same_Some, slice_get-map}
 use Rattle.wm_event.specs.declared.event.Event.{Event}
 use Rattle.wm_event.specs.declared.event.EventKey.{EventKey}
 use Rattle.wm_event.specs.declared.event.EventId.TheVariants.{At}
@@ -15,15 +15,13 @@ use Rattle.wm_event.specs.Log.{HasKeys, event_in}
 use Rattle.wm_event.specs.LoggedRun.{LoggedRun, execution}
 use Rattle.wm_event.specs.Rules.{KeepsOrder}
 use Rattle.wm_event.specs.Shape.{ListsEachOnce}
-use Rattle.wm_event.specs.Writes.{writes_byte}
 use Rattle.wm_hb.specs.Steps.{StandsAt}
-use Rattle.wm_races.specs.Classes.{IsClass, IsListed, IsMember}
-use Rattle.wm_races.specs.Listing.{IsNamed, IsPairAt, write_place}
+use Rattle.wm_races.specs.Classes.{IsClass, IsMember}
+use Rattle.wm_races.specs.Listing.{IsPairAt, write_place}
 use Rattle.wm_races.specs.Parts.{AreInSequenceAt, AreParted, IsBeforeAt, IsGroupOf, IsNotBeforeAt, IsPairWith, IsPart, IsUnorderedAt, IsWeakWith}
-use Rattle.wm_races.specs.Races.{Accesses, IsRacingPair, IsUnordered, IsWeak}
+use Rattle.wm_races.specs.Races.{Accesses, IsRacingPair, IsUnordered}
 use Rattle.wm_races.specs.Races.ComesBefore.{by_write}
 use Rattle.wm_races.specs.declared.classes.Class.{Class}
-use Rattle.wm_races.specs.declared.group.Group.{Group}
 use Rattle.wm_races.specs.declared.pair.RacingPair.{RacingPair}
 use Rattle.wm_races.proofs.ListLemmas.{get-part, part-get, part-length}
 use Rattle.wm_races.proofs.RaceLemmas.{IsMet, Meets, met-pair, pair-met, place-is, there_writes}

@@ -10,10 +10,10 @@ use Rattle.std.proofs.lemmas.Option.{same_Some, slice_get_within}
 use Rattle.wm_event.specs.Execution.{Execution}
 use Rattle.wm_event.specs.LoggedRun.{LoggedRun, execution}
 use Rattle.wm_event.specs.Shape.{ListsEachOnce}
-use Rattle.wm_races.specs.Groups.{AreGroupsOf, AreInOrder, ArePlaced, Gathers, Inserts, IsAtByte, IsCovered, IsNoLater, count_between, size_of}
-use Rattle.wm_races.specs.Listing.{Lists, event_place, write_place}
+use Rattle.wm_races.specs.Groups.{AreGroupsOf, AreInOrder, ArePlaced, Gathers, Inserts, IsAtByte, IsNoLater, count_between, size_of}
+use Rattle.wm_races.specs.Listing.{Lists, write_place}
 use Rattle.wm_races.specs.Parts.{IsGroupOf}
-use Rattle.wm_races.specs.Races.{ComesBefore, IsIn, IsRacingPair, first_common}
+use Rattle.wm_races.specs.Races.{ComesBefore, IsIn, IsRacingPair}
 use Rattle.wm_races.specs.Races.ComesBefore.{by_event, by_byte, by_write}
 use Rattle.wm_races.specs.Report.{has_sites, pair_sites, same_site}
 use Rattle.wm_races.specs.declared.group.Group.{Group}

@@ -1,9 +1,10 @@
 -- The classes of a byte's writes by their kinds.
-use Rattle.std.proofs.Common.{◌≡◌, ◌≢◌, ℕ, ◌+◌, ◌<◌, ◌≤◌, List, [], ◌∷◌, ◌++◌, Option, None, Some, IsSome, length, slice_get, Bool, true, false, cond, eqb, refl, sym, ap, ◌∙◌, subst, arith, ◌⊎◌, inl, inr, ⊎_elim}
+use Rattle.std.proofs.Common.{◌≡◌, ℕ, ◌+◌, ◌<◌, ◌≤◌, List, [], ◌∷◌, ◌++◌, Option, None, Some, IsSome, length, get_or, slice_get, Bool, true, false, cond, eqb, refl, sym, ap, ◌∙◌, subst, arith, ◌⊎◌, inl, inr, ⊎_elim}
 use Rattle.std.specs.Option.{option_map}
 use Rattle.std.specs.Prelude.{option_and_then}
 use Rattle.std.proofs.lemmas.Bool.{cases_lt, eqb-true, false≢true}
-use Rattle.std.proofs.lemmas.Option.{same_Some, slice_get_within}
+use Rattle.std.proofs.lemmas.List.{length-append}
+use Rattle.std.proofs.lemmas.Option.{same_Some, slice_get-get_or, slice_get_within}
 use Rattle.wm_event.specs.declared.event.Event.{Event}
 use Rattle.wm_event.specs.declared.event.EventKey.{EventKey}
 use Rattle.wm_event.specs.declared.writes.ByteWrite.{ByteWrite}
@@ -14,7 +15,7 @@ use Rattle.wm_event.specs.Shape.{ListsEachOnce}
 use Rattle.wm_event.specs.Writes.{writes_byte, writes_from}
 use Rattle.wm_event.proofs.WritesLemmas.{write_listed}
 use Rattle.wm_races.specs.Bounds.{Rises}
-use Rattle.wm_races.specs.Classes.{AreClasses, AreKinds, AreMembers, AreOfSites, HasKind, IsListed, IsMember, RisePlaces, kind_in, kind_of}
+use Rattle.wm_races.specs.Classes.{AreClasses, AreKinds, AreMembers, AreOfSites, IsAmong, IsListed, RisePlaces, kind_in, kind_of}
 use Rattle.wm_races.specs.Report.{site_at}
 use Rattle.wm_races.specs.declared.classes.Class.{Class}
 use Rattle.wm_races.specs.declared.classes.Kind.{Kind}
@@ -91,17 +92,15 @@ module _ (run : LoggedRun) (sites : List (List Site)) (writes : List ByteWrite) 
 
   pub kinds_none : AreKinds run sites writes 0 []
   kinds_none = record {
-    each = λ n c at. absurd (cc (at));
-    apart = λ m n c d at_c at_d same. absurd (cc (at_c));
+    once = λ m n kind at_m at_n. absurd (cc (at_m));
     all = λ k w kind l at is. absurd (omega (arith, l));
   }
 
-  module _ (count : ℕ) (classes : List Class) (w : ByteWrite) (at_w : slice_get writes count ≡ Some w) (are : AreKinds run sites writes count classes) where
+  module _ (count : ℕ) (kinds : List Kind) (w : ByteWrite) (at_w : slice_get writes count ≡ Some w) (are : AreKinds run sites writes count kinds) where
     -- the kind of the next write is known, or it has none
-    pub kinds_known : ((kind : Kind) → kind_of run sites w.place ≡ Some kind → HasKind classes kind) → AreKinds run sites writes (count + 1) classes
+    pub kinds_known : ((kind : Kind) → kind_of run sites w.place ≡ Some kind → IsAmong kinds kind) → AreKinds run sites writes (count + 1) kinds
     kinds_known known = record {
-      each = are.each;
-      apart = are.apart;
+      once = are.once;
       all = λ k v kind l at is. ⊎_elim
           (λ (h : k < count). are.all k v kind h at is)
           (λ (h : count ≤ k).
@@ -111,35 +110,58 @@ module _ (run : LoggedRun) (sites : List (List Site)) (writes : List ByteWrite) 
           (cases_lt k count);
     }
 
-    -- it begins a class
-    pub kinds_more : (kind : Kind) (places : List ℕ) → kind_of run sites w.place ≡ Some kind → (HasKind classes kind → ⊥) → AreMembers run sites writes kind places
-        → AreKinds run sites writes (count + 1) (classes ++ record { kind = kind; places = places } ∷ [])
-    kinds_more kind places is new members = record {
-      each = λ n c at. ⊎_elim
-          (λ (l : slice_get classes n ≡ Some c). are.each n c l)
-          (λ (r : (k : ℕ) × (n ≡ k + length classes) × (slice_get (added ∷ []) k ≡ Some c)). subst (λ (d : Class). AreMembers run sites writes d.kind d.places) (sym (get_one added r.0 c r.2).1) members)
-          (get-append classes (added ∷ []) n c at);
-      apart = λ m n c d at_c at_d same. by m n c d same (get-append classes (added ∷ []) m c at_c) (get-append classes (added ∷ []) n d at_d);
+    -- it is a new one
+    pub kinds_more : (kind : Kind) → kind_of run sites w.place ≡ Some kind → (IsAmong kinds kind → ⊥) → AreKinds run sites writes (count + 1) (kinds ++ kind ∷ [])
+    kinds_more kind is new = record {
+      once = λ m n other at_m at_n. by m n other (get-append kinds (kind ∷ []) m other at_m) (get-append kinds (kind ∷ []) n other at_n);
       all = λ k v other l at of_kind. ⊎_elim
-          (λ (h : k < count). let r = are.all k v other h at of_kind in (r.0, (r.1.0, get-left classes (added ∷ []) r.0 r.1.0 r.1.1, r.1.2)))
+          (λ (h : k < count). let r = are.all k v other h at of_kind in (r.0, get-left kinds (kind ∷ []) r.0 other r.1))
           (λ (h : count ≤ k).
           let e : k ≡ count = omega (arith, h, l) in
           let s : v ≡ w = same_Some v w (sym at ∙ ap (slice_get writes) e ∙ at_w) in
           let t : kind ≡ other = same_Some kind other (sym is ∙ ap (λ (u : ByteWrite). kind_of run sites u.place) (sym s) ∙ of_kind) in
-          (0 + length classes, (added, get-right classes (added ∷ []) (0 + length classes) 0 added refl refl, t)))
+          (0 + length kinds, get-right kinds (kind ∷ []) (0 + length kinds) 0 other refl (ap Some t)))
           (cases_lt k count);
     }
       where
-        added : Class
-        added = record { kind = kind; places = places }
+        by : (m n : ℕ) (other : Kind) → (slice_get kinds m ≡ Some other) ⊎ ((k : ℕ) × (m ≡ k + length kinds) × (slice_get (kind ∷ []) k ≡ Some other))
+            → (slice_get kinds n ≡ Some other) ⊎ ((k : ℕ) × (n ≡ k + length kinds) × (slice_get (kind ∷ []) k ≡ Some other)) → m ≡ n
+        by m n other (inl a) (inl b) = are.once m n other a b
+        by m n other (inl a) (inr b) = absurd (new (m, a ∙ ap Some (get_one kind b.0 other b.2).1))
+        by m n other (inr a) (inl b) = absurd (new (n, b ∙ ap Some (get_one kind a.0 other a.2).1))
+        by m n other (inr a) (inr b) =
+            let e = a.1 in let f = b.1 in let g = (get_one kind a.0 other a.2).0 in let h = (get_one kind b.0 other b.2).0 in omega (arith, e, f, g, h)
 
-        by : (m n : ℕ) (c d : Class) → c.kind ≡ d.kind → (slice_get classes m ≡ Some c) ⊎ ((k : ℕ) × (m ≡ k + length classes) × (slice_get (added ∷ []) k ≡ Some c))
-            → (slice_get classes n ≡ Some d) ⊎ ((k : ℕ) × (n ≡ k + length classes) × (slice_get (added ∷ []) k ≡ Some d)) → m ≡ n
-        by m n c d same (inl a) (inl b) = are.apart m n c d a b same
-        by m n c d same (inl a) (inr b) = absurd (new (m, (c, a, same ∙ ap (λ (f : Class). f.kind) (get_one added b.0 d b.2).1)))
-        by m n c d same (inr a) (inl b) = absurd (new (n, (d, b, sym same ∙ ap (λ (f : Class). f.kind) (get_one added a.0 c a.2).1)))
-        by m n c d same (inr a) (inr b) =
-            let e = a.1 in let f = b.1 in let g = (get_one added a.0 c a.2).0 in let h = (get_one added b.0 d b.2).0 in omega (arith, e, f, g, h)
+  pub kinds_all : (count : ℕ) (kinds : List Kind) → length writes ≤ count → AreKinds run sites writes count kinds → AreKinds run sites writes (length writes) kinds
+  kinds_all count kinds all are = record {
+    once = are.once;
+    all = λ k w kind l at is. are.all k w kind (omega (arith, l, all)) at is;
+  }
+
+  -- the classes of the first of some kinds
+  pub record AreFirstClasses (kinds : List Kind) (count : ℕ) (classes : List Class) : Type 0 where
+    pub size : length classes ≡ count
+    pub each : (n : ℕ) (c : Class) → slice_get classes n ≡ Some c → (slice_get kinds n ≡ Some c.kind) × AreMembers run sites writes c.kind c.places
+
+  pub first_none : (kinds : List Kind) → AreFirstClasses kinds 0 []
+  first_none kinds = record {
+    size = refl;
+    each = λ n c at. absurd (cc (at));
+  }
+
+  pub first_more : (kinds : List Kind) (count : ℕ) (classes : List Class) (kind : Kind) (places : List ℕ) → slice_get kinds count ≡ Some kind → AreMembers run sites writes kind places
+      → AreFirstClasses kinds count classes → AreFirstClasses kinds (count + 1) (classes ++ record { kind = kind; places = places } ∷ [])
+  first_more kinds count classes kind places at_kind members are = record {
+    size = (let a = length-append classes (record { kind = kind; places = places } ∷ []) in let b = are.size in omega (arith, a, b));
+    each = λ n c at. ⊎_elim
+        (λ (l : slice_get classes n ≡ Some c). are.each n c l)
+        (λ (r : (k : ℕ) × (n ≡ k + length classes) × (slice_get (record { kind = kind; places = places } ∷ []) k ≡ Some c)).
+        let o = get_one (record { kind = kind; places = places }) r.0 c r.2 in
+        let i = r.1 in let j = o.0 in let k = are.size in
+        let e : n ≡ count = omega (arith, i, j, k) in
+        subst (λ (d : Class). (slice_get kinds n ≡ Some d.kind) × AreMembers run sites writes d.kind d.places) (sym o.1) (ap (slice_get kinds) e ∙ at_kind, members))
+        (get-append classes (record { kind = kind; places = places } ∷ []) n c at);
+  }
 
 -- what a kind says of the event
 pub record IsOfKind (run : LoggedRun) (sites : List (List Site)) (place : ℕ) (kind : Kind) : Type 0 where
@@ -164,10 +186,11 @@ kind_says run sites place kind h = by (slice_get run.witness.order place) refl h
     by None at h = absurd (cc (h))
     by (Some key) at h = with_event key at (event_in run.log key) refl h
 
-module _ (run : LoggedRun) (sites : List (List Site)) (once : ListsEachOnce run.log run.witness.order) (a count : ℕ) (classes : List Class)
-    (all : length (writes_from run.log a 0 run.witness.order) ≤ count) (are : AreKinds run sites (writes_from run.log a 0 run.witness.order) count classes) where
+module _ (run : LoggedRun) (sites : List (List Site)) (once : ListsEachOnce run.log run.witness.order) (a : ℕ) (kinds : List Kind) (count : ℕ) (classes : List Class)
+    (of_writes : AreKinds run sites (writes_from run.log a 0 run.witness.order) (length (writes_from run.log a 0 run.witness.order)) kinds)
+    (all : length kinds ≤ count) (are : AreFirstClasses run sites (writes_from run.log a 0 run.witness.order) kinds count classes) where
   its_kind : (n o : ℕ) (c : Class) → slice_get classes n ≡ Some c → IsListed c.places o → kind_of run sites o ≡ Some c.kind
-  its_kind n o c at (i, at_o) = let s = (are.each n c at).sound i o at_o in s.1.3
+  its_kind n o c at (i, at_o) = let s = (are.each n c at).1.sound i o at_o in s.1.3
 
   pub of_sites : AreOfSites run sites classes
   of_sites n o c key at listed at_key =
@@ -179,7 +202,7 @@ module _ (run : LoggedRun) (sites : List (List Site)) (once : ListsEachOnce run.
   are_classes = record {
     each = λ n c at. record {
       members = λ i o at_o.
-          let m = (are.each n c at).sound i o at_o in
+          let m = (are.each n c at).1.sound i o at_o in
           let s = kind_says run sites o c.kind m.1.3 in
           record {
             key = s.key;
@@ -191,9 +214,11 @@ module _ (run : LoggedRun) (sites : List (List Site)) (once : ListsEachOnce run.
             range = ap (λ (k : Kind). k.range) s.is;
             atomic = ap (λ (k : Kind). k.atomic) s.is;
           };
-      rises = (are.each n c at).rises;
+      rises = (are.each n c at).1.rises;
     };
-    apart = λ m n o c d at_c at_d in_c in_d. are.apart m n c d at_c at_d (same_Some c.kind d.kind (sym (its_kind m o c at_c in_c) ∙ its_kind n o d at_d in_d));
+    apart = λ m n o c d at_c at_d in_c in_d.
+        let same : c.kind ≡ d.kind = same_Some c.kind d.kind (sym (its_kind m o c at_c in_c) ∙ its_kind n o d at_d in_d) in
+        of_writes.once m n d.kind ((are.each m c at_c).0 ∙ ap Some same) (are.each n d at_d).0;
     all = λ o key at written.
         let w = write_listed (writes_byte run.log a) a 0 run.witness.order o key at written in
         let k = w.0 in
@@ -204,10 +229,16 @@ module _ (run : LoggedRun) (sites : List (List Site)) (once : ListsEachOnce run.
         ap (option_and_then (kind_in run.log sites)) at ∙ ap (option_map (λ (e : Event). record { thread = key.thread; site = site_at sites key; range = range_of e; atomic = is_atomic e })) there.1 in
         let within = slice_get_within (writes_from run.log a 0 run.witness.order) k (record { address = a; place = 0 + o }) w.1 in
         let is_there : kind_of run sites (0 + o) ≡ Some kind = ap (kind_of run sites) place ∙ is in
-        let has = are.all k (record { address = a; place = 0 + o }) kind (omega (arith, within, all)) w.1 is_there in
-        let c = has.1.0 in
-        let listed = (are.each has.0 c has.1.1).complete k (record { address = a; place = 0 + o }) w.1 (is_there ∙ ap Some (sym has.1.2)) in
-        (has.0, (c, has.1.1, (listed.0, listed.1 ∙ ap Some place)));
+        let has = of_writes.all k (record { address = a; place = 0 + o }) kind within w.1 is_there in
+        let inside = slice_get_within kinds has.0 kind has.1 in
+        let size = are.size in
+        let d : Class = record { kind = kind; places = [] } in
+        let c = get_or classes has.0 d in
+        let at_c : slice_get classes has.0 ≡ Some c = slice_get-get_or classes has.0 d (omega (arith, inside, size, all)) in
+        let each = are.each has.0 c at_c in
+        let same : c.kind ≡ kind = same_Some c.kind kind (sym each.0 ∙ has.1) in
+        let listed = each.1.complete k (record { address = a; place = 0 + o }) w.1 (is_there ∙ ap Some (sym same)) in
+        (has.0, (c, at_c, (listed.0, listed.1 ∙ ap Some place)));
   }
     where
       event_there : (o : Option Event) → IsSome o → (e : Event) × (o ≡ Some e)

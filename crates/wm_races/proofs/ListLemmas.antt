@@ -62,14 +62,6 @@ module _ {X : Type 0} (p : X → Bool) where
   none-find [] none = refl
   none-find (x ∷ xs) none = ap (λ b. cond b (Some x) (find p xs)) (none 0 x refl) ∙ none-find xs (λ n y h. none (suc n) y h)
 
-  pub none-count : (xs : List X) → NonePass xs → count_by p xs ≡ 0
-  none-count [] none = refl
-  none-count (x ∷ xs) none = sum_by-cons (λ x. cond (p x) 1 0) x xs ∙ ap (λ b. cond b 1 0 + count_by p xs) (none 0 x refl) ∙ (let e = none-count xs (λ n y h. none (suc n) y h) in omega (arith, e))
-
-  pub none-position : (xs : List X) → NonePass xs → position_or_len p xs ≡ length xs
-  none-position [] none = refl
-  none-position (x ∷ xs) none = ap (λ b. cond (not b) (1 + position_or_len p xs) 0) (none 0 x refl) ∙ (let e = none-position xs (λ n y h. none (suc n) y h) in omega (arith, e))
-
   by_test : (b : Bool) (P : Bool → Type 0) → P true → P false → P b
   by_test true P passes fails = passes
   by_test false P passes fails = fails

@@ -37,15 +37,6 @@ IsBelowByte run place byte p = (event_place run p ≡ place) × (first_common (e
 abbrev pub IsOfWrites : LoggedRun → ℕ → ℕ → List ByteWrite → ℕ → RacingPair → Type 0
 IsOfWrites run place byte writes count p = IsAtByte run place byte p × IsAmong writes count (write_place run p)
 
-pub few_listed : (p : EventKey → Bool) (a n : ℕ) (keys : List EventKey) → length (listed_from p a n keys) ≤ length keys
-few_listed p a n [] = omega arith
-few_listed p a n (key ∷ keys) = one (p key) (few_listed p a (n + 1) keys)
-  where
-    one : (b : Bool) → length (listed_from p a (n + 1) keys) ≤ length keys
-        → length (if b then record { address = a; place = n } ∷ listed_from p a (n + 1) keys else listed_from p a (n + 1) keys) ≤ length (key ∷ keys)
-    one true h = omega arith
-    one false h = omega arith
-
 -- a listed write is by an event that passes the test
 listed-by : (p : EventKey → Bool) (a n : ℕ) (keys : List EventKey) (i : ℕ) (w : ByteWrite) → slice_get (listed_from p a n keys) i ≡ Some w
     → (m : ℕ) × ((key : EventKey) × (w.place ≡ m + n) × (slice_get keys m ≡ Some key) × (p key ≡ true))

@@ -59,15 +59,6 @@ rises_kept p (y ∷ ys) rises i j a b l at_a at_b = one (p y) i j l at_a at_b (r
     one true (suc i) (suc j) l at_a at_b h = h i j a b (omega arith) at_a at_b
     one false i j l at_a at_b h = h i j a b l at_a at_b
 
--- no more pass than there are
-pub few_passes : {X : Type 0} (p : X → Bool) (xs : List X) → length (filter p xs) ≤ length xs
-few_passes p [] = omega arith
-few_passes {X} p (x ∷ xs) = one (p x) (few_passes p xs)
-  where
-    one : (b : Bool) → length (filter p xs) ≤ length xs → length (if b then x ∷ filter p xs else filter p xs) ≤ length (x ∷ xs)
-    one true h = omega arith
-    one false h = omega arith
-
 -- happens-before is transitive
 pub before_join : (x : Execution) (a b c : EventId) → HappensBefore x a b → HappensBefore x b c → HappensBefore x a c
 before_join x a b c h k = (h.0 ++ b ∷ k.0, join h.0 a h.1)

@@ -14,14 +14,13 @@ use Rattle.wm_races.specs.Window.{AreRacingWrites, HasBegins, IsAmongBegins}
 use Rattle.wm_races.specs.declared.begins.Begins.{Begins}
 use Rattle.wm_races.specs.declared.pair.RacingPair.{RacingPair}
 use Rattle.wm_races.proofs.RaceLemmas.{first-is, first-written, stands}
-use Rattle.wm_races.proofs.ScanLemmas.{event-is, few_listed, listed-writes}
+use Rattle.wm_races.proofs.ScanLemmas.{event-is, listed-writes}
 
 -- all writes of a byte are such
 pub racing_all : (run : LoggedRun) → ListsEachOnce run.log run.witness.order → (j a : ℕ) → AreRacingWrites run j a (writes_from run.log a 0 run.witness.order)
 racing_all run once j a = record {
   written = λ i w key at at_key. listed-writes run.log a run.witness.order i w key at at_key;
   rises = λ m n v w l at_v at_w. rises_from (writes_byte run.log a) a 0 run.witness.order m n v w l at_v at_w;
-  few = few_listed (writes_byte run.log a) a 0 run.witness.order;
   all = λ p racing here d.
       let n = write_place run p in
       let at : slice_get run.witness.order n ≡ Some p.write = stands run once p.write racing.race.second n racing.race.is_second refl in
@@ -47,7 +46,6 @@ module _ (run : LoggedRun) (once : ListsEachOnce run.log run.witness.order) (e :
   racing_none begins a has other none = record {
     written = λ i w key at at_key. absurd (nothing i w at);
     rises = λ m n v w l at_v at_w. absurd (nothing m v at_v);
-    few = omega arith;
     all = λ p racing here d.
         let there = has p.write racing.race.second racing.race.is_second racing.write in
         absurd (none (subst (IsAmongBegins begins) (sym (begins_there a other p racing here d)) there));

@@ -40,16 +40,15 @@ pub record AreMembers (run : LoggedRun) (sites : List (List Site)) (writes : Lis
   pub complete : (k : ℕ) (w : ByteWrite) → slice_get writes k ≡ Some w → kind_of run sites w.place ≡ Some kind → IsListed places w.place
   pub rises : RisePlaces places
 
--- a class is of this kind
-abbrev pub HasKind : List Class → Kind → Type 0
-HasKind classes kind = (n : ℕ) × ((c : Class) × (slice_get classes n ≡ Some c) × (c.kind ≡ kind))
+-- the kind is in the list
+abbrev pub IsAmong : List Kind → Kind → Type 0
+IsAmong kinds kind = (n : ℕ) × (slice_get kinds n ≡ Some kind)
 
--- the classes of the first of some writes
-pub record AreKinds (run : LoggedRun) (sites : List (List Site)) (writes : List ByteWrite) (count : ℕ) (classes : List Class) : Type 0 where
-  pub each : (n : ℕ) (c : Class) → slice_get classes n ≡ Some c → AreMembers run sites writes c.kind c.places
-  pub apart : (m n : ℕ) (c d : Class) → slice_get classes m ≡ Some c → slice_get classes n ≡ Some d → c.kind ≡ d.kind → m ≡ n
+-- the kinds of the first of some writes, each once
+pub record AreKinds (run : LoggedRun) (sites : List (List Site)) (writes : List ByteWrite) (count : ℕ) (kinds : List Kind) : Type 0 where
+  pub once : (m n : ℕ) (kind : Kind) → slice_get kinds m ≡ Some kind → slice_get kinds n ≡ Some kind → m ≡ n
   pub all : (k : ℕ) (w : ByteWrite) (kind : Kind) → k < count → slice_get writes k ≡ Some w → kind_of run sites w.place ≡ Some kind
-      → HasKind classes kind
+      → IsAmong kinds kind
 
 -- a write of the byte by an event of this thread and range, atomic or not as said
 pub record IsMember (run : LoggedRun) (byte : ℕ) (kind : Kind) (place : ℕ) : Type 0 where

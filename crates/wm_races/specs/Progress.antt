@@ -1,5 +1,5 @@
 -- A report of the events before a place of the order.
-use Rattle.std.specs.Prelude.{◌≡◌, ℕ, ◌*◌, ◌<◌, ◌≤◌, List, length, sum_by}
+use Rattle.std.specs.Prelude.{◌≡◌, ℕ, ◌*◌, ◌<◌, ◌≤◌, List, sum_by}
 use Rattle.wm_event.specs.Limits.{max_events}
 use Rattle.wm_event.specs.LoggedRun.{LoggedRun}
 use Rattle.wm_races.specs.Gathering.{IsGathered, IsGroupReport, count_of}

@@ -1,5 +1,5 @@
 -- Which writes of a byte may race with an event.
-use Rattle.std.specs.Prelude.{◌≡◌, ℕ, ◌<◌, ◌≤◌, List, Some, IsTrue, length, nat_eq, slice_get, true}
+use Rattle.std.specs.Prelude.{◌≡◌, ℕ, ◌<◌, List, Some, IsTrue, nat_eq, slice_get, true}
 use Rattle.std.specs.HashSet.{contains}
 use Rattle.wm_event.specs.declared.event.Event.{Event}
 use Rattle.wm_event.specs.declared.event.EventKey.{EventKey}
@@ -30,6 +30,5 @@ pub record AreRacingWrites (run : LoggedRun) (place byte : ℕ) (writes : List B
   pub written : (i : ℕ) (w : ByteWrite) (key : EventKey) → slice_get writes i ≡ Some w → slice_get run.witness.order w.place ≡ Some key
       → writes_byte run.log byte key ≡ true
   pub rises : (i j : ℕ) (v w : ByteWrite) → i < j → slice_get writes i ≡ Some v → slice_get writes j ≡ Some w → v.place < w.place
-  pub few : length writes ≤ length run.witness.order
   pub all : (p : RacingPair) → IsRacingPair (execution run) p → event_place run p ≡ place → first_common (execution run) p ≡ byte
       → IsWriteAt writes (write_place run p)

@@ -1,9 +1,8 @@
 //! The writes of a byte, parted into classes that race alike.
-ghost use Rattle.std.specs.Prelude.{◌≡◌, ◌↔◌, IfOk, IfSome, IsTrue, Some, nat_eq};
+ghost use Rattle.std.specs.Prelude.{◌≡◌, ◌↔◌, IfOk, IfSome, IsTrue, Some, length, nat_eq};
 ghost use Rattle.indexmap.specs.IndexMap.{get};
-ghost use Rattle.wm_event.specs.Writes.{writes_from};
 ghost use Rattle.wm_races.specs.Bounds.{Rises};
-ghost use Rattle.wm_races.specs.Classes.{AreClasses, AreMembers, AreOfSites, HasClassSites, HasClasses, HasKind, kind_of as spec_kind_of};
+ghost use Rattle.wm_races.specs.Classes.{AreClasses, AreKinds, AreMembers, AreOfSites, HasClassSites, HasClasses, IsAmong, kind_of as spec_kind_of};
 ghost use Rattle.wm_races.specs.Report.{HasSites};
 
 use crate::begins::Begins;
@@ -16,7 +15,7 @@ use wm_event::{ByteWrite, Candidate, EventId, Range};
 use wm_list::List;
 
 /// How many classes a byte has at most: where there would be more, its writes are taken one by one.
-const MANY: usize = 32;
+const MANY: usize = 128;
 
 /// What the events of a class have in common.
 #[derive(Clone, Copy, PartialEq, Eq)]
@@ -96,16 +95,42 @@ fn members(
     Ok(places)
 }
 
-/// Whether some class is of a kind.
-fn has_kind(classes: &[Class], kind: Kind) -> bool
-    ensures { IsTrue result ↔ HasKind classes.now kind }
+/// Whether a kind is among some.
+fn has_kind(kinds: &[Kind], kind: Kind) -> bool
+    ensures { IsTrue result ↔ IsAmong kinds.now kind }
 {
-    for class in classes {
-        if is_same(class.kind, kind) {
+    for other in kinds {
+        if is_same(*other, kind) {
             return true;
         }
     }
     false
+}
+
+/// The kinds of the events of some writes, each once, None where they are many.
+fn kinds_of(
+    alloc: Global,
+    candidate: &Candidate,
+    sites: &[List<Site>],
+    writes: &[ByteWrite],
+) -> Result<Option<List<Kind>>, AllocError>
+    requires { HasSites candidate.now.log sites.now }
+    ensures { IfOk result (λ found. IfSome found (AreKinds candidate.now sites.now writes.now (length writes.now))) }
+{
+    let mut kinds = List::new(alloc);
+    for write in writes {
+        let Some(kind) = kind_of(candidate, sites, write.place) else {
+            continue;
+        };
+        if has_kind(kinds.as_slice(), kind) {
+            continue;
+        }
+        if kinds.len() >= MANY {
+            return Ok(None);
+        }
+        kinds.push(kind)?;
+    }
+    Ok(Some(kinds))
 }
 
 /// The classes of the writes of a byte, None where they are many.
@@ -121,19 +146,16 @@ fn classes_of(
 {
     let _log = candidate.log();
     let writes = candidate.byte_writes(address);
+    let Some(kinds) = kinds_of(alloc, candidate, sites, writes)? else {
+        return Ok(None);
+    };
     let mut classes = List::new(alloc);
-    for write in writes {
-        let Some(kind) = kind_of(candidate, sites, write.place) else {
-            continue;
-        };
-        if has_kind(classes.as_slice(), kind) {
-            continue;
-        }
-        if classes.len() >= MANY {
-            return Ok(None);
-        }
-        let places = members(alloc, candidate, sites, writes, kind)?;
-        classes.push(Class { kind, places })?;
+    for kind in kinds.as_slice() {
+        let places = members(alloc, candidate, sites, writes, *kind)?;
+        classes.push(Class {
+            kind: *kind,
+            places,
+        })?;
     }
     Ok(Some(classes))
 }

@@ -3,7 +3,7 @@ ghost use Rattle.std.specs.Prelude.{◌≡◌, OnOk, ltb};
 ghost use Rattle.wm_races.specs.Groups.{Inserts, RiseInPlace};
 
 use crate::pair::RacingPair;
-use std::alloc::{AllocError, Global};
+use std::alloc::AllocError;
 
 /// Races of one event with writes of one site.
 #[derive(Clone, Copy)]

@@ -1,6 +1,6 @@
 //! The part of a class of writes that races with an event.
-ghost use Rattle.std.specs.Prelude.{◌≡◌, ◌↔◌, ◌<◌, ◌≤◌, Some, IsTrue, ltb, length, slice_get};
-ghost use Rattle.wm_event.specs.Event.{is_atomic, key_of, range_of};
+ghost use Rattle.std.specs.Prelude.{◌≡◌, ◌↔◌, ◌<◌, ◌≤◌, Some, IsTrue, slice_get};
+ghost use Rattle.wm_event.specs.Event.{key_of};
 ghost use Rattle.wm_event.specs.LoggedRun.{execution};
 ghost use Rattle.wm_hb.specs.Scan.{IsEventOf};
 ghost use Rattle.wm_races.specs.Classes.{IsClass, RisePlaces};

@@ -1,4 +1,4 @@
-use Rattle.std.proofs.Common.{◌≡◌, ltb, true, false, Some, slice_get, arith, ap, sym, ◌∙◌, rules, get_or, List, length, subst}
+use Rattle.std.proofs.Common.{◌≡◌, ltb, true, false, arith, ap, sym, rules, get_or, List, length, subst}
 use Rattle.std.proofs.lemmas.Bool.{ltb-true, ltb-false}
 use Rattle.std.proofs.lemmas.List.Sorted.{IsPartitionPoint-from_clause, IsPartitionedBy-ltb}
 use Rattle.std.proofs.lemmas.Option.{get_or_from_slice_get, slice_get_within}

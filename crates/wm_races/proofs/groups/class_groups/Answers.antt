@@ -1,8 +1,7 @@
-use Rattle.std.proofs.Common.{◌≡◌, ◌+◌, ◌<◌, List, [], length, Some, slice_get, sym, ap, subst, ◌∙◌, arith}
+use Rattle.std.proofs.Common.{◌≡◌, ◌+◌, ◌<◌, length, Some, slice_get, sym, ap, subst, ◌∙◌, arith}
 use Rattle.std.proofs.lemmas.Option.{slice_get-get_or}
 use Rattle.wm_event.specs.Shape.{IsWellShaped}
 use Rattle.wm_races.specs.Groups.{AreGroupsOf, ArePlaced, RiseInPlace}
-use Rattle.wm_races.specs.declared.group.Group.{Group}
 use Rattle.wm_races.proofs.GroupLemmas.{groups_none, placed_insert}
 use Rattle.wm_races.proofs.ByteLemmas.{IsOfFirst, class_done, class_none, class_some, of_none, rises_insert}
 use Rattle.wm_races.proofs.groups.class_groups.Goals as goal

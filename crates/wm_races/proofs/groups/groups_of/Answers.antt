@@ -1,18 +1,15 @@
-use Rattle.std.proofs.Common.{◌≡◌, ◌+◌, ◌*◌, ◌<◌, ◌≤◌, ℕ, ◌++◌, [], List, Some, length, get_or, slice_get, sym, ap, subst, ◌∙◌, rules, arith}
+use Rattle.std.proofs.Common.{◌≡◌, ◌+◌, ◌*◌, ◌≤◌, ℕ, ◌++◌, List, Some, length, get_or, slice_get, sym, ap, subst, ◌∙◌, rules, arith}
 use Rattle.std.specs.Prelude.{sum_by}
 use Rattle.std.proofs.lemmas.List.Sums.{sum_by-append}
 use Rattle.std.proofs.lemmas.Option.{slice_get-get_or}
 use Rattle.std.proofs.Math.Nat.{mul-le-mul_right}
-use Rattle.wm_event.specs.declared.event.Event.{Event}
 use Rattle.wm_event.specs.declared.event.EventKey.{EventKey}
 use Rattle.wm_event.specs.Event.{key_of}
 use Rattle.wm_event.specs.Log.{HasKeys, event_in}
 use Rattle.wm_event.specs.LoggedRun.{LoggedRun}
 use Rattle.wm_event.specs.Shape.{IsWellShaped, ListsEachOnce}
-use Rattle.wm_races.specs.Classes.{HasClassSites}
 use Rattle.wm_races.specs.Groups.{AreGroupsOf, IsAtByte, size_of}
 use Rattle.wm_races.specs.declared.group.Group.{Group}
-use Rattle.wm_races.specs.declared.site.Site.{Site}
 use Rattle.wm_races.proofs.GroupLemmas.{few_groups}
 use Rattle.wm_races.proofs.RaceLemmas.{named_so}
 use Rattle.wm_races.proofs.ScanLemmas.{IsBelowByte, byte_done, byte_init, byte_more, few_bytes}

@@ -1,9 +1,9 @@
-use Rattle.std.proofs.Common.{◌≡◌, ◌+◌, ◌<◌, ◌++◌, ◌∷◌, [], length, get_or, Some, slice_get, sym, ap, subst, ◌∙◌, arith}
+use Rattle.std.proofs.Common.{◌≡◌, ◌+◌, ◌<◌, length, get_or, Some, slice_get, sym, subst, arith}
 use Rattle.std.proofs.lemmas.Option.{slice_get-get_or}
 use Rattle.wm_event.specs.declared.writes.ByteWrite.{ByteWrite}
 use Rattle.wm_event.specs.Shape.{IsWellShaped}
 use Rattle.wm_races.specs.Groups.{AreGroupsOf}
-use Rattle.wm_races.proofs.GroupLemmas.{groups_none, single}
+use Rattle.wm_races.proofs.GroupLemmas.{groups_none}
 use Rattle.wm_races.proofs.ScanLemmas.{IsOfWrites, of_no_write, one-pair, write_none, write_some, writes_done}
 use Rattle.wm_races.proofs.groups.pair_groups.Goals as goal
 use Rattle.wm_races.proofs.groups.pair_groups.Goals.{in-Some+in_ok-push, in_default}

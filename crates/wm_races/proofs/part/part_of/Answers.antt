@@ -1,4 +1,4 @@
-use Rattle.std.proofs.Common.{◌≡◌, ◌<◌, ◌≤◌, ℕ, List, true, false, subst, sym, ◌∙◌}
+use Rattle.std.proofs.Common.{◌<◌, ◌≤◌, ℕ, List, subst, sym, ◌∙◌}
 use Rattle.wm_event.specs.Shape.{IsWellShaped}
 use Rattle.wm_races.specs.Parts.{AreInSequenceAt, AreParted, IsBeforeAt, IsNotBeforeAt}
 use Rattle.wm_races.proofs.ClassLemmas.{class_sequence, part_read, part_write}
