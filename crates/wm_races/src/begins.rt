@@ -1,4 +1,4 @@
-//! Where writes begin.
+//! Where writes begin, and where events do.
 ghost use Rattle.std.specs.Prelude.{◌↔◌, IfOk, IsTrue};
 ghost use Rattle.wm_races.specs.Window.{HasBegins, IsAmongBegins};
 
@@ -6,7 +6,7 @@ use indexmap::IndexSet;
 use std::alloc::{AllocError, Global};
 use wm_event::{Candidate, EventId};
 
-/// The first bytes of the ranges of a candidate's writes.
+/// The first bytes of the ranges of a candidate's writes, or of all its events.
 #[derive(Drop)]
 pub(crate) struct Begins {
     addresses: IndexSet<u64>,
@@ -28,7 +28,18 @@ impl Begins {
         Ok(Begins { addresses })
     }
 
-    /// Whether a write begins at an address.
+    /// The first byte of each event. Only the time depends on it: the classes of a table are right at any address.
+    pub fn of_events(alloc: Global, candidate: &Candidate) -> Result<Self, AllocError> {
+        let mut addresses = IndexSet::new(alloc);
+        for key in candidate.witness().order.as_slice() {
+            if let Some(event) = candidate.event(EventId::At(*key)) {
+                addresses.insert(u64::from(event.address))?;
+            }
+        }
+        Ok(Begins { addresses })
+    }
+
+    /// Whether an address is among them.
     pub fn contains(&self, address: u64) -> bool
         ensures { IsTrue result ↔ IsAmongBegins self.now address }
     {

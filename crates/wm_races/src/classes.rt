@@ -161,20 +161,20 @@ fn classes_of(
 }
 
 impl ClassTable {
-    /// The classes of each byte that many events write and at which one begins.
+    /// The classes of each byte that many events write and that is among some first bytes.
     pub fn of(
         alloc: Global,
         candidate: &Candidate,
         sites: &[List<Site>],
-        begins: &Begins,
+        firsts: &Begins,
     ) -> Result<Self, AllocError>
         requires { HasSites candidate.now.log sites.now }
         ensures classes { IfOk result (HasClasses candidate.now) }
         ensures sites { IfOk result (HasClassSites candidate.now sites.now) }
     {
         let mut of_byte = IndexMap::new(alloc);
-        for index in 0..begins.len() {
-            let Some(address) = begins.get(index) else {
+        for index in 0..firsts.len() {
+            let Some(address) = firsts.get(index) else {
                 continue;
             };
             if candidate.byte_writes(address).len() <= FEW {

@@ -72,7 +72,8 @@ pub fn races(
     let _log = candidate.log();
     let events = candidate.witness().order.len();
     let begins = Begins::of(alloc, candidate)?;
-    let table = ClassTable::of(alloc, candidate, sites, &begins)?;
+    let firsts = Begins::of_events(alloc, candidate)?;
+    let table = ClassTable::of(alloc, candidate, sites, &firsts)?;
     let mut report = Report::new(alloc);
     let mut start = 0usize;
     while start < events {
