@@ -1,4 +1,6 @@
 //! Why a memory rule is broken.
+ghost use Rattle.wm_event.specs.LoggedRun.{execution};
+ghost use Rattle.wm_explain.specs.Said.{IsSaidOf};
 
 use crate::remedy::add_remedy;
 use crate::row::EventTables;
@@ -6,6 +8,7 @@ use std::alloc::{AllocError, Global};
 use std::fmt;
 use wm_event::{Candidate, EventId, Rule, RuleFault, byte_of};
 use wm_hb::{FaultChain, Link, LinkKind, fault_chains};
+use wm_list::List;
 
 /// A fault with what is said of its byte.
 #[derive(Clone, Copy)]
@@ -47,7 +50,9 @@ impl fmt::Display for ByteName {
 
 impl RuleSentence {
     /// What is said of a fault of a candidate.
-    fn of(candidate: &Candidate, fault: &RuleFault) -> RuleSentence {
+    fn of(candidate: &Candidate, fault: &RuleFault) -> RuleSentence
+        ensures { IsSaidOf (execution candidate.now) fault.now result }
+    {
         let (start, value) = match candidate.event(EventId::At(fault.event)) {
             None => (0, 0),
             Some(event) => (u64::from(event.address), event.read),
@@ -310,7 +315,10 @@ pub(crate) fn rule_reason(
     let rule = RuleName(fault.rule);
     let sentence = RuleSentence::of(candidate, fault);
     let mut text = format!(in alloc; "{rule}\n{sentence}\n")?;
-    let chains = fault_chains(alloc, candidate, fault)?;
+    let chains = match fault_chains(alloc, candidate, fault)? {
+        Some(chains) => chains,
+        None => List::new(alloc),
+    };
     text.push_str("The events, with their places in the order:\n")?;
     add_fault_events(&mut text, &mut tables, fault, chains.as_slice())?;
     for chain in chains.as_slice() {

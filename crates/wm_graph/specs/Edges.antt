@@ -12,11 +12,9 @@ use Rattle.wm_event.specs.LoggedRun.{LoggedRun, execution}
 use Rattle.wm_event.specs.Rules.{Writes}
 use Rattle.wm_event.specs.Shape.{IsListedAt}
 use Rattle.wm_event.specs.Witness.{writers_in}
-use Rattle.wm_hb.specs.declared.fault_chain.FaultChain.{FaultChain}
-use Rattle.wm_hb.specs.Chain.{IsEdge, IsShortestChain}
 use Rattle.wm_graph.specs.declared.edges.Edge.{Edge}
 use Rattle.wm_graph.specs.declared.edges.EdgeKind.{EdgeKind}
-use Rattle.wm_graph.specs.declared.edges.EdgeKind.TheVariants.{Sequenced, ReadsFrom as ReadsBytes, Order, Coherence, FromRead, Chain}
+use Rattle.wm_graph.specs.declared.edges.EdgeKind.TheVariants.{Sequenced, ReadsFrom as ReadsBytes, Order, Coherence, FromRead}
 use Rattle.wm_graph.specs.declared.edges.ReadsFrom.{ReadsFrom as Bytes}
 
 -- b is the next event of a's thread
@@ -56,10 +54,6 @@ pub record ReadsFromBy (x : LoggedRun) (a : EventId) (b : EventKey) (bytes : Byt
   pub whole : IsTrue bytes.is_whole ↔ ((bytes.first ≡ 0) × (bytes.last + 1 ≡ length (writers_in x.witness b)))
   pub synchronizes : IsTrue bytes.synchronizes ↔ SyncsWith x a b
 
--- the chain's links lead from its first event to its last one, and no chain has fewer
-abbrev pub IsChainOf : LoggedRun → FaultChain → Type 0
-IsChainOf x chain = IsShortestChain (execution x) chain.from chain.links chain.to
-
 -- an edge of this kind from a to b is right
 abbrev pub States : LoggedRun → EdgeKind → EventId → EventKey → Type 0
 States x Sequenced a b = IsNext a b
@@ -67,7 +61,6 @@ States x (ReadsBytes bytes) a b = ReadsFromBy x a b bytes
 States x Order a b = Precedes x a b
 States x Coherence a b = Overwrites x a b
 States x FromRead a b = ReadsBefore x a b
-States x (Chain kind) a b = IsEdge (execution x) kind a b
 
 -- an edge is right
 abbrev pub IsRight : LoggedRun → Edge → Type 0

@@ -2,6 +2,7 @@
 
 use crate::caption::Caption;
 use crate::columns::{Column, Node};
+use crate::drawn::drawn_edges;
 use crate::label::{
     FAULT_COLOUR, FAULT_COLOURS, InitialShare, LabelText, NodeLabel, NodeName, PlaceLabel,
 };
@@ -228,7 +229,8 @@ fn print(alloc: Global, picture: &Picture, drawing: Drawing) -> Result<String, A
     for (number, column) in picture.columns.as_slice().iter().enumerate() {
         add_column(&mut text, number, column, &shown, drawing)?;
     }
-    add_lines(alloc, &mut text, picture.edges.as_slice(), verdict, &shown)?;
+    let drawn = drawn_edges(alloc, picture, verdict, &shown)?;
+    add_lines(&mut text, drawn.as_slice())?;
     text.push_str("}\n")?;
     Ok(text)
 }

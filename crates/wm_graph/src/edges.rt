@@ -5,13 +5,12 @@ ghost use Rattle.wm_event.specs.declared.event.EventId.TheVariants.{At};
 ghost use Rattle.wm_event.specs.declared.event.EventKey.{EventKey};
 ghost use Rattle.wm_event.specs.LoggedRun.{LoggedRun};
 ghost use Rattle.wm_event.specs.Witness.{writers_in};
-ghost use Rattle.wm_graph.specs.Edges.{AreComplete, HasEdgesOf, HasEdgesTo, HasReads, HasSequenced, IsChainOf, IsNext, IsRight, Keeps, ReadsByte, SyncsWith, sequenced};
+ghost use Rattle.wm_graph.specs.Edges.{AreComplete, HasEdgesOf, HasEdgesTo, HasReads, HasSequenced, IsNext, IsRight, Keeps, ReadsByte, SyncsWith, sequenced};
 ghost use Rattle.wm_hb.specs.ReadsFrom.{AreFromWriters, NamesByte};
 
-use crate::fault_edges::add_fault_edges;
 use std::alloc::{AllocError, Global};
-use wm_event::{Candidate, Event, EventId, EventKey, RuleFault, ThreadLog};
-use wm_hb::{FaultChain, LinkKind, WriterRun, fault_chains, synchronizes, writer_runs};
+use wm_event::{Candidate, Event, EventId, EventKey, ThreadLog};
+use wm_hb::{WriterRun, synchronizes, writer_runs};
 use wm_list::List;
 
 /// Which bytes of a read its writer wrote, and how.
@@ -39,8 +38,6 @@ pub(crate) enum EdgeKind {
     Coherence,
     /// The first event reads a byte from a write that the second one overwrites.
     FromRead,
-    /// A link of a chain that a fault rests on.
-    Chain(LinkKind),
 }
 
 /// An edge of a picture.
@@ -212,43 +209,12 @@ fn add_thread(
     Ok(())
 }
 
-/// Adds the links of a chain.
-fn add_chain(edges: &mut List<Edge>, chain: &FaultChain) -> Result<(), AllocError>
-    ensures right { (x : LoggedRun) → IsChainOf x chain.now → All (IsRight x) edges.old → All (IsRight x) edges.new }
-    ensures kept { OnOk result (Keeps edges.old edges.new) }
-{
-    let mut from = chain.from;
-    for link in chain.links.as_slice() {
-        edges.push(Edge {
-            from,
-            to: link.event,
-            kind: EdgeKind::Chain(link.kind),
-        })?;
-        from = EventId::At(link.event);
-    }
-    Ok(())
-}
-
-/// Adds the edges that a fault needs: its chains, and then the others.
-fn add_fault(
-    alloc: Global,
-    edges: &mut List<Edge>,
-    candidate: &Candidate,
-    fault: &RuleFault,
-) -> Result<(), AllocError>
-    requires { All (IsRight candidate.now) edges.old }
-    ensures right { All (IsRight candidate.now) edges.new }
-    ensures kept { OnOk result (Keeps edges.old edges.new) }
-{
-    for chain in fault_chains(alloc, candidate, fault)?.as_slice() {
-        add_chain(edges, chain)?;
-    }
-    add_fault_edges(edges, candidate, fault)?;
-    Ok(())
-}
-
-/// The edges to the events of a log, thread by thread.
-fn log_edges(alloc: Global, candidate: &Candidate) -> Result<List<Edge>, AllocError>
+/// The edges to the events of a candidate's log, thread by thread.
+///
+/// # Errors
+///
+/// Only if an allocation fails.
+pub(crate) fn edges(alloc: Global, candidate: &Candidate) -> Result<List<Edge>, AllocError>
     ensures right { IfOk result (All (IsRight candidate.now)) }
     ensures complete { IfOk result (AreComplete candidate.now) }
 {
@@ -256,27 +222,5 @@ fn log_edges(alloc: Global, candidate: &Candidate) -> Result<List<Edge>, AllocEr
     for thread in candidate.log().threads() {
         add_thread(alloc, &mut edges, candidate, thread)?;
     }
-    Ok(edges)
-}
-
-/// The edges of a candidate's picture: thread by thread those to its events, then the chains that a fault rests on, and then
-/// its other edges.
-///
-/// # Errors
-///
-/// Only if an allocation fails.
-pub(crate) fn edges(
-    alloc: Global,
-    candidate: &Candidate,
-    fault: Option<&RuleFault>,
-) -> Result<List<Edge>, AllocError>
-    ensures right { IfOk result (All (IsRight candidate.now)) }
-    ensures complete { IfOk result (AreComplete candidate.now) }
-{
-    let mut edges = log_edges(alloc, candidate)?;
-    let Some(fault) = fault else {
-        return Ok(edges);
-    };
-    add_fault(alloc, &mut edges, candidate, fault)?;
     Ok(edges)
 }

@@ -1,11 +1,11 @@
 //! The edges that a fault needs beside its chains: the other write in the order, and what it overwrites.
-ghost use Rattle.std.specs.Prelude.{All, IsTrue, OnOk};
+ghost use Rattle.std.specs.Prelude.{All, IfOk, IsTrue};
 ghost use Rattle.wm_event.specs.Execution.{ReadsFrom};
 ghost use Rattle.wm_event.specs.LoggedRun.{execution};
-ghost use Rattle.wm_graph.specs.Edges.{IsRight, Keeps, Overwrites, Precedes};
+ghost use Rattle.wm_graph.specs.Edges.{IsRight, Overwrites, Precedes};
 
 use crate::edges::{Edge, EdgeKind};
-use std::alloc::AllocError;
+use std::alloc::{AllocError, Global};
 use wm_event::{Candidate, EventId, EventKey, Rule, RuleFault};
 use wm_list::List;
 
@@ -49,7 +49,6 @@ fn add_order(
 ) -> Result<(), AllocError>
     requires { All (IsRight candidate.now) edges.old }
     ensures right { All (IsRight candidate.now) edges.new }
-    ensures kept { OnOk result (Keeps edges.old edges.new) }
 {
     if precedes(candidate, from, to) {
         edges.push(Edge {
@@ -70,7 +69,6 @@ fn add_order_of_writes(
 ) -> Result<(), AllocError>
     requires { All (IsRight candidate.now) edges.old }
     ensures right { All (IsRight candidate.now) edges.new }
-    ensures kept { OnOk result (Keeps edges.old edges.new) }
 {
     match fault.writer {
         EventId::At(writer) if precedes(candidate, EventId::At(other), writer) => {
@@ -104,7 +102,6 @@ fn add_from_read(
     requires edges { All (IsRight candidate.now) edges.old }
     requires later { Overwrites candidate.now fault.now.writer other }
     ensures right { All (IsRight candidate.now) edges.new }
-    ensures kept { OnOk result (Keeps edges.old edges.new) }
 {
     if is_writer(candidate, fault.event, fault.byte, fault.writer) {
         edges.push(Edge {
@@ -125,7 +122,6 @@ fn add_overwritten(
 ) -> Result<(), AllocError>
     requires { All (IsRight candidate.now) edges.old }
     ensures right { All (IsRight candidate.now) edges.new }
-    ensures kept { OnOk result (Keeps edges.old edges.new) }
 {
     let Some(address) = address_of(candidate, fault.event, fault.byte) else {
         return Ok(());
@@ -141,27 +137,31 @@ fn add_overwritten(
     add_from_read(edges, candidate, fault, other)
 }
 
-/// Adds the edges that a fault with another write needs beside its chains. The order's are of V4 and V5; what is
-/// overwritten, of V3 and V5.
-pub(crate) fn add_fault_edges(
-    edges: &mut List<Edge>,
+/// The edges that a fault with another write needs beside its chains. The order's are of V4 and V5; what is overwritten, of
+/// V3 and V5.
+///
+/// # Errors
+///
+/// Only if an allocation fails.
+pub(crate) fn fault_edges(
+    alloc: Global,
     candidate: &Candidate,
     fault: &RuleFault,
-) -> Result<(), AllocError>
-    requires { All (IsRight candidate.now) edges.old }
-    ensures right { All (IsRight candidate.now) edges.new }
-    ensures kept { OnOk result (Keeps edges.old edges.new) }
+) -> Result<List<Edge>, AllocError>
+    ensures right { IfOk result (All (IsRight candidate.now)) }
 {
+    let mut edges = List::new(alloc);
     let Some(EventId::At(other)) = fault.other else {
-        return Ok(());
+        return Ok(edges);
     };
     match fault.rule {
-        Rule::WrittenValues | Rule::Order => Ok(()),
-        Rule::Coherence => add_overwritten(edges, candidate, fault, other),
-        Rule::NoTearing => add_order_of_writes(edges, candidate, fault, other),
+        Rule::WrittenValues | Rule::Order => {}
+        Rule::Coherence => add_overwritten(&mut edges, candidate, fault, other)?,
+        Rule::NoTearing => add_order_of_writes(&mut edges, candidate, fault, other)?,
         Rule::SequentialConsistency => {
-            add_order_of_writes(edges, candidate, fault, other)?;
-            add_overwritten(edges, candidate, fault, other)
+            add_order_of_writes(&mut edges, candidate, fault, other)?;
+            add_overwritten(&mut edges, candidate, fault, other)?;
         }
     }
+    Ok(edges)
 }

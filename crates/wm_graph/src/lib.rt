@@ -4,6 +4,7 @@
 mod caption;
 mod columns;
 mod dot;
+mod drawn;
 mod edges;
 mod fault_edges;
 mod label;

@@ -1,11 +1,10 @@
 //! The lines of a picture: the edges from one node to another are one line.
 
-use crate::edges::{Edge, EdgeKind, ReadsFrom};
+use crate::drawn::{DrawnEdge, DrawnKind};
+use crate::edges::{EdgeKind, ReadsFrom};
 use crate::label::NodeName;
-use crate::shown::Shown;
-use std::alloc::{AllocError, Global};
+use std::alloc::AllocError;
 use std::fmt;
-use wm_check::{Breach, Verdict};
 use wm_event::{EventId, EventKey};
 use wm_hb::LinkKind;
 
@@ -61,7 +60,7 @@ impl Relations {
     }
 
     /// Adds that of an edge.
-    fn add(&mut self, kind: EdgeKind) {
+    fn add_edge(&mut self, kind: EdgeKind) {
         match kind {
             EdgeKind::Sequenced => self.sequenced = true,
             EdgeKind::ReadsFrom(bytes) => {
@@ -71,14 +70,24 @@ impl Relations {
             EdgeKind::Order => self.order = true,
             EdgeKind::Coherence => self.coherence = true,
             EdgeKind::FromRead => self.from_read = true,
-            EdgeKind::Chain(link) => {
-                self.in_chain = true;
-                match link {
-                    LinkKind::Initial => self.before_all = true,
-                    LinkKind::Sequenced => self.sequenced = true,
-                    LinkKind::Synchronizes => self.synchronizes = true,
-                }
-            }
+        }
+    }
+
+    /// Adds that of a link of a chain.
+    fn add_link(&mut self, kind: LinkKind) {
+        self.in_chain = true;
+        match kind {
+            LinkKind::Initial => self.before_all = true,
+            LinkKind::Sequenced => self.sequenced = true,
+            LinkKind::Synchronizes => self.synchronizes = true,
+        }
+    }
+
+    /// Adds that of what is drawn.
+    fn add(&mut self, kind: DrawnKind) {
+        match kind {
+            DrawnKind::Edge(kind) => self.add_edge(kind),
+            DrawnKind::Link(kind) => self.add_link(kind),
         }
     }
 
@@ -118,18 +127,18 @@ impl Relations {
     }
 }
 
-/// The edges of a picture from one node to another.
+/// What is drawn from one node to another.
 #[derive(Clone, Copy)]
 struct Line<'a> {
     from: EventId,
     to: EventKey,
     /// All edges that are drawn.
-    edges: &'a [Edge],
+    edges: &'a [DrawnEdge],
 }
 
 impl Line<'_> {
     /// Whether an edge is of the line.
-    fn has(&self, edge: &Edge) -> bool {
+    fn has(&self, edge: &DrawnEdge) -> bool {
         edge.from == self.from && edge.to == self.to
     }
 
@@ -148,7 +157,7 @@ impl Line<'_> {
     fn write_reads<W: fmt::Write>(&self, f: &mut fmt::Formatter<W>) -> Result<bool, fmt::Error> {
         let mut is_begun = false;
         for edge in self.edges {
-            let EdgeKind::ReadsFrom(bytes) = edge.kind else {
+            let DrawnKind::Edge(EdgeKind::ReadsFrom(bytes)) = edge.kind else {
                 continue;
             };
             if self.has(edge) {
@@ -189,53 +198,12 @@ impl fmt::Display for Line<'_> {
     }
 }
 
-/// Whether an edge is drawn. Of the reads from Init only that of a fault is; the labels of the others say it. Nor is it
-/// drawn that Init is before an event in the order.
-fn is_drawn(edge: &Edge, verdict: &Verdict) -> bool {
-    match (edge.from, edge.kind) {
-        (EventId::Init, EdgeKind::ReadsFrom(_)) => match verdict {
-            Verdict::Broken(Breach::Rule(fault)) => {
-                fault.event == edge.to
-                    && (fault.writer == EventId::Init || fault.other == Some(EventId::Init))
-            }
-            _ => false,
-        },
-        (EventId::Init, EdgeKind::Order) => false,
-        (_, _) => true,
-    }
-}
-
-/// The edges that are drawn, between events that are shown.
-fn drawn_edges(
-    alloc: Global,
-    edges: &[Edge],
-    verdict: &Verdict,
-    shown: &Shown,
-) -> Result<Vec<Edge>, AllocError> {
-    let mut drawn = Vec::new(alloc);
-    for edge in edges {
-        let is_shown = shown.has(edge.from) && shown.has(EventId::At(edge.to));
-        if is_shown && is_drawn(edge, verdict) {
-            drawn.push(*edge)?;
-        }
-    }
-    Ok(drawn)
-}
-
-/// Adds the lines between events that are shown.
+/// Adds the lines of what is drawn.
 ///
 /// # Errors
 ///
 /// Only if an allocation fails.
-pub(crate) fn add_lines(
-    alloc: Global,
-    text: &mut String,
-    edges: &[Edge],
-    verdict: &Verdict,
-    shown: &Shown,
-) -> Result<(), AllocError> {
-    let drawn = drawn_edges(alloc, edges, verdict, shown)?;
-    let edges = drawn.as_slice();
+pub(crate) fn add_lines(text: &mut String, edges: &[DrawnEdge]) -> Result<(), AllocError> {
     for (number, edge) in edges.iter().enumerate() {
         let line = Line {
             from: edge.from,
@@ -245,7 +213,7 @@ pub(crate) fn add_lines(
         let is_first = !edges
             .iter()
             .take(number)
-            .any(|other: &Edge| -> bool { line.has(other) });
+            .any(|other: &DrawnEdge| -> bool { line.has(other) });
         if is_first {
             writeln!(text, "{line}")?;
         }

@@ -1,30 +1,63 @@
 //! The picture of an execution, as data.
 ghost use Rattle.std.specs.Prelude.{◌↔◌, All, IfOk, IsTrue};
 ghost use Rattle.wm_event.specs.declared.event.EventId.TheVariants.{Init};
+ghost use Rattle.wm_graph.specs.Chains.{HasChains};
 ghost use Rattle.wm_graph.specs.Columns.{AreColumnsOf, IsMarked, IsMarkedBy};
 ghost use Rattle.wm_graph.specs.Edges.{AreComplete, IsRight};
 
 use crate::columns::{Column, columns, is_marked};
 use crate::edges::{Edge, edges};
+use crate::fault_edges::fault_edges;
 use std::alloc::{AllocError, Global};
 use wm_check::{Breach, Verdict};
-use wm_event::{Candidate, EventId, RuleFault};
+use wm_event::{Candidate, EventId};
+use wm_hb::{FaultChain, fault_chains};
 use wm_list::List;
 
-/// The picture of an execution: a column of nodes for each thread, a node for Init, and edges.
+/// The picture of an execution: a column of nodes for each thread, a node for Init, the edges to the events, and what the
+/// fault of a memory rule needs beside them.
 #[derive(Drop)]
 pub(crate) struct Picture {
     /// Whether the verdict speaks of Init.
     pub is_init_marked: bool,
     pub columns: List<Column>,
+    /// The edges to the events, thread by thread.
     pub edges: List<Edge>,
+    /// For each happens-before that the fault rests on, a shortest chain.
+    pub chains: List<FaultChain>,
+    /// The other edges that the fault needs.
+    pub fault_edges: List<Edge>,
 }
 
-/// The fault of a memory rule that a verdict names.
-fn rule_fault(verdict: &Verdict) -> Option<&RuleFault> {
+/// The chains that the fault of a verdict rests on.
+fn chains_of(
+    alloc: Global,
+    verdict: &Verdict,
+    candidate: &Candidate,
+) -> Result<List<FaultChain>, AllocError>
+    ensures { IfOk result (HasChains candidate.now verdict.now) }
+{
+    let _log = candidate.log();
+    let Verdict::Broken(Breach::Rule(fault)) = verdict else {
+        return Ok(List::new(alloc));
+    };
+    match fault_chains(alloc, candidate, fault)? {
+        Some(chains) => Ok(chains),
+        None => Ok(List::new(alloc)),
+    }
+}
+
+/// The edges that the fault of a verdict needs beside its chains.
+fn fault_edges_of(
+    alloc: Global,
+    verdict: &Verdict,
+    candidate: &Candidate,
+) -> Result<List<Edge>, AllocError>
+    ensures { IfOk result (All (IsRight candidate.now)) }
+{
     match verdict {
-        Verdict::Broken(Breach::Rule(fault)) => Some(fault),
-        _ => None,
+        Verdict::Broken(Breach::Rule(fault)) => fault_edges(alloc, candidate, fault),
+        _ => Ok(List::new(alloc)),
     }
 }
 
@@ -43,10 +76,14 @@ pub(crate) fn picture_of(
     ensures marks { IfOk result (λ p. All (λ column. All (IsMarkedBy verdict.now) column.nodes) p.columns) }
     ensures edges { IfOk result (λ p. All (IsRight candidate.now) p.edges) }
     ensures complete { IfOk result (λ p. AreComplete candidate.now p.edges) }
+    ensures chains { IfOk result (λ p. HasChains candidate.now verdict.now p.chains) }
+    ensures fault_edges { IfOk result (λ p. All (IsRight candidate.now) p.fault_edges) }
 {
     Ok(Picture {
         is_init_marked: is_marked(verdict, EventId::Init),
         columns: columns(alloc, candidate.log(), verdict)?,
-        edges: edges(alloc, candidate, rule_fault(verdict))?,
+        edges: edges(alloc, candidate)?,
+        chains: chains_of(alloc, verdict, candidate)?,
+        fault_edges: fault_edges_of(alloc, verdict, candidate)?,
     })
 }

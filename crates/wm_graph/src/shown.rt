@@ -88,8 +88,14 @@ impl Shown {
                 }
             }
         }
-        for edge in picture.edges.as_slice() {
-            if let EdgeKind::Chain(_) | EdgeKind::Coherence | EdgeKind::FromRead = edge.kind {
+        for chain in picture.chains.as_slice() {
+            self.add(chain.from);
+            for link in chain.links.as_slice() {
+                self.add(EventId::At(link.event));
+            }
+        }
+        for edge in picture.fault_edges.as_slice() {
+            if let EdgeKind::Coherence | EdgeKind::FromRead = edge.kind {
                 self.add(edge.from);
                 self.add(EventId::At(edge.to));
             }

@@ -1,11 +1,11 @@
 //! The chains of happens-before that a fault of a memory rule rests on.
 ghost use Rattle.std.specs.Prelude.{IfOk};
 ghost use Rattle.wm_event.specs.LoggedRun.{execution};
-ghost use Rattle.wm_hb.specs.Chain.{AreChains};
+ghost use Rattle.wm_hb.specs.Premises.{FindsChains, FindsShown};
 
 use crate::chain::{Link, shortest_chain};
 use crate::ordered::Ordered;
-use crate::premise::premises;
+use crate::premise::{Premise, premises_of};
 use std::alloc::{AllocError, Global};
 use wm_event::{Candidate, EventId, RuleFault};
 use wm_list::List;
@@ -19,27 +19,27 @@ pub struct FaultChain {
     pub links: List<Link>,
 }
 
-/// Adds the chain of a premise, if there is one.
-fn add_chain(
+/// A shortest chain for each premise; None where one doesn't hold.
+fn chains_in(
     alloc: Global,
-    chains: &mut List<FaultChain>,
     ordered: &Ordered,
-    premise: Option<(EventId, EventId)>,
-) -> Result<(), AllocError>
-    requires { AreChains (execution ordered.now) chains.old }
-    ensures { AreChains (execution ordered.now) chains.new }
+    premises: &[Premise],
+) -> Result<Option<List<FaultChain>>, AllocError>
+    ensures { IfOk result (FindsChains (execution ordered.now) premises.now) }
 {
-    let Some((from, to)) = premise else {
-        return Ok(());
-    };
-    if let Some(links) = shortest_chain(alloc, ordered.candidate(), from, to)? {
+    let mut chains = List::new(alloc);
+    for premise in premises {
+        let Premise { from, to } = *premise;
+        let Some(links) = shortest_chain(alloc, ordered.candidate(), from, to)? else {
+            return Ok(None);
+        };
         chains.push(FaultChain { from, to, links })?;
     }
-    Ok(())
+    Ok(Some(chains))
 }
 
-/// For each happens-before that a fault of a memory rule rests on, as [`premises`] names them, a shortest chain of its
-/// edges; none if the order doesn't agree with happens-before.
+/// For each happens-before that a fault of a memory rule rests on a shortest chain of its edges, the premises of the fault
+/// in their order; None where it isn't the first fault of the run.
 ///
 /// # Errors
 ///
@@ -48,15 +48,15 @@ pub fn fault_chains(
     alloc: Global,
     candidate: &Candidate,
     fault: &RuleFault,
-) -> Result<List<FaultChain>, AllocError>
-    ensures { IfOk result (AreChains (execution candidate.now)) }
+) -> Result<Option<List<FaultChain>>, AllocError>
+    ensures { IfOk result (FindsShown (execution candidate.now) fault.now) }
 {
-    let mut chains = List::new(alloc);
-    let Ok(ordered) = Ordered::of(candidate) else {
-        return Ok(chains);
-    };
-    let [first, second] = premises(fault);
-    add_chain(alloc, &mut chains, &ordered, first)?;
-    add_chain(alloc, &mut chains, &ordered, second)?;
-    Ok(chains)
+    let premises = premises_of(alloc, fault)?;
+    if premises.is_empty() {
+        return Ok(Some(List::new(alloc)));
+    }
+    match Ordered::of(candidate) {
+        Ok(ordered) => chains_in(alloc, &ordered, premises.as_slice()),
+        Err(_) => Ok(None),
+    }
 }

@@ -25,9 +25,10 @@ use Rattle.wm_hb.specs.declared.chain.LinkKind.{LinkKind}
 use Rattle.wm_hb.specs.declared.chain.LinkKind.TheVariants.{Initial, Sequenced, Synchronizes}
 use Rattle.wm_hb.specs.declared.fault_chain.FaultChain.{FaultChain}
 use Rattle.wm_writers.specs.Forced.{ForcedFaultStays, IsForced, IsNamed, with_witness}
-use Rattle.wm_writers.specs.Needs.{IsOfOrder, byte_needs, coherence_premises, ends_of, link_needs, own_needs, own_needs_by, premises_by, step_needs, tearing_needs, any_byte}
+use Rattle.wm_hb.specs.Premises.{coherence_premises, ends_of, premises_by}
+use Rattle.wm_writers.specs.Needs.{IsOfOrder, byte_needs, link_needs, own_needs, own_needs_by, step_needs, tearing_needs, any_byte}
 use Rattle.wm_writers.specs.declared.need.Need.{Need}
-use Rattle.wm_writers.specs.declared.premise.Premise.{Premise}
+use Rattle.wm_hb.specs.declared.premise.Premise.{Premise}
 use Rattle.wm_writers.proofs.AllLemmas.{all-first, all-head, all-second, all-tail}
 use Rattle.wm_writers.proofs.FitLaws.{left_by, writer_fits}
 

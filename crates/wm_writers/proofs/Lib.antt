@@ -3,6 +3,5 @@ pub mod ListLemmas
 pub mod FitLaws
 pub mod FittingLemmas
 pub mod ForcedLaw
-pub mod ShownLemmas
 pub mod SourceLemmas
 pub mod AnswerLaw

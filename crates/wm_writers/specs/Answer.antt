@@ -8,7 +8,8 @@ use Rattle.wm_event.specs.Log.{event_in}
 use Rattle.wm_event.specs.LoggedRun.{LoggedRun, execution}
 use Rattle.wm_writers.specs.Fits.{fitting}
 use Rattle.wm_writers.specs.Forced.{IsForcedFault, IsNeverValid, Meets}
-use Rattle.wm_writers.specs.Needs.{IsOfOrder, Shows, needs}
+use Rattle.wm_hb.specs.Premises.{Shows}
+use Rattle.wm_writers.specs.Needs.{IsOfOrder, needs}
 use Rattle.wm_writers.specs.declared.need.Need.{Need}
 use Rattle.wm_writers.specs.declared.source.ByteFit.{ByteFit}
 use Rattle.wm_writers.specs.declared.source.Source.{Source}

@@ -12,7 +12,8 @@ use Rattle.wm_event.specs.Rules.{IsValid}
 use Rattle.wm_event.specs.Shape.{IsWellShaped}
 use Rattle.wm_hb.specs.declared.fault_chain.FaultChain.{FaultChain}
 use Rattle.wm_writers.specs.Fits.{fits}
-use Rattle.wm_writers.specs.Needs.{IsOfOrder, Shows, needs}
+use Rattle.wm_hb.specs.Premises.{Shows}
+use Rattle.wm_writers.specs.Needs.{IsOfOrder, needs}
 use Rattle.wm_writers.specs.declared.need.Need.{Need}
 
 -- byte k is the named one; where none is named it is any

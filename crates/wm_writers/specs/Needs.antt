@@ -1,18 +1,15 @@
--- What a fault of a memory rule rests on: chains of happens-before, and bytes that reads take from writers.
-use Rattle.std.specs.Prelude.{◌≡◌, List, [], ◌∷◌, ◌++◌, Option, None, Some, map, flat_map}
+-- What a fault of a memory rule needs of the witness: that reads take bytes from writers.
+use Rattle.std.specs.Prelude.{List, [], ◌∷◌, ◌++◌, Option, None, Some, flat_map}
 use Rattle.wm_event.specs.declared.event.EventId.{EventId}
 use Rattle.wm_event.specs.declared.event.EventId.TheVariants.{At}
 use Rattle.wm_event.specs.declared.rule.Rule.{Rule}
 use Rattle.wm_event.specs.declared.rule.Rule.TheVariants.{WrittenValues, Order, Coherence, NoTearing, SequentialConsistency}
 use Rattle.wm_event.specs.declared.rule.RuleFault.{RuleFault}
-use Rattle.wm_event.specs.Execution.{Execution}
-use Rattle.wm_hb.specs.Chain.{AreChains}
 use Rattle.wm_hb.specs.declared.chain.Link.{Link}
 use Rattle.wm_hb.specs.declared.chain.LinkKind.{LinkKind}
 use Rattle.wm_hb.specs.declared.chain.LinkKind.TheVariants.{Initial, Sequenced, Synchronizes}
 use Rattle.wm_hb.specs.declared.fault_chain.FaultChain.{FaultChain}
 use Rattle.wm_writers.specs.declared.need.Need.{Need}
-use Rattle.wm_writers.specs.declared.premise.Premise.{Premise}
 
 -- the rules that speak of the order of the events
 abbrev pub IsOfOrder : Rule → Type 0
@@ -21,32 +18,6 @@ IsOfOrder Order = Unit {0}
 IsOfOrder Coherence = ⊥
 IsOfOrder NoTearing = ⊥
 IsOfOrder SequentialConsistency = Unit {0}
-
--- of which events a fault of the third rule says that the first happens before the second: the read and its writer; or
--- the writer and the other write, and that and the read
-abbrev pub coherence_premises : RuleFault → Option EventId → List Premise
-coherence_premises f None = record { from = At f.event; to = f.writer } ∷ []
-coherence_premises f (Some v) = record { from = f.writer; to = v } ∷ record { from = v; to = At f.event } ∷ []
-
--- those of a fault; the rules on written values and on tearing have none
-abbrev pub premises_by : Rule → RuleFault → List Premise
-premises_by WrittenValues f = []
-premises_by Order f = []
-premises_by Coherence f = coherence_premises f f.other
-premises_by NoTearing f = []
-premises_by SequentialConsistency f = []
-
-abbrev pub premises : RuleFault → List Premise
-premises f = premises_by f.rule f
-
--- the ends of a chain
-abbrev pub ends_of : FaultChain → Premise
-ends_of chain = record { from = chain.from; to = chain.to }
-
--- the chains are chains of happens-before, one for each premise of the fault, in their order
-pub record Shows (x : Execution) (f : RuleFault) (list : List FaultChain) : Type 0 where
-  pub chains : AreChains x list
-  pub for_premises : map ends_of list ≡ premises f
 
 -- that any byte of the read where the fault is comes from w
 abbrev pub any_byte : RuleFault → EventId → Need

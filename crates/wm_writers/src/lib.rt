@@ -4,7 +4,6 @@
 mod fit;
 mod law;
 mod need;
-mod premise;
 mod source;
 mod writers;
 

@@ -4,11 +4,10 @@ ghost use Rattle.wm_writers.specs.Answer.{IsAnswer, StaysIfOnly};
 ghost use Rattle.wm_writers.specs.Needs.{IsOfOrder};
 
 use crate::need::needs_of;
-use crate::premise::chains_of;
 use crate::source::{Source, are_forced, sources_of};
 use std::alloc::{AllocError, Global};
 use wm_event::{Candidate, Rule, RuleFault};
-use wm_hb::FaultChain;
+use wm_hb::{FaultChain, fault_chains};
 use wm_list::List;
 
 /// What a fault rests on.
@@ -62,7 +61,7 @@ pub fn writers_that_fit(
     if is_of_order(fault.rule) {
         return Ok(Writers::Other);
     }
-    let Some(chains) = chains_of(alloc, candidate, fault)? else {
+    let Some(chains) = fault_chains(alloc, candidate, fault)? else {
         return Ok(Writers::Other);
     };
     let needs = needs_of(alloc, fault, chains.as_slice())?;

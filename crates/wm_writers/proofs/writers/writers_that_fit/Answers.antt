@@ -4,8 +4,9 @@ use Rattle.wm_event.specs.LoggedRun.{execution}
 use Rattle.wm_hb.specs.declared.fault_chain.FaultChain.{FaultChain}
 use Rattle.wm_writers.specs.Answer.{IsSource}
 use Rattle.wm_writers.specs.Forced.{IsForced}
-use Rattle.wm_writers.specs.Found.{FindsShown, HasForcedByte}
-use Rattle.wm_writers.specs.Needs.{IsOfOrder, Shows, needs}
+use Rattle.wm_writers.specs.Found.{HasForcedByte}
+use Rattle.wm_hb.specs.Premises.{FindsShown, Shows}
+use Rattle.wm_writers.specs.Needs.{IsOfOrder, needs}
 use Rattle.wm_writers.specs.declared.source.Source.{Source}
 use Rattle.wm_writers.proofs.AnswerLaw.{all-forced, all-have}
 use Rattle.wm_writers.proofs.ForcedLaw.{forced-fault-stays}

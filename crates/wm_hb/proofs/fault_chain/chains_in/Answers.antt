@@ -3,8 +3,8 @@ use Rattle.wm_event.specs.declared.event.EventId.TheVariants.{Init}
 use Rattle.wm_event.specs.HappensBefore.{HappensBefore}
 use Rattle.wm_event.specs.LoggedRun.{LoggedRun, execution}
 use Rattle.wm_hb.specs.Chain.{FindsChain}
-use Rattle.wm_writers.specs.declared.premise.Premise.{Premise}
-use Rattle.wm_writers.proofs.premise.chains_in.Goals as goal
+use Rattle.wm_hb.specs.declared.premise.Premise.{Premise}
+use Rattle.wm_hb.proofs.fault_chain.chains_in.Goals as goal
 
 pub returns-in_default : goal.returns-in_default
 returns-in_default c hold =

@@ -1,8 +1,8 @@
 use Rattle.std.proofs.Common.{◌≡◌, map, take}
 use Rattle.wm_event.specs.LoggedRun.{execution}
 use Rattle.wm_hb.specs.Chain.{AreChains}
-use Rattle.wm_writers.specs.Needs.{ends_of}
-use Rattle.wm_writers.proofs.premise.chains_in.Given as goal
+use Rattle.wm_hb.specs.Premises.{ends_of}
+use Rattle.wm_hb.proofs.fault_chain.chains_in.Given as goal
 
 -- those of the premises so far
 abbrev pub invariant-loop-premise : goal.invariant-loop-premise

@@ -1,10 +1,9 @@
 use Rattle.std.proofs.Common.{◌≡◌, length, subst, ap, ◌∙◌, true, false}
 use Rattle.std.specs.Prelude.{IfOk}
 use Rattle.wm_event.specs.LoggedRun.{LoggedRun, execution}
-use Rattle.wm_writers.specs.Found.{FindsChains, FindsShown}
-use Rattle.wm_writers.specs.Needs.{premises}
-use Rattle.wm_writers.proofs.ShownLemmas.{order-kept, shown, when-ok}
-use Rattle.wm_writers.proofs.premise.chains_of.Goals as goal
+use Rattle.wm_hb.specs.Premises.{FindsChains, FindsShown, premises}
+use Rattle.wm_hb.proofs.PremiseLaws.{order-kept, shown, when-ok}
+use Rattle.wm_hb.proofs.fault_chain.fault_chains.Goals as goal
 
 pub returns : goal.returns
 returns c first =

@@ -1,7 +1,7 @@
 use Rattle.std.proofs.Common.{All}
 use Rattle.std.specs.List.{AllWithin}
 use Rattle.wm_graph.specs.Edges.{HasEdgesOf, IsRight}
-use Rattle.wm_graph.proofs.edges.log_edges.Given as goal
+use Rattle.wm_graph.proofs.edges.edges.Given as goal
 
 abbrev pub invariant-loop-thread : goal.invariant-loop-thread
 invariant-loop-thread l = record {

@@ -13,13 +13,12 @@ use Rattle.wm_event.specs.declared.rule.Judgement.TheVariants.{Broken}
 use Rattle.wm_event.specs.Execution.{Execution}
 use Rattle.wm_event.specs.Faults.{BreaksCoherence, BreaksRule, Judges, reads_future, rule_number, written_between}
 use Rattle.wm_event.specs.HappensBefore.{HappensBefore}
+use Rattle.wm_event.specs.Rules.{Overtakes, read_past, synchronized, written_over}
 use Rattle.wm_hb.specs.Edges.{IsFirstBroken, fault_of}
 use Rattle.wm_hb.specs.declared.ordered.Edge.{Edge}
 use Rattle.wm_hb.specs.declared.fault_chain.FaultChain.{FaultChain}
-use Rattle.wm_writers.specs.Found.{FindsChains, FindsShown, Hold}
-use Rattle.wm_writers.specs.Needs.{coherence_premises, premises, premises_by}
-use Rattle.wm_writers.specs.declared.premise.Premise.{Premise}
-use Rattle.wm_writers.proofs.AllLemmas.{all-none}
+use Rattle.wm_hb.specs.Premises.{FindsChains, FindsShown, Hold, before, coherence_premises, premises, premises_by, sequential_premises}
+use Rattle.wm_hb.specs.declared.premise.Premise.{Premise}
 
 -- what follows from what holds of an Ok holds of it
 pub when-ok : {A E : Type 0} (P Q : A → Type 0) → ((a : A) → P a → Q a) → (r : Result A E) → IfOk r P → IfOk r Q
@@ -27,22 +26,37 @@ when-ok P Q follows (Ok a) h = follows a h
 when-ok P Q follows (Err e) h = tt
 
 module _ (x : Execution) where
+  none_hold : Hold x []
+  none_hold k d l = absurd (omega arith)
+
+  one_holds : (a b : EventId) → HappensBefore x a b → Hold x (before a b ∷ [])
+  one_holds a b h = All-cons (λ (p : Premise). HappensBefore x p.from p.to) (before a b) [] h none_hold
+
+  two_hold : (a b c d : EventId) → HappensBefore x a b → HappensBefore x c d → Hold x (before a b ∷ before c d ∷ [])
+  two_hold a b c d h k = All-cons (λ (p : Premise). HappensBefore x p.from p.to) (before a b) (before c d ∷ []) h (one_holds c d k)
+
   coherence_holds : (f : RuleFault) (e : Event) (c : ℕ) (o : Option EventId) → BreaksCoherence x f.event e f.byte f.writer c o → Hold x (coherence_premises f o)
-  coherence_holds f e c None (reads_future is none before) =
-      All-cons (λ (p : Premise). HappensBefore x p.from p.to) (record { from = At f.event; to = f.writer }) [] before (all-none (λ (p : Premise). HappensBefore x p.from p.to))
-  coherence_holds f e c None (written_between is v some writes after before) = absurd (cc)
-  coherence_holds f e c (Some u) (reads_future is none before) = absurd (cc)
-  coherence_holds f e c (Some u) (written_between is v some writes after before) =
+  coherence_holds f e c None (reads_future is none h) = one_holds (At f.event) f.writer h
+  coherence_holds f e c None (written_between is v some writes after h) = absurd (cc)
+  coherence_holds f e c (Some u) (reads_future is none h) = absurd (cc)
+  coherence_holds f e c (Some u) (written_between is v some writes after h) =
       let same : v ≡ u = sym (same_Some u v some) in
-      All-cons (λ (p : Premise). HappensBefore x p.from p.to) (record { from = f.writer; to = u }) (record { from = u; to = At f.event } ∷ []) (subst (HappensBefore x f.writer) same after)
-      (All-cons (λ (p : Premise). HappensBefore x p.from p.to) (record { from = u; to = At f.event }) [] (subst (λ w. HappensBefore x w (At f.event)) same before) (all-none (λ (p : Premise). HappensBefore x p.from p.to)))
+      two_hold f.writer u u (At f.event) (subst (HappensBefore x f.writer) same after) (subst (λ w. HappensBefore x w (At f.event)) same h)
+
+  sequential_holds : (f : RuleFault) (e : Event) (v : EventId) (c : ℕ) → Overtakes x f.writer v f.event e c → Hold x (sequential_premises f c (Some v))
+  sequential_holds f e v c (synchronized is u same syncs ranges) = subst (λ n. Hold x (sequential_premises f n (Some v))) (sym is) none_hold
+  sequential_holds f e v c (written_over is w there atomic first second ranges) =
+      subst (λ n. Hold x (sequential_premises f n (Some v))) (sym is) (two_hold f.writer (At f.event) v (At f.event) first second)
+  sequential_holds f e v c (read_past is atomic first second ranges) =
+      subst (λ n. Hold x (sequential_premises f n (Some v))) (sym is) (two_hold f.writer (At f.event) f.writer v first second)
 
   premises_hold : (f : RuleFault) (rule : Rule) → BreaksRule x f rule → Hold x (premises_by rule f)
-  premises_hold f WrittenValues breaks = all-none (λ (p : Premise). HappensBefore x p.from p.to)
-  premises_hold f Order breaks = all-none (λ (p : Premise). HappensBefore x p.from p.to)
+  premises_hold f WrittenValues breaks = none_hold
+  premises_hold f Order breaks = none_hold
   premises_hold f Coherence breaks = coherence_holds f breaks.0 f.case f.other breaks.3
-  premises_hold f NoTearing breaks = all-none (λ (p : Premise). HappensBefore x p.from p.to)
-  premises_hold f SequentialConsistency breaks = all-none (λ (p : Premise). HappensBefore x p.from p.to)
+  premises_hold f NoTearing breaks = none_hold
+  premises_hold f SequentialConsistency breaks =
+      subst (λ o. Hold x (sequential_premises f f.case o)) (sym breaks.1) (sequential_holds f breaks.2.0 breaks.0 f.case breaks.2.3.overtakes)
 
   -- the premises of a fault hold
   pub premises-hold : (f : RuleFault) → Judges x (Broken f) → Hold x (premises f)

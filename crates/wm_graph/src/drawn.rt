@@ -1,0 +1,104 @@
+//! The edges of a picture that are drawn.
+
+use crate::edges::{Edge, EdgeKind};
+use crate::picture::Picture;
+use crate::shown::Shown;
+use std::alloc::{AllocError, Global};
+use wm_check::{Breach, Verdict};
+use wm_event::{EventId, EventKey};
+use wm_hb::LinkKind;
+
+/// What is drawn from one node to another.
+#[derive(Clone, Copy)]
+pub(crate) enum DrawnKind {
+    /// An edge.
+    Edge(EdgeKind),
+    /// A link of a chain that the fault rests on.
+    Link(LinkKind),
+}
+
+/// An edge or a link of a picture.
+#[derive(Clone, Copy)]
+pub(crate) struct DrawnEdge {
+    pub from: EventId,
+    pub to: EventKey,
+    pub kind: DrawnKind,
+}
+
+/// Whether an edge is drawn. Of the reads from Init only that of a fault is; the labels of the others say it. Nor is it
+/// drawn that Init is before an event in the order.
+fn is_drawn(edge: &Edge, verdict: &Verdict) -> bool {
+    match (edge.from, edge.kind) {
+        (EventId::Init, EdgeKind::ReadsFrom(_)) => match verdict {
+            Verdict::Broken(Breach::Rule(fault)) => {
+                fault.event == edge.to
+                    && (fault.writer == EventId::Init || fault.other == Some(EventId::Init))
+            }
+            _ => false,
+        },
+        (EventId::Init, EdgeKind::Order) => false,
+        (_, _) => true,
+    }
+}
+
+/// Adds an edge or a link, if both of its events are shown.
+fn add_shown(drawn: &mut Vec<DrawnEdge>, shown: &Shown, edge: DrawnEdge) -> Result<(), AllocError> {
+    if shown.has(edge.from) && shown.has(EventId::At(edge.to)) {
+        drawn.push(edge)?;
+    }
+    Ok(())
+}
+
+/// Adds those of these edges that are drawn.
+fn add_edges(
+    drawn: &mut Vec<DrawnEdge>,
+    shown: &Shown,
+    edges: &[Edge],
+    verdict: &Verdict,
+) -> Result<(), AllocError> {
+    for edge in edges {
+        if is_drawn(edge, verdict) {
+            let Edge { from, to, kind } = *edge;
+            let kind = DrawnKind::Edge(kind);
+            add_shown(drawn, shown, DrawnEdge { from, to, kind })?;
+        }
+    }
+    Ok(())
+}
+
+/// Adds the links of the chains.
+fn add_links(
+    drawn: &mut Vec<DrawnEdge>,
+    shown: &Shown,
+    picture: &Picture,
+) -> Result<(), AllocError> {
+    for chain in picture.chains.as_slice() {
+        let mut from = chain.from;
+        for link in chain.links.as_slice() {
+            let to = link.event;
+            let kind = DrawnKind::Link(link.kind);
+            add_shown(drawn, shown, DrawnEdge { from, to, kind })?;
+            from = EventId::At(to);
+        }
+    }
+    Ok(())
+}
+
+/// What is drawn between the events that are shown: the edges to events, then the chains, and then the other edges that
+/// the fault needs.
+///
+/// # Errors
+///
+/// Only if an allocation fails.
+pub(crate) fn drawn_edges(
+    alloc: Global,
+    picture: &Picture,
+    verdict: &Verdict,
+    shown: &Shown,
+) -> Result<Vec<DrawnEdge>, AllocError> {
+    let mut drawn = Vec::new(alloc);
+    add_edges(&mut drawn, shown, picture.edges.as_slice(), verdict)?;
+    add_links(&mut drawn, shown, picture)?;
+    add_edges(&mut drawn, shown, picture.fault_edges.as_slice(), verdict)?;
+    Ok(drawn)
+}
