@@ -16,3 +16,5 @@ pub mod GroupLemmas
 pub mod ByteLemmas
 pub mod KindLemmas
 pub mod GroupReportLaws
+pub mod FirstRaceLaws
+pub mod OneSiteLaws

@@ -67,7 +67,7 @@ never-both x p q (by_write d c a) (by_byte e b) = omega (arith, c, b)
 never-both x p q (by_write d c a) (by_write e f b) = omega (arith, a, b)
 
 -- a race has one name
-one-name : (x : Execution) (p : RacingPair) → IsRacingPair x p → IsRacingPair x (record { event = p.write; write = p.event }) → ⊥
+pub one-name : (x : Execution) (p : RacingPair) → IsRacingPair x p → IsRacingPair x (record { event = p.write; write = p.event }) → ⊥
 one-name x p racing turned =
     let f : turned.race.first ≡ racing.race.second = same_Some turned.race.first racing.race.second (sym turned.race.is_first ∙ racing.race.is_second) in
     let s : turned.race.second ≡ racing.race.first = same_Some turned.race.second racing.race.first (sym turned.race.is_second ∙ racing.race.is_first) in
@@ -91,7 +91,7 @@ pub one-race-list : (x : Execution) (ps qs : List RacingPair) → IsRaceList x p
 one-race-list x ps qs first second = one-order (ComesBefore x) (never-both x) ps qs first.sorted second.sorted (pairs-in x ps qs first second) (pairs-in x qs ps second first)
 
 -- what is found passes the test
-found-passes : {X : Type 0} (p : X → Bool) (xs : List X) (a : X) → find p xs ≡ Some a → p a ≡ true
+pub found-passes : {X : Type 0} (p : X → Bool) (xs : List X) (a : X) → find p xs ≡ Some a → p a ≡ true
 found-passes p [] a h = absurd (cc)
 found-passes {X} p (x ∷ xs) a h = by (p x) refl h (found-passes p xs a)
   where

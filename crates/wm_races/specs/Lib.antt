@@ -4,6 +4,7 @@ pub mod Listing
 pub mod Classes
 pub mod Groups
 pub mod Parts
+pub mod First
 pub mod Gathering
 pub mod Progress
 pub mod Window

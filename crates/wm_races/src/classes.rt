@@ -1,5 +1,5 @@
 //! The writes of a byte, parted into classes that race alike.
-ghost use Rattle.std.specs.Prelude.{◌≡◌, ◌↔◌, IfOk, IfSome, IsTrue, Some, length, nat_eq};
+ghost use Rattle.std.specs.Prelude.{◌≡◌, ◌↔◌, ℕ, IfOk, IfSome, IsTrue, None, Some, length, nat_eq};
 ghost use Rattle.indexmap.specs.IndexMap.{get};
 ghost use Rattle.wm_races.specs.Bounds.{Rises};
 ghost use Rattle.wm_races.specs.Classes.{AreClasses, AreKinds, AreMembers, AreOfSites, HasClassSites, HasClasses, IsAmong, kind_of as spec_kind_of};
@@ -161,6 +161,15 @@ fn classes_of(
 }
 
 impl ClassTable {
+    /// The classes of no byte.
+    pub fn none(alloc: Global) -> Self
+        ensures { (byte : ℕ) → get nat_eq result.of_byte byte ≡ None }
+    {
+        ClassTable {
+            of_byte: IndexMap::new(alloc),
+        }
+    }
+
     /// The classes of each byte that many events write and that is among some first bytes.
     pub fn of(
         alloc: Global,

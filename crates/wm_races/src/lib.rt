@@ -1,10 +1,11 @@
-//! The data races of a candidate, counted by the sites of their events.
+//! The data races of a candidate, counted by the sites of their events, or the first of them one by one.
 #![tactic(auto)]
 
 mod begins;
 mod block;
 mod bounds;
 mod classes;
+mod first;
 mod group;
 mod groups;
 mod law;
@@ -15,6 +16,7 @@ mod scan;
 mod site;
 mod window;
 
+pub use first::{FirstRaces, first_races};
 pub use law::one_race_report;
 pub use pair::RacingPair;
 pub use scan::races;
