@@ -1,5 +1,5 @@
 -- What the command `races` answers.
-use Rattle.std.specs.Prelude.{◌≡◌, ◌≢◌, ℕ, zero, suc, ◌-◌, List, [], ◌∷◌, ◌++◌, codes, length, false, map, take, ⊤}
+use Rattle.std.specs.Prelude.{◌≡◌, ◌≢◌, ℕ, zero, suc, ◌-◌, List, [], ◌∷◌, ◌++◌, codes, length, false, take, ⊤}
 use Rattle.std.specs.Fmt.{decimal, digits}
 use Rattle.std.specs.List.{flat_map}
 use Rattle.wm_ast.specs.declared.module.Module.{Module}
@@ -8,7 +8,7 @@ use Rattle.wm_check.specs.declared.verdict.Verdict.{Verdict}
 use Rattle.wm_check.specs.declared.verdict.Verdict.TheVariants.{Allowed, Refused, Broken}
 use Rattle.wm_check.specs.Run.{IsCandidateOf, IsModuleOf}
 use Rattle.wm_check.specs.Verdicts.{Says}
-use Rattle.wm_event.specs.declared.event.Event.{Event}
+use Rattle.wm_event.specs.declared.event.EventKey.{EventKey}
 use Rattle.wm_event.specs.declared.log.ThreadLog.{ThreadLog}
 use Rattle.wm_event.specs.declared.witness.Witness.{Witness}
 use Rattle.wm_event.specs.LoggedRun.{LoggedRun, execution}
@@ -17,19 +17,19 @@ use Rattle.wm_event.specs.Shape.{IsWellShaped, event_count}
 use Rattle.wm_event.specs.Texts.{key_text}
 use Rattle.wm_logfile.specs.declared.fault.DocFault.{DocFault}
 use Rattle.wm_logfile.specs.DocumentBytes.{IsDocumentOf, IsNoDocument}
+use Rattle.wm_races.specs.declared.pair.RacingPair.{RacingPair}
 use Rattle.wm_races.specs.declared.site.Site.{Site}
 use Rattle.wm_races.specs.declared.site.SiteRace.{SiteRace}
+use Rattle.wm_races.specs.Races.{IsRaceList}
 use Rattle.wm_races.specs.Report.{HasSites, IsRaceReport}
 use Rattle.wm_litmus.specs.declared.answer.Answer.{Answer}
-use Rattle.wm_litmus.specs.declared.races.RaceLine.{RaceLine}
-use Rattle.wm_litmus.specs.declared.races.RaceLine.TheVariants.{Sites, Events}
 use Rattle.wm_litmus.specs.Lines.{document_line_text, verdict_status, verdict_text}
 use Rattle.wm_litmus.specs.Prints.{Gives, ended}
 use Rattle.wm_litmus.specs.Rules.{AnswersRun, run_over}
 
 -- ---- lines
 
-abbrev pub races_status : List SiteRace → ℕ
+abbrev pub races_status : {X : Type 0} → List X → ℕ
 races_status [] = 0
 races_status (race ∷ races) = 1
 
@@ -37,25 +37,24 @@ races_status (race ∷ races) = 1
 abbrev pub no_races_text : ℕ → ℕ → List ℕ
 no_races_text threads events = codes "no races threads=" ++ decimal threads ++ codes " events=" ++ decimal events
 
--- the first race between two instructions: its event and its write
-abbrev pub pair_text : SiteRace → List ℕ
-pair_text race = codes "race " ++ key_text race.event ++ codes " with " ++ key_text race.write
+-- an event and the write that it races with
+abbrev pub race_text : EventKey → EventKey → List ℕ
+race_text event write = codes "race " ++ key_text event ++ codes " with " ++ key_text write
 
 abbrev pub site_text : Site → List ℕ
 site_text site =
     codes " function=" ++ decimal site.function ++ codes " instruction=" ++ decimal site.instruction ++ codes " offset=0x" ++ digits 16 false site.offset
 
--- a line: the first race between two instructions, how many there are, and both instructions
-abbrev pub race_text : SiteRace → List ℕ
-race_text race = pair_text race ++ codes " times=" ++ decimal race.count ++ site_text race.site ++ site_text race.other
+-- the line of a race
+abbrev pub pair_text : RacingPair → List ℕ
+pair_text pair = race_text pair.event pair.write
 
--- the line of a race, by its kind
-abbrev pub line_text : RaceLine → SiteRace → List ℕ
-line_text Sites = race_text
-line_text Events = pair_text
+-- the line of the races between two instructions: the first one, how many there are, and both instructions
+abbrev pub sites_text : SiteRace → List ℕ
+sites_text race = race_text race.event race.write ++ codes " times=" ++ decimal race.count ++ site_text race.site ++ site_text race.other
 
 -- a line for each race
-abbrev pub shown_text : (SiteRace → List ℕ) → List SiteRace → List ℕ
+abbrev pub shown_text : {X : Type 0} → (X → List ℕ) → List X → List ℕ
 shown_text line races = flat_map (λ race. ended (line race)) races
 
 -- how many lines are left out
@@ -64,18 +63,23 @@ more_text zero = []
 more_text (suc n) = ended (codes "and " ++ decimal (suc n) ++ codes " more")
 
 -- at most 1,000 lines
-abbrev pub lines_text : (SiteRace → List ℕ) → List SiteRace → List ℕ
+abbrev pub lines_text : {X : Type 0} → (X → List ℕ) → List X → List ℕ
 lines_text line races = shown_text line (take 1000 races) ++ more_text (length races - 1000)
 
 -- all that is printed of the races of a run of so many threads and events
-abbrev pub races_text : (SiteRace → List ℕ) → ℕ → ℕ → List SiteRace → List ℕ
+abbrev pub races_text : {X : Type 0} → (X → List ℕ) → ℕ → ℕ → List X → List ℕ
 races_text line threads events [] = ended (no_races_text threads events)
 races_text line threads events (race ∷ races) = lines_text line (race ∷ races)
 
 -- the status and the text that list the races of a run
-pub record ListsRaces (line : SiteRace → List ℕ) (threads events : ℕ) (races : List SiteRace) (status : ℕ) (text : List ℕ) : Type 0 where
+pub record ListsRaces {X : Type 0} (line : X → List ℕ) (threads events : ℕ) (races : List X) (status : ℕ) (text : List ℕ) : Type 0 where
   pub status_is : status ≡ races_status races
   pub text_is : text ≡ races_text line threads events races
+
+-- the answer lists the races of which these are the first 1,000, and this is the number
+abbrev pub ListsFirst : {X : Type 0} → (X → List ℕ) → ℕ → ℕ → List X → ℕ → Answer → Type 0
+ListsFirst {X} line threads events shown total answer =
+    (races : List X) → shown ≡ take 1000 races → total ≡ length races → Gives (ListsRaces line threads events races) answer
 
 -- ---- of a module and a document
 
@@ -85,7 +89,7 @@ pub record ReportsRaces (run : LoggedRun) (certificate : Certificate) (status : 
   pub has_sites : HasSites run.log sites
   pub races : List SiteRace
   pub report : IsRaceReport (execution run) sites races
-  pub lists : ListsRaces race_text certificate.threads certificate.events races status text
+  pub lists : ListsRaces sites_text certificate.threads certificate.events races status text
 
 abbrev pub IsNotAllowed : Verdict → Type 0
 IsNotAllowed (Allowed certificate) = ⊥
@@ -106,20 +110,10 @@ RacesOver «module» document_bytes answer = (module_bytes : List ℕ) → IsMod
 
 -- ---- of a document alone
 
--- an event as a site of its own
-abbrev pub own_site : Event → Site
-own_site e = record { function = e.thread; instruction = e.number; offset = 0 }
-
--- each event is a site of its own
-abbrev pub AreOwnSites : List ThreadLog → List (List Site) → Type 0
-AreOwnSites log sites = sites ≡ map (λ (thread : ThreadLog). map own_site thread.events) log
-
--- the status and the text list the races of a valid run, a line for each
+-- the status and the text list the races of a valid run, one by one
 pub record ReportsOwnRaces (run : LoggedRun) (status : ℕ) (text : List ℕ) : Type 0 where
-  pub sites : List (List Site)
-  pub own_sites : AreOwnSites run.log sites
-  pub races : List SiteRace
-  pub report : IsRaceReport (execution run) sites races
+  pub races : List RacingPair
+  pub list : IsRaceList (execution run) races
   pub lists : ListsRaces pair_text (length run.log) (event_count run.log) races status text
 
 -- the status and the text that answer a run: its races, if the memory rules allow it; else the answer of `rules`

@@ -1,11 +1,11 @@
 //! The command `races`: the data races of an allowed run, by the instructions or by the events.
-ghost use Rattle.std.specs.Prelude.{◌≡◌, ◌≤◌, IfOk, Some, map, string_bytes};
+ghost use Rattle.std.specs.Prelude.{◌≡◌, ◌≤◌, ℕ, IfOk, List, Some, string_bytes};
 ghost use Rattle.wm_event.specs.LoggedRun.{execution};
 ghost use Rattle.wm_event.specs.Rules.{IsValid, KeepsOrder};
-ghost use Rattle.wm_event.specs.Shape.{event_count};
-ghost use Rattle.wm_litmus.specs.Races.{AnswersEventRaces, AnswersRaces, AnswersRunRaces, AreOwnSites, ListsRaces, RacesOver, ReportsOwnRaces, ReportsRaces, line_text, more_text, own_site, shown_text, site_text};
+ghost use Rattle.wm_litmus.specs.Races.{AnswersEventRaces, AnswersRaces, AnswersRunRaces, ListsFirst, RacesOver, ReportsOwnRaces, ReportsRaces, more_text, pair_text, shown_text, site_text, sites_text};
 ghost use Rattle.wm_litmus.specs.Prints.{Gives, ended};
 ghost use Rattle.wm_litmus.specs.Rules.{run_over};
+ghost use Rattle.wm_races.specs.First.{AreFirstRaces};
 ghost use Rattle.wm_races.specs.Report.{HasSites, IsRaceReport};
 
 use crate::INITIAL_PAGES;
@@ -14,19 +14,33 @@ use std::alloc::{AllocError, Global};
 use std::fmt;
 use std::thread::Threads;
 use wm_check::{Certificate, Unread, Verdict, check_log, count_events, read_module};
-use wm_event::{Candidate, Initial, Judgement, Log, ThreadLog, Witness};
+use wm_event::{Candidate, Initial, Judgement, Log, Witness};
 use wm_explain::event_sites;
 use wm_hb::{HappensBefore, Ordered};
 use wm_list::List;
 use wm_logfile::read_document;
-use wm_races::{Site, SiteRace, races};
+use wm_races::{FirstRaces, RacingPair, Site, SiteRace, first_races, races};
 use wm_rules::judge;
 use wm_valid::ValidModule;
 
 /// How many lines are printed at most.
 const MAX_LINES: usize = 1000;
 
-/// The races of a candidate whose order agrees with happens-before.
+/// Happens-before of a candidate whose order agrees with it.
+fn relation_of<'c, 'i, R: AllocGlobal + Threads + Sync>(
+    rt: &R,
+    candidate: &'c Candidate<'i>,
+) -> Result<HappensBefore<'c, 'i>, AllocError>
+    requires { KeepsOrder (execution candidate.now) }
+    ensures { IfOk result (λ before. before ≡ candidate.now) }
+{
+    let Ok(ordered) = Ordered::of(candidate) else {
+        unreachable!()
+    };
+    HappensBefore::of(rt, rt.alloc(), &ordered)
+}
+
+/// The races of a candidate whose order agrees with happens-before, by the sites of their events.
 fn report_of<R: AllocGlobal + Threads + Sync>(
     rt: &R,
     candidate: &Candidate,
@@ -36,20 +50,20 @@ fn report_of<R: AllocGlobal + Threads + Sync>(
     requires sites { HasSites candidate.now.log sites.now }
     ensures { IfOk result (IsRaceReport (execution candidate.now) sites.now) }
 {
-    let Ok(ordered) = Ordered::of(candidate) else {
-        unreachable!()
-    };
-    let before = HappensBefore::of(rt, rt.alloc(), &ordered)?;
+    let before = relation_of(rt, candidate)?;
     races(rt, rt.alloc(), &before, sites)
 }
 
-/// How a race is printed.
-#[derive(Clone, Copy)]
-enum RaceLine {
-    /// The first race between two instructions, how many there are, and both instructions.
-    Sites,
-    /// A race alone, by its events.
-    Events,
+/// The first races of a candidate whose order agrees with happens-before, and how many there are.
+fn first_of<R: AllocGlobal + Threads + Sync>(
+    rt: &R,
+    candidate: &Candidate,
+) -> Result<FirstRaces, AllocError>
+    requires { KeepsOrder (execution candidate.now) }
+    ensures { IfOk result (AreFirstRaces (execution candidate.now) 1000) }
+{
+    let before = relation_of(rt, candidate)?;
+    first_races(rt, rt.alloc(), &before, MAX_LINES)
 }
 
 /// An instruction, as it prints after what happens there.
@@ -72,40 +86,56 @@ impl fmt::Display for SitePhrase {
     }
 }
 
-/// The line of a race, with its newline.
-fn race_line(alloc: Global, line: RaceLine, race: &SiteRace) -> Result<String, AllocError>
-    ensures { IfOk result (λ text. string_bytes text ≡ ended (line_text line race.now)) }
-{
-    let SiteRace {
-        site,
-        other,
-        event,
-        write,
-        count,
-    } = *race;
-    match line {
-        RaceLine::Events => format!(in alloc; "race {event} with {write}\n"),
-        RaceLine::Sites => {
-            let (site, other) = (SitePhrase(site), SitePhrase(other));
-            format!(in alloc; "race {event} with {write} times={count}{site}{other}\n")
-        }
+/// What has a line in a list of races.
+trait RaceLine {
+    ghost text: { Self → List ℕ };
+
+    /// The line, with its newline.
+    fn line(&self, alloc: Global) -> Result<String, AllocError>
+        ensures { IfOk result (λ line. string_bytes line ≡ ended (text self.now)) };
+}
+
+/// The first race between two instructions, how many there are, and both instructions.
+impl RaceLine for SiteRace {
+    ghost text = { sites_text };
+
+    fn line(&self, alloc: Global) -> Result<String, AllocError> {
+        let SiteRace {
+            site,
+            other,
+            event,
+            write,
+            count,
+        } = *self;
+        let (site, other) = (SitePhrase(site), SitePhrase(other));
+        format!(in alloc; "race {event} with {write} times={count}{site}{other}\n")
+    }
+}
+
+/// A race alone, by its events.
+impl RaceLine for RacingPair {
+    ghost text = { pair_text };
+
+    fn line(&self, alloc: Global) -> Result<String, AllocError> {
+        let RacingPair { event, write } = *self;
+        format!(in alloc; "race {event} with {write}\n")
     }
 }
 
 /// A line for each race.
-fn shown_lines(alloc: Global, line: RaceLine, races: &[SiteRace]) -> Result<String, AllocError>
-    ensures { IfOk result (λ text. string_bytes text ≡ shown_text (line_text line) races.now) }
+fn shown_lines<L: RaceLine>(alloc: Global, races: &[L]) -> Result<String, AllocError>
+    ensures { IfOk result (λ text. string_bytes text ≡ shown_text L.text races.now) }
 {
     let mut text = String::new(alloc);
     for race in races {
-        let row = race_line(alloc, line, race)?;
+        let row = race.line(alloc)?;
         text.push_str(row.as_str())?;
     }
     Ok(text)
 }
 
 /// How many races are left out, if any are.
-fn more_line(alloc: Global, count: usize) -> Result<String, AllocError>
+fn more_line(alloc: Global, count: u64) -> Result<String, AllocError>
     ensures { IfOk result (λ text. string_bytes text ≡ more_text count) }
 {
     if count == 0 {
@@ -114,23 +144,22 @@ fn more_line(alloc: Global, count: usize) -> Result<String, AllocError>
     format!(in alloc; "and {count} more\n")
 }
 
-/// The answer to a run of so many threads and events that has these races.
-fn listed(
+/// The answer to a run of so many threads and events, by the first of its races and their number.
+fn listed<L: RaceLine>(
     alloc: Global,
-    line: RaceLine,
     threads: usize,
     events: usize,
-    races: &[SiteRace],
+    shown: &[L],
+    total: u64,
 ) -> Result<Answer, AllocError>
-    ensures { IfOk result (Gives (ListsRaces (line_text line) threads events races.now)) }
+    ensures { IfOk result (ListsFirst L.text threads events shown.now total) }
 {
-    if races.is_empty() {
+    if total == 0 {
         let text = format!(in alloc; "no races threads={threads} events={events}\n")?;
         return Ok(Answer { text, status: 0 });
     }
-    let shown = races.len().min(MAX_LINES);
-    let mut text = shown_lines(alloc, line, &races[..shown])?;
-    let more = more_line(alloc, races.len() - shown)?;
+    let mut text = shown_lines(alloc, shown)?;
+    let more = more_line(alloc, total.saturating_sub(shown.len() as u64))?;
     text.push_str(more.as_str())?;
     Ok(Answer { text, status: 1 })
 }
@@ -149,12 +178,13 @@ fn list_allowed<R: AllocGlobal + Threads + Sync>(
     let sites = event_sites(rt.alloc(), module, module_bytes, candidate.log())?;
     let races = report_of(rt, candidate, sites.as_slice())?;
     let Certificate { threads, events } = certificate;
+    let shown = races.len().min(MAX_LINES);
     listed(
         rt.alloc(),
-        RaceLine::Sites,
         threads,
         events,
-        races.as_slice(),
+        &races.as_slice()[..shown],
+        races.len() as u64,
     )
 }
 
@@ -201,32 +231,6 @@ pub(crate) fn races_answer<R: AllocGlobal + Threads + Sync>(
     }
 }
 
-/// For each event of a thread the event as its site.
-fn own_thread_sites(alloc: Global, thread: &ThreadLog) -> Result<List<Site>, AllocError>
-    ensures { IfOk result (λ sites. sites ≡ map own_site thread.now.events) }
-{
-    let mut sites = Vec::new(alloc);
-    for event in thread.events.as_slice() {
-        sites.push(Site {
-            function: event.thread,
-            instruction: event.number,
-            offset: 0,
-        })?;
-    }
-    Ok(List::from_vec(sites))
-}
-
-/// For each thread its events as their sites.
-fn own_sites(alloc: Global, log: &Log) -> Result<Vec<List<Site>>, AllocError>
-    ensures { IfOk result (λ sites. AreOwnSites log.now sites.items) }
-{
-    let mut sites = Vec::new(alloc);
-    for thread in log.threads() {
-        sites.push(own_thread_sites(alloc, thread)?)?;
-    }
-    Ok(sites)
-}
-
 /// The answer to a valid run over pages of zeros.
 fn list_valid<R: AllocGlobal + Threads + Sync>(
     rt: &R,
@@ -235,16 +239,14 @@ fn list_valid<R: AllocGlobal + Threads + Sync>(
     requires { IsValid (execution candidate.now) }
     ensures { IfOk result (Gives (ReportsOwnRaces candidate.now)) }
 {
-    let log = candidate.log();
-    let sites = own_sites(rt.alloc(), log)?;
-    let races = report_of(rt, candidate, sites.as_slice())?;
-    let threads = log.threads();
+    let threads = candidate.log().threads();
+    let found = first_of(rt, candidate)?;
     listed(
         rt.alloc(),
-        RaceLine::Events,
         threads.len(),
         count_events(threads),
-        races.as_slice(),
+        found.pairs.as_slice(),
+        found.total,
     )
 }
 

@@ -1,8 +1,8 @@
 -- The races of the events before a place are the first ones of all.
-use Rattle.std.proofs.Common.{◌≡◌, ℕ, zero, suc, ◌+◌, ◌<◌, ◌≤◌, List, [], ◌∷◌, ◌++◌, length, min, slice_get, take, Some, refl, sym, ap, ◌∙◌, subst, arith, ◌⊎◌, inl, inr, ⊎_elim}
+use Rattle.std.proofs.Common.{◌≡◌, ℕ, zero, suc, ◌+◌, ◌<◌, ◌≤◌, List, [], ◌∷◌, ◌++◌, length, min, slice_get, take, Some, refl, ap, ◌∙◌, subst, arith, ◌⊎◌, inl, inr, ⊎_elim}
 use Rattle.std.proofs.lemmas.Bool.{cases_lt}
 use Rattle.std.proofs.lemmas.List.{length-take, take_all}
-use Rattle.std.proofs.lemmas.Option.{same_Some, slice_get_within}
+use Rattle.std.proofs.lemmas.Option.{same_Some}
 use Rattle.wm_event.specs.LoggedRun.{LoggedRun, execution}
 use Rattle.wm_event.specs.Shape.{ListsEachOnce}
 use Rattle.wm_races.specs.Listing.{Lists, event_place}
@@ -11,7 +11,7 @@ use Rattle.wm_races.specs.Races.ComesBefore.{by_event, by_byte, by_write}
 use Rattle.wm_races.specs.declared.pair.RacingPair.{RacingPair}
 use Rattle.wm_races.proofs.ListLemmas.{get-part, part-get}
 use Rattle.wm_races.proofs.ListingLemmas.{lists_append}
-use Rattle.wm_races.proofs.OneReportLaw.{AreAllIn, never-both, one-name, one-order, one-race-list}
+use Rattle.wm_races.proofs.OneReportLaw.{never-both, one-name, one-order, one-race-list}
 use Rattle.wm_races.proofs.RaceListLaws.{all-races}
 
 -- the first items of the first items
@@ -79,13 +79,24 @@ module _ (run : LoggedRun) where
         (λ (h : IsIn all (record { event = p.write; write = p.event })). absurd (one-name (execution run) p racing (list.sound (record { event = p.write; write = p.event }) h)))
         (list.complete p.event p.write racing.race)
 
+    taken : (i n : ℕ) (p : RacingPair) → slice_get (take i all) n ≡ Some p → (n < i) × (slice_get all n ≡ Some p)
+    taken i n p at =
+        let s = get-part all 0 i n p at in
+        let z : 0 + n ≡ n = omega arith in
+        (s.0, subst (λ (m : ℕ). slice_get all m ≡ Some p) z s.1)
+
+    kept : (i n : ℕ) (p : RacingPair) → n < i → slice_get all n ≡ Some p → slice_get (take i all) n ≡ Some p
+    kept i n p l at =
+        let z : n ≡ 0 + n = omega arith in
+        part-get all 0 i n p l (subst (λ (m : ℕ). slice_get all m ≡ Some p) z at)
+
     pub first-ones : (place : ℕ) (pairs : List RacingPair) → Lists run (λ p. event_place run p < place) pairs → (i : ℕ) × (pairs ≡ take i all)
     first-ones place pairs lists =
         let r = end-below place all by-event in
         (r.0, one-order (ComesBefore (execution run)) (never-both (execution run)) pairs (take r.0 all) lists.sorted (sorted r.0) (into r) (out-of r))
       where
         sorted : (i m n : ℕ) (p q : RacingPair) → m < n → slice_get (take i all) m ≡ Some p → slice_get (take i all) n ≡ Some q → ComesBefore (execution run) p q
-        sorted i m n p q l at_p at_q = list.sorted m n p q l (get-part all 0 i m p at_p).1 (get-part all 0 i n q at_q).1
+        sorted i m n p q l at_p at_q = list.sorted m n p q l (taken i m p at_p).1 (taken i n q at_q).1
 
         into : (r : (i : ℕ) × IsEndBelow place all i) → (n : ℕ) (p : RacingPair) → slice_get pairs n ≡ Some p → (m : ℕ) × (slice_get (take r.0 all) m ≡ Some p)
         into r n p at =
@@ -93,13 +104,13 @@ module _ (run : LoggedRun) where
             let k = racing-in p s.0 in
             let below = s.1 in
             ⊎_elim
-            (λ (h : k.0 < r.0). (k.0, part-get all 0 r.0 k.0 p h k.1))
+            (λ (h : k.0 < r.0). (k.0, kept r.0 k.0 p h k.1))
             (λ (h : r.0 ≤ k.0). let above = r.1.above k.0 p h k.1 in absurd (omega (arith, above, below)))
             (cases_lt k.0 r.0)
 
         out-of : (r : (i : ℕ) × IsEndBelow place all i) → (n : ℕ) (p : RacingPair) → slice_get (take r.0 all) n ≡ Some p → (m : ℕ) × (slice_get pairs m ≡ Some p)
         out-of r n p at =
-            let s = get-part all 0 r.0 n p at in
+            let s = taken r.0 n p at in
             lists.complete p (list.sound p (n, s.1)) (r.1.below n p s.0 s.1)
 
     -- enough of them, or all, are the first of all races

@@ -1,6 +1,6 @@
 -- Under one site for all events, and under a site for each.
-use Rattle.std.proofs.Common.{◌≡◌, ℕ, zero, suc, ◌<◌, ◌≤◌, List, [], ◌∷◌, length, map, replicate, slice_get, Option, None, Some, IsSome, true, refl, sym, ap, ◌∙◌, subst, arith, get_or, unwrap_or, option_and_then}
-use Rattle.std.specs.List.{find, position_or_len}
+use Rattle.std.proofs.Common.{◌≡◌, ℕ, zero, suc, ◌≤◌, List, [], ◌∷◌, length, map, replicate, slice_get, Some, refl, sym, ap, ◌∙◌, subst, arith, unwrap_or}
+use Rattle.std.specs.List.{position_or_len}
 use Rattle.std.specs.Option.{option_map}
 use Rattle.std.proofs.lemmas.List.{length-replicate}
 use Rattle.std.proofs.lemmas.Option.{same_Some, slice_get-map}
@@ -10,11 +10,11 @@ use Rattle.wm_event.specs.declared.log.ThreadLog.{ThreadLog}
 use Rattle.wm_event.specs.Log.{HasKeys, event_in}
 use Rattle.wm_event.specs.LoggedRun.{LoggedRun, execution}
 use Rattle.wm_event.specs.Shape.{event_counts}
-use Rattle.wm_races.specs.First.{AreRacesAt, one_site, one_site_of, one_site_table}
+use Rattle.wm_races.specs.First.{AreRacesAt, one_site, one_site_table}
 use Rattle.wm_races.specs.Groups.{AreGroupsOf, first_pair}
 use Rattle.wm_races.specs.Listing.{event_place}
 use Rattle.wm_races.specs.Races.{ComesBefore, IsRacingPair}
-use Rattle.wm_races.specs.Report.{HasSites, IsRaceReport, IsReport, first_at, has_sites, line_sites, pair_of, pair_sites, site_at, site_in}
+use Rattle.wm_races.specs.Report.{HasSites, IsReport, first_at, has_sites, line_sites, pair_of, pair_sites, site_at, site_in}
 use Rattle.wm_races.specs.declared.group.Group.{Group}
 use Rattle.wm_races.specs.declared.pair.RacingPair.{RacingPair}
 use Rattle.wm_races.specs.declared.site.Site.{Site}
@@ -129,6 +129,11 @@ module _ (run : LoggedRun) (keys : HasKeys run.log) (place : ℕ) (groups : List
         let b = group-at groups n q at_q in
         subst (λ (v : RacingPair). ComesBefore (execution run) v q) a.2 (subst (ComesBefore (execution run) a.0.pair) b.2 (is.order m n a.0 b.0 l a.1 b.1));
   }
+
+-- a list of no items
+pub no-items : {X : Type 0} (xs : List X) → length xs ≡ 0 → xs ≡ []
+no-items [] e = refl
+no-items (x ∷ xs) e = absurd (omega (arith, e))
 
 -- an event without groups has no race
 pub no-races : (run : LoggedRun) (sites : List (List Site)) (place : ℕ) → AreGroupsOf run sites (λ p. event_place run p ≡ place) [] → AreRacesAt run place []

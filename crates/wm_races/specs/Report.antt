@@ -32,11 +32,6 @@ pair_sites sites p = record { site = site_at sites p.event; other = site_at site
 abbrev pub line_sites : SiteRace → SitePair
 line_sites r = record { site = r.site; other = r.other }
 
--- the table has the sites of these pairs
-abbrev pub HasPairSites : List (List Site) → List RacingPair → Type 0
-HasPairSites sites pairs = (n : ℕ) (p : RacingPair) → slice_get pairs n ≡ Some p
-    → IsSome (site_in sites p.event) × IsSome (site_in sites p.write)
-
 -- whether a pair's events come from two sites
 abbrev pub has_sites : List (List Site) → SitePair → RacingPair → Bool
 has_sites sites between p = same_site between.site (site_at sites p.event) && same_site between.other (site_at sites p.write)

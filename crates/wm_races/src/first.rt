@@ -1,5 +1,5 @@
 //! The first data races of a candidate, and how many it has.
-ghost use Rattle.std.specs.Prelude.{◌≡◌, ◌×◌, ◌<◌, ◌≤◌, List, IfOk, length, map, sum_by};
+ghost use Rattle.std.specs.Prelude.{◌≡◌, ◌<◌, ◌≤◌, List, IfOk, length, map, sum_by};
 ghost use Rattle.wm_event.specs.LoggedRun.{execution};
 ghost use Rattle.wm_races.specs.Classes.{HasClassSites, HasClasses};
 ghost use Rattle.wm_races.specs.First.{AreFirstRaces, AreRacesAt, one_site_table};
@@ -44,9 +44,7 @@ fn one_site(alloc: Global, log: &Log) -> Result<Vec<List<Site>>, AllocError>
 {
     let mut sites = Vec::new(alloc);
     for thread in log.threads() {
-        sites.push(List::from_vec(
-            vec![in alloc; ONE_SITE; thread.events.len()]?,
-        ))?;
+        sites.push(List::from_vec(vec![in alloc; ONE_SITE; thread.events.len()]?))?;
     }
     Ok(sites)
 }
@@ -122,9 +120,7 @@ pub fn first_races(
     let mut place = 0usize;
     while place < events && pairs.len() < limit && (pairs.len() as u64) < total {
         let more = races_at(alloc, before, &begins, &table, place)?;
-        for pair in more.as_slice() {
-            pairs.push(*pair)?;
-        }
+        pairs.extend_from_slice(more.as_slice())?;
         place += 1;
     }
     pairs.truncate(limit);

@@ -1,5 +1,4 @@
-use Rattle.std.proofs.Common.{◌≡◌, ◌-◌, ◌<◌, ◌≤◌, ◌++◌, length, take}
-use Rattle.wm_races.specs.First.{AreRacesAt}
+use Rattle.std.proofs.Common.{◌-◌, ◌<◌, ◌≤◌}
 use Rattle.wm_races.specs.Listing.{Lists, event_place}
 use Rattle.wm_races.proofs.first.first_races.Given as goal
 
