@@ -6,6 +6,7 @@ pub mod LoopLaws
 pub mod Laid
 pub mod StopLaws
 pub mod StopExamples
+pub mod StopOnce
 pub mod FuncLaws
 pub mod SectionFacts
 pub mod LabelLaws

@@ -77,10 +77,10 @@ BreaksData m d DataOutOfRange = IsOutOfRange m d
 BreaksData m d MemoryAbsent = m.memory ≡ None
 BreaksData m d _ = ⊥
 
--- the function isn't typed, and its opcode n is at fault; a function without a body breaks the rule of types
+-- the function isn't typed, and its opcode n is at fault; a function without a body breaks the rule of types, at number 0
 pub record BreaksFunc (m : Module) (f : Func) (kind : FaultKind) (n : ℕ) : Type 0 where
   pub untyped : TypedFunc m f → ⊥
-  pub place : BreaksIn m f kind n ⊎ ((kind ≡ BadType) × (slice_get f.blocks 0 ≡ None))
+  pub place : BreaksIn m f kind n ⊎ ((kind ≡ BadType) × (slice_get f.blocks 0 ≡ None) × (n ≡ 0))
 
 -- the module breaks the rule at the place
 abbrev pub BreaksAt : Module → FaultKind → Location → Type 0
