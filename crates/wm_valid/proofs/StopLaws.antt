@@ -11,7 +11,7 @@ use Rattle.wm_valid.specs.InstrTypes.{Context, Labels, listed}
 use Rattle.wm_valid.specs.Typing.{Typed, none, plain, block, loop, if_else, if_then, Nested}
 use Rattle.wm_valid.specs.Stacks.{Stack, Matches, empty, take_one, ended}
 use Rattle.wm_valid.specs.Locations.{Part, parts, Opcodes, number_of}
-use Rattle.wm_valid.specs.Untyped.{HasTyping, HasTest, IsBehind, HasTypingWith, GoesOn, block_result, PastFirst, at_opcode, at_end, in_first, behind_first, in_second, TypingStopsAt}
+use Rattle.wm_valid.specs.Untyped.{HasTyping, HasTest, IsBehind, HasTypingWith, GoesOn, block_result, PastFirst, StandsBehind, at_opcode, at_end, in_first, behind_first, in_second, TypingStopsAt}
 use Rattle.wm_valid.specs.Implements.{MapsStack, Rejects, Unless, Counted, CountedBlock, Reaches, StopsInElse, StopsInstr, StopsBlock, StopsNested, StopsElse, LeavesStack}
 use Rattle.wm_valid.specs.declared.fault.FaultKind.TheVariants.{BadType}
 use Rattle.wm_valid.specs.declared.fault.InstrFault.{InstrFault}
@@ -92,12 +92,16 @@ plain_with C n labels before _ p h = h
 pub unless_untyped : {P : Type 0} (e : InstrFault) → e ≡ Breaks BadType → Unless e P → P
 unless_untyped {P} e is h = subst (λ (q : InstrFault). Unless q P) is h
 
+-- an instruction behind those that were counted
+stands : (C : Context) (before after : List Instr) (i : Instr) (start first : ℕ) → (counted : Counted C.blocks before start first) → StandsBehind C (before ++ i ∷ after) before i counted.opcodes
+stands C before after i start first counted = record { after = after; is = refl; are_opcodes = counted.are_opcodes }
+
 -- the instruction at which the refusal stops
 stops_here : (C : Context) (n : ℕ) (labels : Labels) (result : Option ValType) (before after : List Instr) (i : Instr) (s : Stack) (start first : ℕ) → Reaches C n labels before s → Counted C.blocks before start first
     → (HasTypingWith C n labels before i → ⊥) → TypingStopsAt C n labels result (before ++ i ∷ after) start first
 stops_here C n labels result before after i s start first so counted not = record {
   number = counted.opcodes;
-  stops = at_opcode before after i refl counted.are_opcodes (has_typing C n labels before s so) not;
+  stops = at_opcode before i (stands C before after i start first counted) (has_typing C n labels before s so) not;
   is_number = counted.is_next;
 }
 
@@ -125,7 +129,7 @@ nested_stops e C n labels i p ps s first next is opens opened h bad before after
   | inl stop ↦ subst (λ (k : ℕ). TypingStopsAt C n labels result (before ++ i ∷ after) start k) (sym stop.1) (stops_here C n labels result before after i s start first so counted λ g. stop.0 (opens before g))
   | inr r ↦ record {
     number = counted.opcodes + (1 + r.1.2.number);
-    stops = in_first before after i p ps r.1.0 refl counted.are_opcodes (opened before so (r.0, (r.1.0, r.1.1))) is r.1.1 r.1.2.stops;
+    stops = in_first before i p ps r.1.0 (stands C before after i start first counted) (opened before so (r.0, (r.1.0, r.1.1))) is r.1.1 r.1.2.stops;
     is_number = number_deeper (2 ^ 64 - 1) start counted.opcodes first r.1.2.number next counted.is_next r.1.2.is_number;
   }
 ]
@@ -166,7 +170,7 @@ stops_past_first : (C : Context) (n : ℕ) (labels : Labels) (result : Option Va
     → TypingStopsAt C n labels result (before ++ If t one other part ∷ after) start next
 stops_past_first C n labels result before after t one other part start first mid next counted h past not same = record {
   number = counted.opcodes + (1 + h.2.opcodes);
-  stops = behind_first before after t one other part refl counted.are_opcodes past not;
+  stops = behind_first before t one other part (stands C before after (If t one other part) start first counted) past not;
   is_number = same ∙ number_behind (2 ^ 64 - 1) start counted.opcodes first h.2.opcodes mid counted.is_next h.2.is_next;
 }
 
@@ -177,7 +181,7 @@ in_else C n labels result before after t one other Absent start first mid next c
 in_else C n labels result before after t one other Present start first mid next counted h past (inl g) = stops_past_first C n labels result before after t one other Present start first mid next counted h past g.0 g.1
 in_else C n labels result before after t one other Present start first mid next counted h past (inr g) = record {
   number = counted.opcodes + (1 + (h.2.opcodes + 1 + g.1.2.number));
-  stops = in_second before after t one other g.1.0 refl counted.are_opcodes past g.0 g.1.1 g.1.2.stops;
+  stops = in_second before t one other g.1.0 (stands C before after (If t one other Present) start first counted) past g.0 g.1.1 g.1.2.stops;
   is_number = number_in_second (2 ^ 64 - 1) start counted.opcodes first h.2.opcodes mid g.1.2.number next counted.is_next h.2.is_next g.1.2.is_number;
 }
 

@@ -9,7 +9,7 @@ use Rattle.wm_ast.specs.declared.instr.Instr.TheVariants.{Block, Loop, If}
 use Rattle.wm_valid.specs.InstrTypes.{Context, Labels, InstrType, listed, instr_type}
 use Rattle.wm_valid.specs.Typing.{Typed, none, plain, Nested, ElsePart}
 use Rattle.wm_valid.specs.Locations.{Part, parts, Opcodes, none as no_opcode, instr, part as of_part}
-use Rattle.wm_valid.specs.Untyped.{HasTyping, HasTest, IsBehind, HasTypingWith, GoesOn, block_result, PastFirst, StopsTyping, at_opcode, at_end, in_first, behind_first, in_second}
+use Rattle.wm_valid.specs.Untyped.{HasTyping, HasTest, IsBehind, HasTypingWith, GoesOn, block_result, PastFirst, StandsBehind, StopsTyping, at_opcode, at_end, in_first, behind_first, in_second}
 use Rattle.wm_valid.proofs.StackLaws.{some_is}
 use Rattle.wm_valid.proofs.BodyLaws.{Framed, apart}
 use Rattle.wm_valid.proofs.StopLaws.{typed_both, parted}
@@ -76,16 +76,16 @@ in_the_middle C n labels whole before after i vs is d = typed_all C n labels bef
 
 -- a block in which typing stops has no typing
 pub stopped_untyped : {C : Context} {n : ℕ} {labels : Labels} {result : Option ValType} {whole : List Instr} {k : ℕ} → StopsTyping C n labels result whole k → Typed C n labels whole [] (listed result) → ⊥
-stopped_untyped {C} {n} {labels} {result} {whole} (at_opcode before after i is ops h not) d = not (in_the_middle C n labels whole before after i (listed result) is d).with_it
+stopped_untyped {C} {n} {labels} {result} {whole} (at_opcode before i b h not) d = not (in_the_middle C n labels whole before b.after i (listed result) b.is d).with_it
 stopped_untyped (at_end ops h not) d = not d
-stopped_untyped {C} {n} {labels} {result} {whole} (in_first before after i p ps body is ops with_it are found s) d =
-    let all = in_the_middle C n labels whole before after i (listed result) is d in
+stopped_untyped {C} {n} {labels} {result} {whole} (in_first before i p ps body b with_it are found s) d =
+    let all = in_the_middle C n labels whole before b.after i (listed result) b.is d in
     stopped_untyped s (body_typed C n p.block (p.label ∷ labels) (block_result i) body (first_typed C n labels i p ps all.inside are) found)
-stopped_untyped {C} {n} {labels} {result} {whole} (behind_first before after t one other part is ops past not) d =
-    let all = in_the_middle C n labels whole before after (If t one other part) (listed result) is d in
+stopped_untyped {C} {n} {labels} {result} {whole} (behind_first before t one other part b past not) d =
+    let all = in_the_middle C n labels whole before b.after (If t one other part) (listed result) b.is d in
     not (else_goes_on C n other labels t part all.inside.1)
-stopped_untyped {C} {n} {labels} {result} {whole} (in_second before after t one other body is ops past later found s) d =
-    let all = in_the_middle C n labels whole before after (If t one other Present) (listed result) is d in
+stopped_untyped {C} {n} {labels} {result} {whole} (in_second before t one other body b past later found s) d =
+    let all = in_the_middle C n labels whole before b.after (If t one other Present) (listed result) b.is d in
     stopped_untyped s (body_typed C n other (t ∷ labels) t body all.inside.1 found)
 
 part_sum : (i j k l : ℕ) → i ≡ j → k ≡ l → i + 1 + k ≡ j + 1 + l
@@ -125,12 +125,10 @@ pub data ItemStop (C : Context) (n : ℕ) (labels : Labels) (before : List Instr
 -- the instruction in which typing stops
 pub record InItem (C : Context) (n : ℕ) (labels : Labels) (whole : List Instr) (k : ℕ) : Type 0 where
   pub before : List Instr
-  pub after : List Instr
   pub item : Instr
   pub opcodes : ℕ
   pub more : ℕ
-  pub is : whole ≡ before ++ item ∷ after
-  pub are_opcodes : Opcodes C.blocks [] before opcodes
+  pub stands : StandsBehind C whole before item opcodes
   pub stop : ItemStop C n labels before item more
   pub is_number : k ≡ opcodes + more
 
@@ -143,15 +141,15 @@ plus_none : (k : ℕ) → k ≡ k + 0
 plus_none k = omega arith
 
 viewed : {C : Context} {n : ℕ} {labels : Labels} {result : Option ValType} {whole : List Instr} {k : ℕ} → StopsTyping C n labels result whole k → AtEnd C n labels result whole k ⊎ InItem C n labels whole k
-viewed {k = k} (at_opcode before after i is ops h not) =
-    inr (record { before = before; after = after; item = i; opcodes = k; more = 0; is = is; are_opcodes = ops; stop = itself h not; is_number = plus_none k })
+viewed {k = k} (at_opcode before i b h not) =
+    inr (record { before = before; item = i; opcodes = k; more = 0; stands = b; stop = itself h not; is_number = plus_none k })
 viewed (at_end ops h not) = inl (record { are_opcodes = ops; has = h; lacks = not })
-viewed (in_first {j = j} {k = k} before after i p ps body is ops with_it are found s) =
-    inr (record { before = before; after = after; item = i; opcodes = j; more = 1 + k; is = is; are_opcodes = ops; stop = inside p ps body with_it are found s; is_number = refl })
-viewed (behind_first {j = j} {l = l} before after t one other part is ops past not) =
-    inr (record { before = before; after = after; item = If t one other part; opcodes = j; more = 1 + l; is = is; are_opcodes = ops; stop = between t one other part refl past not; is_number = refl })
-viewed (in_second {j = j} {l = l} {k = k} before after t one other body is ops past later found s) =
-    inr (record { before = before; after = after; item = If t one other Present; opcodes = j; more = 1 + (l + 1 + k); is = is; are_opcodes = ops; stop = in_else t one other body refl past later found s; is_number = refl })
+viewed (in_first {j = j} {k = k} before i p ps body b with_it are found s) =
+    inr (record { before = before; item = i; opcodes = j; more = 1 + k; stands = b; stop = inside p ps body with_it are found s; is_number = refl })
+viewed (behind_first {j = j} {l = l} before t one other part b past not) =
+    inr (record { before = before; item = If t one other part; opcodes = j; more = 1 + l; stands = b; stop = between t one other part refl past not; is_number = refl })
+viewed (in_second {j = j} {l = l} {k = k} before t one other body b past later found s) =
+    inr (record { before = before; item = If t one other Present; opcodes = j; more = 1 + (l + 1 + k); stands = b; stop = in_else t one other body refl past later found s; is_number = refl })
 
 item_untyped : {C : Context} {n : ℕ} {labels : Labels} {before : List Instr} {i : Instr} {m : ℕ} → ItemStop C n labels before i m → TypedAll C n labels before i → ⊥
 item_untyped (itself h not) all = not all.with_it
@@ -273,18 +271,18 @@ more_below : (k i n bound : ℕ) → k ≡ i + n → k < suc bound → n < suc b
 more_below k i n bound e h = omega arith
 
 items_same : {C : Context} {n : ℕ} {labels : Labels} {whole : List Instr} {k l : ℕ} (bound : ℕ) → OnceBelow C bound → k < suc bound → InItem C n labels whole k → InItem C n labels whole l → k ≡ l
-items_same {C} {n} {labels} {whole} {k} {l} bound once below v w = elim (compared v.before v.item v.after w.before w.item w.after (sym v.is ∙ w.is)) [
+items_same {C} {n} {labels} {whole} {k} {l} bound once below v w = elim (compared v.before v.item v.stands.after w.before w.item w.stands.after (sym v.stands.is ∙ w.stands.is)) [
   | inl same ↦
-      let ops : Opcodes C.blocks [] v.before w.opcodes = subst (λ (is : List Instr). Opcodes C.blocks [] is w.opcodes) (sym same.0) w.are_opcodes in
+      let ops : Opcodes C.blocks [] v.before w.opcodes = subst (λ (is : List Instr). Opcodes C.blocks [] is w.opcodes) (sym same.0) w.stands.are_opcodes in
       let stop : ItemStop C n labels v.before w.item w.more = subst (λ (is : List Instr). ItemStop C n labels is w.item w.more) (sym same.0) w.stop in
       let stop2 : ItemStop C n labels v.before v.item w.more = subst (λ (x : Instr). ItemStop C n labels v.before x w.more) (sym same.1) stop in
-      sum_same v.opcodes w.opcodes k l v.more w.more v.is_number w.is_number (opcodes_same v.are_opcodes ops) (item_same bound once (more_below k v.opcodes v.more bound v.is_number below) v.stop stop2)
+      sum_same v.opcodes w.opcodes k l v.more w.more v.is_number w.is_number (opcodes_same v.stands.are_opcodes ops) (item_same bound once (more_below k v.opcodes v.more bound v.is_number below) v.stop stop2)
   | inr (inl r) ↦ let h = begun w.stop in absurd (item_untyped v.stop (in_the_middle C n labels w.before v.before r.0 v.item h.0 r.1 h.1))
   | inr (inr r) ↦ let h = begun v.stop in absurd (item_untyped w.stop (in_the_middle C n labels v.before w.before r.0 w.item h.0 r.1 h.1))
 ]
 
 end_or_item : {C : Context} {n : ℕ} {labels : Labels} {result : Option ValType} {whole : List Instr} {k l : ℕ} → AtEnd C n labels result whole k → InItem C n labels whole l → ⊥
-end_or_item {C} {n} {labels} {result} {whole} e v = item_untyped v.stop (in_the_middle C n labels whole v.before v.after v.item e.has.0 v.is e.has.1)
+end_or_item {C} {n} {labels} {result} {whole} e v = item_untyped v.stop (in_the_middle C n labels whole v.before v.stands.after v.item e.has.0 v.stands.is e.has.1)
 
 once_below : (C : Context) (bound : ℕ) → OnceBelow C bound
 once_below C zero n labels result whole k l below s r = absurd (omega arith)
