@@ -44,7 +44,7 @@ pub record GoodSections (m : Module) : Type 0 where
   pub exports : All (GoodExport m) m.exports
   pub segments : All (GoodData m) m.data
 
--- opcode n of the function is an instruction that breaks this rule and, where the rule is that of types, no other; or an `else` or an `end`, where the rule is that of types. There, typing stops at it
+-- opcode n of the function is an instruction that breaks this rule and, where the rule is that of types, no other; or an `else` or an `end`, where the rule is that of types. Where it is, typing stops at opcode n
 pub record BreaksIn (m : Module) (f : Func) (kind : FaultKind) (n : ℕ) : Type 0 where
   pub type : FuncType
   pub is_type : slice_get m.types f.type_index ≡ Some type
