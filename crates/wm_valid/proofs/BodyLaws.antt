@@ -118,7 +118,7 @@ pub loop_refused : (C : Context) (n b : ℕ) (labels : Labels) (t : Option ValTy
 loop_refused C n b labels t s not ts vs rest m d = elim (apart d) [ inl p ↦ absurd (cc p.is_type) | inr f ↦ not f.0 ]
 
 -- an `if` at the front of what follows it
-if_typed : (C : Context) (n one other : ℕ) (part : Else) (labels : Labels) (t : Option ValType) (rest : List Instr) (ts vs : List ValType) → Nested C n one (t ∷ labels) t → ElsePart C n other labels t part
+pub if_typed : (C : Context) (n one other : ℕ) (part : Else) (labels : Labels) (t : Option ValType) (rest : List Instr) (ts vs : List ValType) → Nested C n one (t ∷ labels) t → ElsePart C n other labels t part
     → Typed C n labels rest (listed t ++ ts) vs → Typed C n labels (If t one other part ∷ rest) (I32 ∷ ts) vs
 if_typed C n one other Present labels t rest ts vs first second d =
     if_else first.block.body second.block.body first.behind first.block.is_there first.block.typed second.behind second.block.is_there second.block.typed d

@@ -4,6 +4,9 @@ pub mod BodyLaws
 pub mod PlaceLaws
 pub mod LoopLaws
 pub mod Laid
+pub mod StopLaws
+pub mod StopExamples
+pub mod StopOnce
 pub mod FuncLaws
 pub mod SectionFacts
 pub mod LabelLaws

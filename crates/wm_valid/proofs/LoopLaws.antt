@@ -10,10 +10,10 @@ use Rattle.wm_valid.proofs.BodyLaws.{SoFar, goes_on}
 use Rattle.wm_valid.proofs.PlaceLaws.{counted_more, located_block}
 use Rattle.wm_valid.proofs.Laid.{taken_more}
 
-next_item : {X : Type 0} (xs : List X) (i : ℕ) (x : X) → i < length xs → x ≡ get_or xs i x → drop i xs ≡ x ∷ drop (i + 1) xs
+pub next_item : {X : Type 0} (xs : List X) (i : ℕ) (x : X) → i < length xs → x ≡ get_or xs i x → drop i xs ≡ x ∷ drop (i + 1) xs
 next_item {X} xs i x h is = drop_more xs i x h ∙ ap (λ (z : X). z ∷ drop (i + 1) xs) (sym is)
 
-split_item : {X : Type 0} (xs : List X) (i : ℕ) (x : X) → i < length xs → x ≡ get_or xs i x → xs ≡ take i xs ++ x ∷ drop (i + 1) xs
+pub split_item : {X : Type 0} (xs : List X) (i : ℕ) (x : X) → i < length xs → x ≡ get_or xs i x → xs ≡ take i xs ++ x ∷ drop (i + 1) xs
 split_item {X} xs i x h is = sym (take-append-drop i xs) ∙ ap (λ (l : List X). take i xs ++ l) (next_item xs i x h is)
 
 pub stepped : (C : Context) (n : ℕ) (labels same_labels : Labels) (items : List Instr) (i : ℕ) (item : Instr) (s s1 : Stack) → i < length items → item ≡ get_or items i item → same_labels ≡ labels

@@ -11,6 +11,7 @@ use Rattle.wm_ast.specs.Module.{memory_size}
 use Rattle.wm_valid.specs.Memory.{start}
 use Rattle.wm_valid.specs.Valid.{GoodLimits, GoodGlobal, GoodExport, GoodData, HasMemory, IsConstant}
 use Rattle.wm_valid.specs.Locations.{FaultyAt}
+use Rattle.wm_valid.specs.Untyped.{TypingStopsAt}
 use Rattle.wm_valid.specs.declared.fault.FaultKind.{FaultKind}
 use Rattle.wm_valid.specs.declared.fault.FaultKind.TheVariants.{BadType, Index, Label, Alignment, DataOutOfRange, MemoryAbsent, MemoryLimits}
 use Rattle.wm_valid.specs.declared.fault.Location.{Location}
@@ -43,13 +44,15 @@ pub record GoodSections (m : Module) : Type 0 where
   pub exports : All (GoodExport m) m.exports
   pub segments : All (GoodData m) m.data
 
--- opcode n of the function is an instruction that breaks this rule and, where the rule is that of types, no other; or an `else` or an `end`, where the rule is that of types
+-- opcode n of the function is an instruction that breaks this rule and, where the rule is that of types, no other; or an `else` or an `end`, where the rule is that of types. Where it is, typing stops at opcode n
 pub record BreaksIn (m : Module) (f : Func) (kind : FaultKind) (n : ℕ) : Type 0 where
   pub type : FuncType
   pub is_type : slice_get m.types f.type_index ≡ Some type
   pub body : List Instr
   pub is_body : slice_get f.blocks 0 ≡ Some body
   pub faulty : FaultyAt (context m f type) (type.result ∷ []) body kind 0 n
+  -- what precedes opcode n has a typing, and with it there is none
+  pub stops : kind ≡ BadType → TypingStopsAt (context m f type) 0 (type.result ∷ []) type.result body 0 n
 
 -- the data segment, at an i32, ends past the memory as it is at first
 pub record IsOutOfRange (m : Module) (d : DataSegment) : Type 0 where
@@ -74,10 +77,10 @@ BreaksData m d DataOutOfRange = IsOutOfRange m d
 BreaksData m d MemoryAbsent = m.memory ≡ None
 BreaksData m d _ = ⊥
 
--- the function isn't typed, and its opcode n is at fault; a function without a body breaks the rule of types
+-- the function isn't typed, and its opcode n is at fault; a function without a body breaks the rule of types, at number 0
 pub record BreaksFunc (m : Module) (f : Func) (kind : FaultKind) (n : ℕ) : Type 0 where
   pub untyped : TypedFunc m f → ⊥
-  pub place : BreaksIn m f kind n ⊎ ((kind ≡ BadType) × (slice_get f.blocks 0 ≡ None))
+  pub place : BreaksIn m f kind n ⊎ ((kind ≡ BadType) × (slice_get f.blocks 0 ≡ None) × (n ≡ 0))
 
 -- the module breaks the rule at the place
 abbrev pub BreaksAt : Module → FaultKind → Location → Type 0

@@ -1,13 +1,14 @@
 -- What a function answers, seen by what it had to find.
-use Rattle.std.specs.Prelude.{◌≡◌, ◌⊎◌, ℕ, ◌+◌, List, [], ◌∷◌, ◌++◌, Option, Some, None, Result, Ok, Err, slice_get}
+use Rattle.std.specs.Prelude.{◌≡◌, ◌<◌, ◌⊎◌, ℕ, ◌+◌, List, [], ◌∷◌, ◌++◌, Option, Some, None, Result, Ok, Err, slice_get}
 use Rattle.wm_ast.specs.declared.types.ValType.{ValType}
 use Rattle.wm_ast.specs.declared.instr.Instr.{Instr}
 use Rattle.wm_ast.specs.declared.instr.Else.{Else}
 use Rattle.wm_ast.specs.declared.instr.Else.TheVariants.{Present, Absent}
 use Rattle.wm_valid.specs.InstrTypes.{Context, Labels}
-use Rattle.wm_valid.specs.Typing.{Typed}
+use Rattle.wm_valid.specs.Typing.{Typed, AbsentElse}
 use Rattle.wm_valid.specs.Stacks.{Stack, Matches}
 use Rattle.wm_valid.specs.Locations.{Opcodes, BreaksRule, FaultyAt, NoSuchLabelIn, number_of}
+use Rattle.wm_valid.specs.Untyped.{IsBehind, TypingStopsAt}
 use Rattle.wm_valid.specs.declared.fault.FaultKind.TheVariants.{BadType, Index, Label}
 use Rattle.wm_valid.specs.declared.fault.InstrFault.{InstrFault}
 use Rattle.wm_valid.specs.declared.fault.InstrFault.TheVariants.{Breaks, OutOfMemory}
@@ -123,3 +124,43 @@ LocatedElse C labels block t Absent first n e = StopsAt e first n
 abbrev pub CountsElse : {X : Type 0} → Result X InstrFault → Context → Labels → ℕ → Option ValType → Else → ℕ → ℕ → Type 0
 CountsElse (Ok x) C labels block t part first n = CountedElse C block part first n
 CountsElse (Err e) C labels block t part first n = LocatedElse C labels block t part first n e
+
+-- the lists that the first instructions of block n make of nothing are those that the stack stands for
+pub record Reaches (C : Context) (n : ℕ) (labels : Labels) (before : List Instr) (s : Stack) : Type 0 where
+  pub back : (us : List ValType) → Matches s us → Typed C n labels before [] us
+  pub forth : (us : List ValType) → Typed C n labels before [] us → Matches s us
+
+-- where the refusal is for types, this holds
+abbrev pub IfUntyped : InstrFault → Type 0 → Type 0
+IfUntyped e P = e ≡ Breaks BadType → P
+
+-- in whatever block this instruction stands behind others that make what the stack stands for, typing stops at its opcode `next`
+abbrev pub StopsBehind : Context → ℕ → Labels → Instr → Stack → ℕ → ℕ → Type 0
+StopsBehind C n labels i old first next =
+    (before after : List Instr) (result : Option ValType) (start : ℕ) → Reaches C n labels before old → Counted C.blocks before start first
+    → TypingStopsAt C n labels result (before ++ i ∷ after) start next
+
+abbrev pub StopsInstr : Context → ℕ → Labels → Instr → Stack → ℕ → ℕ → InstrFault → Type 0
+StopsInstr C n labels i old first next e = IfUntyped e (StopsBehind C n labels i old first next)
+
+-- typing stops in block b, which is there
+abbrev pub StopsInside : Context → ℕ → Labels → Option ValType → ℕ → ℕ → Type 0
+StopsInside C b labels result first next = (body : List Instr) × (slice_get C.blocks b ≡ Some body) × TypingStopsAt C b labels result body first next
+
+abbrev pub StopsBlock : Context → ℕ → Labels → Option ValType → ℕ → ℕ → InstrFault → Type 0
+StopsBlock C b labels result first next e = IfUntyped e (StopsInside C b labels result first next)
+
+-- typing stops in a block that block n names, or at the opcode in front of it where there is no such block behind block n
+abbrev pub StopsAtOrInside : Context → ℕ → ℕ → Labels → Option ValType → ℕ → ℕ → Type 0
+StopsAtOrInside C n b labels result first next = ((IsBehind C n b → ⊥) × (next ≡ first)) ⊎ ((n < b) × StopsInside C b labels result (number_of (first + 1)) next)
+
+abbrev pub StopsNested : Context → ℕ → ℕ → Labels → Option ValType → ℕ → ℕ → InstrFault → Type 0
+StopsNested C n b labels result first next e = IfUntyped e (StopsAtOrInside C n b labels result first next)
+
+-- the same of the else part of an `if`
+abbrev pub StopsInElse : Context → ℕ → ℕ → Labels → Option ValType → Else → ℕ → ℕ → Type 0
+StopsInElse C n b labels t Present first next = StopsAtOrInside C n b (t ∷ labels) t first next
+StopsInElse C n b labels t Absent first next = (AbsentElse C b t → ⊥) × (next ≡ first)
+
+abbrev pub StopsElse : Context → ℕ → ℕ → Labels → Option ValType → Else → ℕ → ℕ → InstrFault → Type 0
+StopsElse C n b labels t part first next e = IfUntyped e (StopsInElse C n b labels t part first next)

@@ -2,6 +2,7 @@ pub mod InstrTypes
 pub mod Typing
 pub mod Stacks
 pub mod Locations
+pub mod Untyped
 pub mod Implements
 pub mod Memory
 pub mod Valid

@@ -83,7 +83,7 @@ NeedsMemory _ = ⊥
 abbrev pub KeepsOthers : Context → Labels → Instr → Type 0
 KeepsOthers C labels i = (NoSuchIndex C i → ⊥) × (NoSuchLabel labels i → ⊥) × (IsMisaligned i → ⊥) × (C.module.memory ≡ None → NeedsMemory i → ⊥)
 
--- the instruction breaks this rule where it stands. BadType says that it breaks no other; that there is no typing is said of its function
+-- the instruction breaks this rule where it stands. BadType says that it breaks no other; that typing stops at it is said of its function
 abbrev pub BreaksRule : Context → Labels → Instr → FaultKind → Type 0
 BreaksRule C labels i BadType = KeepsOthers C labels i
 BreaksRule C labels i Index = NoSuchIndex C i

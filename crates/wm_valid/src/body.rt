@@ -1,6 +1,7 @@
 //! The instructions of a function, block by block.
 ghost use Rattle.std.specs.Prelude.{◌≡◌, ◌+◌, ◌<◌, ◌∷◌, [], OnOk, IfErr, length};
 ghost use Rattle.wm_valid.specs.Implements.{Checked, Decides, Counts, CountsBlock, CountsElse, CountsNested, IsUntyped};
+ghost use Rattle.wm_valid.specs.Implements.{StopsBlock, StopsElse, StopsInstr, StopsNested};
 ghost use Rattle.wm_valid.specs.Typing.{TypedBlock, Nested, ElsePart, AbsentElse};
 ghost use Rattle.wm_valid.specs.Locations.{number_of};
 
@@ -48,6 +49,7 @@ impl Checker<'_> {
         ensures checked { Checked result self.now number labels.old instr.now stack.old stack.new }
         ensures same { OnOk result (labels.new ≡ labels.old) }
         ensures place { Counts result self.now labels.old (instr.now ∷ []) position.old position.new }
+        ensures stops { IfErr result (StopsInstr self.now number labels.old instr.now stack.old position.old position.new) }
     {
         // Reading it tells the proof its range.
         let _first = *position;
@@ -97,6 +99,7 @@ impl Checker<'_> {
         ensures decides { Decides result (ElsePart self.now number block labels.old result_type part) }
         ensures same { OnOk result (labels.new ≡ labels.old) }
         ensures place { CountsElse result self.now labels.old block result_type part position.old position.new }
+        ensures stops { IfErr result (StopsElse self.now number block labels.old result_type part position.old position.new) }
     {
         match part {
             Else::Present => self.nested(
@@ -127,6 +130,7 @@ impl Checker<'_> {
         ensures decides { Decides result (Nested self.now number block (label ∷ labels.old) result_type) }
         ensures same { OnOk result (labels.new ≡ labels.old) }
         ensures place { CountsNested result self.now (label ∷ labels.old) block position.old position.new }
+        ensures stops { IfErr result (StopsNested self.now number block (label ∷ labels.old) result_type position.old position.new) }
     {
         if block <= number || block >= self.blocks.len() {
             return Err(InstrFault::Breaks(FaultKind::BadType));
@@ -153,6 +157,7 @@ impl Checker<'_> {
         ensures decides { Decides result (TypedBlock self.now number labels.old result_type) }
         ensures same { OnOk result (labels.new ≡ labels.old) }
         ensures place { CountsBlock result self.now labels.old number position.old position.new }
+        ensures stops { IfErr result (StopsBlock self.now number labels.old result_type position.old position.new) }
     {
         let Some(body) = self.blocks.get(number) else {
             unreachable!();

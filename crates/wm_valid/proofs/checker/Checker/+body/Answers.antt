@@ -1,15 +1,16 @@
-use Rattle.std.proofs.Common.{◌≡◌, ◌+◌, ap, sym, refl, ◌∙◌, ◌∷◌, [], Some, None, drop, slice_get, subst, arith}
-use Rattle.std.proofs.lemmas.List.{drop_all}
+use Rattle.std.proofs.Common.{◌≡◌, ◌+◌, ap, sym, refl, ◌∙◌, ◌∷◌, [], Some, None, take, drop, slice_get, subst, arith}
+use Rattle.std.proofs.lemmas.List.{drop_all, take_all}
 use Rattle.std.proofs.lemmas.Result.{err_from_is_err_and}
 use Rattle.wm_ast.specs.declared.instr.Instr.TheVariants.{Block, Loop, If}
 use Rattle.wm_valid.specs.InstrTypes.{Context, Labels, listed}
 use Rattle.wm_valid.specs.Typing.{ElsePart}
-use Rattle.wm_valid.specs.Stacks.{Stack, give_all}
-use Rattle.wm_valid.specs.Implements.{LocatedElse}
+use Rattle.wm_valid.specs.Stacks.{Stack, empty, give_all}
+use Rattle.wm_valid.specs.Implements.{LocatedElse, Reaches, StopsElse}
 use Rattle.wm_valid.specs.Locations.{number_of}
 use Rattle.wm_valid.proofs.ParamLaws.{unless_then}
 use Rattle.wm_valid.proofs.BodyLaws.{given_checked, plain_refused, plain_turned, end_decides, is_plain, block_turned, loop_turned, if_turned, if_first_refused, if_other_refused, starts, SoFar}
 use Rattle.wm_valid.proofs.PlaceLaws.{counted_none, counts, counts_block, plain_counted, plain_located, one_part, stops_located, first_located, if_first_located, if_counted, if_else_located}
+use Rattle.wm_valid.proofs.StopLaws.{reaches_none, reaches_item, item_stops, end_stops, plain_stops, test_stops, block_stops, loop_stops, if_first_stops, if_else_stops, given_stops}
 use Rattle.wm_valid.proofs.LoopLaws.{stepped, counted_item, located_item, counted_whole}
 use Rattle.wm_valid.proofs.checker.Checker.+body.Goals as goal
 
@@ -18,6 +19,7 @@ block-loop-instr-init t c = record {
   so = subst (λ (s : Stack). SoFar c.args.self.now c.args.number c.args.labels.now c.as_slice-instr-items.result.now c.as_slice-instr-items.result.now s) (sym c.new-stack.ensures) (starts c.args.self.now c.args.number c.args.labels.now c.as_slice-instr-items.result.now);
   same = refl;
   counted = counted_none c.args.self.now.blocks c.args.position.now (omega arith);
+  reaches = subst (λ (s : Stack). Reaches c.args.self.now c.args.number c.args.labels.now [] s) (sym c.new-stack.ensures) (reaches_none c.args.self.now c.args.number c.args.labels.now);
 }
 
 pub block-loop-instr-preserved : goal.block-loop-instr-preserved
@@ -25,6 +27,7 @@ block-loop-instr-preserved t c = record {
   so = stepped c.args.self.now c.args.number c.loop-instr.labels c.instr.new.labels c.as_slice-instr-items.result.now c.loop-instr.instr-index c.instr-item.result c.loop-instr.stack c.instr.new.stack c.loop-instr-test.true c.instr-item.is c.in_ok-instr.ensures.same c.loop-instr.invariant.so c.in_ok-instr.ensures.checked;
   same = c.in_ok-instr.ensures.same ∙ c.loop-instr.invariant.same;
   counted = counted_item c.args.self.now.blocks c.as_slice-instr-items.result.now c.loop-instr.instr-index c.instr-item.result c.args.position.now c.loop-instr.position c.instr.new.position c.loop-instr-test.true c.instr-item.is c.loop-instr.invariant.counted c.in_ok-instr.ensures.place;
+  reaches = reaches_item c.args.self.now c.args.number c.args.labels.now c.loop-instr.labels c.as_slice-instr-items.result.now c.loop-instr.instr-index c.instr-item.result c.loop-instr.stack c.instr.new.stack c.loop-instr-test.true c.instr-item.is c.loop-instr.invariant.same c.loop-instr.invariant.reaches c.in_ok-instr.ensures.checked;
 }
 
 pub block-returns-in_err-instr-clause-place : goal.block-returns-in_err-instr-clause-place
@@ -141,3 +144,64 @@ instr-returns-in_ok-else_part-in-If-clause-place t c =
     rw c.in-If.is (counts c.give-in-If.result c.args.self.now c.args.labels.now (If c.in-If.t c.in-If.first c.in-If.second c.in-If.part ∷ []) c.args.position.now c.next_number-in-If.result c.give-in-If.ensures.want
     (if_counted c.args.self.now c.in-If.t c.in-If.first c.in-If.second c.in-If.part c.args.position.now (number_of (c.args.position.now + 1)) c.nested-in-If.new.position c.else_part.new.position c.next_number-in-If.result
     refl c.in_ok-nested-in-If.ensures.place c.in_ok-else_part-in-If.ensures.place c.next_number-in-If.ensures))
+
+pub block-returns-in_err-instr-clause-stops : goal.block-returns-in_err-instr-clause-stops
+block-returns-in_err-instr-clause-stops t c =
+    let there : slice_get c.args.self.now.blocks c.args.number ≡ Some c.as_slice-instr-items.result.now =
+    ap (λ (C : Context). slice_get C.blocks c.args.number) (sym c.self.view_is) ∙ sym c.in-Some.ensures ∙ ap Some (sym c.as_slice-instr-items.ensures) in
+    let p = err_from_is_err_and c.from_residual.result c.from_residual.ensures.1 in
+    rw (p.1, p.2) (item_stops c.in_err-instr.field-0.0 c.args.self.now c.args.labels.now c.loop-instr.labels c.args.number c.args.result_type c.as_slice-instr-items.result.now c.loop-instr.instr-index c.instr-item.result c.loop-instr.stack c.args.position.now c.loop-instr.position c.instr.new.position
+    c.loop-instr-test.true c.instr-item.is c.loop-instr.invariant.same there c.loop-instr.invariant.reaches c.loop-instr.invariant.counted c.in_err-instr.ensures.stops)
+
+pub block-returns-clause-stops : goal.block-returns-clause-stops
+block-returns-clause-stops t c =
+    let there : slice_get c.args.self.now.blocks c.args.number ≡ Some c.as_slice-instr-items.result.now =
+    ap (λ (C : Context). slice_get C.blocks c.args.number) (sym c.self.view_is) ∙ sym c.in-Some.ensures ∙ ap Some (sym c.as_slice-instr-items.ensures) in
+    end_stops c.end.result c.args.self.now c.args.labels.now c.args.number c.args.result_type c.as_slice-instr-items.result.now (take c.loop-instr.instr-index c.as_slice-instr-items.result.now) c.loop-instr.stack empty c.args.position.now c.loop-instr.position there
+    (take_all c.loop-instr.instr-index c.as_slice-instr-items.result.now c.loop-instr-test.false) c.loop-instr.invariant.reaches c.loop-instr.invariant.counted c.end.ensures.maps
+
+pub instr-returns-in_err-nested-in-Block-clause-stops : goal.instr-returns-in_err-nested-in-Block-clause-stops
+instr-returns-in_err-nested-in-Block-clause-stops t c =
+    let p = err_from_is_err_and c.from_residual.result c.from_residual.ensures.1 in
+    rw (p.1, p.2, c.in-Block.is) (block_stops c.in_err-nested-in-Block.field-0.0 c.args.self.now c.args.number c.args.labels.now c.in-Block.t c.in-Block.block c.args.stack.now c.args.position.now c.nested.new.position c.in_err-nested-in-Block.ensures.stops)
+
+pub instr-returns-in_err-nested-in-Loop-clause-stops : goal.instr-returns-in_err-nested-in-Loop-clause-stops
+instr-returns-in_err-nested-in-Loop-clause-stops t c =
+    let p = err_from_is_err_and c.from_residual-in_err-nested-in-Loop.result c.from_residual-in_err-nested-in-Loop.ensures.1 in
+    rw (p.1, p.2, c.in-Loop.is) (loop_stops c.in_err-nested-in-Loop.field-0.0 c.args.self.now c.args.number c.args.labels.now c.in-Loop.t c.in-Loop.block c.args.stack.now c.args.position.now c.nested-in-Loop.new.position c.in_err-nested-in-Loop.ensures.stops)
+
+pub instr-returns-in_err-take-in-If-clause-stops : goal.instr-returns-in_err-take-in-If-clause-stops
+instr-returns-in_err-take-in-If-clause-stops t c =
+    let p = err_from_is_err_and c.from_residual-in_err-take-in-If.result c.from_residual-in_err-take-in-If.ensures.1 in
+    rw (p.1, p.2, c.in-If.is) (test_stops c.in_err-take-in-If.field-0.0 c.args.self.now c.args.number c.args.labels.now c.in-If.t c.in-If.first c.in-If.second c.in-If.part c.args.stack.now c.args.position.now c.in_err-take-in-If.ensures.maps)
+
+pub instr-returns-in_err-nested-in-If-clause-stops : goal.instr-returns-in_err-nested-in-If-clause-stops
+instr-returns-in_err-nested-in-If-clause-stops t c =
+    let p = err_from_is_err_and c.from_residual-in_err-nested-in-If.result c.from_residual-in_err-nested-in-If.ensures.1 in
+    rw (p.1, p.2, c.in-If.is) (if_first_stops c.in_err-nested-in-If.field-0.0 c.args.self.now c.args.number c.args.labels.now c.in-If.t c.in-If.first c.in-If.second c.in-If.part c.args.stack.now c.take.new.self c.args.position.now c.nested-in-If.new.position c.in_ok-take-in-If.ensures.maps c.in_err-nested-in-If.ensures.stops)
+
+pub instr-returns-in_err-else_part-in-If-clause-stops : goal.instr-returns-in_err-else_part-in-If-clause-stops
+instr-returns-in_err-else_part-in-If-clause-stops t c =
+    let p = err_from_is_err_and c.from_residual-in_err-else_part-in-If.result c.from_residual-in_err-else_part-in-If.ensures.1 in
+    rw (p.1, p.2, c.in-If.is) (if_else_stops c.in_err-else_part-in-If.field-0.0 c.args.self.now c.args.number c.args.labels.now c.in-If.t c.in-If.first c.in-If.second c.in-If.part c.args.stack.now c.take.new.self c.args.position.now c.nested-in-If.new.position c.else_part.new.position
+    c.in_ok-take-in-If.ensures.maps c.in_ok-nested-in-If.ensures.decides c.in_ok-nested-in-If.ensures.place
+    (subst (λ (l : Labels). StopsElse c.args.self.now c.args.number c.in-If.second l c.in-If.t c.in-If.part c.nested-in-If.new.position c.else_part.new.position c.in_err-else_part-in-If.field-0.0) c.in_ok-nested-in-If.ensures.same c.in_err-else_part-in-If.ensures.stops))
+
+pub instr-returns-in_err-plain-in_default-clause-stops : goal.instr-returns-in_err-plain-in_default-clause-stops
+instr-returns-in_err-plain-in_default-clause-stops t c =
+    let p = err_from_is_err_and c.from_residual-in_err-plain-in_default.result c.from_residual-in_err-plain-in_default.ensures.1 in
+    let is-plain = is_plain c.args.instr.now c.in_default.not-Block c.in_default.not-Loop c.in_default.not-If in
+    rw (p.1, p.2) (plain_stops c.in_err-plain-in_default.field-0.0 c.args.self.now c.args.number c.args.labels.now c.args.instr.now c.args.stack.now c.args.position.now is-plain
+    (unless_then c.in_err-plain-in_default.field-0.0 (plain_refused c.args.self.now c.args.number c.args.labels.now c.args.instr.now c.args.stack.now is-plain) c.in_err-plain-in_default.ensures.maps))
+
+pub instr-returns-in_ok-nested-in-Block-clause-stops : goal.instr-returns-in_ok-nested-in-Block-clause-stops
+instr-returns-in_ok-nested-in-Block-clause-stops t c =
+    given_stops c.give.result c.args.self.now c.args.number c.args.labels.now c.args.instr.now c.args.stack.now c.args.position.now c.next_number.result c.give.ensures.want
+
+pub instr-returns-in_ok-nested-in-Loop-clause-stops : goal.instr-returns-in_ok-nested-in-Loop-clause-stops
+instr-returns-in_ok-nested-in-Loop-clause-stops t c =
+    given_stops c.give-in-Loop.result c.args.self.now c.args.number c.args.labels.now c.args.instr.now c.args.stack.now c.args.position.now c.next_number-in-Loop.result c.give-in-Loop.ensures.want
+
+pub instr-returns-in_ok-else_part-in-If-clause-stops : goal.instr-returns-in_ok-else_part-in-If-clause-stops
+instr-returns-in_ok-else_part-in-If-clause-stops t c =
+    given_stops c.give-in-If.result c.args.self.now c.args.number c.args.labels.now c.args.instr.now c.args.stack.now c.args.position.now c.next_number-in-If.result c.give-in-If.ensures.want

@@ -1,5 +1,5 @@
 use Rattle.std.proofs.Common.{◌≡◌, ◌+◌, ◌-◌, ◌*◌, length, drop, take}
-use Rattle.wm_valid.specs.Implements.{Counted}
+use Rattle.wm_valid.specs.Implements.{Counted, Reaches}
 use Rattle.wm_valid.proofs.BodyLaws.{SoFar}
 use Rattle.wm_valid.proofs.checker.Checker.+body.Given as goal
 
@@ -20,4 +20,5 @@ invariant-block-loop-instr l = record {
   so : SoFar l.self l.number l.labels l.instr-items (drop l.instr-index l.instr-items) l.stack;
   same : l.labels ≡ l.fn.labels;
   counted : Counted l.self.blocks (take l.instr-index l.instr-items) l.fn.position l.position;
+  reaches : Reaches l.self l.number l.fn.labels (take l.instr-index l.instr-items) l.stack;
 }
