@@ -1,12 +1,13 @@
 //! Why a memory rule is broken.
+ghost use Rattle.std.specs.Prelude.{◌≡◌, ◌+◌};
 ghost use Rattle.wm_event.specs.LoggedRun.{execution};
-ghost use Rattle.wm_explain.specs.Said.{IsSaidOf};
+ghost use Rattle.wm_explain.specs.Said.{IsAddressOf, IsReadAt, IsSaidOf};
 
 use crate::remedy::add_remedy;
 use crate::row::EventTables;
 use std::alloc::{AllocError, Global};
 use std::fmt;
-use wm_event::{Candidate, EventId, Rule, RuleFault, byte_of};
+use wm_event::{Candidate, Event, EventId, Rule, RuleFault, byte_of};
 use wm_hb::{FaultChain, Link, LinkKind, fault_chains};
 use wm_list::List;
 
@@ -48,21 +49,35 @@ impl fmt::Display for ByteName {
     }
 }
 
+/// The address of a byte of an event.
+fn address_in(event: &Event, byte: u8) -> u64
+    ensures { result ≡ event.now.address + byte }
+{
+    u64::from(event.address) + u64::from(byte)
+}
+
+/// The address of the byte at fault, and the byte that was read there; 0 if its event isn't there.
+fn byte_at_fault(candidate: &Candidate, fault: &RuleFault) -> (u64, u8)
+    ensures address { IsAddressOf (execution candidate.now) fault.now result.0 }
+    ensures read { IsReadAt (execution candidate.now) fault.now result.1 }
+{
+    let Some(event) = candidate.event(EventId::At(fault.event)) else {
+        return (0, 0);
+    };
+    let address = address_in(event, fault.byte);
+    if fault.byte < 8 {
+        (address, byte_of(event.read, fault.byte))
+    } else {
+        (address, 0)
+    }
+}
+
 impl RuleSentence {
     /// What is said of a fault of a candidate.
     fn of(candidate: &Candidate, fault: &RuleFault) -> RuleSentence
         ensures { IsSaidOf (execution candidate.now) fault.now result }
     {
-        let (start, value) = match candidate.event(EventId::At(fault.event)) {
-            None => (0, 0),
-            Some(event) => (u64::from(event.address), event.read),
-        };
-        let address = start.saturating_add(u64::from(fault.byte));
-        let read = if fault.byte < 8 {
-            byte_of(value, fault.byte)
-        } else {
-            0
-        };
+        let (address, read) = byte_at_fault(candidate, fault);
         RuleSentence {
             fault: *fault,
             address,
