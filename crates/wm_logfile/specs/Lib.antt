@@ -3,6 +3,8 @@ pub mod Words
 pub mod Document
 pub mod Reading
 pub mod Faults
+pub mod Paths
+pub mod Forms
 pub mod Causes
 pub mod PathText
 pub mod Texts

@@ -1,7 +1,8 @@
 //! The reader of a witness.
 ghost use Rattle.std.specs.Prelude.{map};
 ghost use Rattle.serde_json.specs.View.{view};
-ghost use Rattle.wm_logfile.specs.Faults.{Gives};
+ghost use Rattle.wm_logfile.specs.Faults.{Gives, Faults};
+ghost use Rattle.wm_logfile.specs.Forms as forms;
 ghost use Rattle.wm_logfile.specs.Reading.{key_from, key_at, keys_at, writer_from, writer_at, event_writers_at, thread_writers_at, witness_from, witness_at};
 
 use crate::fault::ReadFault;
@@ -19,7 +20,8 @@ const MAX_INDEX: u64 = u32::MAX as u64;
 /// The name of an event, by these fields.
 #[tactic(auto, unfolding(crate::specs::Reading::key_from))]
 fn key_of(fields: &[Value], path: &Path) -> Result<EventKey, ReadFault>
-    ensures { Gives (λ k. k) result (key_from (map view fields.now)) }
+    ensures given { Gives (λ k. k) result (key_from (map view fields.now)) }
+    ensures fault { Faults result (forms.exact_fault forms.key_fields path.now 0 (map view fields.now)) }
 {
     let [thread, number] = fields else {
         return Err(ReadFault::Shape(path.copied()));
@@ -31,7 +33,8 @@ fn key_of(fields: &[Value], path: &Path) -> Result<EventKey, ReadFault>
 
 /// The writer of a byte, by these fields: none for Init.
 fn writer_of(fields: &[Value], path: &Path) -> Result<EventId, ReadFault>
-    ensures { Gives (λ w. w) result (writer_from (map view fields.now)) }
+    ensures given { Gives (λ w. w) result (writer_from (map view fields.now)) }
+    ensures fault { Faults result (forms.maybe_fault forms.key_fields path.now (map view fields.now)) }
 {
     if fields.is_empty() {
         return Ok(EventId::Init);
@@ -47,6 +50,9 @@ struct WriterReader;
 impl ItemReader<EventId> for WriterReader {
     ghost reads = { λ _ _ d. writer_at d };
 
+    ghost faults = { λ _ _ path d. forms.first_fault forms.writer path d };
+
+    #[tactic(auto, unfolding(crate::specs::Forms::writer))]
     fn read(
         &self,
         _alloc: Global,
@@ -60,12 +66,14 @@ impl ItemReader<EventId> for WriterReader {
 }
 
 /// The writers of the bytes of an event.
+#[tactic(auto, unfolding(crate::specs::Forms::writers))]
 pub(crate) fn event_writers_of(
     alloc: Global,
     value: &Value,
     path: &Path,
 ) -> Result<List<EventId>, ReadFault>
-    ensures { Gives (λ ws. ws) result (event_writers_at (view value.now)) }
+    ensures given { Gives (λ ws. ws) result (event_writers_at (view value.now)) }
+    ensures fault { Faults result (forms.first_fault forms.writers path.now (view value.now)) }
 {
     items_of(alloc, &WriterReader, value, path)
 }
@@ -76,6 +84,8 @@ struct EventWritersReader;
 
 impl ItemReader<List<EventId>> for EventWritersReader {
     ghost reads = { λ _ _ d. event_writers_at d };
+
+    ghost faults = { λ _ _ path d. forms.first_fault forms.writers path d };
 
     fn read(
         &self,
@@ -95,6 +105,9 @@ struct ThreadWritersReader;
 impl ItemReader<List<List<EventId>>> for ThreadWritersReader {
     ghost reads = { λ _ _ d. thread_writers_at d };
 
+    ghost faults = { λ _ _ path d. forms.first_fault forms.thread_writers path d };
+
+    #[tactic(auto, unfolding(crate::specs::Forms::thread_writers))]
     fn read(
         &self,
         alloc: Global,
@@ -113,6 +126,9 @@ struct KeyReader;
 impl ItemReader<EventKey> for KeyReader {
     ghost reads = { λ _ _ d. key_at d };
 
+    ghost faults = { λ _ _ path d. forms.first_fault forms.key path d };
+
+    #[tactic(auto, unfolding(crate::specs::Forms::key))]
     fn read(
         &self,
         _alloc: Global,
@@ -126,12 +142,14 @@ impl ItemReader<EventKey> for KeyReader {
 }
 
 /// The names in an order.
+#[tactic(auto, unfolding(crate::specs::Forms::keys))]
 pub(crate) fn order_keys_of(
     alloc: Global,
     value: &Value,
     path: &Path,
 ) -> Result<List<EventKey>, ReadFault>
-    ensures { Gives (λ ks. ks) result (keys_at (view value.now)) }
+    ensures given { Gives (λ ks. ks) result (keys_at (view value.now)) }
+    ensures fault { Faults result (forms.first_fault forms.keys path.now (view value.now)) }
 {
     items_of(alloc, &KeyReader, value, path)
 }
@@ -139,7 +157,8 @@ pub(crate) fn order_keys_of(
 /// The witness, by these fields.
 #[tactic(auto, unfolding(crate::specs::Reading::witness_from))]
 fn witness_of_fields(alloc: Global, fields: &[Value], path: &Path) -> Result<Witness, ReadFault>
-    ensures { Gives (λ w. w) result (witness_from (map view fields.now)) }
+    ensures given { Gives (λ w. w) result (witness_from (map view fields.now)) }
+    ensures fault { Faults result (forms.exact_fault forms.witness_fields path.now 0 (map view fields.now)) }
 {
     let [writers, order] = fields else {
         return Err(ReadFault::Shape(path.copied()));
@@ -150,8 +169,10 @@ fn witness_of_fields(alloc: Global, fields: &[Value], path: &Path) -> Result<Wit
 }
 
 /// The witness that this value spells.
+#[tactic(auto, unfolding(crate::specs::Forms::witness))]
 pub(crate) fn witness_of(alloc: Global, value: &Value, path: &Path) -> Result<Witness, ReadFault>
-    ensures { Gives (λ w. w) result (witness_at (view value.now)) }
+    ensures given { Gives (λ w. w) result (witness_at (view value.now)) }
+    ensures fault { Faults result (forms.first_fault forms.witness path.now (view value.now)) }
 {
     let fields = list_of(value, path)?;
     witness_of_fields(alloc, fields, path)
