@@ -18,7 +18,9 @@ use Rattle.wm_logfile.specs.declared.fault.ReadFault.{ReadFault}
 use Rattle.wm_logfile.specs.declared.fault.ReadFault.TheVariants.{Shape, Range}
 use Rattle.wm_logfile.specs.Faults.{as_document}
 use Rattle.wm_logfile.specs.Paths.{child}
-use Rattle.wm_logfile.specs.Reading.{list_at, u32_max, u64_max}
+use Rattle.wm_logfile.specs.declared.document.Version.{Version}
+use Rattle.wm_logfile.specs.declared.document.Version.TheVariants.{First, Second}
+use Rattle.wm_logfile.specs.Reading.{◌>>=◌, list_at, u32_max, u64_max, version_from}
 
 -- ---- what a value may be
 
@@ -271,14 +273,38 @@ head_fault path _ = Some (Shape path)
 
 -- ---- a document
 
--- the fault of reading a value, as one of the whole document
+-- the fault of a value inside, as one of the document
 abbrev pub as_first : Option ReadFault → Option DocFault
 as_first fault = option_map as_document fault
 
-abbrev pub version_fault : List ℕ → Option Num → Option DocFault
-version_fault path None = Some (BadShape path)
-version_fault path (Some n) = if option_map_or (λ v. list_any (λ m. v == m) (1 ∷ 2 ∷ [])) (as_u64 n) false then None else Some BadVersion
+abbrev pub in_document : (List Data → Option DocFault) → List ℕ → Data → Option DocFault
+in_document fault path d = option_map_or fault (list_at d) (Some (BadShape path))
 
 -- too many threads are faulted before the first of them
-abbrev pub few_fault : (List Data → Option ReadFault) → List Data → Option DocFault
-few_fault fault ds = if nat_le (length ds) max_threads then as_first (fault ds) else Some TooLarge
+abbrev pub few_fault : (ℕ → List ℕ → Data → Option ReadFault) → List ℕ → List Data → Option DocFault
+few_fault fault path ds = if nat_le (length ds) max_threads then as_first (items_fault fault path 0 ds) else Some TooLarge
+
+abbrev pub threads_fault : Form → List ℕ → Data → Option DocFault
+threads_fault form path d = in_document (few_fault (numbered_fault (first_fault form)) path) path d
+
+-- what stands behind the version
+abbrev pub pair_fault : Version → List ℕ → Data → Data → Option DocFault
+pair_fault First path threads last = option_or (threads_fault thread (child path 2) threads) (as_first (first_fault witness (child path 3) last))
+pair_fault Second path threads last = option_or (threads_fault thread_by (child path 2) threads) (as_first (first_fault keys (child path 3) last))
+
+abbrev pub version_fault : (Version → Option DocFault) → List ℕ → Option Num → Option DocFault
+version_fault behind path None = Some (BadShape path)
+version_fault behind path (Some n) = option_map_or behind (as_u64 n >>= version_from) (Some BadVersion)
+
+abbrev pub format_name : Form
+format_name = word_of (codes "wasm-litmus-log" ∷ [])
+
+-- the items from left to right
+abbrev pub parts_fault_with : (Version → Data → Data → Option DocFault) → List ℕ → List Data → Option DocFault
+parts_fault_with behind path (name ∷ version ∷ threads ∷ last ∷ []) =
+    option_or (as_first (first_fault format_name (child path 0) name)) (version_fault (λ v. behind v threads last) (child path 1) (as_number version))
+parts_fault_with behind path _ = Some (BadShape path)
+
+-- the first fault of a document
+unfoldable pub document_fault : Data → Option DocFault
+document_fault d = in_document (parts_fault_with (λ v threads last. pair_fault v [] threads last) []) [] d
