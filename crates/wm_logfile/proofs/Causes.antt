@@ -1,5 +1,5 @@
 -- The first fault of a document, and what it says of the document.
-use Rattle.std.proofs.Common.{◌≡◌, ℕ, ◌<◌, ◌≤◌, ◌⊎◌, inl, inr, ◌||◌, Bool, true, false, cond, eqb, leb, List, [], ◌∷◌, length, Option, Some, None, Result, Ok, Err, refl, sym, ap, subst, ◌∙◌, arith}
+use Rattle.std.proofs.Common.{◌≡◌, ℕ, ◌<◌, ◌⊎◌, inl, inr, ◌||◌, Bool, true, false, cond, eqb, leb, List, [], ◌∷◌, length, Option, Some, None, Result, Ok, Err, refl, sym, ap, subst, ◌∙◌}
 use Rattle.std.specs.Prelude.{codes, IfErr}
 use Rattle.std.proofs.lemmas.Bool.{eqb-true, leb-false, lt-leb}
 use Rattle.std.proofs.lemmas.Option.{same_Some}
@@ -17,7 +17,9 @@ use Rattle.wm_logfile.specs.declared.fault.ReadFault.TheVariants.{Shape, Range, 
 use Rattle.wm_logfile.specs.Causes.{HasOtherVersion, HasTooManyThreads, IsCause, IsFaultOf, IsOtherVersion}
 use Rattle.wm_logfile.specs.Document.{count, document_cells, list}
 use Rattle.wm_logfile.specs.Faults.{DocFaults, IsDocFirst, as_document}
-use Rattle.wm_logfile.specs.Forms.{Form, as_first, document_fault, few_fault, first_fault, format_name, is_word, items_fault, keys, numbered_fault, pair_fault, parts_fault_with, thread, thread_by, threads_fault, unless, version_fault, witness}
+use Rattle.wm_logfile.specs.Forms.{Form, first_fault, is_word, items_fault, numbered_fault, unless}
+use Rattle.wm_logfile.specs.Grammar.{format_name, keys, thread, thread_by, witness}
+use Rattle.wm_logfile.specs.FirstFault.{as_first, document_fault, few_fault, pair_fault, parts_fault_with, threads_fault, version_fault}
 use Rattle.wm_logfile.specs.Paths.{child}
 use Rattle.wm_logfile.specs.Reading.{◌>>=◌, list_at, parts_from, version_from}
 use Rattle.wm_logfile.proofs.Leaves.{texts}
@@ -217,7 +219,9 @@ in_four e whole a b c d h =
       | inr second ↦ elim (from_number (λ v. pair_fault v [] c d) (child [] 1) b (as_number b) e refl second.1) [
         | inl shape ↦ absurd (whole.shape (child [] 1) shape)
         | inr fault ↦ record {
-          version = b; threads = c; last = d;
+          version = b;
+          threads = c;
+          last = d;
           is = ap (λ (x : Data). list (x ∷ b ∷ c ∷ d ∷ [])) (named a (child [] 0) (inside_none (first_fault format_name (child [] 0) a) second.0));
           fault = fault;
         }
@@ -254,15 +258,15 @@ of_threads d h =
     elim f.fault [
       | inl other ↦ (let same : BadVersion ≡ TooLarge = other.3 in absurd cc)
       | inr known ↦ (
-        let long = pair_large known.0 f.threads f.last known.2 in
-        record {
-          version = version_number known.0;
-          known = elim known.0 as (λ v. (version_number v ≡ 1) ⊎ (version_number v ≡ 2)) [ First ↦ inl refl | Second ↦ inr refl ];
-          threads = long.0;
-          last = f.last;
-          is = f.is ∙ ap (λ (x : Data). list (head ∷ x ∷ f.threads ∷ f.last ∷ [])) known.1 ∙ ap (λ (x : Data). list (head ∷ count (version_number known.0) ∷ x ∷ f.last ∷ [])) long.1;
-          many = long.2;
-        })
+          let long = pair_large known.0 f.threads f.last known.2 in
+          record {
+            version = version_number known.0;
+            known = elim known.0 as (λ v. (version_number v ≡ 1) ⊎ (version_number v ≡ 2)) [ First ↦ inl refl | Second ↦ inr refl ];
+            threads = long.0;
+            last = f.last;
+            is = f.is ∙ ap (λ (x : Data). list (head ∷ x ∷ f.threads ∷ f.last ∷ [])) known.1 ∙ ap (λ (x : Data). list (head ∷ count (version_number known.0) ∷ x ∷ f.last ∷ [])) long.1;
+            many = long.2;
+          })
     ]
 
 -- ---- the faults that a document has

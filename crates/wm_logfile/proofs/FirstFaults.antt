@@ -1,5 +1,5 @@
 -- The first fault of an event and of a thread, by those of their parts.
-use Rattle.std.proofs.Common.{◌≡◌, ℕ, ◌+◌, ◌-◌, ◌<◌, ◌≤◌, ◌||◌, Bool, true, false, cond, List, [], ◌∷◌, length, get_or, map, take, drop, Option, Some, None, Result, Ok, Err, refl, sym, ap, subst, ◌∙◌, arith}
+use Rattle.std.proofs.Common.{◌≡◌, ℕ, ◌-◌, ◌<◌, ◌≤◌, ◌||◌, Bool, true, false, cond, List, [], ◌∷◌, length, get_or, map, take, drop, Option, Some, None, refl, sym, ap, subst, ◌∙◌, arith}
 use Rattle.std.proofs.lemmas.List.{take_all}
 use Rattle.std.specs.Option.{option_or, option_map_or}
 use Rattle.serde_json.specs.Data.{Data, string}
@@ -16,11 +16,15 @@ use Rattle.std.specs.Prelude.{codes}
 use Rattle.wm_logfile.specs.Document.{count, list}
 use Rattle.wm_logfile.specs.Document.{end as ended}
 use Rattle.wm_logfile.specs.Faults.{IsFirst}
-use Rattle.wm_logfile.specs.Forms.{Form, Fields, is_word, unless, in_list, first_fault, exact_fault, case_fault, cases_with, event_cases, event_by_cases, tagged_fault, by_fault, head_fault, kind, numbered, thread_fields}
+use Rattle.wm_logfile.specs.Forms.{Form, Fields, is_word, unless, in_list, first_fault, exact_fault, case_fault, tagged_fault, numbered}
+use Rattle.wm_logfile.specs.Grammar.{cases_with, event_cases, event_by_cases, kind, thread_fields}
+use Rattle.wm_logfile.specs.FirstFault.{by_fault, head_fault}
+use Rattle.wm_logfile.specs.FirstFault as first_faults
 use Rattle.wm_logfile.specs.Forms as forms
+use Rattle.wm_logfile.specs.Grammar as grammar
 use Rattle.wm_logfile.specs.Paths.{child}
 use Rattle.wm_logfile.specs.Words.{kind_word}
-use Rattle.wm_logfile.specs.Reading.{◌>>=◌, list_at, head_at, head_from, kind_at, values_len, values_by_len}
+use Rattle.wm_logfile.specs.Reading.{list_at, head_at, head_from, kind_at, values_len, values_by_len}
 use Rattle.wm_logfile.proofs.Format.{bind_some}
 use Rattle.wm_logfile.proofs.Leaves.{kinds}
 use Rattle.wm_logfile.proofs.Threads.{head_takes, head_cells}
@@ -75,8 +79,8 @@ unfolding kind
 kind_fault by path at tag ds e place first =
     first_by e (first_fault kind at tag) (case_fault (cases_with by) path (as_str tag) ds)
     (λ (h : first_fault kind at tag ≡ Some e). (
-      let one = is_unless (is_word (codes "r" ∷ codes "w" ∷ codes "x" ∷ []) (as_str tag)) (Shape at) e h in
-      no_word by path (as_str tag) ds one.0 ∙ ap (λ (p : List ℕ). Some (Shape p)) (sym place) ∙ ap (λ (f : ReadFault). Some f) one.1))
+    let one = is_unless (is_word (codes "r" ∷ codes "w" ∷ codes "x" ∷ []) (as_str tag)) (Shape at) e h in
+    no_word by path (as_str tag) ds one.0 ∙ ap (λ (p : List ℕ). Some (Shape p)) (sym place) ∙ ap (λ (f : ReadFault). Some f) one.1))
     first
 
 -- an event of no kind
@@ -98,15 +102,15 @@ no_kind_by (a ∷ []) tag path at e more less is place first = absurd (omega (ar
 no_kind_by (a ∷ b ∷ []) tag path at e more less is place first = absurd (omega (arith, more))
 no_kind_by (a ∷ b ∷ c ∷ []) tag path at e more less is place first = absurd (omega (arith, more))
 no_kind_by (a ∷ b ∷ c ∷ d ∷ []) tag path at e more less is place first = absurd (omega (arith, more))
-no_kind_by (a ∷ b ∷ c ∷ d ∷ v ∷ []) tag path at e more less is place first = kind_fault (forms.field forms.writers forms.no_fields) path at (view a) (view b ∷ view c ∷ view d ∷ view v ∷ []) e place (subst (λ (x : Value). IsFirst e (first_fault kind at (view x))) is first)
-no_kind_by (a ∷ b ∷ c ∷ d ∷ v ∷ w ∷ []) tag path at e more less is place first = kind_fault (forms.field forms.writers forms.no_fields) path at (view a) (view b ∷ view c ∷ view d ∷ view v ∷ view w ∷ []) e place (subst (λ (x : Value). IsFirst e (first_fault kind at (view x))) is first)
-no_kind_by (a ∷ b ∷ c ∷ d ∷ v ∷ w ∷ x ∷ []) tag path at e more less is place first = kind_fault (forms.field forms.writers forms.no_fields) path at (view a) (view b ∷ view c ∷ view d ∷ view v ∷ view w ∷ view x ∷ []) e place (subst (λ (x : Value). IsFirst e (first_fault kind at (view x))) is first)
+no_kind_by (a ∷ b ∷ c ∷ d ∷ v ∷ []) tag path at e more less is place first = kind_fault (forms.field grammar.writers forms.no_fields) path at (view a) (view b ∷ view c ∷ view d ∷ view v ∷ []) e place (subst (λ (x : Value). IsFirst e (first_fault kind at (view x))) is first)
+no_kind_by (a ∷ b ∷ c ∷ d ∷ v ∷ w ∷ []) tag path at e more less is place first = kind_fault (forms.field grammar.writers forms.no_fields) path at (view a) (view b ∷ view c ∷ view d ∷ view v ∷ view w ∷ []) e place (subst (λ (x : Value). IsFirst e (first_fault kind at (view x))) is first)
+no_kind_by (a ∷ b ∷ c ∷ d ∷ v ∷ w ∷ x ∷ []) tag path at e more less is place first = kind_fault (forms.field grammar.writers forms.no_fields) path at (view a) (view b ∷ view c ∷ view d ∷ view v ∷ view w ∷ view x ∷ []) e place (subst (λ (x : Value). IsFirst e (first_fault kind at (view x))) is first)
 no_kind_by (a ∷ b ∷ c ∷ d ∷ v ∷ w ∷ x ∷ y ∷ vs) tag path at e more less is place first = absurd (omega (arith, less))
 
 -- ---- the parts of an event of version 2
 
-case_of_kind : (by : Fields) (k : EventKind) (path : List ℕ) (tag : Data) (ds : List Data) → kind_at tag ≡ Some k → case_fault (cases_with by) path (as_str tag) ds ≡ exact_fault (forms.event_fields k by) path 1 ds
-case_of_kind by k path tag ds read = ap (λ (d : Data). case_fault (cases_with by) path (as_str d) ds) (kinds.takes tag k read).0 ∙ (elim k as (λ k. case_fault (cases_with by) path (Some (kind_word k)) ds ≡ exact_fault (forms.event_fields k by) path 1 ds) [ Read ↦ refl | Write ↦ refl | Update ↦ refl ])
+case_of_kind : (by : Fields) (k : EventKind) (path : List ℕ) (tag : Data) (ds : List Data) → kind_at tag ≡ Some k → case_fault (cases_with by) path (as_str tag) ds ≡ exact_fault (grammar.event_fields k by) path 1 ds
+case_of_kind by k path tag ds read = ap (λ (d : Data). case_fault (cases_with by) path (as_str d) ds) (kinds.takes tag k read).0 ∙ (elim k as (λ k. case_fault (cases_with by) path (Some (kind_word k)) ds ≡ exact_fault (grammar.event_fields k by) path 1 ds) [ Read ↦ refl | Write ↦ refl | Update ↦ refl ])
 
 grouped : (o a w v b : Found) → option_or o (option_or a (option_or w (option_or v (option_or b None)))) ≡ option_or (option_or o (option_or a (option_or w (option_or v None)))) (option_or b None)
 grouped (Some x) a w v b = refl
@@ -158,41 +162,41 @@ cells_are (a ∷ b ∷ c ∷ d ∷ vs) tag order address width are =
 -- of the items up to the values, and of these values
 abbrev front_fault : EventKind → List ℕ → Value → Value → Value → List Value → Found
 front_fault k path order address width values =
-    option_or (first_fault (forms.order_form k) (child path 1) (view order)) (option_or (first_fault forms.small (child path 2) (view address))
-    (option_or (first_fault forms.width (child path 3) (view width)) (forms.values_fault k path (map view values))))
+    option_or (first_fault (grammar.order_form k) (child path 1) (view order)) (option_or (first_fault grammar.small (child path 2) (view address))
+    (option_or (first_fault grammar.width (child path 3) (view width)) (first_faults.values_fault k path (map view values))))
 
 module _ (path : List ℕ) (tag order address width : Value) where
   abbrev event_cells : List Value → List Data
   event_cells rs = view tag ∷ view order ∷ view address ∷ view width ∷ map view rs
 
-  split_read : (rs : List Value) → length rs ≡ 2 → exact_fault (forms.event_fields Read (forms.field forms.writers forms.no_fields)) path 1 (view order ∷ view address ∷ view width ∷ map view rs)
+  split_read : (rs : List Value) → length rs ≡ 2 → exact_fault (grammar.event_fields Read (forms.field grammar.writers forms.no_fields)) path 1 (view order ∷ view address ∷ view width ∷ map view rs)
       ≡ option_or (front_fault Read path order address width (take 1 rs)) (by_fault Read path (map view (drop 1 rs)))
   split_read [] count = absurd (omega (arith, count))
   split_read (v ∷ []) count = absurd (omega (arith, count))
   split_read (v ∷ b ∷ []) count =
-      grouped (first_fault forms.order (child path 1) (view order)) (first_fault forms.small (child path 2) (view address)) (first_fault forms.width (child path 3) (view width))
-      (first_fault forms.value (child path 4) (view v)) (first_fault forms.writers (child path 5) (view b))
+      grouped (first_fault grammar.order (child path 1) (view order)) (first_fault grammar.small (child path 2) (view address)) (first_fault grammar.width (child path 3) (view width))
+      (first_fault grammar.value (child path 4) (view v)) (first_fault grammar.writers (child path 5) (view b))
   split_read (v ∷ b ∷ c ∷ rs) count = absurd (omega (arith, count))
 
-  split_write : (rs : List Value) → length rs ≡ 1 → exact_fault (forms.event_fields Write (forms.field forms.writers forms.no_fields)) path 1 (view order ∷ view address ∷ view width ∷ map view rs)
+  split_write : (rs : List Value) → length rs ≡ 1 → exact_fault (grammar.event_fields Write (forms.field grammar.writers forms.no_fields)) path 1 (view order ∷ view address ∷ view width ∷ map view rs)
       ≡ option_or (front_fault Write path order address width (take 1 rs)) (by_fault Write path (map view (drop 1 rs)))
   split_write [] count = absurd (omega (arith, count))
   split_write (v ∷ []) count =
-      grouped_none (first_fault forms.order (child path 1) (view order)) (first_fault forms.small (child path 2) (view address)) (first_fault forms.width (child path 3) (view width))
-      (first_fault forms.value (child path 4) (view v))
+      grouped_none (first_fault grammar.order (child path 1) (view order)) (first_fault grammar.small (child path 2) (view address)) (first_fault grammar.width (child path 3) (view width))
+      (first_fault grammar.value (child path 4) (view v))
   split_write (v ∷ b ∷ rs) count = absurd (omega (arith, count))
 
-  split_update : (rs : List Value) → length rs ≡ 3 → exact_fault (forms.event_fields Update (forms.field forms.writers forms.no_fields)) path 1 (view order ∷ view address ∷ view width ∷ map view rs)
+  split_update : (rs : List Value) → length rs ≡ 3 → exact_fault (grammar.event_fields Update (forms.field grammar.writers forms.no_fields)) path 1 (view order ∷ view address ∷ view width ∷ map view rs)
       ≡ option_or (front_fault Update path order address width (take 2 rs)) (by_fault Update path (map view (drop 2 rs)))
   split_update [] count = absurd (omega (arith, count))
   split_update (v ∷ []) count = absurd (omega (arith, count))
   split_update (u ∷ v ∷ []) count = absurd (omega (arith, count))
   split_update (u ∷ v ∷ b ∷ []) count =
-      grouped_two (first_fault forms.update_order (child path 1) (view order)) (first_fault forms.small (child path 2) (view address)) (first_fault forms.width (child path 3) (view width))
-      (first_fault forms.value (child path 4) (view u)) (first_fault forms.value (child path 5) (view v)) (first_fault forms.writers (child path 6) (view b))
+      grouped_two (first_fault grammar.update_order (child path 1) (view order)) (first_fault grammar.small (child path 2) (view address)) (first_fault grammar.width (child path 3) (view width))
+      (first_fault grammar.value (child path 4) (view u)) (first_fault grammar.value (child path 5) (view v)) (first_fault grammar.writers (child path 6) (view b))
   split_update (u ∷ v ∷ b ∷ c ∷ rs) count = absurd (omega (arith, count))
 
-  split_of : (k : EventKind) (rs : List Value) → length rs ≡ values_by_len k → exact_fault (forms.event_fields k (forms.field forms.writers forms.no_fields)) path 1 (view order ∷ view address ∷ view width ∷ map view rs)
+  split_of : (k : EventKind) (rs : List Value) → length rs ≡ values_by_len k → exact_fault (grammar.event_fields k (forms.field grammar.writers forms.no_fields)) path 1 (view order ∷ view address ∷ view width ∷ map view rs)
       ≡ option_or (front_fault k path order address width (take (values_len k) rs)) (by_fault k path (map view (drop (values_len k) rs)))
   split_of Read rs count = split_read rs count
   split_of Write rs count = split_write rs count
@@ -206,7 +210,7 @@ module _ (path : List ℕ) (tag order address width : Value) where
   some_case (u ∷ v ∷ b ∷ c ∷ rs) more less = absurd (omega (arith, less))
 
   wrong_length : (k : EventKind) (rs : List Value) → 0 < length rs → length rs < 4 → (length rs ≡ values_by_len k → ⊥)
-      → exact_fault (forms.event_fields k (forms.field forms.writers forms.no_fields)) path 1 (view order ∷ view address ∷ view width ∷ map view rs) ≡ Some (Shape path)
+      → exact_fault (grammar.event_fields k (forms.field grammar.writers forms.no_fields)) path 1 (view order ∷ view address ∷ view width ∷ map view rs) ≡ Some (Shape path)
   wrong_length k [] more less other = absurd (omega (arith, more))
   wrong_length Read (u ∷ []) more less other = refl
   wrong_length Write (u ∷ []) more less other = absurd (other refl)
@@ -220,10 +224,10 @@ module _ (path : List ℕ) (tag order address width : Value) where
   wrong_length k (u ∷ v ∷ b ∷ c ∷ rs) more less other = absurd (omega (arith, less))
 
   behind_kind : (vs : List Value) (k : EventKind) → AreParts vs tag order address width → kind_at (view tag) ≡ Some k → 0 < length (rest_of vs) → length (rest_of vs) < 4
-      → tagged_fault event_by_cases path (map view vs) ≡ exact_fault (forms.event_fields k (forms.field forms.writers forms.no_fields)) path 1 (view order ∷ view address ∷ view width ∷ map view (rest_of vs))
+      → tagged_fault event_by_cases path (map view vs) ≡ exact_fault (grammar.event_fields k (forms.field grammar.writers forms.no_fields)) path 1 (view order ∷ view address ∷ view width ∷ map view (rest_of vs))
   behind_kind vs k are read more less =
       ap (λ (ds : List Data). tagged_fault event_by_cases path ds) (cells_are vs tag order address width are) ∙ some_case (rest_of vs) more less
-      ∙ case_of_kind (forms.field forms.writers forms.no_fields) k path (view tag) (view order ∷ view address ∷ view width ∷ map view (rest_of vs)) read
+      ∙ case_of_kind (forms.field grammar.writers forms.no_fields) k path (view tag) (view order ∷ view address ∷ view width ∷ map view (rest_of vs)) read
 
   -- an event of the kind with another length
   pub other_length : (vs : List Value) (k : EventKind) → AreParts vs tag order address width → kind_at (view tag) ≡ Some k → 0 < length (rest_of vs) → length (rest_of vs) < 4
@@ -253,7 +257,7 @@ rest_of_thread None None None None None h = refl
 
 module _ (event : Form) (path : List ℕ) where
   behind_head : (a b c d events : Data) → head_fault path (a ∷ b ∷ c ∷ d ∷ events ∷ []) ≡ None → exact_fault (thread_fields event) path 0 (a ∷ b ∷ c ∷ d ∷ events ∷ []) ≡ first_fault (numbered event) (child path 4) events
-  behind_head a b c d events none = rest_of_thread (first_fault forms.text (child path 0) a) (first_fault (forms.items forms.value) (child path 1) b) (first_fault forms.ending (child path 2) c) (first_fault (forms.up_to 1000000) (child path 3) d) (first_fault (numbered event) (child path 4) events) none
+  behind_head a b c d events none = rest_of_thread (first_fault forms.text (child path 0) a) (first_fault (forms.items grammar.value) (child path 1) b) (first_fault grammar.ending (child path 2) c) (first_fault (forms.up_to 1000000) (child path 3) d) (first_fault (numbered event) (child path 4) events) none
 
   -- behind a head without a fault the first one is that of the events
   pub fault_of_events : (d : Data) (h : ThreadHead) (events : Data) → head_at d ≡ Some (h, events) → in_list (head_fault path) path d ≡ None

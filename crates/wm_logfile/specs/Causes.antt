@@ -6,7 +6,7 @@ use Rattle.wm_event.specs.Limits.{max_threads}
 use Rattle.wm_logfile.specs.declared.fault.DocFault.{DocFault}
 use Rattle.wm_logfile.specs.declared.fault.DocFault.TheVariants.{NotJson, BadShape, BadVersion, NumberRange, TooLarge, OutOfMemory, Misplaced}
 use Rattle.wm_logfile.specs.Document.{document_cells, list}
-use Rattle.wm_logfile.specs.Forms.{document_fault}
+use Rattle.wm_logfile.specs.FirstFault.{document_fault}
 use Rattle.wm_logfile.specs.Limits.{max_document_bytes}
 
 -- ---- of a value
@@ -33,7 +33,7 @@ pub record HasTooManyThreads (d : Data) : Type 0 where
   pub is : d ≡ list (document_cells version threads last)
   pub many : max_threads < length threads
 
--- what the fault of reading a value says of it: at a path, that no value before it is at fault
+-- what the fault of reading a value says of it; one with a path is the first fault
 abbrev pub IsCause : DocFault → Data → Type 0
 IsCause BadVersion d = HasOtherVersion d
 IsCause TooLarge d = HasTooManyThreads d

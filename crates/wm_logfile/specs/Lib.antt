@@ -5,6 +5,8 @@ pub mod Reading
 pub mod Faults
 pub mod Paths
 pub mod Forms
+pub mod Grammar
+pub mod FirstFault
 pub mod Causes
 pub mod PathText
 pub mod Texts

@@ -2,7 +2,9 @@
 ghost use Rattle.std.specs.Prelude.{◌≡◌, map};
 ghost use Rattle.serde_json.specs.View.{view};
 ghost use Rattle.wm_logfile.specs.Faults.{Gives, Faults};
+ghost use Rattle.wm_logfile.specs.FirstFault as first_faults;
 ghost use Rattle.wm_logfile.specs.Forms as forms;
+ghost use Rattle.wm_logfile.specs.Grammar as grammar;
 ghost use Rattle.wm_logfile.specs.Reading.{event_at, event_by_at, event_of, fields_at, fields_by_at, by_from, values_at, order_for, values_len, values_by_len, number_event_at, number_event_by_at};
 
 use crate::fault::ReadFault;
@@ -35,10 +37,10 @@ fn value_count(kind: EventKind) -> usize
 }
 
 /// The ordering of an event of the kind. An update is SeqCst.
-#[tactic(auto, unfolding(crate::specs::Forms::order, crate::specs::Forms::update_order))]
+#[tactic(auto, unfolding(crate::specs::Grammar::order, crate::specs::Grammar::update_order))]
 fn order_for(kind: EventKind, value: &Value, path: &Path) -> Result<MemoryOrder, ReadFault>
     ensures given { Gives (λ o. o) result (order_for kind (view value.now)) }
-    ensures fault { Faults result (forms.first_fault (forms.order_form kind) path.now (view value.now)) }
+    ensures fault { Faults result (forms.first_fault (grammar.order_form kind) path.now (view value.now)) }
 {
     let order = order_of(value, path)?;
     if kind == EventKind::Update && order == MemoryOrder::Unordered {
@@ -50,7 +52,7 @@ fn order_for(kind: EventKind, value: &Value, path: &Path) -> Result<MemoryOrder,
 /// What was read, and what was written.
 fn values_of(kind: EventKind, values: &[Value], path: &Path) -> Result<(u64, u64), ReadFault>
     ensures given { Gives (λ p. (p.0, p.1)) result (values_at kind (map view values.now)) }
-    ensures fault { Faults result (forms.values_fault kind path.now (map view values.now)) }
+    ensures fault { Faults result (first_faults.values_fault kind path.now (map view values.now)) }
 {
     match (kind, values) {
         (EventKind::Read, [value]) => {
@@ -80,7 +82,7 @@ fn event_of_parts(
     path: &Path,
 ) -> Result<Event, ReadFault>
     ensures given { Gives (λ e. e) result (event_of thread number kind parts.now (map view values.now)) }
-    ensures fault { Faults result (forms.parts_fault kind path.now parts.now (map view values.now)) }
+    ensures fault { Faults result (first_faults.parts_fault kind path.now parts.now (map view values.now)) }
 {
     let order = order_for(kind, parts.order, &path.child(1))?;
     let address = number_of(parts.address, u32::MAX as u64, &path.child(2))? as u32;
@@ -107,7 +109,7 @@ fn event_of_fields(
     path: &Path,
 ) -> Result<Event, ReadFault>
     ensures given { Gives (λ e. e) result (fields_at thread number (map view fields.now)) }
-    ensures fault { Faults result (forms.tagged_fault forms.event_cases path.now (map view fields.now)) }
+    ensures fault { Faults result (forms.tagged_fault grammar.event_cases path.now (map view fields.now)) }
 {
     let [tag, order, address, width, values @ ..] = fields else {
         return Err(ReadFault::Shape(path.copied()));
@@ -128,10 +130,10 @@ fn event_of_fields(
 }
 
 /// The event that this value spells at that place.
-#[tactic(auto, unfolding(crate::specs::Forms::event))]
+#[tactic(auto, unfolding(crate::specs::Grammar::event))]
 fn event_of(value: &Value, thread: u32, number: u32, path: &Path) -> Result<Event, ReadFault>
     ensures given { Gives (λ e. e) result (event_at thread number (view value.now)) }
-    ensures fault { Faults result (forms.first_fault forms.event path.now (view value.now)) }
+    ensures fault { Faults result (forms.first_fault grammar.event path.now (view value.now)) }
 {
     let fields = list_of(value, path)?;
     event_of_fields(fields, thread, number, path)
@@ -146,7 +148,7 @@ pub(crate) struct EventReader {
 impl ItemReader<Event> for EventReader {
     ghost reads = { λ r n d. number_event_at r.thread n d };
 
-    ghost faults = { λ _ n path d. forms.numbered_fault (forms.first_fault forms.event) n path d };
+    ghost faults = { λ _ n path d. forms.numbered_fault (forms.first_fault grammar.event) n path d };
 
     fn read(
         &self,
@@ -182,7 +184,7 @@ fn writers_by(
     path: &Path,
 ) -> Result<List<EventId>, ReadFault>
     ensures given { Gives (λ ws. ws) result (by_from kind (map view lists.now)) }
-    ensures fault { Faults result (forms.by_fault kind path.now (map view lists.now)) }
+    ensures fault { Faults result (first_faults.by_fault kind path.now (map view lists.now)) }
 {
     match (kind, lists) {
         (EventKind::Read, [by]) => event_writers_of(alloc, by, &path.child(5)),
@@ -203,7 +205,7 @@ fn event_by_of_fields(
     path: &Path,
 ) -> Result<(Event, List<EventId>), ReadFault>
     ensures given { Gives (λ p. (p.0, p.1)) result (fields_by_at thread number (map view fields.now)) }
-    ensures fault { Faults result (forms.tagged_fault forms.event_by_cases path.now (map view fields.now)) }
+    ensures fault { Faults result (forms.tagged_fault grammar.event_by_cases path.now (map view fields.now)) }
 {
     let [tag, order, address, width, rest @ ..] = fields else {
         return Err(ReadFault::Shape(path.copied()));
@@ -227,7 +229,7 @@ fn event_by_of_fields(
 }
 
 /// The event with its writers that this value spells at that place.
-#[tactic(auto, unfolding(crate::specs::Forms::event_by))]
+#[tactic(auto, unfolding(crate::specs::Grammar::event_by))]
 fn event_by_of(
     alloc: Global,
     value: &Value,
@@ -236,7 +238,7 @@ fn event_by_of(
     path: &Path,
 ) -> Result<(Event, List<EventId>), ReadFault>
     ensures given { Gives (λ p. (p.0, p.1)) result (event_by_at thread number (view value.now)) }
-    ensures fault { Faults result (forms.first_fault forms.event_by path.now (view value.now)) }
+    ensures fault { Faults result (forms.first_fault grammar.event_by path.now (view value.now)) }
 {
     let fields = list_of(value, path)?;
     event_by_of_fields(alloc, fields, thread, number, path)
@@ -251,7 +253,7 @@ pub(crate) struct EventByReader {
 impl ItemReader<(Event, List<EventId>)> for EventByReader {
     ghost reads = { λ r n d. number_event_by_at r.thread n d };
 
-    ghost faults = { λ _ n path d. forms.numbered_fault (forms.first_fault forms.event_by) n path d };
+    ghost faults = { λ _ n path d. forms.numbered_fault (forms.first_fault grammar.event_by) n path d };
 
     fn read(
         &self,

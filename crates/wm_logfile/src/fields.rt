@@ -4,6 +4,7 @@ ghost use Rattle.serde_json.specs.View.{view};
 ghost use Rattle.wm_logfile.specs.declared.fault.ReadFault.TheVariants as read_faults;
 ghost use Rattle.wm_logfile.specs.Faults.{Gives, Faults};
 ghost use Rattle.wm_logfile.specs.Forms as forms;
+ghost use Rattle.wm_logfile.specs.Grammar as grammar;
 ghost use Rattle.wm_logfile.specs.Reading.{list_at, number_at, width_at, kind_at, order_at};
 
 use crate::fault::ReadFault;
@@ -41,10 +42,10 @@ pub(crate) fn number_of(value: &Value, limit: u64, path: &Path) -> Result<u64, R
 }
 
 /// The width of an access, by its number of bytes.
-#[tactic(auto, unfolding(crate::specs::Forms::width))]
+#[tactic(auto, unfolding(crate::specs::Grammar::width))]
 pub(crate) fn width_of(value: &Value, path: &Path) -> Result<AccessWidth, ReadFault>
     ensures given { Gives (λ w. w) result (width_at (view value.now)) }
-    ensures fault { Faults result (forms.first_fault forms.width path.now (view value.now)) }
+    ensures fault { Faults result (forms.first_fault grammar.width path.now (view value.now)) }
 {
     let bytes = number_of(value, 8, path)?;
     match width_of_bytes(bytes) {
@@ -54,10 +55,10 @@ pub(crate) fn width_of(value: &Value, path: &Path) -> Result<AccessWidth, ReadFa
 }
 
 /// The kind of an event, by its word.
-#[tactic(auto, unfolding(crate::specs::Forms::kind))]
+#[tactic(auto, unfolding(crate::specs::Grammar::kind))]
 pub(crate) fn kind_of(value: &Value, path: &Path) -> Result<EventKind, ReadFault>
     ensures given { Gives (λ k. k) result (kind_at (view value.now)) }
-    ensures fault { Faults result (forms.first_fault forms.kind path.now (view value.now)) }
+    ensures fault { Faults result (forms.first_fault grammar.kind path.now (view value.now)) }
 {
     let Some(word) = value.as_str() else {
         return Err(ReadFault::Shape(path.copied()));
@@ -69,10 +70,10 @@ pub(crate) fn kind_of(value: &Value, path: &Path) -> Result<EventKind, ReadFault
 }
 
 /// An ordering, by its word.
-#[tactic(auto, unfolding(crate::specs::Forms::order))]
+#[tactic(auto, unfolding(crate::specs::Grammar::order))]
 pub(crate) fn order_of(value: &Value, path: &Path) -> Result<MemoryOrder, ReadFault>
     ensures given { Gives (λ o. o) result (order_at (view value.now)) }
-    ensures fault { Faults result (forms.first_fault forms.order path.now (view value.now)) }
+    ensures fault { Faults result (forms.first_fault grammar.order path.now (view value.now)) }
 {
     let Some(word) = value.as_str() else {
         return Err(ReadFault::Shape(path.copied()));

@@ -6,6 +6,7 @@ ghost use Rattle.wm_logfile.specs.declared.fault.ReadFault.{ReadFault};
 ghost use Rattle.wm_logfile.specs.Faults.{Gives, Faults};
 ghost use Rattle.wm_logfile.specs.Forms.{in_list, items_fault};
 ghost use Rattle.wm_logfile.specs.Forms as forms;
+ghost use Rattle.wm_logfile.specs.Grammar as grammar;
 ghost use Rattle.wm_logfile.specs.Reading.{traverse, items_at, number_at, u64_max, firsts, seconds};
 
 use crate::fault::ReadFault;
@@ -65,7 +66,7 @@ pub(crate) struct NumberReader;
 impl ItemReader<u64> for NumberReader {
     ghost reads = { λ _ _ d. number_at u64_max d };
 
-    ghost faults = { λ _ _ path d. forms.first_fault forms.value path d };
+    ghost faults = { λ _ _ path d. forms.first_fault grammar.value path d };
 
     fn read(
         &self,

@@ -1,6 +1,6 @@
 use Rattle.std.proofs.lemmas.Result.{err_from_is_err_and}
 use Rattle.serde_json.specs.View.{view}
-use Rattle.wm_logfile.specs.Forms.{thread}
+use Rattle.wm_logfile.specs.Grammar.{thread}
 use Rattle.wm_logfile.proofs.Causes.{at_threads}
 use Rattle.wm_logfile.proofs.Whole.{is_log}
 use Rattle.wm_logfile.proofs.document.pair_of_first.Goals as goal

@@ -1,6 +1,6 @@
 use Rattle.std.proofs.lemmas.Result.{err_from_is_err_and}
 use Rattle.serde_json.specs.View.{view}
-use Rattle.wm_logfile.specs.Forms.{thread_by}
+use Rattle.wm_logfile.specs.Grammar.{thread_by}
 use Rattle.wm_logfile.proofs.Causes.{at_threads}
 use Rattle.wm_logfile.proofs.Whole.{is_log_by}
 use Rattle.wm_logfile.proofs.document.pair_of_second.Goals as goal

@@ -1,7 +1,6 @@
-use Rattle.std.proofs.Common.{◌≡◌, ◌<◌, length, map, arith, ◌∙◌, sym}
+use Rattle.std.proofs.Common.{arith, ◌∙◌, sym}
 use Rattle.std.proofs.lemmas.Result.{err_from_is_err_and}
-use Rattle.serde_json.specs.View.{view}
-use Rattle.wm_logfile.proofs.FirstFaults.{AreParts, rest_of, no_kind_by, other_length, in_two, first_of_two, second_of_two, neither}
+use Rattle.wm_logfile.proofs.FirstFaults.{AreParts, no_kind_by, other_length, in_two, first_of_two, second_of_two, neither}
 use Rattle.wm_logfile.proofs.event.event_by_of_fields.Goals as goal
 
 pub returns-in_err-kind-clause-fault : goal.returns-in_err-kind-clause-fault

@@ -1,6 +1,6 @@
 use Rattle.std.proofs.lemmas.Result.{err_from_is_err_and}
 use Rattle.serde_json.specs.View.{view}
-use Rattle.wm_logfile.specs.Forms.{thread_by, event_by}
+use Rattle.wm_logfile.specs.Grammar.{thread_by, event_by}
 use Rattle.wm_logfile.proofs.FirstFaults.{events_fault, events_none}
 use Rattle.wm_logfile.proofs.thread.thread_by_of.Goals as goal
 

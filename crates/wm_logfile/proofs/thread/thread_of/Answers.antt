@@ -1,6 +1,6 @@
 use Rattle.std.proofs.lemmas.Result.{err_from_is_err_and}
 use Rattle.serde_json.specs.View.{view}
-use Rattle.wm_logfile.specs.Forms.{thread, event}
+use Rattle.wm_logfile.specs.Grammar.{thread, event}
 use Rattle.wm_logfile.proofs.FirstFaults.{events_fault, events_none}
 use Rattle.wm_logfile.proofs.thread.thread_of.Goals as goal
 
