@@ -10,6 +10,8 @@ pub mod Threads
 pub mod ThreadsBy
 pub mod Pairing
 pub mod Whole
+pub mod FirstFaults
+pub mod FormRows
 pub mod Causes
 pub mod Answer
 pub mod Writings

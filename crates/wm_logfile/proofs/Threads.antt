@@ -152,7 +152,7 @@ head_cells h events = string h.start.name ∷ list (map count h.start.args) ∷ 
 abbrev headed : Start → End → ℕ → ThreadHead
 headed s e n = record { start = s; end = e; steps = n }
 
-head_takes : (ds : List Data) (p : ThreadHead × Data) → head_from ds ≡ Some p → (ds ≡ head_cells p.0 p.1) × HeadFits p.0
+pub head_takes : (ds : List Data) (p : ThreadHead × Data) → head_from ds ≡ Some p → (ds ≡ head_cells p.0 p.1) × HeadFits p.0
 unfolding head_from
 head_takes [] p h = absurd cc
 head_takes (a ∷ []) p h = absurd cc

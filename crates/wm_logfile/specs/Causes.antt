@@ -1,14 +1,13 @@
 -- Why a document is refused.
-use Rattle.std.specs.Prelude.{◌≡◌, ◌≢◌, ◌<◌, ◌≤◌, ◌⊎◌, ℕ, List, [], ◌∷◌, length, codes, None, Some, IsUtf8}
+use Rattle.std.specs.Prelude.{◌≡◌, ◌≢◌, ◌<◌, ◌≤◌, ◌⊎◌, ℕ, List, [], ◌∷◌, length, codes, Some, IsUtf8}
 use Rattle.serde_json.specs.Data.{Data, Num, number, string, unsigned}
-use Rattle.serde_json.specs.Find.{as_number}
 use Rattle.serde_json.specs.Read.{read}
 use Rattle.wm_event.specs.Limits.{max_threads}
 use Rattle.wm_logfile.specs.declared.fault.DocFault.{DocFault}
 use Rattle.wm_logfile.specs.declared.fault.DocFault.TheVariants.{NotJson, BadShape, BadVersion, NumberRange, TooLarge, OutOfMemory, Misplaced}
 use Rattle.wm_logfile.specs.Document.{document_cells, list}
+use Rattle.wm_logfile.specs.FirstFault.{document_fault}
 use Rattle.wm_logfile.specs.Limits.{max_document_bytes}
-use Rattle.wm_logfile.specs.Reading.{items_in}
 
 -- ---- of a value
 
@@ -34,12 +33,12 @@ pub record HasTooManyThreads (d : Data) : Type 0 where
   pub is : d ≡ list (document_cells version threads last)
   pub many : max_threads < length threads
 
--- what the fault of reading a value says of it
+-- what the fault of reading a value says of it; one with a path is the first fault
 abbrev pub IsCause : DocFault → Data → Type 0
 IsCause BadVersion d = HasOtherVersion d
 IsCause TooLarge d = HasTooManyThreads d
-IsCause (BadShape path) d = Unit {0}
-IsCause (NumberRange path) d = Unit {0}
+IsCause (BadShape path) d = document_fault d ≡ Some (BadShape path)
+IsCause (NumberRange path) d = document_fault d ≡ Some (NumberRange path)
 IsCause OutOfMemory d = Unit {0}
 IsCause NotJson d = ⊥
 IsCause Misplaced d = ⊥
@@ -49,26 +48,6 @@ pub record IsFaultOf (d : Data) (fault : DocFault) : Type 0 where
   pub cause : IsCause fault d
   pub other_version : HasOtherVersion d → fault ≡ BadVersion
   pub many_threads : HasTooManyThreads d → fault ≡ TooLarge
-
--- the fault of reading a version
-abbrev pub IsVersionFault : Data → DocFault → Type 0
-IsVersionFault d BadVersion = (n : Num) × (d ≡ number n) × IsOtherVersion n
-IsVersionFault d (BadShape path) = as_number d ≡ None
-IsVersionFault d NotJson = ⊥
-IsVersionFault d (NumberRange path) = ⊥
-IsVersionFault d TooLarge = ⊥
-IsVersionFault d OutOfMemory = ⊥
-IsVersionFault d Misplaced = ⊥
-
--- the fault of reading the threads and what stands behind them
-abbrev pub IsThreadsFault : Data → DocFault → Type 0
-IsThreadsFault d TooLarge = max_threads < length (items_in d)
-IsThreadsFault d (BadShape path) = length (items_in d) ≤ max_threads
-IsThreadsFault d (NumberRange path) = length (items_in d) ≤ max_threads
-IsThreadsFault d OutOfMemory = length (items_in d) ≤ max_threads
-IsThreadsFault d NotJson = ⊥
-IsThreadsFault d BadVersion = ⊥
-IsThreadsFault d Misplaced = ⊥
 
 -- ---- of bytes
 

@@ -3,6 +3,10 @@ pub mod Words
 pub mod Document
 pub mod Reading
 pub mod Faults
+pub mod Paths
+pub mod Forms
+pub mod Grammar
+pub mod FirstFault
 pub mod Causes
 pub mod PathText
 pub mod Texts

@@ -1,13 +1,18 @@
 //! The reader of a document.
-ghost use Rattle.std.specs.Prelude.{◌≡◌, ◌≢◌, ◌≤◌, List, None, length, map, IfOk, IfErr};
+ghost use Rattle.std.specs.Prelude.{◌≡◌, ◌≢◌, ◌≤◌, List, None, [], length, map, IfOk, IfErr};
+ghost use Rattle.serde_json.specs.Find.{as_number};
 ghost use Rattle.serde_json.specs.View.{view};
 ghost use Rattle.wm_event.specs.declared.log.ThreadLog.{ThreadLog};
 ghost use Rattle.wm_event.specs.declared.witness.Witness.{Witness};
 ghost use Rattle.wm_event.specs.Log.{IsLog};
-ghost use Rattle.wm_logfile.specs.Document.{Spells, IsWithinLimits, list};
-ghost use Rattle.wm_logfile.specs.Causes.{IsFaultOf, IsThreadsFault, IsVersionFault};
+ghost use Rattle.wm_logfile.specs.Document.{Spells, IsWithinLimits};
 ghost use Rattle.wm_logfile.specs.DocumentBytes.{IsNoDocument, IsOnlyPair, SpellsOnePair};
-ghost use Rattle.wm_logfile.specs.Faults.{Gives, DocGives};
+ghost use Rattle.wm_logfile.specs.declared.document.Version.TheVariants as versions;
+ghost use Rattle.wm_logfile.specs.declared.fault.ReadFault.TheVariants as read_faults;
+ghost use Rattle.wm_logfile.specs.Faults.{Gives, Faults, DocGives, DocFaults};
+ghost use Rattle.wm_logfile.specs.FirstFault as first_faults;
+ghost use Rattle.wm_logfile.specs.Forms as forms;
+ghost use Rattle.wm_logfile.specs.Grammar as grammar;
 ghost use Rattle.wm_logfile.specs.Limits.{max_document_bytes};
 ghost use Rattle.wm_logfile.specs.Reading.{few_at, name_at, pair_1_at, pair_2_at, version_at, parts_from, document_at};
 
@@ -41,7 +46,8 @@ fn threads_of<T: Drop, R: ItemReader<T>>(
     path: &Path,
 ) -> Result<List<T>, DocFault>
     ensures given { DocGives (λ ts. ts) result (few_at (R.reads reader.now) (view value.now)) }
-    ensures fault { IfErr result (IsThreadsFault (view value.now)) }
+    ensures fault { DocFaults result
+        (first_faults.in_document (first_faults.few_fault (R.faults reader.now) path.now) path.now (view value.now)) }
 {
     let values = list_of(value, path)?;
     if values.len() > MAX_THREADS {
@@ -54,6 +60,8 @@ fn threads_of<T: Drop, R: ItemReader<T>>(
 fn check_name(value: &Value, path: &Path) -> Result<(), ReadFault>
     ensures given { Gives (λ u. u) result (name_at (view value.now)) }
     ensures named { IfErr result (λ _. name_at (view value.now) ≡ None) }
+    ensures shape { IfErr result (λ e. e ≡ read_faults.Shape path.now) }
+    ensures fault { Faults result (forms.first_fault grammar.format_name path.now (view value.now)) }
 {
     match value.as_str() {
         Some("wasm-litmus-log") => Ok(()),
@@ -64,7 +72,8 @@ fn check_name(value: &Value, path: &Path) -> Result<(), ReadFault>
 /// The version, by its number.
 fn version_of(value: &Value, path: &Path) -> Result<Version, DocFault>
     ensures given { DocGives (λ v. v) result (version_at (view value.now)) }
-    ensures fault { IfErr result (IsVersionFault (view value.now)) }
+    ensures fault { DocFaults result (first_faults.version_fault (λ _. None) path.now (as_number (view value.now))) }
+    ensures no_want { IfErr result (λ e. e ≢ DocFault.OutOfMemory) }
 {
     if !value.is_number() {
         return Err(DocFault::BadShape(path.copied()));
@@ -84,7 +93,9 @@ fn parts_of<'a>(
 ) -> Result<(Version, &'a Value, &'a Value), DocFault>
     ensures given { DocGives (λ p. (p.0, view p.1.now, view p.2.now)) result
         (parts_from (map view fields.now)) }
-    ensures fault { IfErr result (IsFaultOf (list (map view fields.now))) }
+    ensures fault { DocFaults result
+        (first_faults.parts_fault_with (λ _ _ _. None) path.now (map view fields.now)) }
+    ensures no_want { IfErr result (λ e. e ≢ DocFault.OutOfMemory) }
 {
     let [name, version, threads, last] = fields else {
         return Err(DocFault::BadShape(path.copied()));
@@ -103,7 +114,8 @@ fn pair_of_first(
 ) -> Result<(Log, Witness), DocFault>
     ensures given { DocGives (λ p. (p.0, p.1)) result
         (pair_1_at (view threads.now) (view witness.now)) }
-    ensures fault { IfErr result (IsThreadsFault (view threads.now)) }
+    ensures fault { DocFaults result
+        (first_faults.pair_fault versions.First path.now (view threads.now) (view witness.now)) }
 {
     let logs = threads_of(alloc, &ThreadReader, threads, &path.child(2))?;
     let witness = witness_of(alloc, witness, &path.child(3))?;
@@ -119,7 +131,8 @@ fn pair_of_second(
 ) -> Result<(Log, Witness), DocFault>
     ensures given { DocGives (λ p. (p.0, p.1)) result
         (pair_2_at (view threads.now) (view order.now)) }
-    ensures fault { IfErr result (IsThreadsFault (view threads.now)) }
+    ensures fault { DocFaults result
+        (first_faults.pair_fault versions.Second path.now (view threads.now) (view order.now)) }
 {
     let threads = threads_of(alloc, &ThreadByReader, threads, &path.child(2))?;
     let order = order_keys_of(alloc, order, &path.child(3))?;
@@ -130,7 +143,7 @@ fn pair_of_second(
 /// The log and the witness that this value spells.
 fn document_of(alloc: Global, value: &Value) -> Result<(Log, Witness), DocFault>
     ensures given { DocGives (λ p. (p.0, p.1)) result (document_at (view value.now)) }
-    ensures fault { IfErr result (IsFaultOf (view value.now)) }
+    ensures fault { DocFaults result (first_faults.document_fault (view value.now)) }
 {
     let path = Path::whole();
     let fields = list_of(value, &path)?;

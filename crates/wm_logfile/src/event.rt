@@ -1,7 +1,10 @@
 //! The readers of an event, which in version 2 stands with the writers of the bytes that it read.
 ghost use Rattle.std.specs.Prelude.{◌≡◌, map};
 ghost use Rattle.serde_json.specs.View.{view};
-ghost use Rattle.wm_logfile.specs.Faults.{Gives};
+ghost use Rattle.wm_logfile.specs.Faults.{Gives, Faults};
+ghost use Rattle.wm_logfile.specs.FirstFault as first_faults;
+ghost use Rattle.wm_logfile.specs.Forms as forms;
+ghost use Rattle.wm_logfile.specs.Grammar as grammar;
 ghost use Rattle.wm_logfile.specs.Reading.{event_at, event_by_at, event_of, fields_at, fields_by_at, by_from, values_at, order_for, values_len, values_by_len, number_event_at, number_event_by_at};
 
 use crate::fault::ReadFault;
@@ -34,8 +37,10 @@ fn value_count(kind: EventKind) -> usize
 }
 
 /// The ordering of an event of the kind. An update is SeqCst.
+#[tactic(auto, unfolding(crate::specs::Grammar::order, crate::specs::Grammar::update_order))]
 fn order_for(kind: EventKind, value: &Value, path: &Path) -> Result<MemoryOrder, ReadFault>
-    ensures { Gives (λ o. o) result (order_for kind (view value.now)) }
+    ensures given { Gives (λ o. o) result (order_for kind (view value.now)) }
+    ensures fault { Faults result (forms.first_fault (grammar.order_form kind) path.now (view value.now)) }
 {
     let order = order_of(value, path)?;
     if kind == EventKind::Update && order == MemoryOrder::Unordered {
@@ -46,7 +51,8 @@ fn order_for(kind: EventKind, value: &Value, path: &Path) -> Result<MemoryOrder,
 
 /// What was read, and what was written.
 fn values_of(kind: EventKind, values: &[Value], path: &Path) -> Result<(u64, u64), ReadFault>
-    ensures { Gives (λ p. (p.0, p.1)) result (values_at kind (map view values.now)) }
+    ensures given { Gives (λ p. (p.0, p.1)) result (values_at kind (map view values.now)) }
+    ensures fault { Faults result (first_faults.values_fault kind path.now (map view values.now)) }
 {
     match (kind, values) {
         (EventKind::Read, [value]) => {
@@ -75,7 +81,8 @@ fn event_of_parts(
     number: u32,
     path: &Path,
 ) -> Result<Event, ReadFault>
-    ensures { Gives (λ e. e) result (event_of thread number kind parts.now (map view values.now)) }
+    ensures given { Gives (λ e. e) result (event_of thread number kind parts.now (map view values.now)) }
+    ensures fault { Faults result (first_faults.parts_fault kind path.now parts.now (map view values.now)) }
 {
     let order = order_for(kind, parts.order, &path.child(1))?;
     let address = number_of(parts.address, u32::MAX as u64, &path.child(2))? as u32;
@@ -101,7 +108,8 @@ fn event_of_fields(
     number: u32,
     path: &Path,
 ) -> Result<Event, ReadFault>
-    ensures { Gives (λ e. e) result (fields_at thread number (map view fields.now)) }
+    ensures given { Gives (λ e. e) result (fields_at thread number (map view fields.now)) }
+    ensures fault { Faults result (forms.tagged_fault grammar.event_cases path.now (map view fields.now)) }
 {
     let [tag, order, address, width, values @ ..] = fields else {
         return Err(ReadFault::Shape(path.copied()));
@@ -122,8 +130,10 @@ fn event_of_fields(
 }
 
 /// The event that this value spells at that place.
+#[tactic(auto, unfolding(crate::specs::Grammar::event))]
 fn event_of(value: &Value, thread: u32, number: u32, path: &Path) -> Result<Event, ReadFault>
-    ensures { Gives (λ e. e) result (event_at thread number (view value.now)) }
+    ensures given { Gives (λ e. e) result (event_at thread number (view value.now)) }
+    ensures fault { Faults result (forms.first_fault grammar.event path.now (view value.now)) }
 {
     let fields = list_of(value, path)?;
     event_of_fields(fields, thread, number, path)
@@ -137,6 +147,8 @@ pub(crate) struct EventReader {
 
 impl ItemReader<Event> for EventReader {
     ghost reads = { λ r n d. number_event_at r.thread n d };
+
+    ghost faults = { λ _ n path d. forms.numbered_fault (forms.first_fault grammar.event) n path d };
 
     fn read(
         &self,
@@ -171,7 +183,8 @@ fn writers_by(
     lists: &[Value],
     path: &Path,
 ) -> Result<List<EventId>, ReadFault>
-    ensures { Gives (λ ws. ws) result (by_from kind (map view lists.now)) }
+    ensures given { Gives (λ ws. ws) result (by_from kind (map view lists.now)) }
+    ensures fault { Faults result (first_faults.by_fault kind path.now (map view lists.now)) }
 {
     match (kind, lists) {
         (EventKind::Read, [by]) => event_writers_of(alloc, by, &path.child(5)),
@@ -191,7 +204,8 @@ fn event_by_of_fields(
     number: u32,
     path: &Path,
 ) -> Result<(Event, List<EventId>), ReadFault>
-    ensures { Gives (λ p. (p.0, p.1)) result (fields_by_at thread number (map view fields.now)) }
+    ensures given { Gives (λ p. (p.0, p.1)) result (fields_by_at thread number (map view fields.now)) }
+    ensures fault { Faults result (forms.tagged_fault grammar.event_by_cases path.now (map view fields.now)) }
 {
     let [tag, order, address, width, rest @ ..] = fields else {
         return Err(ReadFault::Shape(path.copied()));
@@ -215,6 +229,7 @@ fn event_by_of_fields(
 }
 
 /// The event with its writers that this value spells at that place.
+#[tactic(auto, unfolding(crate::specs::Grammar::event_by))]
 fn event_by_of(
     alloc: Global,
     value: &Value,
@@ -222,7 +237,8 @@ fn event_by_of(
     number: u32,
     path: &Path,
 ) -> Result<(Event, List<EventId>), ReadFault>
-    ensures { Gives (λ p. (p.0, p.1)) result (event_by_at thread number (view value.now)) }
+    ensures given { Gives (λ p. (p.0, p.1)) result (event_by_at thread number (view value.now)) }
+    ensures fault { Faults result (forms.first_fault grammar.event_by path.now (view value.now)) }
 {
     let fields = list_of(value, path)?;
     event_by_of_fields(alloc, fields, thread, number, path)
@@ -236,6 +252,8 @@ pub(crate) struct EventByReader {
 
 impl ItemReader<(Event, List<EventId>)> for EventByReader {
     ghost reads = { λ r n d. number_event_by_at r.thread n d };
+
+    ghost faults = { λ _ n path d. forms.numbered_fault (forms.first_fault grammar.event_by) n path d };
 
     fn read(
         &self,

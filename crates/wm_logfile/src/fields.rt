@@ -1,7 +1,10 @@
 //! Readers of the values inside a document that are no lists of items.
 ghost use Rattle.std.specs.Prelude.{◌≡◌, ◌≤◌, None, map, IfErr, IfOk};
 ghost use Rattle.serde_json.specs.View.{view};
-ghost use Rattle.wm_logfile.specs.Faults.{Gives};
+ghost use Rattle.wm_logfile.specs.declared.fault.ReadFault.TheVariants as read_faults;
+ghost use Rattle.wm_logfile.specs.Faults.{Gives, Faults};
+ghost use Rattle.wm_logfile.specs.Forms as forms;
+ghost use Rattle.wm_logfile.specs.Grammar as grammar;
 ghost use Rattle.wm_logfile.specs.Reading.{list_at, number_at, width_at, kind_at, order_at};
 
 use crate::fault::ReadFault;
@@ -15,6 +18,7 @@ use wm_event::EventKind;
 pub(crate) fn list_of<'a>(value: &'a Value, path: &Path) -> Result<&'a [Value], ReadFault>
     ensures given { Gives (λ s. map view s.now) result (list_at (view value.now)) }
     ensures none { IfErr result (λ _. list_at (view value.now) ≡ None) }
+    ensures fault { IfErr result (λ e. e ≡ read_faults.Shape path.now) }
 {
     match value.as_array() {
         Some(list) => Ok(list.as_slice()),
@@ -26,6 +30,7 @@ pub(crate) fn list_of<'a>(value: &'a Value, path: &Path) -> Result<&'a [Value], 
 pub(crate) fn number_of(value: &Value, limit: u64, path: &Path) -> Result<u64, ReadFault>
     ensures given { Gives (λ n. n) result (number_at limit (view value.now)) }
     ensures bound { IfOk result (λ n. n ≤ limit) }
+    ensures fault { Faults result (forms.first_fault (forms.up_to limit) path.now (view value.now)) }
 {
     if !value.is_number() {
         return Err(ReadFault::Shape(path.copied()));
@@ -37,8 +42,10 @@ pub(crate) fn number_of(value: &Value, limit: u64, path: &Path) -> Result<u64, R
 }
 
 /// The width of an access, by its number of bytes.
+#[tactic(auto, unfolding(crate::specs::Grammar::width))]
 pub(crate) fn width_of(value: &Value, path: &Path) -> Result<AccessWidth, ReadFault>
-    ensures { Gives (λ w. w) result (width_at (view value.now)) }
+    ensures given { Gives (λ w. w) result (width_at (view value.now)) }
+    ensures fault { Faults result (forms.first_fault grammar.width path.now (view value.now)) }
 {
     let bytes = number_of(value, 8, path)?;
     match width_of_bytes(bytes) {
@@ -48,8 +55,10 @@ pub(crate) fn width_of(value: &Value, path: &Path) -> Result<AccessWidth, ReadFa
 }
 
 /// The kind of an event, by its word.
+#[tactic(auto, unfolding(crate::specs::Grammar::kind))]
 pub(crate) fn kind_of(value: &Value, path: &Path) -> Result<EventKind, ReadFault>
-    ensures { Gives (λ k. k) result (kind_at (view value.now)) }
+    ensures given { Gives (λ k. k) result (kind_at (view value.now)) }
+    ensures fault { Faults result (forms.first_fault grammar.kind path.now (view value.now)) }
 {
     let Some(word) = value.as_str() else {
         return Err(ReadFault::Shape(path.copied()));
@@ -61,8 +70,10 @@ pub(crate) fn kind_of(value: &Value, path: &Path) -> Result<EventKind, ReadFault
 }
 
 /// An ordering, by its word.
+#[tactic(auto, unfolding(crate::specs::Grammar::order))]
 pub(crate) fn order_of(value: &Value, path: &Path) -> Result<MemoryOrder, ReadFault>
-    ensures { Gives (λ o. o) result (order_at (view value.now)) }
+    ensures given { Gives (λ o. o) result (order_at (view value.now)) }
+    ensures fault { Faults result (forms.first_fault grammar.order path.now (view value.now)) }
 {
     let Some(word) = value.as_str() else {
         return Err(ReadFault::Shape(path.copied()));

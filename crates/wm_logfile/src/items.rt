@@ -1,8 +1,12 @@
 //! The reader of a list, once for all kinds of item.
-ghost use Rattle.std.specs.Prelude.{◌≡◌, ℕ, map, IfOk, Option};
+ghost use Rattle.std.specs.Prelude.{◌≡◌, ℕ, List, map, IfOk, Option};
 ghost use Rattle.serde_json.specs.Data.{Data};
 ghost use Rattle.serde_json.specs.View.{view};
-ghost use Rattle.wm_logfile.specs.Faults.{Gives};
+ghost use Rattle.wm_logfile.specs.declared.fault.ReadFault.{ReadFault};
+ghost use Rattle.wm_logfile.specs.Faults.{Gives, Faults};
+ghost use Rattle.wm_logfile.specs.Forms.{in_list, items_fault};
+ghost use Rattle.wm_logfile.specs.Forms as forms;
+ghost use Rattle.wm_logfile.specs.Grammar as grammar;
 ghost use Rattle.wm_logfile.specs.Reading.{traverse, items_at, number_at, u64_max, firsts, seconds};
 
 use crate::fault::ReadFault;
@@ -16,8 +20,11 @@ use wm_list::List;
 pub(crate) trait ItemReader<T> {
     ghost reads: { Self → ℕ → Data → Option T };
 
+    ghost faults: { Self → ℕ → List ℕ → Data → Option ReadFault };
+
     fn read(&self, alloc: Global, value: &Value, index: usize, path: &Path) -> Result<T, ReadFault>
-        ensures { Gives (λ x. x) result (reads self.now index (view value.now)) };
+        ensures given { Gives (λ x. x) result (reads self.now index (view value.now)) }
+        ensures fault { Faults result (faults self.now index path.now (view value.now)) };
 }
 
 /// Each of these values, read as an item.
@@ -27,7 +34,8 @@ pub(crate) fn each_of<T: Drop, R: ItemReader<T>>(
     values: &[Value],
     path: &Path,
 ) -> Result<List<T>, ReadFault>
-    ensures { Gives (λ xs. xs) result (traverse (R.reads reader.now) 0 (map view values.now)) }
+    ensures given { Gives (λ xs. xs) result (traverse (R.reads reader.now) 0 (map view values.now)) }
+    ensures fault { Faults result (items_fault (R.faults reader.now) path.now 0 (map view values.now)) }
 {
     let mut found = Vec::with_capacity(alloc, values.len())?;
     for (index, value) in values.iter().enumerate() {
@@ -44,7 +52,8 @@ pub(crate) fn items_of<T: Drop, R: ItemReader<T>>(
     value: &Value,
     path: &Path,
 ) -> Result<List<T>, ReadFault>
-    ensures { Gives (λ xs. xs) result (items_at (R.reads reader.now) (view value.now)) }
+    ensures given { Gives (λ xs. xs) result (items_at (R.reads reader.now) (view value.now)) }
+    ensures fault { Faults result (in_list (items_fault (R.faults reader.now) path.now 0) path.now (view value.now)) }
 {
     let values = list_of(value, path)?;
     each_of(alloc, reader, values, path)
@@ -56,6 +65,8 @@ pub(crate) struct NumberReader;
 
 impl ItemReader<u64> for NumberReader {
     ghost reads = { λ _ _ d. number_at u64_max d };
+
+    ghost faults = { λ _ _ path d. forms.first_fault grammar.value path d };
 
     fn read(
         &self,

@@ -1,6 +1,7 @@
 //! Where in a document a fault lies.
 ghost use Rattle.std.specs.Prelude.{◌≡◌, ◌<◌, ◌^◌, ◌++◌, ◌∷◌, [], length, Some};
 ghost use Rattle.wm_logfile.specs.PathText.{path_text};
+ghost use Rattle.wm_logfile.specs.Paths as paths;
 
 use std::fmt;
 use std::marker::Model;
@@ -49,8 +50,10 @@ impl Path {
     }
 
     /// The path of the item at `index` of the list at this path; this path where no value lies deeper.
+    #[tactic(auto, unfolding(crate::specs::Paths::child))]
     pub(crate) fn child(&self, index: usize) -> Path
-        ensures { length self.now < 8 → index < 2 ^ 32 → result ≡ self.now ++ index ∷ [] }
+        ensures place { length self.now < 8 → index < 2 ^ 32 → result ≡ self.now ++ index ∷ [] }
+        ensures is { result ≡ paths.child self.now index }
     {
         let mut indices = self.indices;
         let mut len = self.len;

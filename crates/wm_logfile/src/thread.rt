@@ -2,7 +2,10 @@
 ghost use Rattle.std.specs.Prelude.{◌≡◌, map};
 ghost use Rattle.serde_json.specs.Find.{as_str};
 ghost use Rattle.serde_json.specs.View.{view};
-ghost use Rattle.wm_logfile.specs.Faults.{Gives};
+ghost use Rattle.wm_logfile.specs.Faults.{Gives, Faults};
+ghost use Rattle.wm_logfile.specs.FirstFault as first_faults;
+ghost use Rattle.wm_logfile.specs.Forms as forms;
+ghost use Rattle.wm_logfile.specs.Grammar as grammar;
 ghost use Rattle.wm_logfile.specs.Reading.{trap_at, result_from, end_from, end_at, start_at, head_from, head_at, with_events, thread_at, thread_by_at, limited_thread_at, limited_thread_by_at};
 
 use crate::event::{EventByReader, EventReader};
@@ -18,7 +21,8 @@ use wm_list::{List, Text};
 
 /// A name.
 fn name_of(alloc: Global, value: &Value, path: &Path) -> Result<Text, ReadFault>
-    ensures { Gives (λ s. s) result (as_str (view value.now)) }
+    ensures given { Gives (λ s. s) result (as_str (view value.now)) }
+    ensures fault { Faults result (forms.first_fault forms.text path.now (view value.now)) }
 {
     match value.as_str() {
         Some(text) => Ok(Text::from_string(String::from_str(alloc, text)?)),
@@ -27,8 +31,10 @@ fn name_of(alloc: Global, value: &Value, path: &Path) -> Result<Text, ReadFault>
 }
 
 /// Why a thread trapped, by its word.
+#[tactic(auto, unfolding(crate::specs::Grammar::trap))]
 fn trap_of(value: &Value, path: &Path) -> Result<TrapKind, ReadFault>
-    ensures { Gives (λ k. k) result (trap_at (view value.now)) }
+    ensures given { Gives (λ k. k) result (trap_at (view value.now)) }
+    ensures fault { Faults result (forms.first_fault grammar.trap path.now (view value.now)) }
 {
     let Some(word) = value.as_str() else {
         return Err(ReadFault::Shape(path.copied()));
@@ -41,7 +47,8 @@ fn trap_of(value: &Value, path: &Path) -> Result<TrapKind, ReadFault>
 
 /// The result of a function, where it has one.
 fn result_of(values: &[Value], path: &Path) -> Result<Option<u64>, ReadFault>
-    ensures { Gives (λ o. o) result (result_from (map view values.now)) }
+    ensures given { Gives (λ o. o) result (result_from (map view values.now)) }
+    ensures fault { Faults result (forms.maybe_fault grammar.result_fields path.now (map view values.now)) }
 {
     match values {
         [] => Ok(None),
@@ -54,9 +61,10 @@ fn result_of(values: &[Value], path: &Path) -> Result<Option<u64>, ReadFault>
 }
 
 /// How a thread ended, by these fields. A length that no end has is faulted before the word.
-#[tactic(auto, unfolding(crate::specs::Reading::end_from))]
+#[tactic(auto, unfolding(crate::specs::Reading::end_from, crate::specs::Grammar::result))]
 fn end_of_fields(fields: &[Value], path: &Path) -> Result<End, ReadFault>
-    ensures { Gives (λ e. e) result (end_from (map view fields.now)) }
+    ensures given { Gives (λ e. e) result (end_from (map view fields.now)) }
+    ensures fault { Faults result (forms.tagged_fault grammar.ending_cases path.now (map view fields.now)) }
 {
     match fields {
         [word] => match word.as_str() {
@@ -83,8 +91,10 @@ fn end_of_fields(fields: &[Value], path: &Path) -> Result<End, ReadFault>
 }
 
 /// How a thread ended.
+#[tactic(auto, unfolding(crate::specs::Grammar::ending))]
 fn end_of(value: &Value, path: &Path) -> Result<End, ReadFault>
-    ensures { Gives (λ e. e) result (end_at (view value.now)) }
+    ensures given { Gives (λ e. e) result (end_at (view value.now)) }
+    ensures fault { Faults result (forms.first_fault grammar.ending path.now (view value.now)) }
 {
     let fields = list_of(value, path)?;
     end_of_fields(fields, path)
@@ -92,7 +102,8 @@ fn end_of(value: &Value, path: &Path) -> Result<End, ReadFault>
 
 /// What a thread starts with: its function's name and the arguments.
 fn start_of(alloc: Global, name: &Value, args: &Value, path: &Path) -> Result<Start, ReadFault>
-    ensures { Gives (λ s. s) result (start_at (view name.now) (view args.now)) }
+    ensures given { Gives (λ s. s) result (start_at (view name.now) (view args.now)) }
+    ensures fault { Faults result (first_faults.start_fault path.now (view name.now) (view args.now)) }
 {
     let name = name_of(alloc, name, &path.child(0))?;
     let args = items_of(alloc, &NumberReader, args, &path.child(1))?;
@@ -129,7 +140,8 @@ fn head_of_fields<'a>(
     fields: &'a [Value],
     path: &Path,
 ) -> Result<(ThreadHead, &'a Value), ReadFault>
-    ensures { Gives (λ p. (p.0, view p.1.now)) result (head_from (map view fields.now)) }
+    ensures given { Gives (λ p. (p.0, view p.1.now)) result (head_from (map view fields.now)) }
+    ensures fault { Faults result (first_faults.head_fault path.now (map view fields.now)) }
 {
     let [name, args, end, steps, events] = fields else {
         return Err(ReadFault::Shape(path.copied()));
@@ -146,15 +158,18 @@ fn head_of<'a>(
     value: &'a Value,
     path: &Path,
 ) -> Result<(ThreadHead, &'a Value), ReadFault>
-    ensures { Gives (λ p. (p.0, view p.1.now)) result (head_at (view value.now)) }
+    ensures given { Gives (λ p. (p.0, view p.1.now)) result (head_at (view value.now)) }
+    ensures fault { Faults result (forms.in_list (first_faults.head_fault path.now) path.now (view value.now)) }
 {
     let fields = list_of(value, path)?;
     head_of_fields(alloc, fields, path)
 }
 
 /// The log of a thread.
+#[tactic(auto, unfolding(crate::specs::Grammar::thread))]
 fn thread_of(alloc: Global, value: &Value, thread: u32, path: &Path) -> Result<ThreadLog, ReadFault>
-    ensures { Gives (λ l. l) result (thread_at thread (view value.now)) }
+    ensures given { Gives (λ l. l) result (thread_at thread (view value.now)) }
+    ensures fault { Faults result (forms.first_fault grammar.thread path.now (view value.now)) }
 {
     let (head, events) = head_of(alloc, value, path)?;
     let events = items_of(alloc, &EventReader { thread }, events, &path.child(4))?;
@@ -162,13 +177,15 @@ fn thread_of(alloc: Global, value: &Value, thread: u32, path: &Path) -> Result<T
 }
 
 /// The log of a thread with the writers of its events.
+#[tactic(auto, unfolding(crate::specs::Grammar::thread_by))]
 fn thread_by_of(
     alloc: Global,
     value: &Value,
     thread: u32,
     path: &Path,
 ) -> Result<(ThreadLog, List<List<EventId>>), ReadFault>
-    ensures { Gives (λ p. (p.0, p.1)) result (thread_by_at thread (view value.now)) }
+    ensures given { Gives (λ p. (p.0, p.1)) result (thread_by_at thread (view value.now)) }
+    ensures fault { Faults result (forms.first_fault grammar.thread_by path.now (view value.now)) }
 {
     let (head, events) = head_of(alloc, value, path)?;
     let events = items_of(alloc, &EventByReader { thread }, events, &path.child(4))?;
@@ -182,6 +199,8 @@ pub(crate) struct ThreadReader;
 
 impl ItemReader<ThreadLog> for ThreadReader {
     ghost reads = { λ _ n d. limited_thread_at n d };
+
+    ghost faults = { λ _ n path d. forms.numbered_fault (forms.first_fault grammar.thread) n path d };
 
     fn read(
         &self,
@@ -203,6 +222,8 @@ pub(crate) struct ThreadByReader;
 
 impl ItemReader<(ThreadLog, List<List<EventId>>)> for ThreadByReader {
     ghost reads = { λ _ n d. limited_thread_by_at n d };
+
+    ghost faults = { λ _ n path d. forms.numbered_fault (forms.first_fault grammar.thread_by) n path d };
 
     fn read(
         &self,

@@ -1,7 +1,9 @@
 //! The reader of a witness.
 ghost use Rattle.std.specs.Prelude.{map};
 ghost use Rattle.serde_json.specs.View.{view};
-ghost use Rattle.wm_logfile.specs.Faults.{Gives};
+ghost use Rattle.wm_logfile.specs.Faults.{Gives, Faults};
+ghost use Rattle.wm_logfile.specs.Forms as forms;
+ghost use Rattle.wm_logfile.specs.Grammar as grammar;
 ghost use Rattle.wm_logfile.specs.Reading.{key_from, key_at, keys_at, writer_from, writer_at, event_writers_at, thread_writers_at, witness_from, witness_at};
 
 use crate::fault::ReadFault;
@@ -19,7 +21,8 @@ const MAX_INDEX: u64 = u32::MAX as u64;
 /// The name of an event, by these fields.
 #[tactic(auto, unfolding(crate::specs::Reading::key_from))]
 fn key_of(fields: &[Value], path: &Path) -> Result<EventKey, ReadFault>
-    ensures { Gives (λ k. k) result (key_from (map view fields.now)) }
+    ensures given { Gives (λ k. k) result (key_from (map view fields.now)) }
+    ensures fault { Faults result (forms.exact_fault grammar.key_fields path.now 0 (map view fields.now)) }
 {
     let [thread, number] = fields else {
         return Err(ReadFault::Shape(path.copied()));
@@ -31,7 +34,8 @@ fn key_of(fields: &[Value], path: &Path) -> Result<EventKey, ReadFault>
 
 /// The writer of a byte, by these fields: none for Init.
 fn writer_of(fields: &[Value], path: &Path) -> Result<EventId, ReadFault>
-    ensures { Gives (λ w. w) result (writer_from (map view fields.now)) }
+    ensures given { Gives (λ w. w) result (writer_from (map view fields.now)) }
+    ensures fault { Faults result (forms.maybe_fault grammar.key_fields path.now (map view fields.now)) }
 {
     if fields.is_empty() {
         return Ok(EventId::Init);
@@ -47,6 +51,9 @@ struct WriterReader;
 impl ItemReader<EventId> for WriterReader {
     ghost reads = { λ _ _ d. writer_at d };
 
+    ghost faults = { λ _ _ path d. forms.first_fault grammar.writer path d };
+
+    #[tactic(auto, unfolding(crate::specs::Grammar::writer))]
     fn read(
         &self,
         _alloc: Global,
@@ -60,12 +67,14 @@ impl ItemReader<EventId> for WriterReader {
 }
 
 /// The writers of the bytes of an event.
+#[tactic(auto, unfolding(crate::specs::Grammar::writers))]
 pub(crate) fn event_writers_of(
     alloc: Global,
     value: &Value,
     path: &Path,
 ) -> Result<List<EventId>, ReadFault>
-    ensures { Gives (λ ws. ws) result (event_writers_at (view value.now)) }
+    ensures given { Gives (λ ws. ws) result (event_writers_at (view value.now)) }
+    ensures fault { Faults result (forms.first_fault grammar.writers path.now (view value.now)) }
 {
     items_of(alloc, &WriterReader, value, path)
 }
@@ -76,6 +85,8 @@ struct EventWritersReader;
 
 impl ItemReader<List<EventId>> for EventWritersReader {
     ghost reads = { λ _ _ d. event_writers_at d };
+
+    ghost faults = { λ _ _ path d. forms.first_fault grammar.writers path d };
 
     fn read(
         &self,
@@ -95,6 +106,9 @@ struct ThreadWritersReader;
 impl ItemReader<List<List<EventId>>> for ThreadWritersReader {
     ghost reads = { λ _ _ d. thread_writers_at d };
 
+    ghost faults = { λ _ _ path d. forms.first_fault grammar.thread_writers path d };
+
+    #[tactic(auto, unfolding(crate::specs::Grammar::thread_writers))]
     fn read(
         &self,
         alloc: Global,
@@ -113,6 +127,9 @@ struct KeyReader;
 impl ItemReader<EventKey> for KeyReader {
     ghost reads = { λ _ _ d. key_at d };
 
+    ghost faults = { λ _ _ path d. forms.first_fault grammar.key path d };
+
+    #[tactic(auto, unfolding(crate::specs::Grammar::key))]
     fn read(
         &self,
         _alloc: Global,
@@ -126,12 +143,14 @@ impl ItemReader<EventKey> for KeyReader {
 }
 
 /// The names in an order.
+#[tactic(auto, unfolding(crate::specs::Grammar::keys))]
 pub(crate) fn order_keys_of(
     alloc: Global,
     value: &Value,
     path: &Path,
 ) -> Result<List<EventKey>, ReadFault>
-    ensures { Gives (λ ks. ks) result (keys_at (view value.now)) }
+    ensures given { Gives (λ ks. ks) result (keys_at (view value.now)) }
+    ensures fault { Faults result (forms.first_fault grammar.keys path.now (view value.now)) }
 {
     items_of(alloc, &KeyReader, value, path)
 }
@@ -139,7 +158,8 @@ pub(crate) fn order_keys_of(
 /// The witness, by these fields.
 #[tactic(auto, unfolding(crate::specs::Reading::witness_from))]
 fn witness_of_fields(alloc: Global, fields: &[Value], path: &Path) -> Result<Witness, ReadFault>
-    ensures { Gives (λ w. w) result (witness_from (map view fields.now)) }
+    ensures given { Gives (λ w. w) result (witness_from (map view fields.now)) }
+    ensures fault { Faults result (forms.exact_fault grammar.witness_fields path.now 0 (map view fields.now)) }
 {
     let [writers, order] = fields else {
         return Err(ReadFault::Shape(path.copied()));
@@ -150,8 +170,10 @@ fn witness_of_fields(alloc: Global, fields: &[Value], path: &Path) -> Result<Wit
 }
 
 /// The witness that this value spells.
+#[tactic(auto, unfolding(crate::specs::Grammar::witness))]
 pub(crate) fn witness_of(alloc: Global, value: &Value, path: &Path) -> Result<Witness, ReadFault>
-    ensures { Gives (λ w. w) result (witness_at (view value.now)) }
+    ensures given { Gives (λ w. w) result (witness_at (view value.now)) }
+    ensures fault { Faults result (forms.first_fault grammar.witness path.now (view value.now)) }
 {
     let fields = list_of(value, path)?;
     witness_of_fields(alloc, fields, path)

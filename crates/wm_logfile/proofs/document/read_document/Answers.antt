@@ -2,6 +2,7 @@ use Rattle.std.proofs.Common.{arith}
 use Rattle.serde_json.specs.View.{view}
 use Rattle.std.proofs.Common.{Ok}
 use Rattle.wm_logfile.proofs.Answer.{taken, spelled, within, only, refused}
+use Rattle.wm_logfile.proofs.Causes.{faults_of}
 use Rattle.wm_logfile.proofs.document.read_document.Goals as goal
 
 pub returns-in-Ok-clause-spelled : goal.returns-in-Ok-clause-spelled
@@ -27,4 +28,4 @@ returns-in-Ok-from_slice-clause-only c =
 
 pub returns-in-Ok-from_slice-clause-refused : goal.returns-in-Ok-from_slice-clause-refused
 returns-in-Ok-from_slice-clause-refused c =
-    refused c.args.bytes.now (view c.in-Ok-from_slice.value) c.document_of.result (omega arith) (record { utf8 = c.in-Ok-from_slice.ensures.ok.0; text = c.in-Ok-from_slice.ensures.ok.1; given = c.document_of.ensures.given }) c.document_of.ensures.fault
+    refused c.args.bytes.now (view c.in-Ok-from_slice.value) c.document_of.result (omega arith) (record { utf8 = c.in-Ok-from_slice.ensures.ok.0; text = c.in-Ok-from_slice.ensures.ok.1; given = c.document_of.ensures.given }) (faults_of (view c.in-Ok-from_slice.value) c.document_of.result c.document_of.ensures.fault)

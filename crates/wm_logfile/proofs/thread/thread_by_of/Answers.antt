@@ -1,0 +1,16 @@
+use Rattle.std.proofs.lemmas.Result.{err_from_is_err_and}
+use Rattle.serde_json.specs.View.{view}
+use Rattle.wm_logfile.specs.Grammar.{thread_by, event_by}
+use Rattle.wm_logfile.proofs.FirstFaults.{events_fault, events_none}
+use Rattle.wm_logfile.proofs.thread.thread_by_of.Goals as goal
+
+pub returns-in_err-events-clause-fault : goal.returns-in_err-events-clause-fault
+unfolding thread_by
+returns-in_err-events-clause-fault c =
+    let p = err_from_is_err_and c.from_residual-in_err-events.result c.from_residual-in_err-events.ensures.1 in
+    rw (p.1, p.2) (events_fault event_by c.args.path.now (view c.args.value.now) c.in_ok-head.head (view c.in_ok-head.events.now) c.child.result c.in_err-events.field-0.0 c.in_ok-head.ensures.given c.in_ok-head.ensures.fault c.child.ensures.is c.in_err-events.ensures.fault)
+
+pub returns-clause-fault : goal.returns-clause-fault
+unfolding thread_by
+returns-clause-fault c =
+    events_none event_by c.args.path.now (view c.args.value.now) c.in_ok-head.head (view c.in_ok-head.events.now) c.child.result c.in_ok-head.ensures.given c.in_ok-head.ensures.fault c.child.ensures.is c.in_ok-events.ensures.fault
