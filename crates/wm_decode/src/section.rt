@@ -68,7 +68,7 @@ pub(crate) trait Content {
 }
 
 /// Reads a size, and a value that takes this number of bytes.
-#[tactic(auto, unfolding(crate::specs::ReadingVectors::sized_at))]
+#[tactic(auto, unfolding(crate::specs::ReadingVectors::sized_at, crate::specs::ReadingVectors::filled_at))]
 fn sized<'a, C: Content>(
     alloc: Global,
     content: &C,
@@ -79,7 +79,7 @@ fn sized<'a, C: Content>(
     let (inner, after) = byte_vector(bytes)?;
     let (value, left) = match content.read(alloc, inner) {
         Ok(found) => found,
-        Err(fault) => return Err(fault.inside(after.len())),
+        Err(fault) => return Err(fault.before(after.len())),
     };
     if !left.is_empty() {
         return Err(ItemFault::WithLeft(

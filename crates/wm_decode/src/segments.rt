@@ -1,7 +1,6 @@
 //! The section of data segments (Core 1.0, section 5.5.14).
 ghost use Rattle.std.specs.Prelude.{◌≡◌};
-ghost use Rattle.wm_decode.specs.Stop.{bad};
-ghost use Rattle.wm_decode.specs.Implements.{stop_of};
+ghost use Rattle.wm_decode.specs.Faults.{segment_flag_fault};
 ghost use Rattle.wm_decode.specs.ReadingParts.{segment_at, segments_at};
 
 use crate::data_count::is_agreed;
@@ -33,7 +32,7 @@ impl Item for DataSegment {
 
 /// Why a byte is no flag of a data segment that is read.
 fn segment_flag_fault(byte: u8) -> FaultKind
-    ensures { stop_of result ≡ bad }
+    ensures { result ≡ segment_flag_fault byte }
 {
     match byte {
         0x01 => FaultKind::Unsupported(Feature::PassiveData),

@@ -1,0 +1,54 @@
+-- What reading meets first in a few texts, and where.
+use Rattle.std.proofs.Common.{ℕ, List, [], ◌∷◌, ◌++◌, length, refl}
+use Rattle.wm_decode.specs.declared.fault.Feature.TheVariants.{Start}
+use Rattle.wm_decode.specs.declared.fault.FaultKind.{FaultKind}
+use Rattle.wm_decode.specs.declared.fault.FaultKind.TheVariants.{Magic, Version, Truncated, BadNumber, SectionOrder, SectionSize, Unsupported}
+use Rattle.wm_decode.specs.declared.fault.DecodeFault.TheVariants.{At}
+use Rattle.wm_decode.specs.Implements.{IsFaultOf}
+use Rattle.wm_decode.specs.Module.{header, magic}
+use Rattle.wm_decode.specs.Reading.{unsigned_at}
+use Rattle.wm_decode.specs.ReadingVectors.{items_at, vector_at, own_bytes_at, filled_at, sized_at}
+use Rattle.wm_decode.specs.ReadingParts.{func_type_at}
+use Rattle.wm_decode.specs.ReadingModule.{customs_at, section_at, one_at, header_at, front_at, declared_at, module_at, whole_at}
+
+-- reading these bytes stops with this fault at this offset
+abbrev Meets : List ℕ → FaultKind → ℕ → Type 0
+Meets bytes kind offset = IsFaultOf (length bytes) (whole_at bytes) (At kind offset)
+
+-- the bytes end after the first four
+only_magic : Meets magic Truncated 4
+unfolding whole_at module_at declared_at front_at header_at one_at
+only_magic = (0, refl, refl)
+
+-- the fourth byte is another
+other_magic : Meets (0x00 ∷ 0x61 ∷ 0x73 ∷ 0x6E ∷ []) Magic 0
+unfolding whole_at module_at declared_at front_at header_at one_at
+other_magic = (4, refl, refl)
+
+-- version 2
+other_version : Meets (magic ++ 0x02 ∷ 0x00 ∷ 0x00 ∷ 0x00 ∷ []) Version 4
+unfolding whole_at module_at declared_at front_at header_at one_at
+other_version = (4, refl, refl)
+
+-- an empty section of types, after one of functions, and after another of types
+types_too_late : Meets (header ++ 0x03 ∷ 0x01 ∷ 0x00 ∷ 0x01 ∷ 0x01 ∷ 0x00 ∷ []) SectionOrder 11
+unfolding whole_at module_at declared_at front_at header_at one_at customs_at section_at sized_at own_bytes_at filled_at unsigned_at vector_at items_at
+types_too_late = (3, refl, refl)
+
+types_twice : Meets (header ++ 0x01 ∷ 0x01 ∷ 0x00 ∷ 0x01 ∷ 0x01 ∷ 0x00 ∷ []) SectionOrder 11
+unfolding whole_at module_at declared_at front_at header_at one_at customs_at section_at sized_at own_bytes_at filled_at unsigned_at vector_at items_at
+types_twice = (3, refl, refl)
+
+-- a section that is left out, and one that isn't there
+start : Meets (header ++ 0x08 ∷ 0x01 ∷ 0x00 ∷ []) (Unsupported Start) 8
+unfolding whole_at module_at declared_at front_at header_at one_at customs_at section_at
+start = (3, refl, refl)
+
+no_section : Meets (header ++ 0x0E ∷ []) BadNumber 8
+unfolding whole_at module_at declared_at front_at header_at one_at customs_at section_at
+no_section = (1, refl, refl)
+
+-- a section of one type that ends before it, with another section behind
+short_types : Meets (header ++ 0x01 ∷ 0x01 ∷ 0x01 ∷ 0x03 ∷ 0x01 ∷ 0x00 ∷ []) SectionSize 11
+unfolding whole_at module_at declared_at front_at header_at one_at customs_at section_at sized_at own_bytes_at filled_at unsigned_at vector_at items_at func_type_at
+short_types = (3, refl, refl)
