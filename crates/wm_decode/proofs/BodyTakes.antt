@@ -32,7 +32,7 @@ type_takes (b ∷ bytes) ty rest e =
       | inr g ↦ elim (chosen (eqb b 0x7F) (Ok (Some I32, bytes)) (cond (eqb b 0x7E) (Ok (Some I64, bytes)) (Err (stop (block_type_fault b) (length (b ∷ bytes))))) (Ok (ty, rest)) g.1) [
         | inl h ↦ let is = pair_is (Some I32, bytes) (ty, rest) h.1 in rw (eqb-true b 0x7F h.0, ← is.0, is.1) refl
         | inr f ↦
-            let h = met (eqb b 0x7E) (Ok (Some I64, bytes)) (ty, rest) f.1 in
+            let h = met _ (eqb b 0x7E) (Ok (Some I64, bytes)) (ty, rest) f.1 in
             let is = pair_is (Some I64, bytes) (ty, rest) h.1 in rw (eqb-true b 0x7E h.0, ← is.0, is.1) refl
       ]
     ]
@@ -61,14 +61,14 @@ has_room (suc n) e = omega arith
 -- a block that began
 pub opened_takes : (depth_left : ℕ) (bytes : List ℕ) (ty : Option ValType) (rest : List ℕ) → opened_at depth_left bytes ≡ Ok (ty, rest) → (0 < depth_left) × (bytes ≡ block_type ty ∷ rest)
 unfolding opened_at
-opened_takes depth_left bytes ty rest e = let p = passed (eqb depth_left 0) (block_type_at bytes) (ty, rest) e in (has_room depth_left p.0, type_takes bytes ty rest p.1)
+opened_takes depth_left bytes ty rest e = let p = passed _ (eqb depth_left 0) (block_type_at bytes) (ty, rest) e in (has_room depth_left p.0, type_takes bytes ty rest p.1)
 
 -- a block that only an end closed
 pub closed_takes : (read : Reader) (depth_left next : ℕ) (bytes : List ℕ) (b : Body) → closed_with read depth_left next bytes ≡ Ok b → (read depth_left next bytes ≡ Ok b) × (b.closer ≡ 0x0B)
 unfolding closed_with
 closed_takes read depth_left next bytes b e =
     let q = bound (read depth_left next bytes) (λ (b : Body). let o : Result Body Stop = cond (eqb b.closer 0x0B) (Ok b) (Err (stop (UnknownOpcode b.closer) (length b.rest + 1))) in o) b e in
-    let m = met (eqb q.0.closer 0x0B) (Ok q.0) b q.2 in
+    let m = met _ (eqb q.0.closer 0x0B) (Ok q.0) b q.2 in
     let is : q.0 ≡ b = ok_is q.0 b m.1 in
     (subst (λ (x : Body). read depth_left next bytes ≡ Ok x) is q.1, subst (λ (x : Body). x.closer ≡ 0x0B) is (eqb-true q.0.closer 0x0B m.0))
 
@@ -218,7 +218,7 @@ zero_takes : (bytes : List ℕ) (i : Instr) (rest : List ℕ) → immediates_at 
 unfolding immediates_at
 zero_takes [] i rest e = absurd cc
 zero_takes (b ∷ bytes) i rest e =
-    let m = met (eqb b 0x00) (found instr.MemorySize bytes) (i, rest) e in
+    let m = met _ (eqb b 0x00) (found instr.MemorySize bytes) (i, rest) e in
     let is = pair_is (instr.MemorySize, bytes) (i, rest) m.1 in
     subst (λ (k : Instr). OperandsTook opcode.MemorySize (b ∷ bytes) k rest) is.0 (record { text = 0x00 ∷ []; parts = rw (eqb-true b 0x00 m.0, is.1) refl; spelled = memory_size })
 

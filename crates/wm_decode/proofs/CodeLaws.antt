@@ -43,7 +43,7 @@ entry_takes depth_left bytes n ty rest fits e =
     let last = λ (n : ℕ) (ty : ValType × List ℕ). let p : ℕ × ValType = (n, ty.0) in answered p ty.1 in
     let a = bound (u32_at bytes) (λ count. cond (ltb depth_left count.0) (Err (past limit.Locals (length bytes))) (value_type_at count.1 >>= last count.0)) ((n, ty), rest) e in
     let t = unsigned_takes (2 ^ 32 - 1) bytes a.0.0 a.0.1 fits a.1 in
-    let w = passed (ltb depth_left a.0.0) (value_type_at a.0.1 >>= last a.0.0) ((n, ty), rest) a.2 in
+    let w = passed _ (ltb depth_left a.0.0) (value_type_at a.0.1 >>= last a.0.0) ((n, ty), rest) a.2 in
     let b = bound (value_type_at a.0.1) (last a.0.0) ((n, ty), rest) w.1 in
     let is = pair_is {A = ℕ × ValType} ((a.0.0, b.0.0), b.0.1) ((n, ty), rest) b.2 in
     let n-is : a.0.0 ≡ n = ap (λ (p : ℕ × ValType). p.0) is.0 in
@@ -200,7 +200,7 @@ module _ (bounds : Bounds) where
           let fill = filled_at (function_at bounds (bounds.locals - n) index) in
           let own = own_bytes_at (stop SectionSize (length bytes)) bytes in
           let a = bound own (λ content. cond (ltb bounds.locals n) (Err (past limit.Locals (length bytes))) (fill content)) (f, rest) e in
-          let w = passed (ltb bounds.locals n) (fill a.0) (f, rest) a.2 in
+          let w = passed _ (ltb bounds.locals n) (fill a.0) (f, rest) a.2 in
           let le : n ≤ bounds.locals = ltb-false bounds.locals n w.0 in
           let read : (own >>= fill) ≡ Ok (f, rest) = rw a.1 w.1 in
           let t = (whole_lawful index).takes bytes f rest fits read in
@@ -268,7 +268,7 @@ module _ (bounds : Bounds) where
       takes = λ bytes fs rest fits e.
           let a = bound (u32_at bytes) (λ count. cond (eqb count.0 (length indices)) (more_functions_at bounds types indices [] count.1) (Err (stop CountMismatch (length bytes)))) (fs, rest) e in
           let t = unsigned_takes (2 ^ 32 - 1) bytes a.0.0 a.0.1 fits a.1 in
-          let m = met (eqb a.0.0 (length indices)) (more_functions_at bounds types indices [] a.0.1) (fs, rest) a.2 in
+          let m = met _ (eqb a.0.0 (length indices)) (more_functions_at bounds types indices [] a.0.1) (fs, rest) a.2 in
           let r = functions_take indices [] a.0.1 fs rest (fits_behind bytes t.0 a.0.1 fits t.1) m.1 in
           let count : a.0.0 ≡ length r.fs = eqb-true a.0.0 (length indices) m.0 ∙ sym r.counted in
           let spelled : FunctionVector bounds.nesting indices (t.0 ++ r.text) r.fs = record { count = t.0; items = r.text; parts = refl; counted = subst (λ (n : ℕ). U32 t.0 n) count t.2; each = r.spelled } in

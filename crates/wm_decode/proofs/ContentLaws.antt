@@ -114,8 +114,8 @@ module _ (bounds : Bounds) where
             let d : Defined imported t.0 None = record { spelled = v; one = λ k. refl } in
             (t.0, t.1 ∙ ap (λ (l : List ℕ). t.0 ++ l) is.1, subst (λ (o : Option Limits). Defined imported t.0 o) is.0 d)
         | inr h ↦
-            let n = passed imported (one a.0) (r, rest) h.1 in
-            let m = met (eqb a.0.0 1) (limits_at bounds a.0.1 >>= some) (r, rest) n.1 in
+            let n = passed _ imported (one a.0) (r, rest) h.1 in
+            let m = met _ (eqb a.0.0 1) (limits_at bounds a.0.1 >>= some) (r, rest) n.1 in
             let b = bound (limits_at bounds a.0.1) some (r, rest) m.1 in
             let v = (limits_lawful bounds).takes a.0.1 b.0.0 b.0.1 (fits_behind bytes t.0 a.0.1 fits t.1) b.1 in
             let is = pair_is {A = Option Limits} (Some b.0.0, b.0.1) (r, rest) b.2 in
@@ -138,7 +138,7 @@ module _ (bounds : Bounds) where
     takes = λ bytes is rest fits e.
         let a = bound (u32_at bytes) (λ count. cond (ltb bounds.functions count.0) (Err (past Functions (length bytes))) (items_at u32_at count.0 count.1)) (is, rest) e in
         let t = unsigned_takes (2 ^ 32 - 1) bytes a.0.0 a.0.1 fits a.1 in
-        let w = passed (ltb bounds.functions a.0.0) (items_at u32_at a.0.0 a.0.1) (is, rest) a.2 in
+        let w = passed _ (ltb bounds.functions a.0.0) (items_at u32_at a.0.0 a.0.1) (is, rest) a.2 in
         let r = items_law U32 u32_at (number_lawful (2 ^ 32 - 1)) a.0.0 a.0.1 is rest (fits_behind bytes t.0 a.0.1 fits t.1) w.1 in
         let le : a.0.0 ≤ bounds.functions = ltb-false bounds.functions a.0.0 w.0 in (
           t.0 ++ r.0,
@@ -155,7 +155,7 @@ no_items_lawful = record {
   takes = λ bytes n rest fits e.
       let a = bound (u32_at bytes) (λ count. cond (eqb count.0 0) (Ok count) (Err (unsupported feature.Table bytes))) (n, rest) e in
       let t = unsigned_takes (2 ^ 32 - 1) bytes a.0.0 a.0.1 fits a.1 in
-      let m = met (eqb a.0.0 0) (Ok a.0) (n, rest) a.2 in
+      let m = met _ (eqb a.0.0 0) (Ok a.0) (n, rest) a.2 in
       let is = pair_is a.0 (n, rest) m.1 in
       (t.0, t.1 ∙ ap (λ (l : List ℕ). t.0 ++ l) is.1, (subst (λ (k : ℕ). U32 t.0 k) is.0 t.2, sym is.0 ∙ eqb-true a.0.0 0 m.0));
   again = λ text n rest d. rw (unsigned_again d.0 rest, d.1) refl;
@@ -189,7 +189,7 @@ initial_takes (b ∷ bytes) c rest fits e =
           let r = constant_takes (Signed (2 ^ 32 - 1)) (signed_at (2 ^ 32 - 1)) I32 0x41 bytes c rest fits.1 (λ n rest k. signed_takes (2 ^ 32 - 1) bytes n rest fits.1 k) (λ t n d. i32 d) h.1 in
           (r.0, ap (λ (k : ℕ). k ∷ bytes) (eqb-true b 0x41 h.0) ∙ r.1, r.2)
       | inr g ↦
-          let h = met (eqb b 0x42) of64 (c, rest) g.1 in
+          let h = met _ (eqb b 0x42) of64 (c, rest) g.1 in
           let r = constant_takes (Signed (2 ^ 64 - 1)) (signed_at (2 ^ 64 - 1)) I64 0x42 bytes c rest fits.1 (λ n rest k. signed_takes (2 ^ 64 - 1) bytes n rest fits.1 k) (λ t n d. i64 d) h.1 in
           (r.0, ap (λ (k : ℕ). k ∷ bytes) (eqb-true b 0x42 h.0) ∙ r.1, r.2)
     ]
@@ -211,7 +211,7 @@ mutability_takes (b ∷ bytes) m rest e =
     elim (chosen (eqb b 0x00) (answered Constant bytes) (cond (eqb b 0x01) (answered Variable bytes) (Err (bad_number (b ∷ bytes)))) (Ok (m, rest)) e) [
       | inl h ↦ let is = pair_is (Constant, bytes) (m, rest) h.1 in rw (eqb-true b 0x00 h.0, ← is.0, is.1) refl
       | inr f ↦
-          let h = met (eqb b 0x01) (answered Variable bytes) (m, rest) f.1 in
+          let h = met _ (eqb b 0x01) (answered Variable bytes) (m, rest) f.1 in
           let is = pair_is (Variable, bytes) (m, rest) h.1 in rw (eqb-true b 0x01 h.0, ← is.0, is.1) refl
     ]
 
@@ -285,7 +285,7 @@ segments_lawful declared = record {
   takes = λ bytes ds rest fits e.
       let a = bound (u32_at bytes) (λ count. cond (agrees declared count.0) (items_at segment_at count.0 count.1) (Err (stop CountMismatch (length bytes)))) (ds, rest) e in
       let t = unsigned_takes (2 ^ 32 - 1) bytes a.0.0 a.0.1 fits a.1 in
-      let m = met (agrees declared a.0.0) (items_at segment_at a.0.0 a.0.1) (ds, rest) a.2 in
+      let m = met _ (agrees declared a.0.0) (items_at segment_at a.0.0 a.0.1) (ds, rest) a.2 in
       let r = items_law Segment segment_at segment_lawful a.0.0 a.0.1 ds rest (fits_behind bytes t.0 a.0.1 fits t.1) m.1 in (
         t.0 ++ r.0,
         t.1 ∙ ap (λ (l : List ℕ). t.0 ++ l) r.1 ∙ sym (append_assoc t.0 r.0 rest),
@@ -305,7 +305,7 @@ kind_takes (b ∷ bytes) k rest e =
       | inr g ↦ elim (chosen (eqb b 0x02) (answered kind.Memory bytes) third (Ok (k, rest)) g.1) [
         | inl h ↦ let is = pair_is (kind.Memory, bytes) (k, rest) h.1 in rw (eqb-true b 0x02 h.0, ← is.0, is.1) refl
         | inr f ↦
-            let h = met (eqb b 0x03) (answered kind.Global bytes) (k, rest) f.1 in
+            let h = met _ (eqb b 0x03) (answered kind.Global bytes) (k, rest) f.1 in
             let is = pair_is (kind.Global, bytes) (k, rest) h.1 in rw (eqb-true b 0x03 h.0, ← is.0, is.1) refl
       ]
     ]
@@ -336,7 +336,7 @@ entry_lawful earlier = record {
       let a = bound (name_at bytes) first (x, rest) e in
       let one = name_lawful.takes bytes a.0.0 a.0.1 fits a.1 in
       let fits1 = fits_behind bytes one.0 a.0.1 fits one.1 in
-      let n = passed (is_some (export_at a.0.0 earlier)) (export_kind_at a.0.1 >>= second a.0.0) (x, rest) a.2 in
+      let n = passed _ (is_some (export_at a.0.0 earlier)) (export_kind_at a.0.1 >>= second a.0.0) (x, rest) a.2 in
       let b = bound (export_kind_at a.0.1) (second a.0.0) (x, rest) n.1 in
       let two = kind_takes a.0.1 b.0.0 b.0.1 b.1 in
       let fits2 = fits_behind a.0.1 (export_kind b.0.0 ∷ []) b.0.1 fits1 two in

@@ -20,7 +20,7 @@ unfolding filled_at
 filled_rest {X} item_at content x rest e =
     let last = λ (y : X × List ℕ). let k : Result (X × List ℕ) Stop = cond (eqb (length y.1) 0) (Ok (y.0, content.1)) (Err (stop SectionSize (length y.1 + length content.1))) in k in
     let b = bound (map_stop (before (length content.1)) (item_at content.0)) last (x, rest) e in
-    let m = met (eqb (length b.0.1) 0) (let k : Result (X × List ℕ) Stop = Ok (b.0.0, content.1) in k) (x, rest) b.2 in
+    let m = met _ (eqb (length b.0.1) 0) (let k : Result (X × List ℕ) Stop = Ok (b.0.0, content.1) in k) (x, rest) b.2 in
     (pair_is (b.0.0, content.1) (x, rest) m.1).1
 
 pub sized_rest : {X : Type 0} (item_at : List ℕ → Result (X × List ℕ) Stop) (bytes : List ℕ) (x : X) (rest : List ℕ) → IsBytes bytes → sized_at item_at bytes ≡ Ok (x, rest) → (text : List ℕ) × (bytes ≡ text ++ rest)

@@ -30,7 +30,7 @@ own_bytes_take short bytes found rest fits e =
     let split = λ (count : ℕ × List ℕ). let k : Result (List ℕ × List ℕ) Stop = Ok (take count.0 count.1, drop count.0 count.1) in k in
     let a = bound (u32_at bytes) (λ count. cond (ltb (length count.1) count.0) (Err short) (split count)) (found, rest) e in
     let t = unsigned_takes (2 ^ 32 - 1) bytes a.0.0 a.0.1 fits a.1 in
-    let p = passed (ltb (length a.0.1) a.0.0) (split a.0) (found, rest) a.2 in
+    let p = passed _ (ltb (length a.0.1) a.0.0) (split a.0) (found, rest) a.2 in
     let long : a.0.0 ≤ length a.0.1 = ltb-false (length a.0.1) a.0.0 p.0 in
     let is = pair_is (take a.0.0 a.0.1, drop a.0.0 a.0.1) (found, rest) p.1 in
     let len : a.0.0 ≡ length found = omega (arith, length-take a.0.0 a.0.1, ap length is.0) in (
@@ -60,7 +60,7 @@ module _ {X : Type 0} (Item : List ℕ → X → Type 0) (item_at : List ℕ →
   filled_takes content after x rest fits e =
       let last = λ (y : X × List ℕ). let k : Result (X × List ℕ) Stop = cond (eqb (length y.1) 0) (Ok (y.0, after)) (Err (stop SectionSize (length y.1 + length after))) in k in
       let b = bound (map_stop (before (length after)) (item_at content)) last (x, rest) e in
-      let m = met (eqb (length b.0.1) 0) (let k : Result (X × List ℕ) Stop = Ok (b.0.0, after) in k) (x, rest) b.2 in
+      let m = met _ (eqb (length b.0.1) 0) (let k : Result (X × List ℕ) Stop = Ok (b.0.0, after) in k) (x, rest) b.2 in
       let is = pair_is (b.0.0, after) (x, rest) m.1 in
       let nothing : b.0.1 ≡ [] = nil_from_length b.0.1 (eqb-true (length b.0.1) 0 m.0) in
       let r = item_takes content b.0.0 b.0.1 fits (unmapped (before (length after)) (item_at content) b.0 b.1) in

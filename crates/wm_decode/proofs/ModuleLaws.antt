@@ -296,8 +296,8 @@ module _ (bounds : Bounds) where
   finish_step d count funcs segments [] m e =
       let made : Module = record { types = d.types; funcs = items_of funcs; memory = d.memory; globals = d.globals; exports = d.exports; «data» = items_of segments } in
       let third : Result Module Stop = cond (agrees count (length (items_of segments))) (Ok made) (Err (stop CountMismatch 0)) in
-      let b = met (eqb (length (items_of funcs)) (length d.indices)) third m e in
-      let c = met (agrees count (length (items_of segments))) (Ok made) m b.1 in
+      let b = met _ (eqb (length (items_of funcs)) (length d.indices)) third m e in
+      let c = met _ (agrees count (length (items_of segments))) (Ok made) m b.1 in
       record {
         nothing = refl;
         functions_agree = eqb-true (length (items_of funcs)) (length d.indices) b.0;

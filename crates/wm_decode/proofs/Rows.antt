@@ -8,7 +8,7 @@ use Rattle.wm_decode.specs.Implements.{IsFaultOf}
 use Rattle.wm_decode.specs.Module.{header, magic}
 use Rattle.wm_decode.specs.Reading.{unsigned_at}
 use Rattle.wm_decode.specs.ReadingVectors.{items_at, vector_at, own_bytes_at, filled_at, sized_at}
-use Rattle.wm_decode.specs.ReadingParts.{func_type_at}
+use Rattle.wm_decode.specs.ReadingParts.{func_type_at, indices_at}
 use Rattle.wm_decode.specs.ReadingModule.{customs_at, section_at, one_at, header_at, front_at, declared_at, module_at, whole_at}
 
 -- reading these bytes stops with this fault at this offset
@@ -32,7 +32,7 @@ other_version = (4, refl, refl)
 
 -- an empty section of types, after one of functions, and after another of types
 types_too_late : Meets (header ++ 0x03 ∷ 0x01 ∷ 0x00 ∷ 0x01 ∷ 0x01 ∷ 0x00 ∷ []) SectionOrder 11
-unfolding whole_at module_at declared_at front_at header_at one_at customs_at section_at sized_at own_bytes_at filled_at unsigned_at vector_at items_at
+unfolding whole_at module_at declared_at front_at header_at one_at customs_at section_at sized_at own_bytes_at filled_at unsigned_at vector_at items_at indices_at
 types_too_late = (3, refl, refl)
 
 types_twice : Meets (header ++ 0x01 ∷ 0x01 ∷ 0x00 ∷ 0x01 ∷ 0x01 ∷ 0x00 ∷ []) SectionOrder 11

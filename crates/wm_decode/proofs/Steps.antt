@@ -20,14 +20,14 @@ chosen true x y z e = inl (refl, e)
 chosen false x y z e = inr (refl, e)
 
 -- a test that led on
-pub passed : {A : Type 0} {s : Stop} (b : Bool) (y : Result A Stop) (z : A) → cond b (Err s) y ≡ Ok z → (b ≡ false) × (y ≡ Ok z)
-passed true y z e = absurd cc
-passed false y z e = (refl, e)
+pub passed : {A : Type 0} (s : Stop) (b : Bool) (y : Result A Stop) (z : A) → cond b (Err s) y ≡ Ok z → (b ≡ false) × (y ≡ Ok z)
+passed s true y z e = absurd cc
+passed s false y z e = (refl, e)
 
 -- a test that was met
-pub met : {A : Type 0} {s : Stop} (b : Bool) (y : Result A Stop) (z : A) → cond b y (Err s) ≡ Ok z → (b ≡ true) × (y ≡ Ok z)
-met true y z e = (refl, e)
-met false y z e = absurd cc
+pub met : {A : Type 0} (s : Stop) (b : Bool) (y : Result A Stop) (z : A) → cond b y (Err s) ≡ Ok z → (b ≡ true) × (y ≡ Ok z)
+met s true y z e = (refl, e)
+met s false y z e = absurd cc
 
 -- what answered, whatever it would have done to a stop
 pub unmapped : {A : Type 0} (f : Stop → Stop) (r : Result A Stop) (x : A) → map_stop f r ≡ Ok x → r ≡ Ok x

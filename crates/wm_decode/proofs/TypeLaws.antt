@@ -36,7 +36,7 @@ name_lawful = record {
   takes = λ bytes name rest fits e.
       let a = bound (faulted_at bytes (byte_vector_at bytes)) (λ text. cond (is_utf8 text.0) (Ok text) (Err (stop BadName (length bytes)))) (name, rest) e in
       let t = byte_vector_takes bytes a.0.0 a.0.1 fits (unmapped (moved (length bytes)) (byte_vector_at bytes) a.0 a.1) in
-      let m = met (is_utf8 a.0.0) (Ok a.0) (name, rest) a.2 in
+      let m = met _ (is_utf8 a.0.0) (Ok a.0) (name, rest) a.2 in
       let is = pair_is a.0 (name, rest) m.1 in
       let spelled : Name t.0 a.0.0 = record { spelled = t.2; utf8 = IsUtf8-from_is_utf8 a.0.0 m.0 } in
       (t.0, t.1 ∙ ap (λ (l : List ℕ). t.0 ++ l) is.1, subst (λ (n : List ℕ). Name t.0 n) is.0 spelled);
@@ -50,7 +50,7 @@ value_takes (b ∷ bytes) ty rest e =
     elim (chosen (eqb b 0x7F) (answered I32 bytes) (cond (eqb b 0x7E) (answered I64 bytes) (Err (stop (value_type_fault b) (length (b ∷ bytes))))) (Ok (ty, rest)) e) [
       | inl h ↦ let is = pair_is (I32, bytes) (ty, rest) h.1 in rw (eqb-true b 0x7F h.0, ← is.0, is.1) refl
       | inr f ↦
-          let h = met (eqb b 0x7E) (answered I64 bytes) (ty, rest) f.1 in
+          let h = met _ (eqb b 0x7E) (answered I64 bytes) (ty, rest) f.1 in
           let is = pair_is (I64, bytes) (ty, rest) h.1 in rw (eqb-true b 0x7E h.0, ← is.0, is.1) refl
     ]
 
@@ -68,7 +68,7 @@ value_lawful = record {
 pub byte_takes : (wrong : ℕ → FaultKind) (code : ℕ) (bytes rest : List ℕ) → byte_at wrong code bytes ≡ Ok rest → bytes ≡ code ∷ rest
 byte_takes wrong code [] rest e = absurd cc
 byte_takes wrong code (b ∷ bytes) rest e =
-    let m = met (eqb b code) (Ok bytes) rest e in
+    let m = met _ (eqb b code) (Ok bytes) rest e in
     ap (λ (k : ℕ). k ∷ bytes) (eqb-true b code m.0) ∙ ap (λ (l : List ℕ). code ∷ l) (ok_is bytes rest m.1)
 
 pub byte_again : (wrong : ℕ → FaultKind) (code : ℕ) (rest : List ℕ) → byte_at wrong code (code ∷ rest) ≡ Ok rest
@@ -123,7 +123,7 @@ result_takes bytes r rest fits e =
           let is = pair_is {A = Option ValType} (None, a.0.1) (r, rest) h.1 in
           (t.0, t.1 ∙ ap (λ (l : List ℕ). t.0 ++ l) is.1, subst (λ (o : Option ValType). AtMostOne ValueType t.0 o) is.0 (make_none ValueType t.0 a.0.0 t.2 (eqb-true a.0.0 0 h.0)))
       | inr h ↦
-          let m = met (eqb a.0.0 1) (value_type_at a.0.1 >>= some) (r, rest) h.1 in
+          let m = met _ (eqb a.0.0 1) (value_type_at a.0.1 >>= some) (r, rest) h.1 in
           let b = bound (value_type_at a.0.1) some (r, rest) m.1 in
           let v = value_takes a.0.1 b.0.0 b.0.1 b.1 in
           let is = pair_is {A = Option ValType} (Some b.0.0, b.0.1) (r, rest) b.2 in
@@ -187,7 +187,7 @@ module _ (bounds : Bounds) where
         let start = byte_takes limits_fault 0x03 bytes z.0 z.1 in
         let fits1 = fits_behind bytes (0x03 ∷ []) z.0 fits start in
         let p = bound (u32_at z.0) (second z.0) (l, rest) z.2 in
-        let w = passed (ltb bounds.pages p.0.0) (u32_at p.0.1 >>= third p.0.0) (l, rest) p.2 in
+        let w = passed _ (ltb bounds.pages p.0.0) (u32_at p.0.1 >>= third p.0.0) (l, rest) p.2 in
         let q = bound (u32_at p.0.1) (third p.0.0) (l, rest) w.1 in
         let is = pair_is {A = Limits} (made p.0.0 q.0.0, q.0.1) (l, rest) q.2 in
         let one = unsigned_takes (2 ^ 32 - 1) z.0 p.0.0 p.0.1 fits1 p.1 in
