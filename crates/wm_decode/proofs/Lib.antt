@@ -22,3 +22,4 @@ pub mod OneModule
 pub mod Kept
 pub mod Past
 pub mod Rows
+pub mod Left

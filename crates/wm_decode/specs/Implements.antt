@@ -1,5 +1,5 @@
 -- What a function returned, seen by view, is what reading gives, unless memory was refused.
-use Rattle.std.specs.Prelude.{◌≡◌, ◌≤◌, ℕ, Result, Ok, Err}
+use Rattle.std.specs.Prelude.{◌≡◌, ◌≤◌, ◌<◌, ◌+◌, ◌^◌, ℕ, Result, Ok, Err}
 use Rattle.wm_decode.specs.declared.fault.Limit.{Limit}
 use Rattle.wm_decode.specs.declared.fault.FaultKind.{FaultKind}
 use Rattle.wm_decode.specs.declared.fault.FaultKind.TheVariants as kind
@@ -36,6 +36,16 @@ Decodes (Err (decode.At kind offset)) read = (left : ℕ) × (read ≡ Err (stop
 abbrev pub IsFaultOf : {X : Type 0} → ℕ → Result X Stop → DecodeFault → Type 0
 IsFaultOf bytes read decode.OutOfMemory = Unit {0}
 IsFaultOf bytes read (decode.At kind offset) = (left : ℕ) × (read ≡ Err (stop kind left)) × (offset ≡ offset_in bytes kind left)
+
+-- there are so many bytes, and no more are left from the faulty item on
+abbrev pub LeftWithin : ℕ → ItemFault → Type 0
+LeftWithin bytes OutOfMemory = Unit {0}
+LeftWithin bytes (WithLeft kind left) = left ≤ bytes
+
+-- so many bytes can be added to those that are left
+abbrev pub HasRoom : ℕ → ItemFault → Type 0
+HasRoom after OutOfMemory = Unit {0}
+HasRoom after (WithLeft kind left) = left + after < 2 ^ 64
 
 -- the same fault for the caller, in so many bytes
 abbrev pub in_module : ℕ → ItemFault → DecodeFault

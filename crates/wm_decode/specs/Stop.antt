@@ -1,5 +1,5 @@
 -- Why reading ends without a value.
-use Rattle.std.specs.Prelude.{ℕ, ◌+◌, ◌-◌, ◌^◌, min, Result, Ok, Err}
+use Rattle.std.specs.Prelude.{ℕ, ◌+◌, ◌-◌, Result, Ok, Err}
 use Rattle.wm_decode.specs.declared.fault.Limit.{Limit}
 use Rattle.wm_decode.specs.declared.fault.FaultKind.{FaultKind}
 use Rattle.wm_decode.specs.declared.fault.FaultKind.TheVariants as kind
@@ -27,7 +27,7 @@ inner_kind k = k
 
 -- a stop in a section or body, behind which so many bytes are
 abbrev pub before : ℕ → Stop → Stop
-before after s = stop (inner_kind s.kind) (min (s.left + after) (2 ^ 64 - 1))
+before after s = stop (inner_kind s.kind) (s.left + after)
 
 -- a stop in an item that is faulted as a whole, from whose first byte on so many bytes are left
 abbrev pub moved : ℕ → Stop → Stop

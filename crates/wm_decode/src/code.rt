@@ -156,6 +156,23 @@ fn functions<'a>(
     Ok((found, rest))
 }
 
+/// Reads a vector of functions of the types of these indices.
+#[tactic(auto, unfolding(crate::specs::ReadingParts::code_at))]
+fn function_vector<'a>(
+    alloc: Global,
+    types: &[FuncType],
+    indices: &[u32],
+    bytes: &'a [u8],
+) -> Result<(List<Func>, &'a [u8]), ItemFault>
+    ensures { Implements (λ x. (x.0, x.1.now)) result (code_at profile types.now indices.now bytes.now) }
+{
+    let (count, rest) = unsigned_32(bytes)?;
+    if count as usize != indices.len() {
+        return Err(ItemFault::WithLeft(FaultKind::CountMismatch, bytes.len()));
+    }
+    functions(alloc, types, indices, rest)
+}
+
 /// The functions of a module, with what is before them.
 #[derive(Drop)]
 pub(crate) struct Code<'c> {
@@ -168,16 +185,11 @@ impl Content for Code<'_> {
 
     ghost content_at = { λ context. code_at profile context.types.now context.indices.now };
 
-    #[tactic(auto, unfolding(crate::specs::ReadingParts::code_at))]
     fn read<'a>(
         &self,
         alloc: Global,
         bytes: &'a [u8],
     ) -> Result<(List<Func>, &'a [u8]), ItemFault> {
-        let (count, rest) = unsigned_32(bytes)?;
-        if count as usize != self.indices.len() {
-            return Err(ItemFault::WithLeft(FaultKind::CountMismatch, bytes.len()));
-        }
-        functions(alloc, self.types, self.indices, rest)
+        function_vector(alloc, self.types, self.indices, bytes)
     }
 }

@@ -123,7 +123,7 @@ fn inner_kind(kind: FaultKind) -> FaultKind
 
 impl ItemFault {
     ghost use Rattle.wm_decode.specs.Stop.{before, moved};
-    ghost use Rattle.wm_decode.specs.Implements.{IsWithin, in_module, map_fault};
+    ghost use Rattle.wm_decode.specs.Implements.{HasRoom, IsWithin, in_module, map_fault};
 
     /// The fault at a byte from which `left` bytes are left.
     pub(crate) fn at(self, left: usize) -> ItemFault
@@ -137,7 +137,7 @@ impl ItemFault {
 
     /// The fault as the bytes around a section or body see it, of which `after` follow it.
     pub(crate) fn before(self, after: usize) -> ItemFault
-        ensures { result ≡ map_fault (before after) self }
+        ensures { HasRoom after self → result ≡ map_fault (before after) self }
     {
         match self {
             ItemFault::OutOfMemory => ItemFault::OutOfMemory,

@@ -72,20 +72,27 @@ impl Content for Imports {
 
     ghost content_at = { λ _. imports_at profile };
 
-    #[tactic(auto, unfolding(crate::specs::ReadingParts::imports_at))]
     fn read<'a>(
         &self,
         alloc: Global,
         bytes: &'a [u8],
     ) -> Result<(Option<Memory>, &'a [u8]), ItemFault> {
-        let (count, rest) = unsigned_32(bytes)?;
-        if count == 0 {
-            return Ok((None, rest));
-        }
-        let (memory, rest) = import(alloc, rest)?;
-        if count != 1 {
-            return Err(second_import_fault(rest));
-        }
-        Ok((Some(memory), rest))
+        at_most_one_import(alloc, bytes)
     }
+}
+
+/// Reads at most one import.
+#[tactic(auto, unfolding(crate::specs::ReadingParts::imports_at))]
+fn at_most_one_import(alloc: Global, bytes: &[u8]) -> Result<(Option<Memory>, &[u8]), ItemFault>
+    ensures { Implements (λ x. (x.0, x.1.now)) result (imports_at profile bytes.now) }
+{
+    let (count, rest) = unsigned_32(bytes)?;
+    if count == 0 {
+        return Ok((None, rest));
+    }
+    let (memory, rest) = import(alloc, rest)?;
+    if count != 1 {
+        return Err(second_import_fault(rest));
+    }
+    Ok((Some(memory), rest))
 }
