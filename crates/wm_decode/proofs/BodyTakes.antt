@@ -7,7 +7,7 @@ use Rattle.wm_ast.specs.declared.instr.Instr.TheVariants as instr
 use Rattle.wm_ast.specs.declared.types.ValType.{ValType}
 use Rattle.wm_ast.specs.declared.types.ValType.TheVariants.{I32, I64}
 use Rattle.wm_ast.specs.declared.instr.Else.TheVariants.{Present, Absent}
-use Rattle.wm_decode.specs.declared.fault.FaultKind.TheVariants.{BadNumber, UnknownOpcode}
+use Rattle.wm_decode.specs.declared.fault.FaultKind.TheVariants.{UnknownOpcode}
 use Rattle.wm_decode.specs.Faults.{block_type_fault, atomic_fault, opcode_fault}
 use Rattle.wm_decode.specs.declared.opcode.Opcode.{Opcode}
 use Rattle.wm_decode.specs.declared.opcode.Opcode.TheVariants as opcode

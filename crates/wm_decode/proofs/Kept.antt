@@ -10,7 +10,7 @@ use Rattle.wm_decode.specs.declared.fault.Limit.{Limit}
 use Rattle.wm_decode.specs.declared.fault.Limit.TheVariants as limit
 use Rattle.wm_decode.specs.Bounds.{Bounds}
 use Rattle.wm_decode.specs.Faults.{limits_fault, import_kind_fault}
-use Rattle.wm_decode.specs.Stop.{Stop, stop, ended, past, before, map_stop}
+use Rattle.wm_decode.specs.Stop.{Stop, ended, past, before, map_stop}
 use Rattle.wm_decode.specs.Module.{params_of}
 use Rattle.wm_decode.specs.Reading.{◌>>=◌}
 use Rattle.wm_decode.specs.ReadingVectors.{u32_at, vector_at, name_at, filled_at, sized_at, more_at}

@@ -1,5 +1,5 @@
 -- What is left where reading stops is no more than was there, and so is what is left behind a value.
-use Rattle.std.proofs.Common.{◌≡◌, ℕ, zero, suc, ◌+◌, ◌-◌, ◌*◌, ◌/◌, ◌^◌, ◌<◌, ◌≤◌, Bool, true, false, cond, ltb, eqb, List, [], ◌∷◌, ◌++◌, length, take, drop, Option, Some, None, Result, Ok, Err, refl, subst, arith, length-append, length-take, length-drop}
+use Rattle.std.proofs.Common.{◌≡◌, ℕ, zero, suc, ◌+◌, ◌-◌, ◌/◌, ◌^◌, ◌<◌, ◌≤◌, Bool, true, false, cond, ltb, eqb, List, [], ◌∷◌, ◌++◌, length, take, drop, Option, Some, None, Result, Ok, Err, refl, subst, arith, length-append, length-take, length-drop}
 use Rattle.std.specs.Prelude.{is_some, IfErr}
 use Rattle.std.proofs.lemmas.Bool.{le-ltb}
 use Rattle.std.specs.Str.{is_utf8}
@@ -24,8 +24,8 @@ use Rattle.wm_decode.specs.Stop.{Stop, stop, ended, before, moved, map_stop}
 use Rattle.wm_decode.specs.Faults.{atomic_fault, opcode_fault, limits_fault, import_kind_fault, segment_flag_fault}
 use Rattle.wm_decode.specs.Opcodes.{opcode_at, atomic_at}
 use Rattle.wm_decode.specs.Module.{params_of}
-use Rattle.wm_decode.specs.Reading.{◌>>=◌, faulted_at, unsigned_at, signed_at}
-use Rattle.wm_decode.specs.ReadingVectors.{u32_at, own_bytes_at, byte_vector_at, name_at, items_at, vector_at, filled_at, sized_at, more_at}
+use Rattle.wm_decode.specs.Reading.{◌>>=◌, unsigned_at, signed_at}
+use Rattle.wm_decode.specs.ReadingVectors.{u32_at, own_bytes_at, byte_vector_at, name_at, items_at, vector_at, filled_at, more_at}
 use Rattle.wm_decode.specs.ReadingInstructions.{value_type_at, block_type_at, access_at, access_of, atomic_access_at, zero_at, immediates_at, operands_of, plain_at, Body, One, Reader, closed_with, opened_at, framed_with, if_with, instr_with, instrs_at, instrs_in, blocks_at}
 use Rattle.wm_decode.specs.ReadingParts.{byte_at, end_at, result_at, func_type_at, limits_at, import_at, second_import_at, imports_at, memories_at, indices_at, no_items_at, initial_at, mutability_at, global_at, export_kind_at, export_entry_at, export_step, exports_at, local_entry_at, local_step, locals_at, function_at, sized_function_at, more_functions_at, code_at, segment_at, agrees, segments_at}
 use Rattle.wm_decode.specs.ReadingModule.{custom_at}

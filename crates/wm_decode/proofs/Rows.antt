@@ -1,14 +1,16 @@
 -- What reading meets first in a few texts, and where.
 use Rattle.std.proofs.Common.{ℕ, List, [], ◌∷◌, ◌++◌, length, refl}
-use Rattle.wm_decode.specs.declared.fault.Feature.TheVariants.{Start}
+use Rattle.wm_decode.specs.declared.fault.Feature.TheVariants.{Growth, Start}
 use Rattle.wm_decode.specs.declared.fault.FaultKind.{FaultKind}
-use Rattle.wm_decode.specs.declared.fault.FaultKind.TheVariants.{Magic, Version, Truncated, BadNumber, SectionOrder, SectionSize, Unsupported}
+use Rattle.wm_decode.specs.declared.fault.FaultKind.TheVariants.{Magic, Version, Truncated, BadNumber, SectionOrder, SectionSize, UnknownOpcode, Unsupported}
 use Rattle.wm_decode.specs.declared.fault.DecodeFault.TheVariants.{At}
 use Rattle.wm_decode.specs.Implements.{IsFaultOf}
 use Rattle.wm_decode.specs.Module.{header, magic}
+use Rattle.wm_decode.specs.Opcodes.{opcode_at}
 use Rattle.wm_decode.specs.Reading.{unsigned_at}
-use Rattle.wm_decode.specs.ReadingVectors.{items_at, vector_at, own_bytes_at, filled_at, sized_at}
-use Rattle.wm_decode.specs.ReadingParts.{func_type_at, indices_at}
+use Rattle.wm_decode.specs.ReadingVectors.{items_at, vector_at, own_bytes_at, filled_at, sized_at, more_at}
+use Rattle.wm_decode.specs.ReadingInstructions.{blocks_at, closed_with, instrs_at, instr_with, plain_at}
+use Rattle.wm_decode.specs.ReadingParts.{func_type_at, result_at, indices_at, code_at, more_functions_at, sized_function_at, function_at, locals_at}
 use Rattle.wm_decode.specs.ReadingModule.{customs_at, section_at, one_at, header_at, front_at, declared_at, module_at, whole_at}
 
 -- reading these bytes stops with this fault at this offset
@@ -52,3 +54,15 @@ no_section = (1, refl, refl)
 short_types : Meets (header ++ 0x01 ∷ 0x01 ∷ 0x01 ∷ 0x03 ∷ 0x01 ∷ 0x00 ∷ []) SectionSize 11
 unfolding whole_at module_at declared_at front_at header_at one_at customs_at section_at sized_at own_bytes_at filled_at unsigned_at vector_at items_at func_type_at
 short_types = (3, refl, refl)
+
+-- a function of one type whose body is this byte
+abbrev one_function : ℕ → List ℕ
+one_function op = header ++ 0x01 ∷ 0x04 ∷ 0x01 ∷ 0x60 ∷ 0x00 ∷ 0x00 ∷ 0x03 ∷ 0x02 ∷ 0x01 ∷ 0x00 ∷ 0x0A ∷ 0x05 ∷ 0x01 ∷ 0x03 ∷ 0x00 ∷ op ∷ 0x0B ∷ []
+
+unknown_opcode : Meets (one_function 0x27) (UnknownOpcode 0x27) 23
+unfolding whole_at module_at declared_at front_at header_at one_at customs_at section_at sized_at own_bytes_at filled_at unsigned_at vector_at items_at func_type_at result_at indices_at code_at more_functions_at sized_function_at function_at locals_at more_at blocks_at closed_with instrs_at instr_with plain_at opcode_at
+unknown_opcode = (2, refl, refl)
+
+growth : Meets (one_function 0x40) (Unsupported Growth) 23
+unfolding whole_at module_at declared_at front_at header_at one_at customs_at section_at sized_at own_bytes_at filled_at unsigned_at vector_at items_at func_type_at result_at indices_at code_at more_functions_at sized_function_at function_at locals_at more_at blocks_at closed_with instrs_at instr_with plain_at opcode_at
+growth = (2, refl, refl)

@@ -10,7 +10,7 @@ use Rattle.wm_decode.specs.Module.{Custom, Customs, no_custom, custom, Section, 
 use Rattle.wm_decode.specs.Reading.{◌>>=◌}
 use Rattle.wm_decode.specs.ReadingVectors.{name_at, sized_at}
 use Rattle.wm_decode.specs.ReadingModule.{behind, custom_at, customs_at, customs_in, header_at, one_at, section_at}
-use Rattle.wm_decode.proofs.Steps.{bound, met, chosen, ok_is, pair_is, fits_behind, answered}
+use Rattle.wm_decode.proofs.Steps.{bound, chosen, ok_is, pair_is, fits_behind, answered}
 use Rattle.wm_decode.proofs.Lawful.{Lawful, sized_law, sized_lawful}
 use Rattle.wm_decode.proofs.TypeLaws.{name_lawful}
 use Rattle.wm_decode.proofs.BodyAgain.{from_suc}

@@ -1,7 +1,6 @@
 -- What a function returned, seen by view, is what reading gives, unless memory was refused.
 use Rattle.std.specs.Prelude.{◌≡◌, ◌≤◌, ◌<◌, ◌+◌, ◌^◌, ℕ, Result, Ok, Err}
 use Rattle.wm_decode.specs.declared.fault.Limit.{Limit}
-use Rattle.wm_decode.specs.declared.fault.FaultKind.{FaultKind}
 use Rattle.wm_decode.specs.declared.fault.FaultKind.TheVariants as kind
 use Rattle.wm_decode.specs.declared.fault.ItemFault.{ItemFault}
 use Rattle.wm_decode.specs.declared.fault.ItemFault.TheVariants.{OutOfMemory, WithLeft}

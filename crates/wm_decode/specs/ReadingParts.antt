@@ -175,7 +175,7 @@ unfoldable pub sized_function_at : Bounds → List FuncType → ℕ → List ℕ
 sized_function_at bounds types index bytes = do
   content ← own_bytes_at (stop fault.SectionSize (length bytes)) bytes
   if nat_lt bounds.locals (params_of types index) then Err (past Locals (length bytes)) else
-    filled_at (function_at bounds (bounds.locals - params_of types index) index) content
+      filled_at (function_at bounds (bounds.locals - params_of types index) index) content
 
 -- functions of the types of these indices after the earlier ones, all of them
 unfoldable pub more_functions_at : Bounds → List FuncType → List ℕ → List Func → List ℕ → Read (List Func)

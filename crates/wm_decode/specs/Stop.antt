@@ -12,7 +12,7 @@ pub record Stop : Type 0 where
 abbrev pub stop : FaultKind → ℕ → Stop
 stop kind left = record { kind = kind; left = left }
 
--- the bytes end here, too early
+-- the bytes end too early
 abbrev pub ended : Stop
 ended = stop kind.Truncated 0
 
@@ -33,6 +33,7 @@ before after s = stop (inner_kind s.kind) (s.left + after)
 abbrev pub moved : ℕ → Stop → Stop
 moved left s = stop s.kind left
 
+-- with the stop changed, if reading stops
 abbrev pub map_stop : {A : Type 0} → (Stop → Stop) → Result A Stop → Result A Stop
 map_stop f (Ok x) = Ok x
 map_stop f (Err s) = Err (f s)
