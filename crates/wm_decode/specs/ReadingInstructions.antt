@@ -68,7 +68,7 @@ abbrev pub operands_of : Stop → Option Opcode → List ℕ → InstrAt
 operands_of other None bytes = Err other
 operands_of other (Some op) bytes = immediates_at op bytes
 
--- an instruction with no block of its own, after its first byte, at which it is faulted
+-- an instruction with no block of its own, after its first byte, which is faulted if no such instruction begins with it
 unfoldable pub plain_at : ℕ → List ℕ → InstrAt
 plain_at code bytes = operands_of (stop (opcode_fault code) (length bytes + 1)) (opcode_at code) bytes
 

@@ -22,7 +22,7 @@ impl Content for NoItems {
     }
 }
 
-/// Reads the number 0.
+/// Reads a count, which has to be 0.
 #[tactic(auto, unfolding(crate::specs::ReadingParts::no_items_at))]
 fn no_items(bytes: &[u8]) -> Result<(u32, &[u8]), ItemFault>
     ensures { Implements (λ x. (x.0, x.1.now)) result (no_items_at bytes.now) }
