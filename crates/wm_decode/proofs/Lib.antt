@@ -23,3 +23,4 @@ pub mod Kept
 pub mod Past
 pub mod Rows
 pub mod Left
+pub mod LeftOfModule

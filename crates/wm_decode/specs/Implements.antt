@@ -31,10 +31,10 @@ Decodes (Ok x) read = read ≡ Ok x
 Decodes (Err decode.OutOfMemory) read = Unit {0}
 Decodes (Err (decode.At kind offset)) read = (left : ℕ) × (read ≡ Err (stop kind left))
 
--- the fault that decoding answered is at the offset at which reading stops, of so many bytes
+-- the fault that decoding answered is the one at which reading stops, of so many bytes, and at its offset
 abbrev pub IsFaultOf : {X : Type 0} → ℕ → Result X Stop → DecodeFault → Type 0
 IsFaultOf bytes read decode.OutOfMemory = Unit {0}
-IsFaultOf bytes read (decode.At kind offset) = (left : ℕ) × (read ≡ Err (stop kind left)) × (offset ≡ offset_in bytes kind left)
+IsFaultOf bytes read (decode.At kind offset) = (left : ℕ) × (read ≡ Err (stop kind left)) × (left ≤ bytes) × (offset ≡ offset_in bytes kind left)
 
 -- there are so many bytes, and no more are left from the faulty item on
 abbrev pub LeftWithin : ℕ → ItemFault → Type 0
