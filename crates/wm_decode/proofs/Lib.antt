@@ -21,6 +21,6 @@ pub mod Decoded
 pub mod OneModule
 pub mod Kept
 pub mod Past
-pub mod Rows
+pub mod FirstFaults
 pub mod Left
 pub mod LeftOfModule
