@@ -14,7 +14,7 @@ use Rattle.wm_decode.specs.Opcodes.{opcode_at}
 use Rattle.wm_decode.specs.Instructions.{block_type, access_instr, Immediates, alone, indexed, br_table, access, memory_size, i32_const, i64_const, atomic, Plain, plain_instr, Spells, none, plain, block, loop, if_then, if_else}
 use Rattle.wm_decode.specs.Reading.{◌>>=◌}
 use Rattle.wm_decode.specs.ReadingVectors.{u32_at}
-use Rattle.wm_decode.specs.ReadingInstructions.{block_type_at, opened_at, access_at, immediates_at, plain_at, Body, One, Reader, closed_with, framed_with, if_with, instr_with, instrs_at}
+use Rattle.wm_decode.specs.ReadingInstructions.{block_type_at, opened_at, access_at, atomic_access_at, immediates_at, plain_at, Body, One, Reader, closed_with, framed_with, if_with, instr_with, instrs_at}
 use Rattle.wm_decode.proofs.NumberLaws.{unsigned_again, signed_again}
 use Rattle.wm_decode.proofs.Lawful.{number_lawful, vector_lawful}
 
@@ -29,7 +29,7 @@ unfolding access_at
 access_again {second = s} kind d e rest = rw (append_assoc, unsigned_again d (s ++ rest), unsigned_again e rest) refl
 
 pub operands_again : {op : Opcode} {text : List ℕ} {i : Instr} → Immediates op text i → (rest : List ℕ) → immediates_at op (text ++ rest) ≡ Ok (i, rest)
-unfolding immediates_at
+unfolding immediates_at atomic_access_at
 operands_again alone rest = refl
 operands_again (indexed d) rest = rw (unsigned_again d rest) refl
 operands_again (br_table {first = first} {second = second} {labels = labels} v d) rest =

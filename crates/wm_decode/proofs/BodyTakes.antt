@@ -7,17 +7,18 @@ use Rattle.wm_ast.specs.declared.instr.Instr.TheVariants as instr
 use Rattle.wm_ast.specs.declared.types.ValType.{ValType}
 use Rattle.wm_ast.specs.declared.types.ValType.TheVariants.{I32, I64}
 use Rattle.wm_ast.specs.declared.instr.Else.TheVariants.{Present, Absent}
-use Rattle.wm_decode.specs.declared.fault.Limit.TheVariants as limit
+use Rattle.wm_decode.specs.declared.fault.FaultKind.TheVariants.{UnknownOpcode}
+use Rattle.wm_decode.specs.Faults.{block_type_fault, atomic_fault, opcode_fault}
 use Rattle.wm_decode.specs.declared.opcode.Opcode.{Opcode}
 use Rattle.wm_decode.specs.declared.opcode.Opcode.TheVariants as opcode
-use Rattle.wm_decode.specs.Stop.{Stop, bad, past}
+use Rattle.wm_decode.specs.Stop.{Stop, stop, map_stop, moved}
 use Rattle.wm_decode.specs.Numbers.{U32, Signed, IsBytes}
 use Rattle.wm_decode.specs.Opcodes.{opcode_at, atomic_at}
 use Rattle.wm_decode.specs.Instructions.{block_type, indexed_instr, access_instr, Immediates, alone, indexed, br_table, access, memory_size, i32_const, i64_const, atomic, Plain, plain_instr, Spells, none, plain, block, loop, if_then, if_else}
 use Rattle.wm_decode.specs.Reading.{◌>>=◌, signed_at}
 use Rattle.wm_decode.specs.ReadingVectors.{u32_at, vector_at}
-use Rattle.wm_decode.specs.ReadingInstructions.{block_type_at, opened_at, access_at, access_of, immediates_at, operands_of, plain_at, Body, One, then_one, else_one, Reader, closed_with, framed_with, if_with, instr_with, instrs_at}
-use Rattle.wm_decode.proofs.Steps.{bound, chosen, met, within, ok_is, pair_is, fits_behind}
+use Rattle.wm_decode.specs.ReadingInstructions.{block_type_at, opened_at, access_at, access_of, atomic_access_at, immediates_at, operands_of, plain_at, Body, One, then_one, else_one, Reader, closed_with, framed_with, if_with, instr_with, instrs_at}
+use Rattle.wm_decode.proofs.Steps.{bound, passed, chosen, met, ok_is, pair_is, fits_behind, unmapped}
 use Rattle.wm_decode.proofs.NumberLaws.{unsigned_takes, signed_takes}
 use Rattle.wm_decode.proofs.Lawful.{number_lawful, vector_lawful}
 use Rattle.wm_decode.proofs.BodyAgain.{IsCloser, ends, at_else, after, plain_long}
@@ -26,12 +27,12 @@ pub type_takes : (bytes : List ℕ) (ty : Option ValType) (rest : List ℕ) → 
 unfolding block_type_at
 type_takes [] ty rest e = absurd cc
 type_takes (b ∷ bytes) ty rest e =
-    elim (chosen (eqb b 0x40) (Ok (None, bytes)) (cond (eqb b 0x7F) (Ok (Some I32, bytes)) (cond (eqb b 0x7E) (Ok (Some I64, bytes)) (Err bad))) (Ok (ty, rest)) e) [
+    elim (chosen (eqb b 0x40) (Ok (None, bytes)) (cond (eqb b 0x7F) (Ok (Some I32, bytes)) (cond (eqb b 0x7E) (Ok (Some I64, bytes)) (Err (stop (block_type_fault b) (length (b ∷ bytes)))))) (Ok (ty, rest)) e) [
       | inl h ↦ let is = pair_is (None, bytes) (ty, rest) h.1 in rw (eqb-true b 0x40 h.0, ← is.0, is.1) refl
-      | inr g ↦ elim (chosen (eqb b 0x7F) (Ok (Some I32, bytes)) (cond (eqb b 0x7E) (Ok (Some I64, bytes)) (Err bad)) (Ok (ty, rest)) g.1) [
+      | inr g ↦ elim (chosen (eqb b 0x7F) (Ok (Some I32, bytes)) (cond (eqb b 0x7E) (Ok (Some I64, bytes)) (Err (stop (block_type_fault b) (length (b ∷ bytes))))) (Ok (ty, rest)) g.1) [
         | inl h ↦ let is = pair_is (Some I32, bytes) (ty, rest) h.1 in rw (eqb-true b 0x7F h.0, ← is.0, is.1) refl
         | inr f ↦
-            let h = met (eqb b 0x7E) (Ok (Some I64, bytes)) (ty, rest) f.1 in
+            let h = met _ (eqb b 0x7E) (Ok (Some I64, bytes)) (ty, rest) f.1 in
             let is = pair_is (Some I64, bytes) (ty, rest) h.1 in rw (eqb-true b 0x7E h.0, ← is.0, is.1) refl
       ]
     ]
@@ -60,14 +61,14 @@ has_room (suc n) e = omega arith
 -- a block that began
 pub opened_takes : (depth_left : ℕ) (bytes : List ℕ) (ty : Option ValType) (rest : List ℕ) → opened_at depth_left bytes ≡ Ok (ty, rest) → (0 < depth_left) × (bytes ≡ block_type ty ∷ rest)
 unfolding opened_at
-opened_takes depth_left bytes ty rest e = let p = within (past limit.Nesting) (eqb depth_left 0) (block_type_at bytes) (ty, rest) e in (has_room depth_left p.0, type_takes bytes ty rest p.1)
+opened_takes depth_left bytes ty rest e = let p = passed _ (eqb depth_left 0) (block_type_at bytes) (ty, rest) e in (has_room depth_left p.0, type_takes bytes ty rest p.1)
 
 -- a block that only an end closed
 pub closed_takes : (read : Reader) (depth_left next : ℕ) (bytes : List ℕ) (b : Body) → closed_with read depth_left next bytes ≡ Ok b → (read depth_left next bytes ≡ Ok b) × (b.closer ≡ 0x0B)
 unfolding closed_with
 closed_takes read depth_left next bytes b e =
-    let q = bound (read depth_left next bytes) (λ (b : Body). let o : Result Body Stop = cond (eqb b.closer 0x0B) (Ok b) (Err bad) in o) b e in
-    let m = met (eqb q.0.closer 0x0B) (Ok q.0) b q.2 in
+    let q = bound (read depth_left next bytes) (λ (b : Body). let o : Result Body Stop = cond (eqb b.closer 0x0B) (Ok b) (Err (stop (UnknownOpcode b.closer) (length b.rest + 1))) in o) b e in
+    let m = met _ (eqb q.0.closer 0x0B) (Ok q.0) b q.2 in
     let is : q.0 ≡ b = ok_is q.0 b m.1 in
     (subst (λ (x : Body). read depth_left next bytes ≡ Ok x) is q.1, subst (λ (x : Body). x.closer ≡ 0x0B) is (eqb-true q.0.closer 0x0B m.0))
 
@@ -217,7 +218,7 @@ zero_takes : (bytes : List ℕ) (i : Instr) (rest : List ℕ) → immediates_at 
 unfolding immediates_at
 zero_takes [] i rest e = absurd cc
 zero_takes (b ∷ bytes) i rest e =
-    let m = met (eqb b 0x00) (found instr.MemorySize bytes) (i, rest) e in
+    let m = met _ (eqb b 0x00) (found instr.MemorySize bytes) (i, rest) e in
     let is = pair_is (instr.MemorySize, bytes) (i, rest) m.1 in
     subst (λ (k : Instr). OperandsTook opcode.MemorySize (b ∷ bytes) k rest) is.0 (record { text = 0x00 ∷ []; parts = rw (eqb-true b 0x00 m.0, is.1) refl; spelled = memory_size })
 
@@ -239,9 +240,9 @@ table_takes bytes i rest fits e =
 of_access : (kind : AccessKind) (bytes : List ℕ) (i : Instr) (rest : List ℕ) → AccessTook kind bytes i rest → OperandsTook (opcode.Access kind) bytes i rest
 of_access kind bytes i rest a = subst (λ (k : Instr). OperandsTook (opcode.Access kind) bytes k rest) a.is (record { text = a.first ++ a.second; parts = a.parts; spelled = access a.aligned a.placed })
 
-of_atomic : (code : ℕ) (k : Option AccessKind) (text mid : List ℕ) (i : Instr) (rest : List ℕ) → atomic_at code ≡ k → U32 text code → IsBytes mid → access_of k mid ≡ Ok (i, rest) → OperandsTook opcode.Atomic (text ++ mid) i rest
-of_atomic code None text mid i rest h d fits e = absurd cc
-of_atomic code (Some kind) text mid i rest h d fits e =
+of_atomic : (other : Stop) (code : ℕ) (k : Option AccessKind) (text mid : List ℕ) (i : Instr) (rest : List ℕ) → atomic_at code ≡ k → U32 text code → IsBytes mid → access_of other k mid ≡ Ok (i, rest) → OperandsTook opcode.Atomic (text ++ mid) i rest
+of_atomic other code None text mid i rest h d fits e = absurd cc
+of_atomic other code (Some kind) text mid i rest h d fits e =
     let a = access_takes kind mid i rest fits e in
     subst (λ (k : Instr). OperandsTook opcode.Atomic (text ++ mid) k rest) a.is (record {
       text = text ++ (a.first ++ a.second);
@@ -250,11 +251,12 @@ of_atomic code (Some kind) text mid i rest h d fits e =
     })
 
 atomic_takes : (bytes : List ℕ) (i : Instr) (rest : List ℕ) → IsBytes bytes → immediates_at opcode.Atomic bytes ≡ Ok (i, rest) → OperandsTook opcode.Atomic bytes i rest
-unfolding immediates_at
+unfolding immediates_at atomic_access_at
 atomic_takes bytes i rest fits e =
-    let p = bound (u32_at bytes) (λ code. access_of (atomic_at code.0) code.1) (i, rest) e in
-    let t = unsigned_takes (2 ^ 32 - 1) bytes p.0.0 p.0.1 fits p.1 in
-    subst (λ (l : List ℕ). OperandsTook opcode.Atomic l i rest) (sym t.1) (of_atomic p.0.0 (atomic_at p.0.0) t.0 p.0.1 i rest refl t.2 (fits_behind bytes t.0 p.0.1 fits t.1) p.2)
+    let other = λ (code : ℕ). stop (atomic_fault code) (length bytes + 1) in
+    let p = bound (map_stop (moved (length bytes + 1)) (u32_at bytes)) (λ code. access_of (other code.0) (atomic_at code.0) code.1) (i, rest) e in
+    let t = unsigned_takes (2 ^ 32 - 1) bytes p.0.0 p.0.1 fits (unmapped (moved (length bytes + 1)) (u32_at bytes) p.0 p.1) in
+    subst (λ (l : List ℕ). OperandsTook opcode.Atomic l i rest) (sym t.1) (of_atomic (other p.0.0) p.0.0 (atomic_at p.0.0) t.0 p.0.1 i rest refl t.2 (fits_behind bytes t.0 p.0.1 fits t.1) p.2)
 
 operands_take : (op : Opcode) (bytes : List ℕ) (i : Instr) (rest : List ℕ) → IsBytes bytes → immediates_at op bytes ≡ Ok (i, rest) → OperandsTook op bytes i rest
 unfolding immediates_at
@@ -278,15 +280,15 @@ pub record Behind (op : ℕ) (bytes : List ℕ) (i : Instr) (rest : List ℕ) : 
   pub parts : op ∷ bytes ≡ text ++ rest
   pub spelled : Plain text i
 
-of_opcode : (code : ℕ) (o : Option Opcode) (bytes : List ℕ) (i : Instr) (rest : List ℕ) → opcode_at code ≡ o → IsBytes bytes → operands_of o bytes ≡ Ok (i, rest) → Behind code bytes i rest
-of_opcode code None bytes i rest h fits e = absurd cc
-of_opcode code (Some op) bytes i rest h fits e =
+of_opcode : (other : Stop) (code : ℕ) (o : Option Opcode) (bytes : List ℕ) (i : Instr) (rest : List ℕ) → opcode_at code ≡ o → IsBytes bytes → operands_of other o bytes ≡ Ok (i, rest) → Behind code bytes i rest
+of_opcode other code None bytes i rest h fits e = absurd cc
+of_opcode other code (Some op) bytes i rest h fits e =
     let t = operands_take op bytes i rest fits e in
     record { text = code ∷ t.text; parts = ap (λ (l : List ℕ). code ∷ l) t.parts; spelled = plain_instr h t.spelled }
 
 plain_takes : (op : ℕ) (bytes : List ℕ) (i : Instr) (rest : List ℕ) → IsBytes bytes → plain_at op bytes ≡ Ok (i, rest) → Behind op bytes i rest
 unfolding plain_at
-plain_takes op bytes i rest fits e = of_opcode op (opcode_at op) bytes i rest refl fits e
+plain_takes op bytes i rest fits e = of_opcode (stop (opcode_fault op) (length bytes + 1)) op (opcode_at op) bytes i rest refl fits e
 
 pub instr_takes : (read : Reader) → Sound read → (depth_left next op : ℕ) (bytes : List ℕ) (one : One) → IsBytes bytes → instr_with read depth_left next op bytes ≡ Ok one → Begins depth_left next (op ∷ bytes) one
 unfolding instr_with

@@ -7,20 +7,21 @@ use Rattle.wm_ast.specs.declared.types.FuncType.{FuncType}
 use Rattle.wm_ast.specs.declared.instr.Instr.{Instr}
 use Rattle.wm_ast.specs.declared.module.Func.{Func}
 use Rattle.wm_decode.specs.declared.fault.Limit.TheVariants as limit
+use Rattle.wm_decode.specs.declared.fault.FaultKind.TheVariants.{CountMismatch, SectionSize}
 use Rattle.wm_decode.specs.Bounds.{Bounds}
-use Rattle.wm_decode.specs.Stop.{bad, past}
+use Rattle.wm_decode.specs.Stop.{stop, past}
 use Rattle.wm_decode.specs.Numbers.{U32, IsBytes}
 use Rattle.wm_decode.specs.Vectors.{Sized}
 use Rattle.wm_decode.specs.Instructions.{value_type, Spells}
 use Rattle.wm_decode.specs.Parts.{locals_of, Locals, no_locals, locals, FunctionBody, Functions, no_function, function, FunctionVector}
 use Rattle.wm_decode.specs.Module.{params_of, LocalsWithin}
 use Rattle.wm_decode.specs.Reading.{◌>>=◌}
-use Rattle.wm_decode.specs.ReadingVectors.{u32_at, more_at, sized_at}
+use Rattle.wm_decode.specs.ReadingVectors.{u32_at, own_bytes_at, filled_at, more_at}
 use Rattle.wm_decode.specs.ReadingInstructions.{value_type_at, instrs_in, closed_with, blocks_at}
-use Rattle.wm_decode.specs.ReadingParts.{local_entry_at, local_step, locals_at, function_at, body_at, more_functions_at, code_at}
-use Rattle.wm_decode.proofs.Steps.{bound, met, within, pair_is, fits_behind, answered}
+use Rattle.wm_decode.specs.ReadingParts.{local_entry_at, local_step, locals_at, function_at, sized_function_at, more_functions_at, code_at}
+use Rattle.wm_decode.proofs.Steps.{bound, passed, met, pair_is, fits_behind, answered}
 use Rattle.wm_decode.proofs.NumberLaws.{unsigned_takes, unsigned_again}
-use Rattle.wm_decode.proofs.Lawful.{Lawful, sized_lawful}
+use Rattle.wm_decode.proofs.Lawful.{Lawful, own_law}
 use Rattle.wm_decode.proofs.BodyAgain.{ends, spelled_again, closed_again}
 use Rattle.wm_decode.proofs.BodyTakes.{closed_takes}
 use Rattle.wm_decode.proofs.Fuel.{instrs_take_in}
@@ -40,9 +41,9 @@ entry_takes : (depth_left : ℕ) (bytes : List ℕ) (n : ℕ) (ty : ValType) (re
 unfolding local_entry_at
 entry_takes depth_left bytes n ty rest fits e =
     let last = λ (n : ℕ) (ty : ValType × List ℕ). let p : ℕ × ValType = (n, ty.0) in answered p ty.1 in
-    let a = bound (u32_at bytes) (λ count. cond (ltb depth_left count.0) (Err (past limit.Locals)) (value_type_at count.1 >>= last count.0)) ((n, ty), rest) e in
+    let a = bound (u32_at bytes) (λ count. cond (ltb depth_left count.0) (Err (past limit.Locals (length bytes))) (value_type_at count.1 >>= last count.0)) ((n, ty), rest) e in
     let t = unsigned_takes (2 ^ 32 - 1) bytes a.0.0 a.0.1 fits a.1 in
-    let w = within (past limit.Locals) (ltb depth_left a.0.0) (value_type_at a.0.1 >>= last a.0.0) ((n, ty), rest) a.2 in
+    let w = passed _ (ltb depth_left a.0.0) (value_type_at a.0.1 >>= last a.0.0) ((n, ty), rest) a.2 in
     let b = bound (value_type_at a.0.1) (last a.0.0) ((n, ty), rest) w.1 in
     let is = pair_is {A = ℕ × ValType} ((a.0.0, b.0.0), b.0.1) ((n, ty), rest) b.2 in
     let n-is : a.0.0 ≡ n = ap (λ (p : ℕ × ValType). p.0) is.0 in
@@ -184,21 +185,34 @@ module _ (bounds : Bounds) where
       spelled : FunctionBody bounds.nesting index text f
       small : params_of types index + length f.locals ≤ bounds.locals
 
-    bounded_lawful : (index : ℕ) → Lawful (Bounded index) (body_at bounds types index)
-    unfolding body_at
+    -- a function with its size, where the parameters of its type are within the bounds
+    whole_lawful : (index : ℕ) → Lawful (Sized (Small (bounds.locals - params_of types index) index)) (λ bytes. own_bytes_at (stop SectionSize (length bytes)) bytes >>= filled_at (function_at bounds (bounds.locals - params_of types index) index))
+    whole_lawful index =
+        let most = bounds.locals - params_of types index in
+        own_law (Small most index) (function_at bounds most index) (λ bytes f rest fits e. function_takes most index bytes f rest fits e)
+        (λ text f s. ap (function_at bounds most index) (sym (append-nil text)) ∙ function_again most index text f [] s) (λ bytes. stop SectionSize (length bytes))
+
+    bounded_lawful : (index : ℕ) → Lawful (Sized (Bounded index)) (sized_function_at bounds types index)
+    unfolding sized_function_at
     bounded_lawful index = record {
       takes = λ bytes f rest fits e.
           let n = params_of types index in
-          let w = within (past limit.Locals) (ltb bounds.locals n) (function_at bounds (bounds.locals - n) index bytes) (f, rest) e in
+          let fill = filled_at (function_at bounds (bounds.locals - n) index) in
+          let own = own_bytes_at (stop SectionSize (length bytes)) bytes in
+          let a = bound own (λ content. cond (ltb bounds.locals n) (Err (past limit.Locals (length bytes))) (fill content)) (f, rest) e in
+          let w = passed _ (ltb bounds.locals n) (fill a.0) (f, rest) a.2 in
           let le : n ≤ bounds.locals = ltb-false bounds.locals n w.0 in
-          let t = function_takes (bounds.locals - n) index bytes f rest fits w.1 in
-          let sum : n + length f.locals ≤ bounds.locals = omega (arith, t.2.small) in
-          (t.0, t.1, record { spelled = t.2.spelled; small = sum });
-      again = λ text f rest b.
+          let read : (own >>= fill) ≡ Ok (f, rest) = rw a.1 w.1 in
+          let t = (whole_lawful index).takes bytes f rest fits read in
+          let s = t.2 in
+          let sum : n + length f.locals ≤ bounds.locals = omega (arith, s.spelled.small) in
+          (t.0, t.1, record { size = s.size; content = s.content; parts = s.parts; counted = s.counted; spelled = record { spelled = s.spelled.spelled; small = sum } });
+      again = λ text f rest s.
           let n = params_of types index in
-          let le : n ≤ bounds.locals = omega (arith, b.small) in
-          let small : length f.locals ≤ bounds.locals - n = omega (arith, b.small) in
-          rw (le-ltb bounds.locals n le) (function_again (bounds.locals - n) index text f rest (record { spelled = b.spelled; small = small }));
+          let le : n ≤ bounds.locals = omega (arith, s.spelled.small) in
+          let small : length f.locals ≤ bounds.locals - n = omega (arith, s.spelled.small) in
+          let sized : Sized (Small (bounds.locals - n) index) text f = record { size = s.size; content = s.content; parts = s.parts; counted = s.counted; spelled = record { spelled = s.spelled.spelled; small = small } } in
+          rw (le-ltb bounds.locals n le) ((whole_lawful index).again text f rest sized);
     }
 
     record FunctionsTook (indices : List ℕ) (earlier : List Func) (bytes : List ℕ) (all : List Func) (rest : List ℕ) : Type 0 where
@@ -216,8 +230,8 @@ module _ (bounds : Bounds) where
         let is = pair_is {A = List Func} (earlier, bytes) (all, rest) e in
         record { fs = []; text = []; all_are = sym is.0 ∙ sym (append-nil earlier); parts = is.1; spelled = no_function; small = tt; counted = refl }
     functions_take (index ∷ indices) earlier bytes all rest fits e =
-        let a = bound (sized_at (body_at bounds types index) bytes) (λ x. more_functions_at bounds types indices (earlier ++ x.0 ∷ []) x.1) (all, rest) e in
-        let t = (sized_lawful (Bounded index) (body_at bounds types index) (bounded_lawful index)).takes bytes a.0.0 a.0.1 fits a.1 in
+        let a = bound (sized_function_at bounds types index bytes) (λ x. more_functions_at bounds types indices (earlier ++ x.0 ∷ []) x.1) (all, rest) e in
+        let t = (bounded_lawful index).takes bytes a.0.0 a.0.1 fits a.1 in
         let r = functions_take indices (earlier ++ a.0.0 ∷ []) a.0.1 all rest (fits_behind bytes t.0 a.0.1 fits t.1) a.2 in
         let s = t.2 in
         let sized : Sized (FunctionBody bounds.nesting index) t.0 a.0.0 = record { size = s.size; content = s.content; parts = s.parts; counted = s.counted; spelled = s.spelled.spelled } in
@@ -240,7 +254,7 @@ module _ (bounds : Bounds) where
         let small : params_of types index + length f.locals ≤ bounds.locals = subst (λ (i : ℕ). params_of types i + length f.locals ≤ bounds.locals) s.spelled.typed w.0 in
         let sized : Sized (Bounded index) t f = record { size = s.size; content = s.content; parts = s.parts; counted = s.counted; spelled = record { spelled = s.spelled; small = small } } in
         let next = functions_again more w.1 (earlier ++ f ∷ []) rest in
-        rw (append_assoc, (sized_lawful (Bounded index) (body_at bounds types index) (bounded_lawful index)).again t f (r ++ rest) sized, next) (ap (λ (l : List Func). answered l rest) (append_assoc earlier (f ∷ []) fs))
+        rw (append_assoc, (bounded_lawful index).again t f (r ++ rest) sized, next) (ap (λ (l : List Func). answered l rest) (append_assoc earlier (f ∷ []) fs))
 
     -- the functions of a code section
     pub record Code (indices : List ℕ) (text : List ℕ) (fs : List Func) : Type 0 where
@@ -252,9 +266,9 @@ module _ (bounds : Bounds) where
     unfolding code_at
     code_lawful indices = record {
       takes = λ bytes fs rest fits e.
-          let a = bound (u32_at bytes) (λ count. cond (eqb count.0 (length indices)) (more_functions_at bounds types indices [] count.1) (Err bad)) (fs, rest) e in
+          let a = bound (u32_at bytes) (λ count. cond (eqb count.0 (length indices)) (more_functions_at bounds types indices [] count.1) (Err (stop CountMismatch (length bytes)))) (fs, rest) e in
           let t = unsigned_takes (2 ^ 32 - 1) bytes a.0.0 a.0.1 fits a.1 in
-          let m = met (eqb a.0.0 (length indices)) (more_functions_at bounds types indices [] a.0.1) (fs, rest) a.2 in
+          let m = met _ (eqb a.0.0 (length indices)) (more_functions_at bounds types indices [] a.0.1) (fs, rest) a.2 in
           let r = functions_take indices [] a.0.1 fs rest (fits_behind bytes t.0 a.0.1 fits t.1) m.1 in
           let count : a.0.0 ≡ length r.fs = eqb-true a.0.0 (length indices) m.0 ∙ sym r.counted in
           let spelled : FunctionVector bounds.nesting indices (t.0 ++ r.text) r.fs = record { count = t.0; items = r.text; parts = refl; counted = subst (λ (n : ℕ). U32 t.0 n) count t.2; each = r.spelled } in

@@ -16,9 +16,12 @@ use Rattle.wm_ast.specs.declared.module.ConstExpr.TheVariants.{I32, I64}
 use Rattle.wm_ast.specs.declared.module.Global.{Global}
 use Rattle.wm_ast.specs.declared.module.Memory.{Memory}
 use Rattle.wm_ast.specs.declared.module.DataSegment.{DataSegment}
-use Rattle.wm_decode.specs.declared.fault.Limit.TheVariants as limit
+use Rattle.wm_decode.specs.declared.fault.Limit.TheVariants.{Functions}
+use Rattle.wm_decode.specs.declared.fault.Feature.TheVariants as feature
+use Rattle.wm_decode.specs.declared.fault.FaultKind.TheVariants.{CountMismatch, DuplicateExport, Unsupported}
+use Rattle.wm_decode.specs.Faults.{export_kind_fault, import_kind_fault, segment_flag_fault}
 use Rattle.wm_decode.specs.Bounds.{Bounds}
-use Rattle.wm_decode.specs.Stop.{Stop, bad, past}
+use Rattle.wm_decode.specs.Stop.{Stop, stop, past}
 use Rattle.wm_decode.specs.Numbers.{Signed, U32, IsBytes}
 use Rattle.wm_decode.specs.Vectors.{Vector}
 use Rattle.wm_decode.specs.Instructions.{value_type}
@@ -27,11 +30,28 @@ use Rattle.wm_decode.specs.Module.{AtMostOne, NoItems, Agrees}
 use Rattle.wm_decode.specs.Reading.{◌>>=◌, signed_at}
 use Rattle.wm_decode.specs.ReadingVectors.{u32_at, items_at, byte_vector_at, name_at, more_at}
 use Rattle.wm_decode.specs.ReadingInstructions.{value_type_at}
-use Rattle.wm_decode.specs.ReadingParts.{byte_at, limits_at, import_at, imports_at, memories_at, indices_at, no_items_at, initial_at, mutability_at, global_at, export_kind_at, export_entry_at, export_step, exports_at, segment_at, segments_at, agrees}
-use Rattle.wm_decode.proofs.Steps.{bound, passed, met, within, chosen, pair_is, fits_behind, answered}
+use Rattle.wm_decode.specs.ReadingParts.{byte_at, unsupported, bad_number, end_at, limits_at, import_at, second_import_at, imports_at, memories_at, indices_at, no_items_at, initial_at, mutability_at, global_at, export_kind_at, export_entry_at, export_step, exports_at, segment_at, segments_at, agrees}
+use Rattle.wm_decode.proofs.Steps.{bound, passed, met, chosen, pair_is, fits_behind, answered}
 use Rattle.wm_decode.proofs.NumberLaws.{unsigned_takes, unsigned_again, signed_takes, signed_again}
 use Rattle.wm_decode.proofs.Lawful.{Lawful, number_lawful, items_law, items_again_law, byte_vector_takes, byte_vector_again}
 use Rattle.wm_decode.proofs.TypeLaws.{name_lawful, value_takes, value_again, byte_takes, make_none, make_one, take_none, take_one, Limited, limits_lawful, LimitedImport, import_lawful}
+
+-- no second import is read
+no_second : (bytes : List ℕ) (z : Option Memory × List ℕ) → second_import_at bytes ≡ Ok z → ⊥
+unfolding second_import_at
+no_second bytes z e =
+    let last = λ (left : List ℕ) (rest : List ℕ). let k : Result (Option Memory × List ℕ) Stop = Err (unsupported feature.SeveralMemories left) in k in
+    let third = λ (b : List ℕ × List ℕ). byte_at import_kind_fault 0x02 b.1 >>= last b.1 in
+    let p = bound (name_at bytes) (λ a. name_at a.1 >>= third) z e in
+    let q = bound (name_at p.0.1) third z p.2 in
+    let r = bound (byte_at import_kind_fault 0x02 q.0.1) (last q.0.1) z q.2 in
+    let k = r.2 in absurd cc
+
+only_one : (count : ℕ) (o : Option Memory) (rest : List ℕ) (z : Option Memory × List ℕ) → cond (eqb count 1) (answered {X = Option Memory} o rest) (second_import_at rest) ≡ Ok z → (eqb count 1 ≡ true) × (answered {X = Option Memory} o rest ≡ Ok z)
+only_one count o rest z e = elim (chosen (eqb count 1) (answered {X = Option Memory} o rest) (second_import_at rest) (Ok z) e) [
+  | inl h ↦ h
+  | inr h ↦ absurd (no_second rest z h.1)
+]
 
 module _ (bounds : Bounds) where
   pub imports_again : (text : List ℕ) (r : Option Memory) (rest : List ℕ) → AtMostOne (LimitedImport bounds) text r → imports_at bounds (text ++ rest) ≡ Ok (r, rest)
@@ -45,7 +65,7 @@ module _ (bounds : Bounds) where
   unfolding imports_at
   imports_lawful = record {
     takes = λ bytes r rest fits e.
-        let some = λ (count : ℕ) (m : Memory × List ℕ). cond (eqb count 1) (answered {X = Option Memory} (Some m.0) m.1) (Err bad) in
+        let some = λ (count : ℕ) (m : Memory × List ℕ). cond (eqb count 1) (answered {X = Option Memory} (Some m.0) m.1) (second_import_at m.1) in
         let one = λ (count : ℕ × List ℕ). import_at bounds count.1 >>= some count.0 in
         let a = bound (u32_at bytes) (λ count. cond (eqb count.0 0) (answered {X = Option Memory} None count.1) (one count)) (r, rest) e in
         let t = unsigned_takes (2 ^ 32 - 1) bytes a.0.0 a.0.1 fits a.1 in
@@ -55,7 +75,7 @@ module _ (bounds : Bounds) where
               (t.0, t.1 ∙ ap (λ (l : List ℕ). t.0 ++ l) is.1, subst (λ (o : Option Memory). AtMostOne (LimitedImport bounds) t.0 o) is.0 (make_none (LimitedImport bounds) t.0 a.0.0 t.2 (eqb-true a.0.0 0 h.0)))
           | inr h ↦
               let b = bound (import_at bounds a.0.1) (some a.0.0) (r, rest) h.1 in
-              let m = met (eqb a.0.0 1) (answered {X = Option Memory} (Some b.0.0) b.0.1) (r, rest) b.2 in
+              let m = only_one a.0.0 (Some b.0.0) b.0.1 (r, rest) b.2 in
               let v = (import_lawful bounds).takes a.0.1 b.0.0 b.0.1 (fits_behind bytes t.0 a.0.1 fits t.1) b.1 in
               let is = pair_is {A = Option Memory} (Some b.0.0, b.0.1) (r, rest) m.1 in (
                 t.0 ++ v.0,
@@ -83,18 +103,19 @@ module _ (bounds : Bounds) where
   unfolding memories_at
   memories_take imported bytes r rest fits e =
       let some = λ (l : Limits × List ℕ). answered {X = Option Limits} (Some l.0) l.1 in
-      let one = λ (count : ℕ × List ℕ). cond (eqb count.0 1) (limits_at bounds count.1 >>= some) (Err bad) in
-      let a = bound (u32_at bytes) (λ count. cond (eqb count.0 0) (answered {X = Option Limits} None count.1) (cond imported (Err bad) (one count))) (r, rest) e in
+      let several : Stop = unsupported feature.SeveralMemories bytes in
+      let one = λ (count : ℕ × List ℕ). cond (eqb count.0 1) (limits_at bounds count.1 >>= some) (Err several) in
+      let a = bound (u32_at bytes) (λ count. cond (eqb count.0 0) (answered {X = Option Limits} None count.1) (cond imported (Err several) (one count))) (r, rest) e in
       let t = unsigned_takes (2 ^ 32 - 1) bytes a.0.0 a.0.1 fits a.1 in
-      elim (chosen (eqb a.0.0 0) (answered {X = Option Limits} None a.0.1) (cond imported (Err bad) (one a.0)) (Ok (r, rest)) a.2) [
+      elim (chosen (eqb a.0.0 0) (answered {X = Option Limits} None a.0.1) (cond imported (Err several) (one a.0)) (Ok (r, rest)) a.2) [
         | inl h ↦
             let is = pair_is {A = Option Limits} (None, a.0.1) (r, rest) h.1 in
             let v : AtMostOne (Limited bounds) t.0 None = make_none (Limited bounds) t.0 a.0.0 t.2 (eqb-true a.0.0 0 h.0) in
             let d : Defined imported t.0 None = record { spelled = v; one = λ k. refl } in
             (t.0, t.1 ∙ ap (λ (l : List ℕ). t.0 ++ l) is.1, subst (λ (o : Option Limits). Defined imported t.0 o) is.0 d)
         | inr h ↦
-            let n = passed imported (one a.0) (r, rest) h.1 in
-            let m = met (eqb a.0.0 1) (limits_at bounds a.0.1 >>= some) (r, rest) n.1 in
+            let n = passed _ imported (one a.0) (r, rest) h.1 in
+            let m = met _ (eqb a.0.0 1) (limits_at bounds a.0.1 >>= some) (r, rest) n.1 in
             let b = bound (limits_at bounds a.0.1) some (r, rest) m.1 in
             let v = (limits_lawful bounds).takes a.0.1 b.0.0 b.0.1 (fits_behind bytes t.0 a.0.1 fits t.1) b.1 in
             let is = pair_is {A = Option Limits} (Some b.0.0, b.0.1) (r, rest) b.2 in
@@ -115,9 +136,9 @@ module _ (bounds : Bounds) where
   unfolding indices_at
   indices_lawful = record {
     takes = λ bytes is rest fits e.
-        let a = bound (u32_at bytes) (λ count. cond (ltb bounds.functions count.0) (Err (past limit.Functions)) (items_at u32_at count.0 count.1)) (is, rest) e in
+        let a = bound (u32_at bytes) (λ count. cond (ltb bounds.functions count.0) (Err (past Functions (length bytes))) (items_at u32_at count.0 count.1)) (is, rest) e in
         let t = unsigned_takes (2 ^ 32 - 1) bytes a.0.0 a.0.1 fits a.1 in
-        let w = within (past limit.Functions) (ltb bounds.functions a.0.0) (items_at u32_at a.0.0 a.0.1) (is, rest) a.2 in
+        let w = passed _ (ltb bounds.functions a.0.0) (items_at u32_at a.0.0 a.0.1) (is, rest) a.2 in
         let r = items_law U32 u32_at (number_lawful (2 ^ 32 - 1)) a.0.0 a.0.1 is rest (fits_behind bytes t.0 a.0.1 fits t.1) w.1 in
         let le : a.0.0 ≤ bounds.functions = ltb-false bounds.functions a.0.0 w.0 in (
           t.0 ++ r.0,
@@ -132,9 +153,9 @@ pub no_items_lawful : Lawful NoItems no_items_at
 unfolding no_items_at
 no_items_lawful = record {
   takes = λ bytes n rest fits e.
-      let a = bound (u32_at bytes) (λ count. cond (eqb count.0 0) (Ok count) (Err bad)) (n, rest) e in
+      let a = bound (u32_at bytes) (λ count. cond (eqb count.0 0) (Ok count) (Err (unsupported feature.Table bytes))) (n, rest) e in
       let t = unsigned_takes (2 ^ 32 - 1) bytes a.0.0 a.0.1 fits a.1 in
-      let m = met (eqb a.0.0 0) (Ok a.0) (n, rest) a.2 in
+      let m = met _ (eqb a.0.0 0) (Ok a.0) (n, rest) a.2 in
       let is = pair_is a.0 (n, rest) m.1 in
       (t.0, t.1 ∙ ap (λ (l : List ℕ). t.0 ++ l) is.1, (subst (λ (k : ℕ). U32 t.0 k) is.0 t.2, sym is.0 ∙ eqb-true a.0.0 0 m.0));
   again = λ text n rest d. rw (unsigned_again d.0 rest, d.1) refl;
@@ -144,13 +165,13 @@ no_items_lawful = record {
 constant_takes : (Number : List ℕ → ℕ → Type 0) (read : List ℕ → Result (ℕ × List ℕ) Stop) (make : ℕ → ConstExpr) (code : ℕ) (bytes : List ℕ) (c : ConstExpr) (rest : List ℕ) → IsBytes bytes
     → ((n : ℕ) (rest : List ℕ) → read bytes ≡ Ok (n, rest) → (text : List ℕ) × (bytes ≡ text ++ rest) × Number text n)
     → ((text : List ℕ) (n : ℕ) → Number text n → Initial (code ∷ text ++ 0x0B ∷ []) (make n))
-    → (read bytes >>= λ n. byte_at 0x0B n.1 >>= λ rest. answered (make n.0) rest) ≡ Ok (c, rest) → (text : List ℕ) × (code ∷ bytes ≡ text ++ rest) × Initial text c
+    → (read bytes >>= λ n. end_at n.1 >>= λ rest. answered (make n.0) rest) ≡ Ok (c, rest) → (text : List ℕ) × (code ∷ bytes ≡ text ++ rest) × Initial text c
 constant_takes Number read make code bytes c rest fits takes spell e =
     let last = λ (n : ℕ) (rest : List ℕ). answered (make n) rest in
-    let a = bound (read bytes) (λ n. byte_at 0x0B n.1 >>= last n.0) (c, rest) e in
+    let a = bound (read bytes) (λ n. end_at n.1 >>= last n.0) (c, rest) e in
     let t = takes a.0.0 a.0.1 a.1 in
-    let b = bound (byte_at 0x0B a.0.1) (last a.0.0) (c, rest) a.2 in
-    let end = byte_takes 0x0B a.0.1 b.0 b.1 in
+    let b = bound (end_at a.0.1) (last a.0.0) (c, rest) a.2 in
+    let end = byte_takes (λ b. Unsupported feature.ConstExpression) 0x0B a.0.1 b.0 b.1 in
     let is = pair_is (make a.0.0, b.0) (c, rest) b.2 in (
       code ∷ t.0 ++ 0x0B ∷ [],
       ap (λ (l : List ℕ). code ∷ l) (t.1 ∙ ap (λ (l : List ℕ). t.0 ++ l) (end ∙ ap (λ (l : List ℕ). 0x0B ∷ l) is.1) ∙ sym (append_assoc t.0 (0x0B ∷ []) rest)),
@@ -161,14 +182,14 @@ initial_takes : (bytes : List ℕ) (c : ConstExpr) (rest : List ℕ) → IsBytes
 unfolding initial_at
 initial_takes [] c rest fits e = absurd cc
 initial_takes (b ∷ bytes) c rest fits e =
-    let of32 = signed_at (2 ^ 32 - 1) bytes >>= λ n. byte_at 0x0B n.1 >>= λ rest. answered (I32 n.0) rest in
-    let of64 = signed_at (2 ^ 64 - 1) bytes >>= λ n. byte_at 0x0B n.1 >>= λ rest. answered (I64 n.0) rest in
-    elim (chosen (eqb b 0x41) of32 (cond (eqb b 0x42) of64 (Err bad)) (Ok (c, rest)) e) [
+    let of32 = signed_at (2 ^ 32 - 1) bytes >>= λ n. end_at n.1 >>= λ rest. answered (I32 n.0) rest in
+    let of64 = signed_at (2 ^ 64 - 1) bytes >>= λ n. end_at n.1 >>= λ rest. answered (I64 n.0) rest in
+    elim (chosen (eqb b 0x41) of32 (cond (eqb b 0x42) of64 (Err (unsupported feature.ConstExpression (b ∷ bytes)))) (Ok (c, rest)) e) [
       | inl h ↦
           let r = constant_takes (Signed (2 ^ 32 - 1)) (signed_at (2 ^ 32 - 1)) I32 0x41 bytes c rest fits.1 (λ n rest k. signed_takes (2 ^ 32 - 1) bytes n rest fits.1 k) (λ t n d. i32 d) h.1 in
           (r.0, ap (λ (k : ℕ). k ∷ bytes) (eqb-true b 0x41 h.0) ∙ r.1, r.2)
       | inr g ↦
-          let h = met (eqb b 0x42) of64 (c, rest) g.1 in
+          let h = met _ (eqb b 0x42) of64 (c, rest) g.1 in
           let r = constant_takes (Signed (2 ^ 64 - 1)) (signed_at (2 ^ 64 - 1)) I64 0x42 bytes c rest fits.1 (λ n rest k. signed_takes (2 ^ 64 - 1) bytes n rest fits.1 k) (λ t n d. i64 d) h.1 in
           (r.0, ap (λ (k : ℕ). k ∷ bytes) (eqb-true b 0x42 h.0) ∙ r.1, r.2)
     ]
@@ -187,10 +208,10 @@ mutability_takes : (bytes : List ℕ) (m : Mutability) (rest : List ℕ) → mut
 unfolding mutability_at
 mutability_takes [] m rest e = absurd cc
 mutability_takes (b ∷ bytes) m rest e =
-    elim (chosen (eqb b 0x00) (answered Constant bytes) (cond (eqb b 0x01) (answered Variable bytes) (Err bad)) (Ok (m, rest)) e) [
+    elim (chosen (eqb b 0x00) (answered Constant bytes) (cond (eqb b 0x01) (answered Variable bytes) (Err (bad_number (b ∷ bytes)))) (Ok (m, rest)) e) [
       | inl h ↦ let is = pair_is (Constant, bytes) (m, rest) h.1 in rw (eqb-true b 0x00 h.0, ← is.0, is.1) refl
       | inr f ↦
-          let h = met (eqb b 0x01) (answered Variable bytes) (m, rest) f.1 in
+          let h = met _ (eqb b 0x01) (answered Variable bytes) (m, rest) f.1 in
           let is = pair_is (Variable, bytes) (m, rest) h.1 in rw (eqb-true b 0x01 h.0, ← is.0, is.1) refl
     ]
 
@@ -229,8 +250,8 @@ segment_lawful = record {
       let made = λ (c : ConstExpr) (bs : List ℕ). let k : DataSegment = record { offset = c; bytes = bs } in k in
       let third = λ (c : ConstExpr) (bs : List ℕ × List ℕ). answered {X = DataSegment} (made c bs.0) bs.1 in
       let second = λ (c : ConstExpr × List ℕ). byte_vector_at c.1 >>= third c.0 in
-      let z = bound (byte_at 0x00 bytes) (λ rest. initial_at rest >>= second) (s, rest) e in
-      let start = byte_takes 0x00 bytes z.0 z.1 in
+      let z = bound (byte_at segment_flag_fault 0x00 bytes) (λ rest. initial_at rest >>= second) (s, rest) e in
+      let start = byte_takes segment_flag_fault 0x00 bytes z.0 z.1 in
       let fits1 = fits_behind bytes (0x00 ∷ []) z.0 fits start in
       let p = bound (initial_at z.0) second (s, rest) z.2 in
       let one = initial_takes z.0 p.0.0 p.0.1 fits1 p.1 in
@@ -262,9 +283,9 @@ pub segments_lawful : (declared : Option ℕ) → Lawful (Segments declared) (se
 unfolding segments_at
 segments_lawful declared = record {
   takes = λ bytes ds rest fits e.
-      let a = bound (u32_at bytes) (λ count. cond (agrees declared count.0) (items_at segment_at count.0 count.1) (Err bad)) (ds, rest) e in
+      let a = bound (u32_at bytes) (λ count. cond (agrees declared count.0) (items_at segment_at count.0 count.1) (Err (stop CountMismatch (length bytes)))) (ds, rest) e in
       let t = unsigned_takes (2 ^ 32 - 1) bytes a.0.0 a.0.1 fits a.1 in
-      let m = met (agrees declared a.0.0) (items_at segment_at a.0.0 a.0.1) (ds, rest) a.2 in
+      let m = met _ (agrees declared a.0.0) (items_at segment_at a.0.0 a.0.1) (ds, rest) a.2 in
       let r = items_law Segment segment_at segment_lawful a.0.0 a.0.1 ds rest (fits_behind bytes t.0 a.0.1 fits t.1) m.1 in (
         t.0 ++ r.0,
         t.1 ∙ ap (λ (l : List ℕ). t.0 ++ l) r.1 ∙ sym (append_assoc t.0 r.0 rest),
@@ -278,13 +299,13 @@ kind_takes : (bytes : List ℕ) (k : ExportKind) (rest : List ℕ) → export_ki
 unfolding export_kind_at
 kind_takes [] k rest e = absurd cc
 kind_takes (b ∷ bytes) k rest e =
-    let third = cond (eqb b 0x03) (answered kind.Global bytes) (Err bad) in
+    let third = cond (eqb b 0x03) (answered kind.Global bytes) (Err (stop (export_kind_fault b) (length (b ∷ bytes)))) in
     elim (chosen (eqb b 0x00) (answered kind.Func bytes) (cond (eqb b 0x02) (answered kind.Memory bytes) third) (Ok (k, rest)) e) [
       | inl h ↦ let is = pair_is (kind.Func, bytes) (k, rest) h.1 in rw (eqb-true b 0x00 h.0, ← is.0, is.1) refl
       | inr g ↦ elim (chosen (eqb b 0x02) (answered kind.Memory bytes) third (Ok (k, rest)) g.1) [
         | inl h ↦ let is = pair_is (kind.Memory, bytes) (k, rest) h.1 in rw (eqb-true b 0x02 h.0, ← is.0, is.1) refl
         | inr f ↦
-            let h = met (eqb b 0x03) (answered kind.Global bytes) (k, rest) f.1 in
+            let h = met _ (eqb b 0x03) (answered kind.Global bytes) (k, rest) f.1 in
             let is = pair_is (kind.Global, bytes) (k, rest) h.1 in rw (eqb-true b 0x03 h.0, ← is.0, is.1) refl
       ]
     ]
@@ -311,11 +332,11 @@ entry_lawful earlier = record {
       let made = λ (n : List ℕ) (k : ExportKind) (i : ℕ). let p : List ℕ × Export = (n, record { kind = k; index = i }) in p in
       let third = λ (n : List ℕ) (k : ExportKind) (i : ℕ × List ℕ). answered {X = List ℕ × Export} (made n k i.0) i.1 in
       let second = λ (n : List ℕ) (k : ExportKind × List ℕ). u32_at k.1 >>= third n k.0 in
-      let first = λ (n : List ℕ × List ℕ). cond (is_some (export_at n.0 earlier)) (Err bad) (export_kind_at n.1 >>= second n.0) in
+      let first = λ (n : List ℕ × List ℕ). cond (is_some (export_at n.0 earlier)) (Err (stop DuplicateExport (length bytes))) (export_kind_at n.1 >>= second n.0) in
       let a = bound (name_at bytes) first (x, rest) e in
       let one = name_lawful.takes bytes a.0.0 a.0.1 fits a.1 in
       let fits1 = fits_behind bytes one.0 a.0.1 fits one.1 in
-      let n = passed (is_some (export_at a.0.0 earlier)) (export_kind_at a.0.1 >>= second a.0.0) (x, rest) a.2 in
+      let n = passed _ (is_some (export_at a.0.0 earlier)) (export_kind_at a.0.1 >>= second a.0.0) (x, rest) a.2 in
       let b = bound (export_kind_at a.0.1) (second a.0.0) (x, rest) n.1 in
       let two = kind_takes a.0.1 b.0.0 b.0.1 b.1 in
       let fits2 = fits_behind a.0.1 (export_kind b.0.0 ∷ []) b.0.1 fits1 two in

@@ -1,29 +1,34 @@
 -- Custom sections are skipped.
-use Rattle.std.proofs.Common.{◌≡◌, ℕ, zero, suc, ◌≤◌, ◌<◌, cond, eqb, List, [], ◌∷◌, ◌++◌, length, get_or, Result, Ok, Err, refl, sym, ap, subst, ◌∙◌, arith, length-append}
+use Rattle.std.proofs.Common.{◌≡◌, ℕ, zero, suc, ◌+◌, ◌≤◌, ◌<◌, cond, eqb, List, [], ◌∷◌, ◌++◌, length, get_or, Result, Ok, Err, refl, sym, ap, subst, ◌∙◌, arith, length-append}
 use Rattle.std.proofs.lemmas.Bool.{ne_eqb}
 use Rattle.wm_decode.specs.declared.fault.ItemFault.{ItemFault}
 use Rattle.wm_decode.specs.declared.fault.ItemFault.TheVariants.{OutOfMemory, WithLeft}
-use Rattle.wm_decode.specs.Stop.{Stop, bad}
-use Rattle.wm_decode.specs.Implements.{Fails, stop_of}
+use Rattle.wm_decode.specs.declared.fault.FaultKind.TheVariants.{SectionSize}
+use Rattle.wm_decode.specs.Stop.{Stop, stop, before, map_stop}
+use Rattle.wm_decode.specs.Implements.{Fails}
 use Rattle.wm_decode.specs.Numbers.{IsBytes}
 use Rattle.wm_decode.specs.Reading.{◌>>=◌}
-use Rattle.wm_decode.specs.ReadingVectors.{byte_vector_at, sized_at}
+use Rattle.wm_decode.specs.ReadingVectors.{byte_vector_at, filled_at, sized_at}
 use Rattle.wm_decode.specs.ReadingModule.{custom_at, customs_at, customs_in}
 use Rattle.wm_decode.proofs.Steps.{bound, met, pair_is, fits_behind, bind_same}
 use Rattle.wm_decode.proofs.Lawful.{byte_vector_takes}
 use Rattle.wm_decode.proofs.SoFar.{tail_of, front_is}
 
 -- what stands behind something with its size
+filled_rest : {X : Type 0} (item_at : List ℕ → Result (X × List ℕ) Stop) (content : List ℕ × List ℕ) (x : X) (rest : List ℕ) → filled_at item_at content ≡ Ok (x, rest) → content.1 ≡ rest
+unfolding filled_at
+filled_rest {X} item_at content x rest e =
+    let last = λ (y : X × List ℕ). let k : Result (X × List ℕ) Stop = cond (eqb (length y.1) 0) (Ok (y.0, content.1)) (Err (stop SectionSize (length y.1 + length content.1))) in k in
+    let b = bound (map_stop (before (length content.1)) (item_at content.0)) last (x, rest) e in
+    let m = met _ (eqb (length b.0.1) 0) (let k : Result (X × List ℕ) Stop = Ok (b.0.0, content.1) in k) (x, rest) b.2 in
+    (pair_is (b.0.0, content.1) (x, rest) m.1).1
+
 pub sized_rest : {X : Type 0} (item_at : List ℕ → Result (X × List ℕ) Stop) (bytes : List ℕ) (x : X) (rest : List ℕ) → IsBytes bytes → sized_at item_at bytes ≡ Ok (x, rest) → (text : List ℕ) × (bytes ≡ text ++ rest)
 unfolding sized_at
 sized_rest {X} item_at bytes x rest fits e =
-    let last = λ (after : List ℕ) (y : X × List ℕ). let k : Result (X × List ℕ) Stop = cond (eqb (length y.1) 0) (Ok (y.0, after)) (Err bad) in k in
-    let a = bound (byte_vector_at bytes) (λ content. item_at content.0 >>= last content.1) (x, rest) e in
+    let a = bound (byte_vector_at bytes) (filled_at item_at) (x, rest) e in
     let t = byte_vector_takes bytes a.0.0 a.0.1 fits a.1 in
-    let b = bound (item_at a.0.0) (last a.0.1) (x, rest) a.2 in
-    let m = met (eqb (length b.0.1) 0) (let k : Result (X × List ℕ) Stop = Ok (b.0.0, a.0.1) in k) (x, rest) b.2 in
-    let is = pair_is (b.0.0, a.0.1) (x, rest) m.1 in
-    (t.0, t.1 ∙ ap (λ (l : List ℕ). t.0 ++ l) is.1)
+    (t.0, t.1 ∙ ap (λ (l : List ℕ). t.0 ++ l) (filled_rest item_at a.0 x rest a.2))
 
 pub customs_same : (f g : ℕ) (bytes : List ℕ) → IsBytes bytes → length bytes ≤ f → length bytes ≤ g → customs_at f bytes ≡ customs_at g bytes
 unfolding customs_at
@@ -78,4 +83,4 @@ module _ (rest bytes : List ℕ) (s : Skipped rest bytes) (long : 0 < length res
 
   pub fails : (e : ItemFault) → Fails e (sized_at custom_at (tail_of rest)) → Fails e (customs_in bytes)
   fails OutOfMemory h = tt
-  fails (WithLeft kind left) h = let one : customs_in rest ≡ Err (stop_of kind) = unfolds ∙ rw h refl in sym s.same ∙ one
+  fails (WithLeft kind left) h = let one : customs_in rest ≡ Err (stop kind left) = unfolds ∙ rw h refl in sym s.same ∙ one

@@ -3,8 +3,9 @@ use Rattle.std.proofs.Common.{◌≡◌, ℕ, zero, suc, ◌+◌, ◌-◌, ◌<�
 use Rattle.wm_ast.specs.declared.instr.Instr.{Instr}
 use Rattle.wm_ast.specs.declared.instr.Instr.TheVariants.{Block, Loop}
 use Rattle.wm_ast.specs.declared.types.ValType.{ValType}
+use Rattle.wm_decode.specs.declared.fault.FaultKind.TheVariants.{UnknownOpcode}
 use Rattle.wm_decode.specs.Numbers.{IsBytes}
-use Rattle.wm_decode.specs.Stop.{Stop, bad}
+use Rattle.wm_decode.specs.Stop.{Stop, stop}
 use Rattle.wm_decode.specs.Instructions.{block_type}
 use Rattle.wm_decode.specs.Reading.{◌>>=◌}
 use Rattle.wm_decode.specs.ReadingInstructions.{opened_at, Body, One, then_one, else_one, Reader, closed_with, framed_with, if_with, instr_with, instrs_at, instrs_in, instr_in}
@@ -29,7 +30,7 @@ Agree k r s = (depth_left next : ℕ) (bytes : List ℕ) → length bytes ≤ k 
 
 closed_same : (r s : Reader) (depth_left next : ℕ) (bytes : List ℕ) → r depth_left next bytes ≡ s depth_left next bytes → closed_with r depth_left next bytes ≡ closed_with s depth_left next bytes
 unfolding closed_with
-closed_same r s depth_left next bytes e = ap (λ (o : Result Body Stop). o >>= λ b. let x : Result Body Stop = cond (eqb b.closer 0x0B) (Ok b) (Err bad) in x) e
+closed_same r s depth_left next bytes e = ap (λ (o : Result Body Stop). o >>= λ b. let x : Result Body Stop = cond (eqb b.closer 0x0B) (Ok b) (Err (stop (UnknownOpcode b.closer) (length b.rest + 1))) in x) e
 
 framed_same : (k : ℕ) (r s : Reader) → Agree k r s → (depth_left next : ℕ) (make : Option ValType → ℕ → Instr) (bytes : List ℕ) → length bytes ≤ k → IsBytes bytes → framed_with r depth_left next make bytes ≡ framed_with s depth_left next make bytes
 unfolding framed_with

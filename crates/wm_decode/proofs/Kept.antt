@@ -9,19 +9,20 @@ use Rattle.wm_ast.specs.declared.module.Func.{Func}
 use Rattle.wm_decode.specs.declared.fault.Limit.{Limit}
 use Rattle.wm_decode.specs.declared.fault.Limit.TheVariants as limit
 use Rattle.wm_decode.specs.Bounds.{Bounds}
-use Rattle.wm_decode.specs.Stop.{Stop, bad, past}
+use Rattle.wm_decode.specs.Faults.{limits_fault, import_kind_fault}
+use Rattle.wm_decode.specs.Stop.{Stop, ended, past, before, map_stop}
 use Rattle.wm_decode.specs.Module.{params_of}
 use Rattle.wm_decode.specs.Reading.{◌>>=◌}
-use Rattle.wm_decode.specs.ReadingVectors.{u32_at, vector_at, name_at, sized_at, more_at}
+use Rattle.wm_decode.specs.ReadingVectors.{u32_at, vector_at, name_at, filled_at, sized_at, more_at}
 use Rattle.wm_decode.specs.ReadingInstructions.{Reader, block_type_at, closed_with, opened_at, framed_with, if_with, instr_with, instrs_at, instrs_in, blocks_at}
-use Rattle.wm_decode.specs.ReadingParts.{byte_at, func_type_at, no_items_at, limits_at, import_at, imports_at, memories_at, indices_at, local_entry_at, locals_at, function_at, body_at, more_functions_at, code_at}
+use Rattle.wm_decode.specs.ReadingParts.{byte_at, func_type_at, no_items_at, limits_at, import_at, imports_at, memories_at, indices_at, local_entry_at, locals_at, function_at, sized_function_at, more_functions_at, code_at}
 use Rattle.wm_decode.specs.ReadingModule.{header_at, customs_in, section_at, front_at, declared_at, module_at}
-use Rattle.wm_decode.proofs.Steps.{bound}
+use Rattle.wm_decode.proofs.Steps.{bound, unmapped}
 
 module _ (w : Limit) where
   -- another limit than w was passed
   abbrev pub Other : {A : Type 0} → Result A Stop → Type 0
-  Other r = (v : Limit) × (r ≡ Err (past v)) × (v ≢ w)
+  Other r = (v : Limit) × (left : ℕ) × (r ≡ Err (past v left)) × (v ≢ w)
 
   -- what wide gives, r gives too, or it stops at another limit than w
   abbrev pub Kept : {A : Type 0} → Result A Stop → Result A Stop → Type 0
@@ -41,7 +42,7 @@ module _ (w : Limit) where
   -- a step, by how what stands before it went
   led : {A B : Type 0} (r : Result A Stop) (f : A → Result B Stop) (x : A) (y : B) → (r ≡ Ok x) ⊎ Other r → ((f x ≡ Ok y) ⊎ Other (f x)) → ((r >>= f) ≡ Ok y) ⊎ Other (r >>= f)
   led r f x y (inl e) d = subst (λ (q : Result _ Stop). ((q >>= f) ≡ Ok y) ⊎ Other (q >>= f)) (sym e) d
-  led r f x y (inr o) d = inr (o.0, ap (λ (q : Result _ Stop). q >>= f) o.1, o.2)
+  led r f x y (inr o) d = inr (o.0, o.1, ap (λ (q : Result _ Stop). q >>= f) o.2, o.3)
 
   bind : {A B : Type 0} (r wide : Result A Stop) (f g : A → Result B Stop) → Kept r wide → ((x : A) → Kept (f x) (g x)) → Kept (r >>= f) (wide >>= g)
   bind r wide f g h k y e = let a = bound wide g y e in led r f a.0 y (h a.0 a.1) (k a.0 y a.2)
@@ -54,24 +55,35 @@ module _ (w : Limit) where
   lead : {A B : Type 0} (r wide : Result A Stop) (f : A → Result B Stop) → Kept r wide → Kept (r >>= f) (wide >>= f)
   lead r wide f h = bind r wide f f h (λ x. same (f x))
 
+  -- in a section or body
+  within : {A : Type 0} (after : ℕ) (r wide : Result A Stop) → Kept r wide → Kept (map_stop (before after) r) (map_stop (before after) wide)
+  within {A} after r wide h x e = elim (h x (unmapped (before after) wide x e)) as (λ _. (map_stop (before after) r ≡ Ok x) ⊎ Other (map_stop (before after) r)) [
+    | inl k ↦ inl (ap (map_stop (before after)) k)
+    | inr o ↦ inr (o.0, (before after (past o.0 o.1)).left, ap (map_stop (before after)) o.2, o.3)
+  ]
+
   test : {A : Type 0} (b : Bool) {x y x2 y2 : Result A Stop} → Kept x x2 → Kept y y2 → Kept (cond b x y) (cond b x2 y2)
   test true h k = h
   test false h k = k
 
   -- a test against a bound
-  passes : {A : Type 0} (v : Limit) (p q : Bool) {y z : Result A Stop} → v ≢ w → Kept y z → Kept (cond p (Err (past v)) y) (cond q (Err (past v)) z)
-  passes v true q ne k x e = inr (v, refl, ne)
-  passes v false true ne k x e = absurd cc
-  passes v false false ne k x e = k x e
+  passes : {A : Type 0} (v : Limit) (left : ℕ) (p q : Bool) {y z : Result A Stop} → v ≢ w → Kept y z → Kept (cond p (Err (past v left)) y) (cond q (Err (past v left)) z)
+  passes v left true q ne k x e = inr (v, left, refl, ne)
+  passes v left false true ne k x e = absurd cc
+  passes v left false false ne k x e = k x e
 
-  limited : {A : Type 0} (v : Limit) (p q : Bool) {y z : Result A Stop} → (p ≡ q) ⊎ (v ≢ w) → Kept y z → Kept (cond p (Err (past v)) y) (cond q (Err (past v)) z)
-  limited v p q {y} {z} (inl e) k = subst (λ (b : Bool). Kept (cond p (Err (past v)) y) (cond b (Err (past v)) z)) e (test p (same (Err (past v))) k)
-  limited v p q (inr ne) k = passes v p q ne k
+  limited : {A : Type 0} (v : Limit) (left : ℕ) (p q : Bool) {y z : Result A Stop} → (p ≡ q) ⊎ (v ≢ w) → Kept y z → Kept (cond p (Err (past v left)) y) (cond q (Err (past v left)) z)
+  limited v left p q {y} {z} (inl e) k = subst (λ (b : Bool). Kept (cond p (Err (past v left)) y) (cond b (Err (past v left)) z)) e (test p (same (Err (past v left))) k)
+  limited v left p q (inr ne) k = passes v left p q ne k
 
   module _ {X : Type 0} {f g : List ℕ → Result (X × List ℕ) Stop} (h : (bytes : List ℕ) → Kept (f bytes) (g bytes)) where
+    filled_kept : (content : List ℕ × List ℕ) → Kept (filled_at f content) (filled_at g content)
+    unfolding filled_at
+    filled_kept content = lead _ _ _ (within (length content.1) (f content.0) (g content.0) (h content.0))
+
     sized_kept : (bytes : List ℕ) → Kept (sized_at f bytes) (sized_at g bytes)
     unfolding sized_at
-    sized_kept bytes = next _ _ _ (λ content. lead _ _ _ (h content.0))
+    sized_kept bytes = next _ _ _ filled_kept
 
     section_kept : (id : ℕ) (bytes : List ℕ) → Kept (section_at f id bytes) (section_at g id bytes)
     unfolding section_at
@@ -92,7 +104,7 @@ module _ (w : Limit) where
 
   opened_kept : (depth_left room2 : ℕ) → Agree limit.Nesting depth_left room2 → (bytes : List ℕ) → Kept (opened_at depth_left bytes) (opened_at room2 bytes)
   unfolding opened_at
-  opened_kept depth_left room2 agree bytes = limited limit.Nesting (eqb depth_left 0) (eqb room2 0) (agree_map (λ k. eqb k 0) limit.Nesting depth_left room2 agree) (same (block_type_at bytes))
+  opened_kept depth_left room2 agree bytes = limited limit.Nesting (length bytes + 1) (eqb depth_left 0) (eqb room2 0) (agree_map (λ k. eqb k 0) limit.Nesting depth_left room2 agree) (same (block_type_at bytes))
 
   module _ {read wide : Reader} (h : Reads read wide) where
     closed_kept : Reads (closed_with read) (closed_with wide)
@@ -120,8 +132,8 @@ module _ (w : Limit) where
 
   instrs_kept : (fuel : ℕ) → Reads (instrs_at fuel) (instrs_at fuel)
   unfolding instrs_at
-  instrs_kept zero depth_left room2 agree at bytes = same (Err bad)
-  instrs_kept (suc fuel) depth_left room2 agree at [] = same (Err bad)
+  instrs_kept zero depth_left room2 agree at bytes = same (Err ended)
+  instrs_kept (suc fuel) depth_left room2 agree at [] = same (Err ended)
   instrs_kept (suc fuel) depth_left room2 agree at (op ∷ bytes) =
       test (eqb op 0x0B) (same _) (
       test (eqb op 0x05) (same _) (
@@ -134,7 +146,7 @@ module _ (w : Limit) where
 
   entry_kept : (depth_left room2 : ℕ) → Agree limit.Locals depth_left room2 → (bytes : List ℕ) → Kept (local_entry_at depth_left bytes) (local_entry_at room2 bytes)
   unfolding local_entry_at
-  entry_kept depth_left room2 agree bytes = next _ _ _ (λ count. limited limit.Locals (ltb depth_left count.0) (ltb room2 count.0) (agree_map (λ k. ltb k count.0) limit.Locals depth_left room2 agree) (same _))
+  entry_kept depth_left room2 agree bytes = next _ _ _ (λ count. limited limit.Locals (length bytes) (ltb depth_left count.0) (ltb room2 count.0) (agree_map (λ k. ltb k count.0) limit.Locals depth_left room2 agree) (same _))
 
   locals_kept : (most most2 : ℕ) → Agree limit.Locals most most2 → (bytes : List ℕ) → Kept (locals_at most bytes) (locals_at most2 bytes)
   unfolding locals_at
@@ -145,12 +157,12 @@ module _ (w : Limit) where
   module _ (b c : Bounds) (pages : Agree limit.Pages b.pages c.pages) (functions : Agree limit.Functions b.functions c.functions) (locals : Agree limit.Locals b.locals c.locals) (nesting : Agree limit.Nesting b.nesting c.nesting) where
     limits_kept : (bytes : List ℕ) → Kept (limits_at b bytes) (limits_at c bytes)
     unfolding limits_at
-    limits_kept bytes = next {A = List ℕ} (byte_at 0x03 bytes) _ _ (λ rest. next {A = ℕ × List ℕ} (u32_at rest) _ _ (λ least.
-        limited limit.Pages (ltb b.pages least.0) (ltb c.pages least.0) (agree_map (λ k. ltb k least.0) limit.Pages b.pages c.pages pages) (same _)))
+    limits_kept bytes = next {A = List ℕ} (byte_at limits_fault 0x03 bytes) _ _ (λ rest. next {A = ℕ × List ℕ} (u32_at rest) _ _ (λ least.
+        limited limit.Pages (length rest) (ltb b.pages least.0) (ltb c.pages least.0) (agree_map (λ k. ltb k least.0) limit.Pages b.pages c.pages pages) (same _)))
 
     import_kept : (bytes : List ℕ) → Kept (import_at b bytes) (import_at c bytes)
     unfolding import_at
-    import_kept bytes = next {A = List ℕ × List ℕ} (name_at bytes) _ _ (λ from. next {A = List ℕ × List ℕ} (name_at from.1) _ _ (λ name. next {A = List ℕ} (byte_at 0x02 name.1) _ _ (λ rest. lead (limits_at b rest) (limits_at c rest) _ (limits_kept rest))))
+    import_kept bytes = next {A = List ℕ × List ℕ} (name_at bytes) _ _ (λ from. next {A = List ℕ × List ℕ} (name_at from.1) _ _ (λ name. next {A = List ℕ} (byte_at import_kind_fault 0x02 name.1) _ _ (λ rest. lead (limits_at b rest) (limits_at c rest) _ (limits_kept rest))))
 
     imports_kept : (bytes : List ℕ) → Kept (imports_at b bytes) (imports_at c bytes)
     unfolding imports_at
@@ -164,24 +176,25 @@ module _ (w : Limit) where
     indices_kept : (bytes : List ℕ) → Kept (indices_at b bytes) (indices_at c bytes)
     unfolding indices_at
     indices_kept bytes = next _ _ _ (λ count.
-        limited limit.Functions (ltb b.functions count.0) (ltb c.functions count.0) (agree_map (λ k. ltb k count.0) limit.Functions b.functions c.functions functions) (same _))
+        limited limit.Functions (length bytes) (ltb b.functions count.0) (ltb c.functions count.0) (agree_map (λ k. ltb k count.0) limit.Functions b.functions c.functions functions) (same _))
 
     function_kept : (most most2 index : ℕ) → Agree limit.Locals most most2 → (bytes : List ℕ) → Kept (function_at b most index bytes) (function_at c most2 index bytes)
     unfolding function_at
     function_kept most most2 index agree bytes = bind _ _ _ _ (locals_kept most most2 agree bytes) (λ found. lead _ _ _ (blocks_kept b.nesting c.nesting nesting found.1))
 
     module _ (types : List FuncType) where
-      body_kept : (index : ℕ) (bytes : List ℕ) → Kept (body_at b types index bytes) (body_at c types index bytes)
-      unfolding body_at
-      body_kept index bytes =
+      sized_function_kept : (index : ℕ) (bytes : List ℕ) → Kept (sized_function_at b types index bytes) (sized_function_at c types index bytes)
+      unfolding sized_function_at
+      sized_function_kept index bytes =
           let n = params_of types index in
-          limited limit.Locals (ltb b.locals n) (ltb c.locals n) (agree_map (λ k. ltb k n) limit.Locals b.locals c.locals locals)
-          (function_kept (b.locals - n) (c.locals - n) index (less limit.Locals b.locals c.locals n locals) bytes)
+          next _ _ _ (λ content.
+          limited limit.Locals (length bytes) (ltb b.locals n) (ltb c.locals n) (agree_map (λ k. ltb k n) limit.Locals b.locals c.locals locals)
+          (filled_kept (function_kept (b.locals - n) (c.locals - n) index (less limit.Locals b.locals c.locals n locals)) content))
 
       functions_kept : (indices : List ℕ) (earlier : List Func) (bytes : List ℕ) → Kept (more_functions_at b types indices earlier bytes) (more_functions_at c types indices earlier bytes)
       unfolding more_functions_at
       functions_kept [] earlier bytes = same _
-      functions_kept (index ∷ indices) earlier bytes = bind _ _ _ _ (sized_kept (body_kept index) bytes) (λ first. functions_kept indices (earlier ++ first.0 ∷ []) first.1)
+      functions_kept (index ∷ indices) earlier bytes = bind _ _ _ _ (sized_function_kept index bytes) (λ first. functions_kept indices (earlier ++ first.0 ∷ []) first.1)
 
       code_kept : (indices : List ℕ) (bytes : List ℕ) → Kept (code_at b types indices bytes) (code_at c types indices bytes)
       unfolding code_at

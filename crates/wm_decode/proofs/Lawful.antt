@@ -1,13 +1,14 @@
 -- What is read is spelled so, and what is spelled so is read, whatever follows: for vectors and for what has a size.
-use Rattle.std.proofs.Common.{◌≡◌, ℕ, zero, suc, ◌-◌, ◌^◌, ◌≤◌, cond, ltb, eqb, List, [], ◌∷◌, ◌++◌, length, take, drop, Result, Ok, Err, refl, sym, ap, subst, ◌∙◌, append_assoc, arith, length-append, length-take}
+use Rattle.std.proofs.Common.{◌≡◌, ℕ, zero, suc, ◌+◌, ◌-◌, ◌^◌, ◌≤◌, cond, ltb, eqb, List, [], ◌∷◌, ◌++◌, length, take, drop, Result, Ok, Err, refl, sym, ap, subst, ◌∙◌, append_assoc, arith, length-append, length-take}
 use Rattle.std.proofs.lemmas.List.{append-nil, nil_from_length, take-append-drop, take_at, drop_at}
 use Rattle.std.proofs.lemmas.Bool.{ltb-false, le-ltb, eqb-true}
 use Rattle.wm_decode.specs.Numbers.{Unsigned, U32, IsBytes}
-use Rattle.wm_decode.specs.Stop.{Stop, bad}
+use Rattle.wm_decode.specs.declared.fault.FaultKind.TheVariants.{SectionSize}
+use Rattle.wm_decode.specs.Stop.{Stop, stop, ended, before, map_stop}
 use Rattle.wm_decode.specs.Reading.{◌>>=◌, unsigned_at}
 use Rattle.wm_decode.specs.Vectors.{Each, no_more, one_more, Vector, ByteVector, Sized}
-use Rattle.wm_decode.specs.ReadingVectors.{u32_at, items_at, vector_at, byte_vector_at, sized_at}
-use Rattle.wm_decode.proofs.Steps.{bound, passed, met, pair_is, fits_behind}
+use Rattle.wm_decode.specs.ReadingVectors.{u32_at, items_at, vector_at, own_bytes_at, byte_vector_at, filled_at, sized_at}
+use Rattle.wm_decode.proofs.Steps.{bound, passed, met, pair_is, fits_behind, unmapped}
 use Rattle.wm_decode.proofs.NumberLaws.{unsigned_takes, unsigned_again}
 
 -- reading and spelling agree
@@ -23,13 +24,13 @@ bytes_within [] [] back fits = tt
 bytes_within [] (b ∷ middle) back fits = (fits.0, bytes_within [] middle back fits.1)
 bytes_within (b ∷ front) middle back fits = bytes_within front middle back fits.1
 
-pub byte_vector_takes : (bytes found rest : List ℕ) → IsBytes bytes → byte_vector_at bytes ≡ Ok (found, rest) → (text : List ℕ) × (bytes ≡ text ++ rest) × ByteVector text found
-unfolding byte_vector_at
-byte_vector_takes bytes found rest fits e =
+pub own_bytes_take : (short : Stop) (bytes found rest : List ℕ) → IsBytes bytes → own_bytes_at short bytes ≡ Ok (found, rest) → (text : List ℕ) × (bytes ≡ text ++ rest) × ByteVector text found
+unfolding own_bytes_at
+own_bytes_take short bytes found rest fits e =
     let split = λ (count : ℕ × List ℕ). let k : Result (List ℕ × List ℕ) Stop = Ok (take count.0 count.1, drop count.0 count.1) in k in
-    let a = bound (u32_at bytes) (λ count. cond (ltb (length count.1) count.0) (Err bad) (split count)) (found, rest) e in
+    let a = bound (u32_at bytes) (λ count. cond (ltb (length count.1) count.0) (Err short) (split count)) (found, rest) e in
     let t = unsigned_takes (2 ^ 32 - 1) bytes a.0.0 a.0.1 fits a.1 in
-    let p = passed (ltb (length a.0.1) a.0.0) (split a.0) (found, rest) a.2 in
+    let p = passed _ (ltb (length a.0.1) a.0.0) (split a.0) (found, rest) a.2 in
     let long : a.0.0 ≤ length a.0.1 = ltb-false (length a.0.1) a.0.0 p.0 in
     let is = pair_is (take a.0.0 a.0.1, drop a.0.0 a.0.1) (found, rest) p.1 in
     let len : a.0.0 ≡ length found = omega (arith, length-take a.0.0 a.0.1, ap length is.0) in (
@@ -38,36 +39,54 @@ byte_vector_takes bytes found rest fits e =
       record { count = t.0; parts = refl; counted = subst (λ (n : ℕ). U32 t.0 n) len t.2 },
     )
 
-pub byte_vector_again : (text found rest : List ℕ) → ByteVector text found → byte_vector_at (text ++ rest) ≡ Ok (found, rest)
-unfolding byte_vector_at
-byte_vector_again text found rest s =
+pub byte_vector_takes : (bytes found rest : List ℕ) → IsBytes bytes → byte_vector_at bytes ≡ Ok (found, rest) → (text : List ℕ) × (bytes ≡ text ++ rest) × ByteVector text found
+byte_vector_takes bytes found rest fits e = own_bytes_take ended bytes found rest fits e
+
+pub own_bytes_again : (short : Stop) (text found rest : List ℕ) → ByteVector text found → own_bytes_at short (text ++ rest) ≡ Ok (found, rest)
+unfolding own_bytes_at
+own_bytes_again short text found rest s =
     rw (s.parts, append_assoc, unsigned_again s.counted (found ++ rest), le-ltb (length (found ++ rest)) (length found) (omega (arith, length-append found rest)), take_at found rest (length found) refl, drop_at found rest (length found) refl) refl
+
+pub byte_vector_again : (text found rest : List ℕ) → ByteVector text found → byte_vector_at (text ++ rest) ≡ Ok (found, rest)
+byte_vector_again text found rest s = own_bytes_again ended text found rest s
 
 -- what has its size before it: of its content it is only known how the whole is read
 module _ {X : Type 0} (Item : List ℕ → X → Type 0) (item_at : List ℕ → Result (X × List ℕ) Stop)
     (item_takes : (bytes : List ℕ) (x : X) (rest : List ℕ) → IsBytes bytes → item_at bytes ≡ Ok (x, rest) → (text : List ℕ) × (bytes ≡ text ++ rest) × Item text x)
     (whole_again : (text : List ℕ) (x : X) → Item text x → item_at text ≡ Ok (x, [])) where
+  -- what fills these bytes, behind which are others
+  filled_takes : (content after : List ℕ) (x : X) (rest : List ℕ) → IsBytes content → filled_at item_at (content, after) ≡ Ok (x, rest) → Item content x × (after ≡ rest)
+  unfolding filled_at
+  filled_takes content after x rest fits e =
+      let last = λ (y : X × List ℕ). let k : Result (X × List ℕ) Stop = cond (eqb (length y.1) 0) (Ok (y.0, after)) (Err (stop SectionSize (length y.1 + length after))) in k in
+      let b = bound (map_stop (before (length after)) (item_at content)) last (x, rest) e in
+      let m = met _ (eqb (length b.0.1) 0) (let k : Result (X × List ℕ) Stop = Ok (b.0.0, after) in k) (x, rest) b.2 in
+      let is = pair_is (b.0.0, after) (x, rest) m.1 in
+      let nothing : b.0.1 ≡ [] = nil_from_length b.0.1 (eqb-true (length b.0.1) 0 m.0) in
+      let r = item_takes content b.0.0 b.0.1 fits (unmapped (before (length after)) (item_at content) b.0 b.1) in
+      let same : r.0 ≡ content = sym (r.1 ∙ ap (λ (l : List ℕ). r.0 ++ l) nothing ∙ append-nil r.0) in
+      (subst (λ (l : List ℕ). Item l x) same (subst (λ (y : X). Item r.0 y) is.0 r.2), is.1)
+
+  filled_again : (content after : List ℕ) (x : X) → Item content x → filled_at item_at (content, after) ≡ Ok (x, after)
+  unfolding filled_at
+  filled_again content after x i = let back : item_at content ≡ Ok (x, []) = whole_again content x i in rw back refl
+
+  -- with its size, whatever stops reading where there are fewer bytes
+  pub own_law : (short : List ℕ → Stop) → Lawful (Sized Item) (λ bytes. own_bytes_at (short bytes) bytes >>= filled_at item_at)
+  own_law short = record {
+    takes = λ bytes x rest fits e.
+        let a = bound (own_bytes_at (short bytes) bytes) (filled_at item_at) (x, rest) e in
+        let t = own_bytes_take (short bytes) bytes a.0.0 a.0.1 fits a.1 in
+        let own : IsBytes a.0.0 = bytes_within t.2.count a.0.0 a.0.1 (subst IsBytes (t.1 ∙ ap (λ (l : List ℕ). l ++ a.0.1) t.2.parts) fits) in
+        let f = filled_takes a.0.0 a.0.1 x rest own a.2 in
+        (t.0, t.1 ∙ ap (λ (l : List ℕ). t.0 ++ l) f.1, record { size = t.2.count; content = a.0.0; parts = t.2.parts; counted = t.2.counted; spelled = f.0 });
+    again = λ text x rest s.
+        rw (own_bytes_again (short (text ++ rest)) text s.content rest (record { count = s.size; parts = s.parts; counted = s.counted })) (filled_again s.content rest x s.spelled);
+  }
+
   pub sized_law : Lawful (Sized Item) (sized_at item_at)
   unfolding sized_at
-  sized_law = record {
-    takes = λ bytes x rest fits e.
-        let last = λ (after : List ℕ) (y : X × List ℕ). let k : Result (X × List ℕ) Stop = cond (eqb (length y.1) 0) (Ok (y.0, after)) (Err bad) in k in
-        let a = bound (byte_vector_at bytes) (λ content. item_at content.0 >>= last content.1) (x, rest) e in
-        let t = byte_vector_takes bytes a.0.0 a.0.1 fits a.1 in
-        let b = bound (item_at a.0.0) (last a.0.1) (x, rest) a.2 in
-        let m = met (eqb (length b.0.1) 0) (let k : Result (X × List ℕ) Stop = Ok (b.0.0, a.0.1) in k) (x, rest) b.2 in
-        let is = pair_is (b.0.0, a.0.1) (x, rest) m.1 in
-        let nothing : b.0.1 ≡ [] = nil_from_length b.0.1 (eqb-true (length b.0.1) 0 m.0) in
-        let r = item_takes a.0.0 b.0.0 b.0.1 (bytes_within t.2.count a.0.0 a.0.1 (subst IsBytes (t.1 ∙ ap (λ (l : List ℕ). l ++ a.0.1) t.2.parts) fits)) b.1 in
-        let content : a.0.0 ≡ r.0 = r.1 ∙ ap (λ (l : List ℕ). r.0 ++ l) nothing ∙ append-nil r.0 in (
-          t.0,
-          t.1 ∙ ap (λ (l : List ℕ). t.0 ++ l) is.1,
-          record { size = t.2.count; content = r.0; parts = t.2.parts ∙ ap (λ (l : List ℕ). t.2.count ++ l) content; counted = subst (λ (l : List ℕ). U32 t.2.count (length l)) content t.2.counted; spelled = subst (λ (y : X). Item r.0 y) is.0 r.2 },
-        );
-    again = λ text x rest s.
-        let back : item_at s.content ≡ Ok (x, []) = whole_again s.content x s.spelled in
-        rw (byte_vector_again text s.content rest (record { count = s.size; parts = s.parts; counted = s.counted }), back) refl;
-  }
+  sized_law = own_law (λ bytes. ended)
 
 module _ {X : Type 0} (Item : List ℕ → X → Type 0) (item_at : List ℕ → Result (X × List ℕ) Stop) (law : Lawful Item item_at) where
   pub items_law : (n : ℕ) (bytes : List ℕ) (xs : List X) (rest : List ℕ) → IsBytes bytes → items_at item_at n bytes ≡ Ok (xs, rest) → (text : List ℕ) × (bytes ≡ text ++ rest) × Each Item text xs × (length xs ≡ n)

@@ -11,7 +11,6 @@ pub mod SoFar
 pub mod Placed
 pub mod MoreLoop
 pub mod Customs
-pub mod BadOnly
 pub mod TypeLaws
 pub mod ContentLaws
 pub mod CodeLaws
@@ -22,3 +21,6 @@ pub mod Decoded
 pub mod OneModule
 pub mod Kept
 pub mod Past
+pub mod FirstFaults
+pub mod Left
+pub mod LeftOfModule

@@ -2,7 +2,7 @@
 use Rattle.std.proofs.Common.{◌≡◌, ℕ, ◌-◌, ◌^◌, cond, eqb, List, [], ◌∷◌, ◌++◌, length, Option, Result, Ok, Err, refl, sym, ap, subst, ◌∙◌, append_assoc}
 use Rattle.std.specs.Prelude.{is_some}
 use Rattle.std.specs.Option.{option_flatten}
-use Rattle.std.proofs.lemmas.List.{append-nil, nil_from_length}
+use Rattle.std.proofs.lemmas.List.{append-nil}
 use Rattle.std.proofs.lemmas.Bool.{eqb-true, eq-eqb}
 use Rattle.wm_ast.specs.declared.types.FuncType.{FuncType}
 use Rattle.wm_ast.specs.declared.types.Limits.{Limits}
@@ -15,7 +15,8 @@ use Rattle.wm_ast.specs.declared.module.Module.{Module}
 use Rattle.wm_decode.specs.declared.module.Front.{Front}
 use Rattle.wm_decode.specs.declared.module.Declared.{Declared}
 use Rattle.wm_decode.specs.Bounds.{Bounds}
-use Rattle.wm_decode.specs.Stop.{Stop, bad}
+use Rattle.wm_decode.specs.declared.fault.FaultKind.TheVariants.{CountMismatch}
+use Rattle.wm_decode.specs.Stop.{Stop, stop}
 use Rattle.wm_decode.specs.Numbers.{U32, IsBytes}
 use Rattle.wm_decode.specs.Vectors.{Vector}
 use Rattle.wm_decode.specs.Parts.{FunctionType, GlobalEntry, ExportVector}
@@ -23,7 +24,7 @@ use Rattle.wm_decode.specs.Module.{Customs, Section, AtMostOne, NoItems, header,
 use Rattle.wm_decode.specs.Reading.{◌>>=◌}
 use Rattle.wm_decode.specs.ReadingVectors.{u32_at, vector_at}
 use Rattle.wm_decode.specs.ReadingParts.{func_type_at, imports_at, memories_at, indices_at, no_items_at, global_at, exports_at, code_at, segments_at, agrees}
-use Rattle.wm_decode.specs.ReadingModule.{customs_in, section_at, header_at, one_at, front_at, declared_at, module_at}
+use Rattle.wm_decode.specs.ReadingModule.{agreed_module, customs_in, section_at, header_at, one_at, front_at, declared_at, module_at}
 use Rattle.wm_decode.proofs.Steps.{bound, met, ok_is, pair_is, fits_behind, answered}
 use Rattle.wm_decode.proofs.Lawful.{Lawful, number_lawful, vector_lawful}
 use Rattle.wm_decode.proofs.TypeLaws.{func_type_lawful, LimitedImport}
@@ -254,9 +255,7 @@ module _ (bounds : Bounds) where
 
   -- the steps of reading what stands behind
   finish : Declared → Option ℕ → Option (List Func) → Option (List DataSegment) → List ℕ → Result Module Stop
-  finish d count funcs segments rest =
-      cond (eqb (length rest) 0) (cond (eqb (length (items_of funcs)) (length d.indices)) (cond (agrees count (length (items_of segments)))
-      (Ok (record { types = d.types; funcs = items_of funcs; memory = d.memory; globals = d.globals; exports = d.exports; «data» = items_of segments })) (Err bad)) (Err bad)) (Err bad)
+  finish d count funcs segments rest = agreed_module d count funcs segments rest
 
   data_from : Declared → Option ℕ → Option (List Func) → List ℕ → Result Module Stop
   data_from d count funcs bytes = section_at (segments_at count) 11 bytes >>= λ s. finish d count funcs s.0 s.1
@@ -293,15 +292,14 @@ module _ (bounds : Bounds) where
 
   finish_step : (d : Declared) (count : Option ℕ) (funcs : Option (List Func)) (segments : Option (List DataSegment)) (rest : List ℕ) (m : Module) → finish d count funcs segments rest ≡ Ok m → Finished d count funcs segments rest m
   unfolding finish
-  finish_step d count funcs segments rest m e =
+  finish_step d count funcs segments (id ∷ rest) m e = absurd cc
+  finish_step d count funcs segments [] m e =
       let made : Module = record { types = d.types; funcs = items_of funcs; memory = d.memory; globals = d.globals; exports = d.exports; «data» = items_of segments } in
-      let third : Result Module Stop = cond (agrees count (length (items_of segments))) (Ok made) (Err bad) in
-      let second : Result Module Stop = cond (eqb (length (items_of funcs)) (length d.indices)) third (Err bad) in
-      let a = met (eqb (length rest) 0) second m e in
-      let b = met (eqb (length (items_of funcs)) (length d.indices)) third m a.1 in
-      let c = met (agrees count (length (items_of segments))) (Ok made) m b.1 in
+      let third : Result Module Stop = cond (agrees count (length (items_of segments))) (Ok made) (Err (stop CountMismatch 0)) in
+      let b = met _ (eqb (length (items_of funcs)) (length d.indices)) third m e in
+      let c = met _ (agrees count (length (items_of segments))) (Ok made) m b.1 in
       record {
-        nothing = nil_from_length rest (eqb-true (length rest) 0 a.0);
+        nothing = refl;
         functions_agree = eqb-true (length (items_of funcs)) (length d.indices) b.0;
         segments_agree = agreed count (length (items_of segments)) c.0;
         made = ok_is made m c.1;

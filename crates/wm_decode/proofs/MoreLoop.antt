@@ -7,12 +7,12 @@ use Rattle.wm_ast.specs.declared.module.Func.{Func}
 use Rattle.wm_decode.specs.declared.fault.ItemFault.{ItemFault}
 use Rattle.wm_decode.specs.declared.fault.ItemFault.TheVariants.{OutOfMemory, WithLeft}
 use Rattle.wm_decode.specs.Bounds.{Bounds}
-use Rattle.wm_decode.specs.Stop.{Stop}
-use Rattle.wm_decode.specs.Implements.{Fails, stop_of}
+use Rattle.wm_decode.specs.Stop.{Stop, stop}
+use Rattle.wm_decode.specs.Implements.{Fails}
 use Rattle.wm_decode.specs.Reading.{◌>>=◌}
 use Rattle.wm_decode.specs.Parts.{locals_of}
-use Rattle.wm_decode.specs.ReadingVectors.{more_at, sized_at}
-use Rattle.wm_decode.specs.ReadingParts.{body_at, more_functions_at}
+use Rattle.wm_decode.specs.ReadingVectors.{more_at}
+use Rattle.wm_decode.specs.ReadingParts.{sized_function_at, more_functions_at}
 
 module _ {S : Type 0} (step : S → List ℕ → Result (S × List ℕ) Stop) where
   pub goes_on : (count i : ℕ) (state next : S) (bytes after : List ℕ) (total : Result (S × List ℕ) Stop) → i < count → step state bytes ≡ Ok (next, after)
@@ -29,7 +29,7 @@ module _ {S : Type 0} (step : S → List ℕ → Result (S × List ℕ) Stop) wh
   fails OutOfMemory count i state bytes total lt h so_far = tt
   fails (WithLeft kind left) count i state bytes total lt h so_far =
       let k : count - i ≡ suc (count - (i + 1)) = omega arith in
-      let one : more_at step (count - i) state bytes ≡ Err (stop_of kind) = rw (k, h) refl in
+      let one : more_at step (count - i) state bytes ≡ Err (stop kind left) = rw (k, h) refl in
       sym so_far ∙ one
 
   pub is_done : (count i : ℕ) (state : S) (bytes : List ℕ) (total : Result (S × List ℕ) Stop) → count ≤ i → more_at step (count - i) state bytes ≡ total → total ≡ Ok (state, bytes)
@@ -59,7 +59,7 @@ module _ (bounds : Bounds) (types : List FuncType) where
   front_is indices i lt = rw (add-one, drop-cons indices i 0) refl
 
   pub functions_go_on : (indices : List ℕ) (i : ℕ) (earlier : List Func) (f : Func) (bytes after : List ℕ) (total : Result (List Func × List ℕ) Stop) → i < length indices
-      → sized_at (body_at bounds types (get_or indices i 0)) bytes ≡ Ok (f, after) → more_functions_at bounds types (drop i indices) earlier bytes ≡ total
+      → sized_function_at bounds types (get_or indices i 0) bytes ≡ Ok (f, after) → more_functions_at bounds types (drop i indices) earlier bytes ≡ total
       → more_functions_at bounds types (drop (i + 1) indices) (earlier ++ f ∷ []) after ≡ total
   unfolding more_functions_at
   functions_go_on indices i earlier f bytes after total lt h so_far =
@@ -68,11 +68,11 @@ module _ (bounds : Bounds) (types : List FuncType) where
       sym one ∙ so_far
 
   pub functions_fail : (e : ItemFault) (indices : List ℕ) (i : ℕ) (earlier : List Func) (bytes : List ℕ) (total : Result (List Func × List ℕ) Stop) → i < length indices
-      → Fails e (sized_at (body_at bounds types (get_or indices i 0)) bytes) → more_functions_at bounds types (drop i indices) earlier bytes ≡ total → Fails e total
+      → Fails e (sized_function_at bounds types (get_or indices i 0) bytes) → more_functions_at bounds types (drop i indices) earlier bytes ≡ total → Fails e total
   unfolding more_functions_at
   functions_fail OutOfMemory indices i earlier bytes total lt h so_far = tt
   functions_fail (WithLeft kind left) indices i earlier bytes total lt h so_far =
-      let one : more_functions_at bounds types (drop i indices) earlier bytes ≡ Err (stop_of kind) =
+      let one : more_functions_at bounds types (drop i indices) earlier bytes ≡ Err (stop kind left) =
       ap (λ (l : List ℕ). more_functions_at bounds types l earlier bytes) (front_is indices i lt) ∙ rw h refl in
       sym so_far ∙ one
 

@@ -8,7 +8,8 @@ use Rattle.wm_ast.specs.declared.instr.Instr.{Instr}
 use Rattle.wm_ast.specs.declared.types.ValType.{ValType}
 use Rattle.wm_decode.specs.declared.fault.ItemFault.{ItemFault}
 use Rattle.wm_decode.specs.declared.fault.ItemFault.TheVariants.{OutOfMemory, WithLeft}
-use Rattle.wm_decode.specs.Implements.{Fails, stop_of}
+use Rattle.wm_decode.specs.Stop.{stop}
+use Rattle.wm_decode.specs.Implements.{Fails}
 use Rattle.wm_decode.specs.ReadingInstructions.{Body, instrs_in, closed_in, opened_at, if_with}
 
 pub record Placed (depth_left : ℕ) (old new : List (List Instr)) (bytes : List ℕ) (body : List Instr) (number closer : ℕ) (rest : List ℕ) : Type 0 where
@@ -35,6 +36,6 @@ unfolding if_with
 else_fails OutOfMemory depth_left old new bytes mid rest ty b closer opened new-is read closer-is rest-is other h = tt
 else_fails (WithLeft kind left) depth_left old new bytes mid rest ty b closer opened new-is read closer-is rest-is other h =
     let len : length new + 1 ≡ length old + 1 + length b.nested + 1 = omega (arith, ap length new-is, length-append old (b.instrs ∷ b.nested)) in
-    let h2 : closed_in (depth_left - 1) (length old + 1 + length b.nested + 1) b.rest ≡ Err (stop_of kind) =
+    let h2 : closed_in (depth_left - 1) (length old + 1 + length b.nested + 1) b.rest ≡ Err (stop kind left) =
     ap (λ (n : ℕ). closed_in (depth_left - 1) n b.rest) (sym len) ∙ ap (closed_in (depth_left - 1) (length new + 1)) rest-is ∙ h in
     rw (opened, read, ne_eqb b.closer 0x0B (λ k. other (sym closer-is ∙ k)), h2) refl

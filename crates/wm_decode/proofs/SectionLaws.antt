@@ -2,14 +2,15 @@
 use Rattle.std.proofs.Common.{◌≡◌, ℕ, zero, suc, ◌≤◌, Bool, true, false, cond, eqb, List, [], ◌∷◌, ◌++◌, length, Option, Some, None, Result, Ok, Err, refl, sym, ap, subst, ◌∙◌, append_assoc, arith, inl, inr, length-append}
 use Rattle.std.proofs.lemmas.List.{append-nil}
 use Rattle.std.proofs.lemmas.Bool.{eqb-true, eq-eqb, ne_eqb}
-use Rattle.wm_decode.specs.Stop.{Stop, other_magic, other_version}
+use Rattle.wm_decode.specs.declared.fault.FaultKind.TheVariants.{Magic, Version}
+use Rattle.wm_decode.specs.Stop.{Stop, stop}
 use Rattle.wm_decode.specs.Numbers.{IsBytes}
 use Rattle.wm_decode.specs.Vectors.{Sized}
 use Rattle.wm_decode.specs.Module.{Custom, Customs, no_custom, custom, Section, absent, header, magic, present, version}
 use Rattle.wm_decode.specs.Reading.{◌>>=◌}
 use Rattle.wm_decode.specs.ReadingVectors.{name_at, sized_at}
 use Rattle.wm_decode.specs.ReadingModule.{behind, custom_at, customs_at, customs_in, header_at, one_at, section_at}
-use Rattle.wm_decode.proofs.Steps.{bound, met, chosen, ok_is, pair_is, fits_behind, answered}
+use Rattle.wm_decode.proofs.Steps.{bound, chosen, ok_is, pair_is, fits_behind, answered}
 use Rattle.wm_decode.proofs.Lawful.{Lawful, sized_law, sized_lawful}
 use Rattle.wm_decode.proofs.TypeLaws.{name_lawful}
 use Rattle.wm_decode.proofs.BodyAgain.{from_suc}
@@ -172,5 +173,6 @@ behind_takes other (p ∷ ps) bytes rest e =
 pub header_takes : (bytes rest : List ℕ) → header_at bytes ≡ Ok rest → bytes ≡ header ++ rest
 unfolding header_at
 header_takes bytes rest e =
-    let one = bound (behind other_magic magic bytes) (behind other_version version) rest e in
-    behind_takes other_magic magic bytes one.0 one.1 ∙ ap (λ (l : List ℕ). magic ++ l) (behind_takes other_version version one.0 rest one.2)
+    let second = λ (left : List ℕ). behind (stop Version (length left)) version left in
+    let one = bound (behind (stop Magic (length bytes)) magic bytes) second rest e in
+    behind_takes (stop Magic (length bytes)) magic bytes one.0 one.1 ∙ ap (λ (l : List ℕ). magic ++ l) (behind_takes (stop Version (length one.0)) version one.0 rest one.2)

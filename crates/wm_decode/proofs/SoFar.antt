@@ -7,7 +7,7 @@ use Rattle.wm_ast.specs.declared.instr.Instr.{Instr}
 use Rattle.wm_decode.specs.declared.fault.ItemFault.{ItemFault}
 use Rattle.wm_decode.specs.declared.fault.ItemFault.TheVariants.{OutOfMemory, WithLeft}
 use Rattle.wm_decode.specs.Numbers.{IsBytes}
-use Rattle.wm_decode.specs.Stop.{Stop, bad}
+use Rattle.wm_decode.specs.Stop.{Stop, ended}
 use Rattle.wm_decode.specs.Implements.{Fails}
 use Rattle.wm_decode.specs.Reading.{◌>>=◌}
 use Rattle.wm_decode.specs.ReadingInstructions.{Body, One, instrs_at, instrs_in, instr_in}
@@ -92,7 +92,7 @@ closes depth_left old new bytes rest found s long h =
     ap (instrs_in depth_left (length new)) (front_is rest long) ∙ instrs_cons depth_left (length new) op more fits.0 fits.1 ∙ shut op closed h (instr_in depth_left (length new) op more >>= λ one. after one (instrs_in depth_left (length new + length one.nested) one.rest)) in
     sym s.same ∙ ap (with_front found s.begun) unfolds ∙ simp append-nil
 
-pub is_short : (depth_left : ℕ) (old new : List (List Instr)) (bytes rest : List ℕ) (found : List Instr) → SoFar depth_left old new bytes rest found → length rest ≡ 0 → instrs_in depth_left (length old) bytes ≡ Err bad
+pub is_short : (depth_left : ℕ) (old new : List (List Instr)) (bytes rest : List ℕ) (found : List Instr) → SoFar depth_left old new bytes rest found → length rest ≡ 0 → instrs_in depth_left (length old) bytes ≡ Err ended
 unfolding instrs_at
 is_short depth_left old new bytes [] found s h = sym s.same
 is_short depth_left old new bytes (b ∷ rest) found s h = absurd (omega arith)

@@ -1,6 +1,6 @@
 -- Steps of reading, taken apart.
 use Rattle.std.proofs.Common.{◌≡◌, ℕ, Bool, true, false, cond, List, [], ◌∷◌, ◌++◌, Result, Ok, Err, refl, ap, subst, ◌⊎◌, inl, inr}
-use Rattle.wm_decode.specs.Stop.{Stop, bad}
+use Rattle.wm_decode.specs.Stop.{Stop, map_stop}
 use Rattle.wm_decode.specs.Numbers.{IsBytes}
 use Rattle.wm_decode.specs.Reading.{◌>>=◌}
 
@@ -20,14 +20,19 @@ chosen true x y z e = inl (refl, e)
 chosen false x y z e = inr (refl, e)
 
 -- a test that led on
-pub passed : {A : Type 0} (b : Bool) (y : Result A Stop) (z : A) → cond b (Err bad) y ≡ Ok z → (b ≡ false) × (y ≡ Ok z)
-passed true y z e = absurd cc
-passed false y z e = (refl, e)
+pub passed : {A : Type 0} (s : Stop) (b : Bool) (y : Result A Stop) (z : A) → cond b (Err s) y ≡ Ok z → (b ≡ false) × (y ≡ Ok z)
+passed s true y z e = absurd cc
+passed s false y z e = (refl, e)
 
 -- a test that was met
-pub met : {A : Type 0} (b : Bool) (y : Result A Stop) (z : A) → cond b y (Err bad) ≡ Ok z → (b ≡ true) × (y ≡ Ok z)
-met true y z e = (refl, e)
-met false y z e = absurd cc
+pub met : {A : Type 0} (s : Stop) (b : Bool) (y : Result A Stop) (z : A) → cond b y (Err s) ≡ Ok z → (b ≡ true) × (y ≡ Ok z)
+met s true y z e = (refl, e)
+met s false y z e = absurd cc
+
+-- what answered, whatever it would have done to a stop
+pub unmapped : {A : Type 0} (f : Stop → Stop) (r : Result A Stop) (x : A) → map_stop f r ≡ Ok x → r ≡ Ok x
+unmapped f (Ok y) x e = e
+unmapped f (Err s) x e = absurd cc
 
 -- an answer
 abbrev pub answer : {A : Type 0} → A → Result A Stop
@@ -35,11 +40,6 @@ answer x = Ok x
 
 abbrev pub answered : {X : Type 0} → X → List ℕ → Result (X × List ℕ) Stop
 answered x rest = Ok (x, rest)
-
--- a limit that was kept
-pub within : {A : Type 0} (s : Stop) (b : Bool) (y : Result A Stop) (z : A) → cond b (Err s) y ≡ Ok z → (b ≡ false) × (y ≡ Ok z)
-within s true y z e = absurd cc
-within s false y z e = (refl, e)
 
 pub ok_is : {A : Type 0} (x y : A) → answer x ≡ answer y → x ≡ y
 ok_is x y e = cc

@@ -1,5 +1,5 @@
 -- Types, limits, imports and memories are read as they are spelled.
-use Rattle.std.proofs.Common.{◌≡◌, ℕ, ◌-◌, ◌^◌, ◌≤◌, cond, ltb, eqb, List, [], ◌∷◌, ◌++◌, Option, Some, None, Ok, Err, refl, sym, ap, subst, ◌∙◌, append_assoc, inl, inr}
+use Rattle.std.proofs.Common.{◌≡◌, ℕ, ◌-◌, ◌^◌, ◌≤◌, cond, ltb, eqb, List, [], ◌∷◌, ◌++◌, length, Option, Some, None, Ok, Err, refl, sym, ap, subst, ◌∙◌, append_assoc, inl, inr}
 use Rattle.std.specs.Str.{is_utf8}
 use Rattle.std.proofs.lemmas.List.{append-nil}
 use Rattle.std.proofs.lemmas.Bool.{eqb-true, eq-eqb, ltb-false, le-ltb}
@@ -10,19 +10,23 @@ use Rattle.wm_ast.specs.declared.types.FuncType.{FuncType}
 use Rattle.wm_ast.specs.declared.types.Limits.{Limits}
 use Rattle.wm_ast.specs.declared.module.ImportName.{ImportName}
 use Rattle.wm_ast.specs.declared.module.Memory.{Memory}
-use Rattle.wm_decode.specs.declared.fault.Limit.TheVariants as limit
+use Rattle.wm_decode.specs.declared.fault.Limit.TheVariants.{Pages}
+use Rattle.wm_decode.specs.declared.fault.Feature.TheVariants.{MultiValue}
+use Rattle.wm_decode.specs.declared.fault.FaultKind.{FaultKind}
+use Rattle.wm_decode.specs.declared.fault.FaultKind.TheVariants.{BadName, BadNumber}
+use Rattle.wm_decode.specs.Faults.{value_type_fault, limits_fault, import_kind_fault}
 use Rattle.wm_decode.specs.Bounds.{Bounds}
-use Rattle.wm_decode.specs.Stop.{bad, past}
+use Rattle.wm_decode.specs.Stop.{stop, past, moved}
 use Rattle.wm_decode.specs.Numbers.{U32, IsBytes}
 use Rattle.wm_decode.specs.Vectors.{Each, no_more, one_more, Vector, Name}
 use Rattle.wm_decode.specs.Instructions.{value_type}
 use Rattle.wm_decode.specs.Parts.{ValueType, FunctionType, SharedLimits, MemoryImport}
 use Rattle.wm_decode.specs.Module.{AtMostOne}
-use Rattle.wm_decode.specs.Reading.{◌>>=◌}
+use Rattle.wm_decode.specs.Reading.{◌>>=◌, faulted_at}
 use Rattle.wm_decode.specs.ReadingVectors.{u32_at, vector_at, byte_vector_at, name_at}
 use Rattle.wm_decode.specs.ReadingInstructions.{value_type_at}
-use Rattle.wm_decode.specs.ReadingParts.{byte_at, result_at, func_type_at, limits_at, import_at}
-use Rattle.wm_decode.proofs.Steps.{bound, met, within, chosen, ok_is, pair_is, fits_behind, answered}
+use Rattle.wm_decode.specs.ReadingParts.{byte_at, unsupported, result_at, func_type_at, limits_at, import_at}
+use Rattle.wm_decode.proofs.Steps.{bound, passed, unmapped, met, chosen, ok_is, pair_is, fits_behind, answered}
 use Rattle.wm_decode.proofs.NumberLaws.{unsigned_takes, unsigned_again}
 use Rattle.wm_decode.proofs.Lawful.{Lawful, vector_lawful, byte_vector_takes, byte_vector_again}
 
@@ -30,9 +34,9 @@ pub name_lawful : Lawful Name name_at
 unfolding name_at
 name_lawful = record {
   takes = λ bytes name rest fits e.
-      let a = bound (byte_vector_at bytes) (λ text. cond (is_utf8 text.0) (Ok text) (Err bad)) (name, rest) e in
-      let t = byte_vector_takes bytes a.0.0 a.0.1 fits a.1 in
-      let m = met (is_utf8 a.0.0) (Ok a.0) (name, rest) a.2 in
+      let a = bound (faulted_at bytes (byte_vector_at bytes)) (λ text. cond (is_utf8 text.0) (Ok text) (Err (stop BadName (length bytes)))) (name, rest) e in
+      let t = byte_vector_takes bytes a.0.0 a.0.1 fits (unmapped (moved (length bytes)) (byte_vector_at bytes) a.0 a.1) in
+      let m = met _ (is_utf8 a.0.0) (Ok a.0) (name, rest) a.2 in
       let is = pair_is a.0 (name, rest) m.1 in
       let spelled : Name t.0 a.0.0 = record { spelled = t.2; utf8 = IsUtf8-from_is_utf8 a.0.0 m.0 } in
       (t.0, t.1 ∙ ap (λ (l : List ℕ). t.0 ++ l) is.1, subst (λ (n : List ℕ). Name t.0 n) is.0 spelled);
@@ -43,10 +47,10 @@ pub value_takes : (bytes : List ℕ) (ty : ValType) (rest : List ℕ) → value_
 unfolding value_type_at
 value_takes [] ty rest e = absurd cc
 value_takes (b ∷ bytes) ty rest e =
-    elim (chosen (eqb b 0x7F) (answered I32 bytes) (cond (eqb b 0x7E) (answered I64 bytes) (Err bad)) (Ok (ty, rest)) e) [
+    elim (chosen (eqb b 0x7F) (answered I32 bytes) (cond (eqb b 0x7E) (answered I64 bytes) (Err (stop (value_type_fault b) (length (b ∷ bytes))))) (Ok (ty, rest)) e) [
       | inl h ↦ let is = pair_is (I32, bytes) (ty, rest) h.1 in rw (eqb-true b 0x7F h.0, ← is.0, is.1) refl
       | inr f ↦
-          let h = met (eqb b 0x7E) (answered I64 bytes) (ty, rest) f.1 in
+          let h = met _ (eqb b 0x7E) (answered I64 bytes) (ty, rest) f.1 in
           let is = pair_is (I64, bytes) (ty, rest) h.1 in rw (eqb-true b 0x7E h.0, ← is.0, is.1) refl
     ]
 
@@ -61,14 +65,14 @@ value_lawful = record {
   again = λ text ty rest d. rw d (value_again ty rest);
 }
 
-pub byte_takes : (code : ℕ) (bytes rest : List ℕ) → byte_at code bytes ≡ Ok rest → bytes ≡ code ∷ rest
-byte_takes code [] rest e = absurd cc
-byte_takes code (b ∷ bytes) rest e =
-    let m = met (eqb b code) (Ok bytes) rest e in
+pub byte_takes : (wrong : ℕ → FaultKind) (code : ℕ) (bytes rest : List ℕ) → byte_at wrong code bytes ≡ Ok rest → bytes ≡ code ∷ rest
+byte_takes wrong code [] rest e = absurd cc
+byte_takes wrong code (b ∷ bytes) rest e =
+    let m = met _ (eqb b code) (Ok bytes) rest e in
     ap (λ (k : ℕ). k ∷ bytes) (eqb-true b code m.0) ∙ ap (λ (l : List ℕ). code ∷ l) (ok_is bytes rest m.1)
 
-pub byte_again : (code : ℕ) (rest : List ℕ) → byte_at code (code ∷ rest) ≡ Ok rest
-byte_again code rest = rw (eq-eqb code code refl) refl
+pub byte_again : (wrong : ℕ → FaultKind) (code : ℕ) (rest : List ℕ) → byte_at wrong code (code ∷ rest) ≡ Ok rest
+byte_again wrong code rest = rw (eq-eqb code code refl) refl
 
 -- a vector of no item, and of one
 module _ {X : Type 0} (Item : List ℕ → X → Type 0) where
@@ -111,7 +115,7 @@ result_takes : (bytes : List ℕ) (r : Option ValType) (rest : List ℕ) → IsB
 unfolding result_at
 result_takes bytes r rest fits e =
     let some = λ (ty : ValType × List ℕ). answered {X = Option ValType} (Some ty.0) ty.1 in
-    let one = λ (count : ℕ × List ℕ). cond (eqb count.0 1) (value_type_at count.1 >>= some) (Err bad) in
+    let one = λ (count : ℕ × List ℕ). cond (eqb count.0 1) (value_type_at count.1 >>= some) (Err (unsupported MultiValue bytes)) in
     let a = bound (u32_at bytes) (λ count. cond (eqb count.0 0) (answered {X = Option ValType} None count.1) (one count)) (r, rest) e in
     let t = unsigned_takes (2 ^ 32 - 1) bytes a.0.0 a.0.1 fits a.1 in
     elim (chosen (eqb a.0.0 0) (answered {X = Option ValType} None a.0.1) (one a.0) (Ok (r, rest)) a.2) [
@@ -119,7 +123,7 @@ result_takes bytes r rest fits e =
           let is = pair_is {A = Option ValType} (None, a.0.1) (r, rest) h.1 in
           (t.0, t.1 ∙ ap (λ (l : List ℕ). t.0 ++ l) is.1, subst (λ (o : Option ValType). AtMostOne ValueType t.0 o) is.0 (make_none ValueType t.0 a.0.0 t.2 (eqb-true a.0.0 0 h.0)))
       | inr h ↦
-          let m = met (eqb a.0.0 1) (value_type_at a.0.1 >>= some) (r, rest) h.1 in
+          let m = met _ (eqb a.0.0 1) (value_type_at a.0.1 >>= some) (r, rest) h.1 in
           let b = bound (value_type_at a.0.1) some (r, rest) m.1 in
           let v = value_takes a.0.1 b.0.0 b.0.1 b.1 in
           let is = pair_is {A = Option ValType} (Some b.0.0, b.0.1) (r, rest) b.2 in
@@ -147,8 +151,8 @@ func_type_lawful = record {
       let made = λ (ps : List ValType) (r : Option ValType). let k : FuncType = record { params = ps; result = r } in k in
       let third = λ (ps : List ValType) (r : Option ValType × List ℕ). answered {X = FuncType} (made ps r.0) r.1 in
       let second = λ (ps : List ValType × List ℕ). result_at ps.1 >>= third ps.0 in
-      let z = bound (byte_at 0x60 bytes) (λ rest. vector_at value_type_at rest >>= second) (t, rest) e in
-      let start = byte_takes 0x60 bytes z.0 z.1 in
+      let z = bound (byte_at (λ b. BadNumber) 0x60 bytes) (λ rest. vector_at value_type_at rest >>= second) (t, rest) e in
+      let start = byte_takes (λ b. BadNumber) 0x60 bytes z.0 z.1 in
       let fits1 = fits_behind bytes (0x60 ∷ []) z.0 fits start in
       let p = bound (vector_at value_type_at z.0) second (t, rest) z.2 in
       let q = bound (result_at p.0.1) (third p.0.0) (t, rest) p.2 in
@@ -178,12 +182,12 @@ module _ (bounds : Bounds) where
     takes = λ bytes l rest fits e.
         let made = λ (a b : ℕ). let k : Limits = record { minimum = a; maximum = b } in k in
         let third = λ (a : ℕ) (b : ℕ × List ℕ). answered {X = Limits} (made a b.0) b.1 in
-        let second = λ (a : ℕ × List ℕ). cond (ltb bounds.pages a.0) (Err (past limit.Pages)) (u32_at a.1 >>= third a.0) in
-        let z = bound (byte_at 0x03 bytes) (λ rest. u32_at rest >>= second) (l, rest) e in
-        let start = byte_takes 0x03 bytes z.0 z.1 in
+        let second = λ (read : List ℕ) (a : ℕ × List ℕ). cond (ltb bounds.pages a.0) (Err (past Pages (length read))) (u32_at a.1 >>= third a.0) in
+        let z = bound (byte_at limits_fault 0x03 bytes) (λ rest. u32_at rest >>= second rest) (l, rest) e in
+        let start = byte_takes limits_fault 0x03 bytes z.0 z.1 in
         let fits1 = fits_behind bytes (0x03 ∷ []) z.0 fits start in
-        let p = bound (u32_at z.0) second (l, rest) z.2 in
-        let w = within (past limit.Pages) (ltb bounds.pages p.0.0) (u32_at p.0.1 >>= third p.0.0) (l, rest) p.2 in
+        let p = bound (u32_at z.0) (second z.0) (l, rest) z.2 in
+        let w = passed _ (ltb bounds.pages p.0.0) (u32_at p.0.1 >>= third p.0.0) (l, rest) p.2 in
         let q = bound (u32_at p.0.1) (third p.0.0) (l, rest) w.1 in
         let is = pair_is {A = Limits} (made p.0.0 q.0.0, q.0.1) (l, rest) q.2 in
         let one = unsigned_takes (2 ^ 32 - 1) z.0 p.0.0 p.0.1 fits1 p.1 in
@@ -213,7 +217,7 @@ module _ (bounds : Bounds) where
         let made = λ (a b : List ℕ) (l : Limits). let k : Memory = record { limits = l; import = Some (named a b) } in k in
         let fourth = λ (a b : List ℕ) (l : Limits × List ℕ). answered {X = Memory} (made a b l.0) l.1 in
         let third = λ (a b rest : List ℕ). limits_at bounds rest >>= fourth a b in
-        let second = λ (a : List ℕ) (b : List ℕ × List ℕ). byte_at 0x02 b.1 >>= third a b.0 in
+        let second = λ (a : List ℕ) (b : List ℕ × List ℕ). byte_at import_kind_fault 0x02 b.1 >>= third a b.0 in
         let first = λ (a : List ℕ × List ℕ). name_at a.1 >>= second a.0 in
         let p = bound (name_at bytes) first (m, rest) e in
         let one = name_lawful.takes bytes p.0.0 p.0.1 fits p.1 in
@@ -221,8 +225,8 @@ module _ (bounds : Bounds) where
         let q = bound (name_at p.0.1) (second p.0.0) (m, rest) p.2 in
         let two = name_lawful.takes p.0.1 q.0.0 q.0.1 fits1 q.1 in
         let fits2 = fits_behind p.0.1 two.0 q.0.1 fits1 two.1 in
-        let z = bound (byte_at 0x02 q.0.1) (third p.0.0 q.0.0) (m, rest) q.2 in
-        let kind = byte_takes 0x02 q.0.1 z.0 z.1 in
+        let z = bound (byte_at import_kind_fault 0x02 q.0.1) (third p.0.0 q.0.0) (m, rest) q.2 in
+        let kind = byte_takes import_kind_fault 0x02 q.0.1 z.0 z.1 in
         let fits3 = fits_behind q.0.1 (0x02 ∷ []) z.0 fits2 kind in
         let r = bound (limits_at bounds z.0) (fourth p.0.0 q.0.0) (m, rest) z.2 in
         let three = limits_lawful.takes z.0 r.0.0 r.0.1 fits3 r.1 in

@@ -3,8 +3,8 @@ use Rattle.std.proofs.Common.{◌≡◌, ℕ, suc, ◌-◌, ◌+◌, ◌≤◌, 
 use Rattle.std.proofs.lemmas.List.{append-nil}
 use Rattle.wm_decode.specs.declared.fault.ItemFault.{ItemFault}
 use Rattle.wm_decode.specs.declared.fault.ItemFault.TheVariants.{OutOfMemory, WithLeft}
-use Rattle.wm_decode.specs.Stop.{Stop}
-use Rattle.wm_decode.specs.Implements.{Fails, stop_of}
+use Rattle.wm_decode.specs.Stop.{Stop, stop}
+use Rattle.wm_decode.specs.Implements.{Fails}
 use Rattle.wm_decode.specs.Reading.{◌>>=◌}
 use Rattle.wm_decode.specs.ReadingVectors.{items_at}
 
@@ -31,7 +31,7 @@ module _ {X : Type 0} where
   fails item_at OutOfMemory front count i bytes total lt h so_far = tt
   fails item_at (WithLeft kind left) front count i bytes total lt h so_far =
       let k : count - i ≡ suc (count - (i + 1)) = omega arith in
-      let one : found_before front (items_at item_at (count - i) bytes) ≡ Err (stop_of kind) = rw (k, h) refl in
+      let one : found_before front (items_at item_at (count - i) bytes) ≡ Err (stop kind left) = rw (k, h) refl in
       sym so_far ∙ one
 
   pub is_done : (item_at : List ℕ → Result (X × List ℕ) Stop) (front : List X) (count i : ℕ) (bytes : List ℕ) (total : Result (List X × List ℕ) Stop) → count ≤ i → found_before front (items_at item_at (count - i) bytes) ≡ total → total ≡ Ok (front, bytes)

@@ -1,5 +1,6 @@
 pub mod Numbers
 pub mod Stop
+pub mod Faults
 pub mod Reading
 pub mod Implements
 pub mod Opcodes

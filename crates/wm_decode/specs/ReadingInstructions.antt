@@ -6,10 +6,12 @@ use Rattle.wm_ast.specs.declared.access.AccessKind.{AccessKind}
 use Rattle.wm_ast.specs.declared.instr.Instr.{Instr}
 use Rattle.wm_ast.specs.declared.instr.Instr.TheVariants as instr
 use Rattle.wm_ast.specs.declared.instr.Else.TheVariants.{Present, Absent}
-use Rattle.wm_decode.specs.declared.fault.Limit.TheVariants as limit
+use Rattle.wm_decode.specs.declared.fault.Limit.TheVariants.{Nesting}
+use Rattle.wm_decode.specs.declared.fault.FaultKind.TheVariants.{BadNumber, UnknownOpcode}
 use Rattle.wm_decode.specs.declared.opcode.Opcode.{Opcode}
 use Rattle.wm_decode.specs.declared.opcode.Opcode.TheVariants as opcode
-use Rattle.wm_decode.specs.Stop.{Stop, bad, past}
+use Rattle.wm_decode.specs.Stop.{Stop, stop, ended, past, map_stop, moved}
+use Rattle.wm_decode.specs.Faults.{value_type_fault, block_type_fault, atomic_fault, opcode_fault}
 use Rattle.wm_decode.specs.Reading.{◌>>=◌, signed_at}
 use Rattle.wm_decode.specs.ReadingVectors.{u32_at, vector_at}
 use Rattle.wm_decode.specs.Opcodes.{opcode_at, atomic_at}
@@ -19,13 +21,14 @@ abbrev pub InstrAt : Type 0
 InstrAt = Result (Instr × List ℕ) Stop
 
 unfoldable pub value_type_at : List ℕ → Result (ValType × List ℕ) Stop
-value_type_at [] = Err bad
-value_type_at (b ∷ bytes) = if b == 0x7F then Ok (I32, bytes) else (if b == 0x7E then Ok (I64, bytes) else Err bad)
+value_type_at [] = Err ended
+value_type_at (b ∷ bytes) = if b == 0x7F then Ok (I32, bytes) else (if b == 0x7E then Ok (I64, bytes) else Err (stop (value_type_fault b) (length (b ∷ bytes))))
 
 unfoldable pub block_type_at : List ℕ → Result (Option ValType × List ℕ) Stop
-block_type_at [] = Err bad
+block_type_at [] = Err ended
 block_type_at (b ∷ bytes) =
-    if b == 0x40 then Ok (None, bytes) else (if b == 0x7F then Ok (Some I32, bytes) else (if b == 0x7E then Ok (Some I64, bytes) else Err bad))
+    if b == 0x40 then Ok (None, bytes) else (if b == 0x7F then Ok (Some I32, bytes) else (if b == 0x7E then Ok (Some I64, bytes) else
+    Err (stop (block_type_fault b) (length (b ∷ bytes)))))
 
 -- what follows an access
 unfoldable pub access_at : AccessKind → List ℕ → InstrAt
@@ -34,13 +37,20 @@ access_at kind bytes = do
   offset ← u32_at alignment.1
   Ok (access_instr kind alignment.0 offset.0, offset.1)
 
-abbrev pub access_of : Option AccessKind → List ℕ → InstrAt
-access_of None bytes = Err bad
-access_of (Some kind) bytes = access_at kind bytes
+-- the access that a code means, after the code; other is how reading stops where it means none
+abbrev pub access_of : Stop → Option AccessKind → List ℕ → InstrAt
+access_of other None bytes = Err other
+access_of other (Some kind) bytes = access_at kind bytes
+
+-- an atomic access after its prefix, at which its code is faulted
+unfoldable pub atomic_access_at : List ℕ → InstrAt
+atomic_access_at bytes = do
+  code ← map_stop (moved (length bytes + 1)) (u32_at bytes)
+  access_of (stop (atomic_fault code.0) (length bytes + 1)) (atomic_at code.0) code.1
 
 abbrev pub zero_at : List ℕ → InstrAt
-zero_at [] = Err bad
-zero_at (b ∷ bytes) = if b == 0x00 then Ok (instr.MemorySize, bytes) else Err bad
+zero_at [] = Err ended
+zero_at (b ∷ bytes) = if b == 0x00 then Ok (instr.MemorySize, bytes) else Err (stop BadNumber (length (b ∷ bytes)))
 
 -- the rest of an instruction, after its opcode
 unfoldable pub immediates_at : Opcode → List ℕ → InstrAt
@@ -51,15 +61,16 @@ immediates_at (opcode.Access kind) bytes = access_at kind bytes
 immediates_at opcode.MemorySize bytes = zero_at bytes
 immediates_at opcode.I32Const bytes = signed_at (2 ^ 32 - 1) bytes >>= λ n. Ok (instr.I32Const n.0, n.1)
 immediates_at opcode.I64Const bytes = signed_at (2 ^ 64 - 1) bytes >>= λ n. Ok (instr.I64Const n.0, n.1)
-immediates_at opcode.Atomic bytes = u32_at bytes >>= λ code. access_of (atomic_at code.0) code.1
+immediates_at opcode.Atomic bytes = atomic_access_at bytes
 
-abbrev pub operands_of : Option Opcode → List ℕ → InstrAt
-operands_of None bytes = Err bad
-operands_of (Some op) bytes = immediates_at op bytes
+-- the rest of the instruction that an opcode means; other is how reading stops where it means none
+abbrev pub operands_of : Stop → Option Opcode → List ℕ → InstrAt
+operands_of other None bytes = Err other
+operands_of other (Some op) bytes = immediates_at op bytes
 
--- an instruction with no block of its own, after its first byte
+-- an instruction with no block of its own, after its first byte, which is faulted if no such instruction begins with it
 unfoldable pub plain_at : ℕ → List ℕ → InstrAt
-plain_at code bytes = operands_of (opcode_at code) bytes
+plain_at code bytes = operands_of (stop (opcode_fault code) (length bytes + 1)) (opcode_at code) bytes
 
 -- the instructions of a block, the blocks that begin among them, the byte that closes it, and the bytes after that
 pub record Body : Type 0 where
@@ -81,11 +92,11 @@ Reader = ℕ → ℕ → List ℕ → Result Body Stop
 unfoldable pub closed_with : Reader → Reader
 closed_with read depth_left next bytes = do
   body ← read depth_left next bytes
-  if body.closer == 0x0B then Ok body else Err bad
+  if body.closer == 0x0B then Ok body else Err (stop (UnknownOpcode body.closer) (length body.rest + 1))
 
--- the type of a block that may still nest
+-- the type of a block that may still nest; else its opcode is faulted
 unfoldable pub opened_at : ℕ → List ℕ → Result (Option ValType × List ℕ) Stop
-opened_at depth_left bytes = if depth_left == 0 then Err (past limit.Nesting) else block_type_at bytes
+opened_at depth_left bytes = if depth_left == 0 then Err (past Nesting (length bytes + 1)) else block_type_at bytes
 
 -- a block or a loop after its opcode, whose instructions are read by read
 unfoldable pub framed_with : Reader → ℕ → ℕ → (Option ValType → ℕ → Instr) → List ℕ → Result One Stop
@@ -117,8 +128,8 @@ instr_with read depth_left next op bytes =
     (plain_at op bytes >>= λ x. Ok (record { instr = x.0; nested = []; rest = x.1 }))))
 
 unfoldable pub instrs_at : ℕ → Reader
-instrs_at zero depth_left next bytes = Err bad
-instrs_at (suc fuel) depth_left next [] = Err bad
+instrs_at zero depth_left next bytes = Err ended
+instrs_at (suc fuel) depth_left next [] = Err ended
 instrs_at (suc fuel) depth_left next (op ∷ bytes) =
     if op == 0x0B then Ok (record { instrs = []; nested = []; closer = op; rest = bytes }) else (
     if op == 0x05 then Ok (record { instrs = []; nested = []; closer = op; rest = bytes }) else (

@@ -1,12 +1,14 @@
 -- Reading sections and modules.
-use Rattle.std.specs.Prelude.{ℕ, zero, suc, List, [], ◌∷◌, length, Option, Some, None, is_some, Result, Ok, Err, nat_lt, ◌==◌, if◌then◌else◌}
+use Rattle.std.specs.Prelude.{ℕ, zero, suc, ◌-◌, List, [], ◌∷◌, length, Option, Some, None, is_some, Result, Ok, Err, nat_lt, ◌==◌, if◌then◌else◌}
 use Rattle.wm_ast.specs.declared.module.DataSegment.{DataSegment}
 use Rattle.wm_ast.specs.declared.module.Func.{Func}
 use Rattle.wm_ast.specs.declared.module.Module.{Module}
 use Rattle.std.specs.Option.{option_flatten}
 use Rattle.wm_decode.specs.Bounds.{Bounds, max_module_bytes, profile}
 use Rattle.wm_decode.specs.declared.fault.Limit.TheVariants as limit
-use Rattle.wm_decode.specs.Stop.{Stop, bad, other_magic, other_version, past}
+use Rattle.wm_decode.specs.declared.fault.FaultKind.TheVariants.{Magic, Version, CountMismatch}
+use Rattle.wm_decode.specs.Stop.{Stop, stop, ended, past}
+use Rattle.wm_decode.specs.Faults.{section_fault}
 use Rattle.wm_decode.specs.Reading.{◌>>=◌}
 use Rattle.wm_decode.specs.ReadingVectors.{u32_at, vector_at, sized_at, name_at}
 use Rattle.wm_decode.specs.ReadingParts.{Read, func_type_at, imports_at, memories_at, indices_at, no_items_at, global_at, exports_at, code_at, segments_at, agrees}
@@ -21,7 +23,7 @@ custom_at bytes = name_at bytes >>= λ name. Ok (name.0, [])
 -- after the custom sections, of which at most fuel are read
 unfoldable pub customs_at : ℕ → List ℕ → Result (List ℕ) Stop
 customs_at fuel [] = Ok []
-customs_at zero (b ∷ bytes) = Err bad
+customs_at zero (b ∷ bytes) = Err ended
 customs_at (suc fuel) (b ∷ bytes) = if b == 0 then (sized_at custom_at bytes >>= λ x. customs_at fuel x.1) else Ok (b ∷ bytes)
 
 -- there are fewer than there are bytes
@@ -35,7 +37,7 @@ section_at content_at id (b ∷ bytes) = if b == id then (sized_at content_at by
 
 -- the bytes after this one; another byte stops reading so
 unfoldable pub one_at : Stop → ℕ → List ℕ → Result (List ℕ) Stop
-one_at other wanted [] = Err bad
+one_at other wanted [] = Err ended
 one_at other wanted (b ∷ bytes) = if b == wanted then Ok bytes else Err other
 
 -- the bytes after these
@@ -44,7 +46,9 @@ behind other [] bytes = Ok bytes
 behind other (p ∷ ps) bytes = one_at other p bytes >>= behind other ps
 
 unfoldable pub header_at : List ℕ → Result (List ℕ) Stop
-header_at bytes = behind other_magic magic bytes >>= behind other_version version
+header_at bytes = do
+  rest ← behind (stop Magic (length bytes)) magic bytes
+  behind (stop Version (length rest)) version rest
 
 -- the sections of types, imports and functions
 unfoldable pub front_at : Bounds → List ℕ → Read Front
@@ -69,12 +73,12 @@ declared_at bounds bytes = do
 
 -- the module of what is in the sections, where nothing is after them and the counts agree
 abbrev pub agreed_module : Declared → Option ℕ → Option (List Func) → Option (List DataSegment) → List ℕ → Result Module Stop
-agreed_module declared count funcs segments rest =
-    if length rest == 0 then (
+agreed_module declared count funcs segments (id ∷ rest) = Err (stop (section_fault id) (length (id ∷ rest)))
+agreed_module declared count funcs segments [] =
     if length (items_of funcs) == length declared.indices then (
     if agrees count (length (items_of segments)) then
     Ok (record { types = declared.types; funcs = items_of funcs; memory = declared.memory; globals = declared.globals; exports = declared.exports; «data» = items_of segments })
-    else Err bad) else Err bad) else Err bad
+    else Err (stop CountMismatch 0)) else Err (stop CountMismatch 0)
 
 unfoldable pub module_at : Bounds → List ℕ → Result Module Stop
 module_at bounds bytes = do
@@ -86,4 +90,4 @@ module_at bounds bytes = do
 
 -- a module of no more bytes than are allowed
 unfoldable pub whole_at : List ℕ → Result Module Stop
-whole_at bytes = if nat_lt max_module_bytes (length bytes) then Err (past limit.ModuleBytes) else module_at profile bytes
+whole_at bytes = if nat_lt max_module_bytes (length bytes) then Err (past limit.ModuleBytes (length bytes - max_module_bytes)) else module_at profile bytes

@@ -1,9 +1,44 @@
 -- Why reading ends without a value.
+use Rattle.std.specs.Prelude.{ℕ, ◌+◌, ◌-◌, Result, Ok, Err}
 use Rattle.wm_decode.specs.declared.fault.Limit.{Limit}
+use Rattle.wm_decode.specs.declared.fault.FaultKind.{FaultKind}
+use Rattle.wm_decode.specs.declared.fault.FaultKind.TheVariants as kind
 
--- the first four bytes, or the next four, are others than a module's; the bytes spell nothing for another reason, or something past a limit
-pub data Stop : Type 0 where
-  other_magic : Stop
-  other_version : Stop
-  bad : Stop
-  past : Limit → Stop
+-- what is wrong, and how many bytes are left from the faulty item's first byte on
+pub record Stop : Type 0 where
+  pub kind : FaultKind
+  pub left : ℕ
+
+abbrev pub stop : FaultKind → ℕ → Stop
+stop kind left = record { kind = kind; left = left }
+
+-- the bytes end too early
+abbrev pub ended : Stop
+ended = stop kind.Truncated 0
+
+-- this limit is passed
+abbrev pub past : Limit → ℕ → Stop
+past limit left = stop (kind.Limit limit) left
+
+-- what runs past the end of a section or body has the wrong size
+abbrev pub inner_kind : FaultKind → FaultKind
+inner_kind kind.Truncated = kind.SectionSize
+inner_kind k = k
+
+-- a stop in a section or body, behind which so many bytes are
+abbrev pub before : ℕ → Stop → Stop
+before after s = stop (inner_kind s.kind) (s.left + after)
+
+-- a stop in an item that is faulted as a whole, from whose first byte on so many bytes are left
+abbrev pub moved : ℕ → Stop → Stop
+moved left s = stop s.kind left
+
+-- with the stop changed, if reading stops
+abbrev pub map_stop : {A : Type 0} → (Stop → Stop) → Result A Stop → Result A Stop
+map_stop f (Ok x) = Ok x
+map_stop f (Err s) = Err (f s)
+
+-- where the faulty item begins in so many bytes; bytes that end too early are faulted at their end
+abbrev pub offset_in : ℕ → FaultKind → ℕ → ℕ
+offset_in bytes kind.Truncated left = bytes
+offset_in bytes k left = bytes - left

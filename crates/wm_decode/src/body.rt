@@ -1,9 +1,9 @@
 //! Instructions and their blocks (Core 1.0, section 5.4; threads proposal, "Atomic Memory Instructions").
 ghost use Rattle.std.specs.Prelude.{◌≡◌, ◌<◌, OnOk};
-ghost use Rattle.wm_decode.specs.Stop.{bad};
-ghost use Rattle.wm_decode.specs.Implements.{Implements, stop_of};
+ghost use Rattle.wm_decode.specs.Faults.{block_type_fault, atomic_fault, opcode_fault};
+ghost use Rattle.wm_decode.specs.Implements.{Implements};
 ghost use Rattle.wm_decode.specs.Instructions.{indexed_instr};
-ghost use Rattle.wm_decode.specs.ReadingInstructions.{block_type_at, opened_at, access_at, immediates_at, plain_at, blocks_at};
+ghost use Rattle.wm_decode.specs.ReadingInstructions.{block_type_at, opened_at, access_at, atomic_access_at, immediates_at, plain_at, blocks_at};
 ghost use Rattle.wm_decode.specs.InstructionsRead.{ReadsBlock, ReadsClosed, ReadsInstr, ReadsInstrs};
 
 use crate::fault::{FaultKind, Feature, ItemFault, Limit};
@@ -26,7 +26,7 @@ type Blocks = Vec<Block>;
 
 /// Why a byte is no block type.
 fn block_type_fault(byte: u8) -> FaultKind
-    ensures { stop_of result ≡ bad }
+    ensures { result ≡ block_type_fault byte }
 {
     match byte {
         0x00..=0x3F | 0x80..=0xFF => FaultKind::Unsupported(Feature::MultiValue),
@@ -78,7 +78,7 @@ fn access(kind: AccessKind, bytes: &[u8]) -> Result<(Instr, &[u8]), ItemFault>
 
 /// Why a code after the prefix `FE` is none of an access.
 fn atomic_fault(code: u32) -> FaultKind
-    ensures { stop_of result ≡ bad }
+    ensures { result ≡ atomic_fault code }
 {
     match code {
         0x00 => FaultKind::Unsupported(Feature::Notify),
@@ -90,9 +90,9 @@ fn atomic_fault(code: u32) -> FaultKind
 }
 
 /// Reads the rest of an atomic access, after its prefix, at which its code is faulted.
-#[tactic(auto, unfolding(crate::specs::ReadingInstructions::immediates_at))]
+#[tactic(auto, unfolding(crate::specs::ReadingInstructions::atomic_access_at))]
 fn atomic(bytes: &[u8]) -> Result<(Instr, &[u8]), ItemFault>
-    ensures { Implements (λ x. (x.0, x.1.now)) result (immediates_at Opcode.Atomic bytes.now) }
+    ensures { Implements (λ x. (x.0, x.1.now)) result (atomic_access_at bytes.now) }
 {
     let prefix = bytes.len().saturating_add(1);
     let (code, rest) = match unsigned_32(bytes) {
@@ -141,7 +141,7 @@ fn immediates(alloc: Global, opcode: Opcode, bytes: &[u8]) -> Result<(Instr, &[u
 
 /// Why a byte is no opcode.
 fn opcode_fault(code: u8) -> FaultKind
-    ensures { stop_of result ≡ bad }
+    ensures { result ≡ opcode_fault code }
 {
     let feature = match code {
         0x06..=0x0A | 0x12 | 0x13 | 0x18 | 0x19 | 0x1F => Feature::Reserved,

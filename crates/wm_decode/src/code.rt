@@ -1,11 +1,13 @@
 //! Functions (Core 1.0, section 5.5.13).
-ghost use Rattle.std.specs.Prelude.{◌≡◌, ◌++◌, [], OnOk};
+ghost use Rattle.std.specs.Prelude.{◌≡◌, ◌++◌, [], length, OnOk};
 ghost use Rattle.wm_decode.specs.Bounds.{profile};
 ghost use Rattle.wm_decode.specs.Implements.{Implements};
 ghost use Rattle.wm_decode.specs.Parts.{locals_of};
 ghost use Rattle.wm_decode.specs.Module.{params_of};
-ghost use Rattle.wm_decode.specs.ReadingVectors.{byte_vector_at, sized_at, more_at};
-ghost use Rattle.wm_decode.specs.ReadingParts.{local_entry_at, local_step, locals_at, function_at, body_at, more_functions_at, code_at};
+ghost use Rattle.wm_decode.specs.declared.fault.FaultKind.TheVariants.{SectionSize};
+ghost use Rattle.wm_decode.specs.Stop.{stop};
+ghost use Rattle.wm_decode.specs.ReadingVectors.{filled_at, own_bytes_at, more_at};
+ghost use Rattle.wm_decode.specs.ReadingParts.{local_entry_at, local_step, locals_at, function_at, sized_function_at, more_functions_at, code_at};
 
 use crate::body::blocks;
 use crate::bounds::{MAX_LOCALS, MAX_NESTING};
@@ -95,9 +97,9 @@ fn parameters(types: &[FuncType], type_index: u32) -> usize
 }
 
 /// Splits off as many bytes as are said before them, all of which stand in the section.
-#[tactic(auto, unfolding(crate::specs::ReadingVectors::byte_vector_at))]
+#[tactic(auto, unfolding(crate::specs::ReadingVectors::own_bytes_at))]
 fn own_bytes(bytes: &[u8]) -> Result<(&[u8], &[u8]), ItemFault>
-    ensures { Implements (λ x. (x.0.now, x.1.now)) result (byte_vector_at bytes.now) }
+    ensures { Implements (λ x. (x.0.now, x.1.now)) result (own_bytes_at (stop SectionSize (length bytes.now)) bytes.now) }
 {
     let (size, rest) = unsigned_32(bytes)?;
     let size = size as usize;
@@ -108,14 +110,14 @@ fn own_bytes(bytes: &[u8]) -> Result<(&[u8], &[u8]), ItemFault>
 }
 
 /// Reads a function of the type of this index, with its size.
-#[tactic(auto, unfolding(crate::specs::ReadingVectors::sized_at, crate::specs::ReadingParts::body_at))]
+#[tactic(auto, unfolding(crate::specs::ReadingVectors::filled_at, crate::specs::ReadingParts::sized_function_at))]
 fn sized_function<'a>(
     alloc: Global,
     types: &[FuncType],
     type_index: u32,
     bytes: &'a [u8],
 ) -> Result<(Func, &'a [u8]), ItemFault>
-    ensures { Implements (λ x. (x.0, x.1.now)) result (sized_at (body_at profile types.now type_index) bytes.now) }
+    ensures { Implements (λ x. (x.0, x.1.now)) result (sized_function_at profile types.now type_index bytes.now) }
 {
     let (inner, after) = own_bytes(bytes)?;
     let parameters = parameters(types, type_index);
@@ -124,7 +126,7 @@ fn sized_function<'a>(
     }
     let (function, left) = match function(alloc, MAX_LOCALS - parameters, type_index, inner) {
         Ok(found) => found,
-        Err(fault) => return Err(fault.inside(after.len())),
+        Err(fault) => return Err(fault.before(after.len())),
     };
     if !left.is_empty() {
         return Err(ItemFault::WithLeft(
@@ -154,6 +156,23 @@ fn functions<'a>(
     Ok((found, rest))
 }
 
+/// Reads a vector of functions of the types of these indices.
+#[tactic(auto, unfolding(crate::specs::ReadingParts::code_at))]
+fn function_vector<'a>(
+    alloc: Global,
+    types: &[FuncType],
+    indices: &[u32],
+    bytes: &'a [u8],
+) -> Result<(List<Func>, &'a [u8]), ItemFault>
+    ensures { Implements (λ x. (x.0, x.1.now)) result (code_at profile types.now indices.now bytes.now) }
+{
+    let (count, rest) = unsigned_32(bytes)?;
+    if count as usize != indices.len() {
+        return Err(ItemFault::WithLeft(FaultKind::CountMismatch, bytes.len()));
+    }
+    functions(alloc, types, indices, rest)
+}
+
 /// The functions of a module, with what is before them.
 #[derive(Drop)]
 pub(crate) struct Code<'c> {
@@ -166,16 +185,11 @@ impl Content for Code<'_> {
 
     ghost content_at = { λ context. code_at profile context.types.now context.indices.now };
 
-    #[tactic(auto, unfolding(crate::specs::ReadingParts::code_at))]
     fn read<'a>(
         &self,
         alloc: Global,
         bytes: &'a [u8],
     ) -> Result<(List<Func>, &'a [u8]), ItemFault> {
-        let (count, rest) = unsigned_32(bytes)?;
-        if count as usize != self.indices.len() {
-            return Err(ItemFault::WithLeft(FaultKind::CountMismatch, bytes.len()));
-        }
-        functions(alloc, self.types, self.indices, rest)
+        function_vector(alloc, self.types, self.indices, bytes)
     }
 }

@@ -54,11 +54,18 @@ impl Content for ExportNames {
 
     ghost content_at = { λ _. exports_at };
 
-    #[tactic(auto, unfolding(crate::specs::ReadingParts::exports_at))]
     fn read<'a>(&self, alloc: Global, bytes: &'a [u8]) -> Result<(Exports, &'a [u8]), ItemFault> {
-        let (count, rest) = unsigned_32(bytes)?;
-        more_exports(alloc, count, rest)
+        export_vector(alloc, bytes)
     }
+}
+
+/// Reads a vector of exports.
+#[tactic(auto, unfolding(crate::specs::ReadingParts::exports_at))]
+fn export_vector(alloc: Global, bytes: &[u8]) -> Result<(Exports, &[u8]), ItemFault>
+    ensures { Implements (λ x. (x.0, x.1.now)) result (exports_at bytes.now) }
+{
+    let (count, rest) = unsigned_32(bytes)?;
+    more_exports(alloc, count, rest)
 }
 
 /// Reads this number of exports.

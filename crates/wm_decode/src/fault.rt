@@ -1,5 +1,6 @@
 //! Why bytes aren't a module within the limits.
 ghost use Rattle.std.specs.Prelude.{◌≡◌, Some};
+ghost use Rattle.wm_decode.specs.Stop.{inner_kind};
 ghost use Rattle.wm_decode.specs.Texts.{fault_text, feature_text, kind_text, limit_text};
 ghost use Rattle.wm_decode.specs.declared.fault.ItemFault.TheVariants.{OutOfMemory};
 
@@ -110,12 +111,23 @@ impl<T: Drop> From<AllocFailed<T>> for ItemFault {
     }
 }
 
+/// What is wrong where a part ends in a section or body: what runs past the end there has the wrong size.
+fn inner_kind(kind: FaultKind) -> FaultKind
+    ensures { result ≡ inner_kind kind }
+{
+    match kind {
+        FaultKind::Truncated => FaultKind::SectionSize,
+        other => other,
+    }
+}
+
 impl ItemFault {
-    ghost use Rattle.wm_decode.specs.Implements.{IsWithin, SameStop, SameFault};
+    ghost use Rattle.wm_decode.specs.Stop.{before, moved};
+    ghost use Rattle.wm_decode.specs.Implements.{HasRoom, IsWithin, in_module, map_fault};
 
     /// The fault at a byte from which `left` bytes are left.
     pub(crate) fn at(self, left: usize) -> ItemFault
-        ensures { SameStop self result }
+        ensures { result ≡ map_fault (moved left) self }
     {
         match self {
             ItemFault::OutOfMemory => ItemFault::OutOfMemory,
@@ -123,35 +135,22 @@ impl ItemFault {
         }
     }
 
-    /// The fault as the bytes around the part see it, of which `after` follow the part.
+    /// The fault as the bytes around a section or body see it, of which `after` follow it.
     pub(crate) fn before(self, after: usize) -> ItemFault
-        ensures { SameStop self result }
+        ensures { HasRoom after self → result ≡ map_fault (before after) self }
     {
         match self {
             ItemFault::OutOfMemory => ItemFault::OutOfMemory,
             ItemFault::WithLeft(kind, left) => ItemFault::WithLeft(
-                kind,
+                inner_kind(kind),
                 left.saturating_add(after),
             ),
         }
     }
 
-    /// The fault as the bytes around a section's content see it, of which `after` follow the section:
-    /// what runs past the section's end has the wrong size.
-    pub(crate) fn inside(self, after: usize) -> ItemFault
-        ensures { SameStop self result }
-    {
-        match self {
-            ItemFault::WithLeft(FaultKind::Truncated, left) => {
-                ItemFault::WithLeft(FaultKind::SectionSize, left.saturating_add(after))
-            }
-            other => other.before(after),
-        }
-    }
-
     /// The fault with its offset in `bytes` bytes: bytes that end too early are faulted at their end.
     pub(crate) fn in_module(self, bytes: usize) -> DecodeFault
-        ensures same { SameFault self result }
+        ensures same { result ≡ in_module bytes self }
         ensures within { IsWithin bytes result }
     {
         match self {

@@ -1,9 +1,9 @@
 //! The section of imports (Core 1.0, section 5.5.5): at most the one memory.
 ghost use Rattle.std.specs.Prelude.{◌≡◌};
-ghost use Rattle.wm_decode.specs.Stop.{bad};
+ghost use Rattle.wm_decode.specs.Faults.{import_kind_fault};
 ghost use Rattle.wm_decode.specs.Bounds.{profile};
-ghost use Rattle.wm_decode.specs.Implements.{Implements, IsNoLimit, stop_of};
-ghost use Rattle.wm_decode.specs.ReadingParts.{import_at, imports_at};
+ghost use Rattle.wm_decode.specs.Implements.{Fails, Implements};
+ghost use Rattle.wm_decode.specs.ReadingParts.{import_at, imports_at, second_import_at};
 
 use crate::fault::{FaultKind, Feature, ItemFault};
 use crate::number::unsigned_32;
@@ -15,7 +15,7 @@ use wm_ast::{ImportName, Memory};
 
 /// Why a byte is no kind of an import that is read.
 fn import_kind_fault(byte: u8) -> FaultKind
-    ensures { stop_of result ≡ bad }
+    ensures { result ≡ import_kind_fault byte }
 {
     match byte {
         0x00 | 0x01 | 0x03 => FaultKind::Unsupported(Feature::Import),
@@ -41,8 +41,9 @@ fn import(alloc: Global, bytes: &[u8]) -> Result<(Memory, &[u8]), ItemFault>
 }
 
 /// Why an import after a memory can't be read: a second memory is one too many.
+#[tactic(auto, unfolding(crate::specs::ReadingParts::second_import_at))]
 fn second_import_fault(bytes: &[u8]) -> ItemFault
-    ensures { IsNoLimit result }
+    ensures { Fails result (second_import_at bytes.now) }
 {
     let rest = match name(bytes) {
         Ok((_, rest)) => rest,
@@ -71,20 +72,27 @@ impl Content for Imports {
 
     ghost content_at = { λ _. imports_at profile };
 
-    #[tactic(auto, unfolding(crate::specs::ReadingParts::imports_at))]
     fn read<'a>(
         &self,
         alloc: Global,
         bytes: &'a [u8],
     ) -> Result<(Option<Memory>, &'a [u8]), ItemFault> {
-        let (count, rest) = unsigned_32(bytes)?;
-        if count == 0 {
-            return Ok((None, rest));
-        }
-        let (memory, rest) = import(alloc, rest)?;
-        if count != 1 {
-            return Err(second_import_fault(rest));
-        }
-        Ok((Some(memory), rest))
+        at_most_one_import(alloc, bytes)
     }
+}
+
+/// Reads at most one import.
+#[tactic(auto, unfolding(crate::specs::ReadingParts::imports_at))]
+fn at_most_one_import(alloc: Global, bytes: &[u8]) -> Result<(Option<Memory>, &[u8]), ItemFault>
+    ensures { Implements (λ x. (x.0, x.1.now)) result (imports_at profile bytes.now) }
+{
+    let (count, rest) = unsigned_32(bytes)?;
+    if count == 0 {
+        return Ok((None, rest));
+    }
+    let (memory, rest) = import(alloc, rest)?;
+    if count != 1 {
+        return Err(second_import_fault(rest));
+    }
+    Ok((Some(memory), rest))
 }

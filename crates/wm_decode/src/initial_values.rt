@@ -1,6 +1,6 @@
 //! Initial values of globals and offsets of data segments (Core 1.0, section 3.3.7).
 ghost use Rattle.wm_decode.specs.Implements.{Implements};
-ghost use Rattle.wm_decode.specs.ReadingParts.{initial_at, byte_at};
+ghost use Rattle.wm_decode.specs.ReadingParts.{end_at, initial_at};
 
 use crate::fault::{FaultKind, Feature, ItemFault};
 use crate::number::{signed_32, signed_64};
@@ -8,7 +8,7 @@ use wm_ast::ConstExpr;
 
 /// Reads the `end` of an initial value.
 fn initial_end(bytes: &[u8]) -> Result<&[u8], ItemFault>
-    ensures { Implements (λ x. x.now) result (byte_at 0x0B bytes.now) }
+    ensures { Implements (λ x. x.now) result (end_at bytes.now) }
 {
     match bytes {
         [] => Err(ItemFault::WithLeft(FaultKind::Truncated, 0)),

@@ -2,9 +2,11 @@
 ghost use Rattle.std.specs.Prelude.{◌≡◌, ℕ, List, length, IfErr, IfOk};
 ghost use Rattle.wm_ast.specs.declared.module.Module.{Module};
 ghost use Rattle.wm_decode.specs.declared.fault.Limit.{Limit};
-ghost use Rattle.wm_decode.specs.Stop.{bad, other_magic, other_version};
+ghost use Rattle.wm_decode.specs.declared.fault.FaultKind.TheVariants.{Magic, Version};
+ghost use Rattle.wm_decode.specs.Stop.{stop};
+ghost use Rattle.wm_decode.specs.Faults.{section_fault};
 ghost use Rattle.wm_decode.specs.Bounds.{profile};
-ghost use Rattle.wm_decode.specs.Implements.{Implements, Decodes, IsUnlessMemory, IsWithin, RefusedBy, stop_of};
+ghost use Rattle.wm_decode.specs.Implements.{Implements, Decodes, IsFaultOf, IsUnlessMemory, IsWithin, RefusedBy};
 ghost use Rattle.wm_decode.specs.Module.{items_of, magic, memory_of, version, SpellsWithin, IsPast, spells};
 ghost use Rattle.wm_decode.specs.ReadingModule.{agreed_module, behind, header_at, one_at, front_at, declared_at, module_at, whole_at};
 
@@ -28,7 +30,7 @@ use wm_list::List;
 /// The bytes after this byte. Another byte is that fault, from which so many bytes are left.
 #[tactic(auto, unfolding(crate::specs::ReadingModule::one_at))]
 fn expect(wanted: u8, other: FaultKind, left: usize, bytes: &[u8]) -> Result<&[u8], ItemFault>
-    ensures { Implements (λ x. x.now) result (one_at (stop_of other) wanted bytes.now) }
+    ensures { Implements (λ x. x.now) result (one_at (stop other left) wanted bytes.now) }
 {
     let [found, rest @ ..] = bytes else {
         return Err(ItemFault::WithLeft(FaultKind::Truncated, 0));
@@ -41,7 +43,7 @@ fn expect(wanted: u8, other: FaultKind, left: usize, bytes: &[u8]) -> Result<&[u
 
 /// Reads the four bytes of a binary module.
 fn read_magic(bytes: &[u8]) -> Result<&[u8], ItemFault>
-    ensures { Implements (λ x. x.now) result (behind other_magic magic bytes.now) }
+    ensures { Implements (λ x. x.now) result (behind (stop Magic (length bytes.now)) magic bytes.now) }
 {
     let left = bytes.len();
     let rest = expect(0x00, FaultKind::Magic, left, bytes)?;
@@ -53,7 +55,7 @@ fn read_magic(bytes: &[u8]) -> Result<&[u8], ItemFault>
 
 /// Reads the four bytes of version 1.
 fn read_version(bytes: &[u8]) -> Result<&[u8], ItemFault>
-    ensures { Implements (λ x. x.now) result (behind other_version version bytes.now) }
+    ensures { Implements (λ x. x.now) result (behind (stop Version (length bytes.now)) version bytes.now) }
 {
     let left = bytes.len();
     let rest = expect(0x01, FaultKind::Version, left, bytes)?;
@@ -176,7 +178,7 @@ fn read_declared(alloc: Global, bytes: &[u8]) -> Result<(Declared, &[u8]), ItemF
 
 /// Why a section can't stand here.
 fn section_fault(id: u8) -> FaultKind
-    ensures { stop_of result ≡ bad }
+    ensures { result ≡ section_fault id }
 {
     match id {
         0x08 => FaultKind::Unsupported(Feature::Start),
@@ -242,6 +244,7 @@ pub(crate) fn read_module(alloc: Global, bytes: &[u8]) -> Result<Module, ItemFau
 #[tactic(auto, unfolding(crate::specs::ReadingModule::whole_at))]
 fn decode_whole(alloc: Global, bytes: &[u8]) -> Result<Module, DecodeFault>
     ensures read { Decodes result (whole_at bytes.now) }
+    ensures fault { IfErr result (IsFaultOf (length bytes.now) (whole_at bytes.now)) }
     ensures offset { IfErr result (IsWithin (length bytes.now)) }
 {
     if bytes.len() > MAX_MODULE_BYTES {
@@ -267,9 +270,11 @@ pub fn decode(alloc: Global, bytes: &[u8]) -> Result<Module, DecodeFault>
     ensures only { (m : Module) → SpellsWithin bytes.now m → IsUnlessMemory result m }
     // Of bytes that spell a module, a limit is named only where they or the module are past it.
     ensures past { (m : Module) (limit : Limit) → spells bytes.now m → RefusedBy limit result → IsPast limit bytes.now m }
-    // Of any bytes, a limit is named only where reading from left to right meets more than it allows, and magic and
-    // version exactly where it meets other bytes.
+    // Of any bytes, a module is answered only where reading from left to right gives it, and a fault, as that of a limit,
+    // is named only where reading stops at it.
     ensures limits { Decodes result (whole_at bytes.now) }
+    // Of any bytes, the offset is that of the item at which reading stops.
+    ensures fault { IfErr result (IsFaultOf (length bytes.now) (whole_at bytes.now)) }
     // The offset lies in the bytes, or at their end.
     ensures offset { IfErr result (IsWithin (length bytes.now)) }
 {

@@ -1,4 +1,6 @@
 //! The sections of tables and of elements, which are read without items (Core 1.0, sections 5.5.7 and 5.5.12).
+ghost use Rattle.std.specs.Prelude.{◌≡◌};
+ghost use Rattle.wm_decode.specs.Implements.{Implements};
 ghost use Rattle.wm_decode.specs.ReadingParts.{no_items_at};
 
 use crate::fault::{FaultKind, Feature, ItemFault};
@@ -15,12 +17,19 @@ impl Content for NoItems {
 
     ghost content_at = { λ _. no_items_at };
 
-    #[tactic(auto, unfolding(crate::specs::ReadingParts::no_items_at))]
     fn read<'a>(&self, _alloc: Global, bytes: &'a [u8]) -> Result<(u32, &'a [u8]), ItemFault> {
-        let (count, rest) = unsigned_32(bytes)?;
-        if count != 0 {
-            return Err(ItemFault::WithLeft(FaultKind::Unsupported(Feature::Table), bytes.len()));
-        }
-        Ok((count, rest))
+        no_items(bytes)
     }
+}
+
+/// Reads a count, which has to be 0.
+#[tactic(auto, unfolding(crate::specs::ReadingParts::no_items_at))]
+fn no_items(bytes: &[u8]) -> Result<(u32, &[u8]), ItemFault>
+    ensures { Implements (λ x. (x.0, x.1.now)) result (no_items_at bytes.now) }
+{
+    let (count, rest) = unsigned_32(bytes)?;
+    if count != 0 {
+        return Err(ItemFault::WithLeft(FaultKind::Unsupported(Feature::Table), bytes.len()));
+    }
+    Ok((count, rest))
 }

@@ -1,40 +1,30 @@
 //! Numbers (Core 1.0, section 5.2.2).
-ghost use Rattle.std.specs.Prelude.{◌≡◌, ◌≢◌, ◌≤◌, ◌-◌, ◌^◌, IfOk};
+ghost use Rattle.std.specs.Prelude.{◌≤◌, ◌-◌, ◌^◌, IfOk, length};
 ghost use Rattle.wm_decode.specs.Numbers.{IsMost};
-ghost use Rattle.wm_decode.specs.Implements.{Implements, stop_of};
-ghost use Rattle.wm_decode.specs.Stop.{bad};
+ghost use Rattle.wm_decode.specs.Implements.{Implements};
 ghost use Rattle.wm_decode.specs.Reading.{Gives, unsigned_at, signed_at};
 
 use crate::fault::{FaultKind, ItemFault};
 
-/// Why a number could not be read.
-#[derive(Clone, Copy, Debug, PartialEq, Eq)]
-enum NumberFault {
-    /// The bytes end within it.
-    Short,
-    /// It is too long or too large.
-    Bad,
-}
-
-/// Reads a number from 0 to `most`.
+/// Reads a number from 0 to `most`, or says what is wrong with it.
 #[tactic(auto, using(crate::proofs::Most::seventh, crate::proofs::Most::seven_more), unfolding(crate::specs::Reading::unsigned_at))]
-fn unsigned(most: u64, bytes: &[u8]) -> Result<(u64, &[u8]), NumberFault>
+fn unsigned(most: u64, bytes: &[u8]) -> Result<(u64, &[u8]), FaultKind>
     requires { IsMost most }
-    ensures exact { Gives (λ x. (x.0, x.1.now)) result (unsigned_at most bytes.now) }
+    ensures exact { Gives (λ x. (x.0, x.1.now)) (length bytes.now) result (unsigned_at most bytes.now) }
     ensures below { IfOk result (λ x. x.0 ≤ most) }
 {
     match bytes {
-        [] => Err(NumberFault::Short),
+        [] => Err(FaultKind::Truncated),
         [first, rest @ ..] => {
             let first = *first as u64;
             if first < 128 {
                 if most < first {
-                    return Err(NumberFault::Bad);
+                    return Err(FaultKind::BadNumber);
                 }
                 return Ok((first, rest));
             }
             if most < 128 {
-                return Err(NumberFault::Bad);
+                return Err(FaultKind::BadNumber);
             }
             let (high, rest) = unsigned(most / 128, rest)?;
             Ok((first - 128 + 128 * high, rest))
@@ -42,48 +32,34 @@ fn unsigned(most: u64, bytes: &[u8]) -> Result<(u64, &[u8]), NumberFault>
     }
 }
 
-/// Reads a number with a sign, as its two's complement.
+/// Reads a number with a sign, as its two's complement, or says what is wrong with it.
 #[tactic(auto, using(crate::proofs::Most::seventh, crate::proofs::Most::seven_more), unfolding(crate::specs::Reading::signed_at))]
-fn signed(most: u64, bytes: &[u8]) -> Result<(u64, &[u8]), NumberFault>
+fn signed(most: u64, bytes: &[u8]) -> Result<(u64, &[u8]), FaultKind>
     requires { IsMost most }
-    ensures exact { Gives (λ x. (x.0, x.1.now)) result (signed_at most bytes.now) }
+    ensures exact { Gives (λ x. (x.0, x.1.now)) (length bytes.now) result (signed_at most bytes.now) }
     ensures below { IfOk result (λ x. x.0 ≤ most) }
 {
     match bytes {
-        [] => Err(NumberFault::Short),
+        [] => Err(FaultKind::Truncated),
         [first, rest @ ..] => {
             let first = *first as u64;
             if first < 64 {
                 if most / 2 < first {
-                    return Err(NumberFault::Bad);
+                    return Err(FaultKind::BadNumber);
                 }
                 return Ok((first, rest));
             }
             if first < 128 {
                 if most / 2 < 127 - first {
-                    return Err(NumberFault::Bad);
+                    return Err(FaultKind::BadNumber);
                 }
                 return Ok((most - (127 - first), rest));
             }
             if most < 128 {
-                return Err(NumberFault::Bad);
+                return Err(FaultKind::BadNumber);
             }
             let (high, rest) = signed(most / 128, rest)?;
             Ok((first - 128 + 128 * high, rest))
-        }
-    }
-}
-
-impl NumberFault {
-    ghost use Rattle.wm_decode.specs.Implements.{IsBad};
-
-    // The fault at the number's first byte, from which `left` bytes are left.
-    fn at(self, left: usize) -> ItemFault
-        ensures { IsBad result }
-    {
-        match self {
-            NumberFault::Short => ItemFault::WithLeft(FaultKind::Truncated, left),
-            NumberFault::Bad => ItemFault::WithLeft(FaultKind::BadNumber, left),
         }
     }
 }
@@ -94,7 +70,7 @@ pub(crate) fn unsigned_32(bytes: &[u8]) -> Result<(u32, &[u8]), ItemFault>
 {
     match unsigned(u32::MAX as u64, bytes) {
         Ok((number, rest)) => Ok((number as u32, rest)),
-        Err(fault) => Err(fault.at(bytes.len())),
+        Err(kind) => Err(ItemFault::WithLeft(kind, bytes.len())),
     }
 }
 
@@ -104,7 +80,7 @@ pub(crate) fn signed_32(bytes: &[u8]) -> Result<(u32, &[u8]), ItemFault>
 {
     match signed(u32::MAX as u64, bytes) {
         Ok((number, rest)) => Ok((number as u32, rest)),
-        Err(fault) => Err(fault.at(bytes.len())),
+        Err(kind) => Err(ItemFault::WithLeft(kind, bytes.len())),
     }
 }
 
@@ -114,6 +90,6 @@ pub(crate) fn signed_64(bytes: &[u8]) -> Result<(u64, &[u8]), ItemFault>
 {
     match signed(u64::MAX, bytes) {
         Ok(found) => Ok(found),
-        Err(fault) => Err(fault.at(bytes.len())),
+        Err(kind) => Err(ItemFault::WithLeft(kind, bytes.len())),
     }
 }

@@ -1,6 +1,6 @@
 //! Sections (Core 1.0, sections 5.5.2 and 5.5.3).
-ghost use Rattle.std.specs.Prelude.{◌≡◌, [], Option};
-ghost use Rattle.wm_decode.specs.Implements.{Implements};
+ghost use Rattle.std.specs.Prelude.{◌≡◌, [], IfErr, Option, length};
+ghost use Rattle.wm_decode.specs.Implements.{Implements, LeftWithin};
 ghost use Rattle.wm_decode.specs.ReadingVectors.{sized_at};
 ghost use Rattle.wm_decode.specs.ReadingModule.{custom_at, customs_in, section_at};
 ghost use Rattle.wm_decode.specs.SectionIds.{id_byte};
@@ -64,11 +64,12 @@ pub(crate) trait Content {
 
     /// Reads the value at the front.
     fn read<'a>(&self, alloc: Global, bytes: &'a [u8]) -> Result<(Self::Value, &'a [u8]), ItemFault>
-        ensures { Implements (λ x. (x.0, x.1.now)) result (content_at self.now bytes.now) };
+        ensures read { Implements (λ x. (x.0, x.1.now)) result (content_at self.now bytes.now) }
+        ensures left { IfErr result (LeftWithin (length bytes.now)) };
 }
 
 /// Reads a size, and a value that takes this number of bytes.
-#[tactic(auto, unfolding(crate::specs::ReadingVectors::sized_at))]
+#[tactic(auto, unfolding(crate::specs::ReadingVectors::sized_at, crate::specs::ReadingVectors::filled_at))]
 fn sized<'a, C: Content>(
     alloc: Global,
     content: &C,
@@ -79,7 +80,7 @@ fn sized<'a, C: Content>(
     let (inner, after) = byte_vector(bytes)?;
     let (value, left) = match content.read(alloc, inner) {
         Ok(found) => found,
-        Err(fault) => return Err(fault.inside(after.len())),
+        Err(fault) => return Err(fault.before(after.len())),
     };
     if !left.is_empty() {
         return Err(ItemFault::WithLeft(
@@ -98,11 +99,18 @@ impl Content for Custom {
 
     ghost content_at = { λ _. custom_at };
 
-    #[tactic(auto, unfolding(crate::specs::ReadingModule::custom_at))]
     fn read<'a>(&self, alloc: Global, bytes: &'a [u8]) -> Result<(Text, &'a [u8]), ItemFault> {
-        let (name, _) = owned_name(alloc, bytes)?;
-        Ok((name, &[]))
+        custom_name(alloc, bytes)
     }
+}
+
+/// Reads the name of a custom section, and skips the rest.
+#[tactic(auto, unfolding(crate::specs::ReadingModule::custom_at))]
+fn custom_name(alloc: Global, bytes: &[u8]) -> Result<(Text, &[u8]), ItemFault>
+    ensures { Implements (λ x. (x.0, x.1.now)) result (custom_at bytes.now) }
+{
+    let (name, _) = owned_name(alloc, bytes)?;
+    Ok((name, &[]))
 }
 
 /// Skips custom sections.

@@ -1,7 +1,7 @@
 //! The section of data segments (Core 1.0, section 5.5.14).
 ghost use Rattle.std.specs.Prelude.{◌≡◌};
-ghost use Rattle.wm_decode.specs.Stop.{bad};
-ghost use Rattle.wm_decode.specs.Implements.{stop_of};
+ghost use Rattle.wm_decode.specs.Faults.{segment_flag_fault};
+ghost use Rattle.wm_decode.specs.Implements.{Implements};
 ghost use Rattle.wm_decode.specs.ReadingParts.{segment_at, segments_at};
 
 use crate::data_count::is_agreed;
@@ -33,7 +33,7 @@ impl Item for DataSegment {
 
 /// Why a byte is no flag of a data segment that is read.
 fn segment_flag_fault(byte: u8) -> FaultKind
-    ensures { stop_of result ≡ bad }
+    ensures { result ≡ segment_flag_fault byte }
 {
     match byte {
         0x01 => FaultKind::Unsupported(Feature::PassiveData),
@@ -53,16 +53,27 @@ impl Content for Segments {
 
     ghost content_at = { λ context. segments_at context.declared };
 
-    #[tactic(auto, unfolding(crate::specs::ReadingParts::segments_at))]
     fn read<'a>(
         &self,
         alloc: Global,
         bytes: &'a [u8],
     ) -> Result<(List<DataSegment>, &'a [u8]), ItemFault> {
-        let (count, rest) = unsigned_32(bytes)?;
-        if !is_agreed(self.declared, count as usize) {
-            return Err(ItemFault::WithLeft(FaultKind::CountMismatch, bytes.len()));
-        }
-        items(alloc, count, rest)
+        segment_vector(alloc, self.declared, bytes)
     }
+}
+
+/// Reads as many data segments as were declared, if they were.
+#[tactic(auto, unfolding(crate::specs::ReadingParts::segments_at))]
+fn segment_vector(
+    alloc: Global,
+    declared: Option<u32>,
+    bytes: &[u8],
+) -> Result<(List<DataSegment>, &[u8]), ItemFault>
+    ensures { Implements (λ x. (x.0, x.1.now)) result (segments_at declared bytes.now) }
+{
+    let (count, rest) = unsigned_32(bytes)?;
+    if !is_agreed(declared, count as usize) {
+        return Err(ItemFault::WithLeft(FaultKind::CountMismatch, bytes.len()));
+    }
+    items(alloc, count, rest)
 }

@@ -1,5 +1,7 @@
 //! The section of functions: the index of the type of each (Core 1.0, section 5.5.6).
+ghost use Rattle.std.specs.Prelude.{◌≡◌};
 ghost use Rattle.wm_decode.specs.Bounds.{profile};
+ghost use Rattle.wm_decode.specs.Implements.{Implements};
 ghost use Rattle.wm_decode.specs.ReadingParts.{indices_at};
 
 use crate::bounds::MAX_FUNCTIONS;
@@ -19,12 +21,19 @@ impl Content for TypeIndices {
 
     ghost content_at = { λ _. indices_at profile };
 
-    #[tactic(auto, unfolding(crate::specs::ReadingParts::indices_at))]
     fn read<'a>(&self, alloc: Global, bytes: &'a [u8]) -> Result<(List<u32>, &'a [u8]), ItemFault> {
-        let (count, rest) = unsigned_32(bytes)?;
-        if count > MAX_FUNCTIONS {
-            return Err(ItemFault::WithLeft(FaultKind::Limit(Limit::Functions), bytes.len()));
-        }
-        items(alloc, count, rest)
+        indices(alloc, bytes)
     }
+}
+
+/// Reads no more type indices than functions are allowed.
+#[tactic(auto, unfolding(crate::specs::ReadingParts::indices_at))]
+fn indices(alloc: Global, bytes: &[u8]) -> Result<(List<u32>, &[u8]), ItemFault>
+    ensures { Implements (λ x. (x.0, x.1.now)) result (indices_at profile bytes.now) }
+{
+    let (count, rest) = unsigned_32(bytes)?;
+    if count > MAX_FUNCTIONS {
+        return Err(ItemFault::WithLeft(FaultKind::Limit(Limit::Functions), bytes.len()));
+    }
+    items(alloc, count, rest)
 }

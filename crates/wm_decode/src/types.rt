@@ -1,8 +1,8 @@
 //! Types (Core 1.0, section 5.3; threads proposal, "Limits").
 ghost use Rattle.std.specs.Prelude.{◌≡◌};
-ghost use Rattle.wm_decode.specs.Stop.{bad};
+ghost use Rattle.wm_decode.specs.Faults.{value_type_fault};
 ghost use Rattle.wm_decode.specs.Bounds.{profile};
-ghost use Rattle.wm_decode.specs.Implements.{Implements, stop_of};
+ghost use Rattle.wm_decode.specs.Implements.{Implements};
 ghost use Rattle.wm_decode.specs.ReadingInstructions.{value_type_at};
 ghost use Rattle.wm_decode.specs.ReadingParts.{func_type_at, result_at, limits_at};
 
@@ -15,7 +15,7 @@ use wm_ast::{FuncType, Limits, ValType};
 
 /// Why a byte is no value type.
 pub(crate) fn value_type_fault(byte: u8) -> FaultKind
-    ensures { stop_of result ≡ bad }
+    ensures { result ≡ value_type_fault byte }
 {
     match byte {
         0x7D | 0x7C => FaultKind::Unsupported(Feature::Floats),

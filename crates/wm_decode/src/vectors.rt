@@ -60,7 +60,7 @@ pub(crate) fn vector<T: Item>(alloc: Global, bytes: &[u8]) -> Result<(List<T>, &
 }
 
 /// Reads a vector of bytes. Missing ones are faulted where the first of them would stand.
-#[tactic(auto, unfolding(crate::specs::ReadingVectors::byte_vector_at))]
+#[tactic(auto, unfolding(crate::specs::ReadingVectors::own_bytes_at))]
 pub(crate) fn byte_vector(bytes: &[u8]) -> Result<(&[u8], &[u8]), ItemFault>
     ensures { Implements (λ x. (x.0.now, x.1.now)) result (byte_vector_at bytes.now) }
 {
