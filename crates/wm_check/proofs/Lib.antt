@@ -1,6 +1,7 @@
 pub mod Invalid
 pub mod Alone
 pub mod FirstFaults
+pub mod SameRefusal
 pub mod SameVerdict
 pub mod CompletedFits
 pub mod Candidates

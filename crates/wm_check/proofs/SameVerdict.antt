@@ -4,6 +4,7 @@ use Rattle.std.specs.Prelude.{◌≢◌, slice_get}
 use Rattle.std.proofs.lemmas.Bool.{cases_lt}
 use Rattle.std.proofs.lemmas.Option.{same_Some}
 use Rattle.wm_ast.specs.declared.module.Module.{Module}
+use Rattle.wm_decode.specs.declared.fault.DecodeFault.{DecodeFault}
 use Rattle.wm_event.specs.declared.log.ThreadLog.{ThreadLog}
 use Rattle.wm_event.specs.declared.rule.RuleFault.{RuleFault}
 use Rattle.wm_event.specs.declared.shape_fault.ShapeFault.{ShapeFault}
@@ -11,6 +12,7 @@ use Rattle.wm_event.specs.Faults.{Breaks, rank}
 use Rattle.wm_event.specs.First.{IsFirst}
 use Rattle.wm_event.specs.LoggedRun.{LoggedRun, execution}
 use Rattle.wm_event.specs.Shape.{Misshapes, shape_rank}
+use Rattle.wm_logfile.specs.declared.fault.DocFault.{DocFault}
 use Rattle.wm_machine.specs.declared.fault.StartFault.{StartFault}
 use Rattle.wm_machine.specs.Term.{Config}
 use Rattle.wm_replay.specs.declared.answer.Place.{Place}
@@ -29,9 +31,10 @@ use Rattle.wm_check.specs.declared.verdict.Verdict.TheVariants.{Allowed, Refused
 use Rattle.wm_check.specs.Alone.{IsPermitted}
 use Rattle.wm_check.specs.Run.{IsCandidateOf, IsModuleOf}
 use Rattle.wm_check.specs.SameVerdict.{IsExact, part_of, status_of, thread_of}
-use Rattle.wm_check.specs.Verdicts.{IsAllowed, IsBrokenBy, IsForbidden, IsInvalid, IsMisshapen, IsNoRun, IsRefusedFor, Says}
+use Rattle.wm_check.specs.Verdicts.{IsAllowed, IsBrokenBy, IsForbidden, IsInvalid, IsMisshapen, IsNoModule, IsNoRun, IsRefusedFor, Says}
 use Rattle.wm_check.proofs.Alone.{AreSpelledOnce, counted, no_replay_fault, none_broken, none_refused, one_module, one_run}
 use Rattle.wm_check.proofs.FirstFaults.{one_rule_fault, one_shape_fault}
+use Rattle.wm_check.proofs.SameRefusal.{same_decode, same_document}
 
 -- ---- what a verdict rests on
 
@@ -183,6 +186,18 @@ module _ (once : AreSpelledOnce) (mb db : List ℕ) where
       let same = one_run once mb db first.«module» second.«module» first.run second.run first.candidate.is_run second.candidate.is_run in
       one_rule_fault second.run second.candidate.shape f g (subst (λ (r : LoggedRun). IsFirst (rank (execution r)) (Breaks (execution r)) f) same.1 first.first) second.first
 
+  exact_decode : (f : DecodeFault) (other : Refusal) → IsNoModule mb f → IsRefusedFor mb db other → refusal.Decode f ≡ other
+  exact_decode f (refusal.Decode g) first second = ap (λ h. refusal.Decode h) (same_decode mb f g first second)
+  exact_decode f (refusal.Valid g) first second = absurd (first.no_module second.«module» second.spelled)
+  exact_decode f (refusal.Document g) first second = absurd (not_decode once mb db f second.0.0 first second.0.1)
+  exact_decode f (refusal.Shape g) first second = absurd (not_decode once mb db f second.«module» first second.is_run.modules)
+
+  exact_document : (f : DocFault) (other : Refusal) → IsRefusedFor mb db (refusal.Document f) → IsRefusedFor mb db other → refusal.Document f ≡ other
+  exact_document f (refusal.Decode g) first second = absurd (not_decode once mb db g first.0.0 second first.0.1)
+  exact_document f (refusal.Valid g) first second = absurd (not_valid once mb db g first.0.0 second first.0.1)
+  exact_document f (refusal.Document g) first second = ap (λ h. refusal.Document h) (same_document db f g first.1 second.1)
+  exact_document f (refusal.Shape g) first second = absurd (first.1.no_document second.run.log second.run.witness second.is_run.document)
+
   exact_shape : (f : ShapeFault) (other : Refusal) → IsMisshapen mb db f → IsRefusedFor mb db other → refusal.Shape f ≡ other
   exact_shape f (refusal.Decode g) first second = absurd (not_decode once mb db g first.«module» second first.is_run.modules)
   exact_shape f (refusal.Valid g) first second = absurd (not_valid once mb db g first.«module» second first.is_run.modules)
@@ -202,9 +217,13 @@ module _ (once : AreSpelledOnce) (mb db : List ℕ) where
   one_exact (Allowed a) (Allowed b) exact first second = ap (λ c. Allowed c) (same_certificate a b first second)
   one_exact (Allowed a) (Refused r) exact first second = absurd (not_allowed_and_refused once mb db a r first second)
   one_exact (Allowed a) (Broken r) exact first second = absurd (not_allowed_and_broken once mb db a r first second)
-  one_exact (Refused (refusal.Decode f)) other exact first second = absurd exact
+  one_exact (Refused (refusal.Decode f)) (Allowed a) exact first second = absurd (not_allowed_and_refused once mb db a (refusal.Decode f) second first)
+  one_exact (Refused (refusal.Decode f)) (Refused s) exact first second = ap (λ r. Refused r) (exact_decode f s first second)
+  one_exact (Refused (refusal.Decode f)) (Broken s) exact first second = absurd (not_broken_and_refused once mb db s (refusal.Decode f) second first)
   one_exact (Refused (refusal.Valid f)) other exact first second = absurd exact
-  one_exact (Refused (refusal.Document f)) other exact first second = absurd exact
+  one_exact (Refused (refusal.Document f)) (Allowed a) exact first second = absurd (not_allowed_and_refused once mb db a (refusal.Document f) second first)
+  one_exact (Refused (refusal.Document f)) (Refused s) exact first second = ap (λ r. Refused r) (exact_document f s first second)
+  one_exact (Refused (refusal.Document f)) (Broken s) exact first second = absurd (not_broken_and_refused once mb db s (refusal.Document f) second first)
   one_exact (Refused (refusal.Shape f)) (Allowed a) exact first second = absurd (not_allowed_and_refused once mb db a (refusal.Shape f) second first)
   one_exact (Refused (refusal.Shape f)) (Refused s) exact first second = ap (λ r. Refused r) (exact_shape f s first second)
   one_exact (Refused (refusal.Shape f)) (Broken s) exact first second = absurd (not_broken_and_refused once mb db s (refusal.Shape f) second first)

@@ -43,9 +43,9 @@ thread_of (Rule fault) = None
 -- the verdict leaves no kind of fault and no place open
 abbrev pub IsExact : Verdict → Type 0
 IsExact (Allowed certificate) = Unit {0}
-IsExact (Refused (Decode fault)) = ⊥
+IsExact (Refused (Decode fault)) = Unit {0}
 IsExact (Refused (Valid fault)) = ⊥
-IsExact (Refused (Document fault)) = ⊥
+IsExact (Refused (Document fault)) = Unit {0}
 IsExact (Refused (Shape fault)) = Unit {0}
 IsExact (Broken (Replay Same)) = ⊥
 IsExact (Broken (Replay (StartRefused thread fault))) = Unit {0}

@@ -4,7 +4,7 @@ use Rattle.wm_ast.specs.declared.module.Module.{Module}
 use Rattle.wm_decode.specs.declared.fault.DecodeFault.{DecodeFault}
 use Rattle.wm_decode.specs.declared.fault.DecodeFault.TheVariants as decode
 use Rattle.wm_decode.specs.declared.fault.Limit.{Limit}
-use Rattle.wm_decode.specs.Implements.{Decodes, RefusedBy}
+use Rattle.wm_decode.specs.Implements.{Decodes, IsFaultOf, RefusedBy}
 use Rattle.wm_decode.specs.Module.{IsPast, SpellsWithin, spells}
 use Rattle.wm_decode.specs.ReadingModule.{whole_at}
 use Rattle.wm_event.specs.declared.rule.Judgement.TheVariants as judgement
@@ -49,11 +49,12 @@ pub record IsAllowed (module_bytes document_bytes : List ℕ) (certificate : Cer
 
 -- ---- refused
 
--- No module is spelled. A limit is named only where reading from left to right meets more than it allows; of bytes that spell a module past
--- the limits, only where they or the module are past it.
+-- No module is spelled. The fault is what reading from left to right stops at, at its offset; of bytes that spell a module past the limits, a
+-- limit is named only where they or the module are past it.
 pub record IsNoModule (bytes : List ℕ) (fault : DecodeFault) : Type 0 where
   pub no_module : («module» : Module) → ¬ SpellsWithin bytes «module»
   pub limits : Decodes {X = Module} (Err fault) (whole_at bytes)
+  pub fault : IsFaultOf {X = Module} (length bytes) (whole_at bytes) fault
   pub past : («module» : Module) (limit : Limit) → spells bytes «module» → RefusedBy {X = Module} limit (Err fault) → IsPast limit bytes «module»
   pub no_want : fault ≢ decode.OutOfMemory
 

@@ -18,11 +18,12 @@ pub fn one_verdict()
     one_pair();
 }
 
-/// A verdict is a function of the bytes, but for the kind and the place of what is wrong with bytes that cannot be read, and
-/// for the place where a thread differs from its log. Of any two verdicts on the same bytes:
+/// A verdict is a function of the bytes, but for which rule an invalid module breaks first and where, and for the place where
+/// a thread differs from its log. Of any two verdicts on the same bytes:
 ///
 /// - both are `Allowed`, or both `Refused`, or both `Broken`;
-/// - if one is `Allowed`, or refuses a shape, or names a refused start or a rule, the other is equal to it;
+/// - if one is `Allowed`, or refuses the module's bytes, the document's bytes or a shape, or names a refused start or a rule,
+///   the other is equal to it;
 /// - if both are refusals, both are of the same part: the module's bytes, its rules, the document's bytes, or the shape;
 /// - if both are breaches, both name the same thread, or both name a rule.
 pub fn same_verdict()
