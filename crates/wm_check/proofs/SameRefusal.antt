@@ -26,8 +26,8 @@ pub same_decode : (bytes : List ℕ) (f g : DecodeFault) → IsNoModule bytes f 
 same_decode bytes decode.OutOfMemory g first second = absurd (first.no_want refl)
 same_decode bytes (decode.At k o) decode.OutOfMemory first second = absurd (second.no_want refl)
 same_decode bytes (decode.At k o) (decode.At l p) first second =
-    let a = first.fault in
-    let b = second.fault in
+    let a = first.stops in
+    let b = second.stops in
     let same : stop k a.0 ≡ stop l b.0 = one_stop (whole_at bytes) (stop k a.0) (stop l b.0) a.1 b.1 in
     let kind : k ≡ l = ap (λ (s : Stop). s.kind) same in
     let offset : o ≡ p = a.3 ∙ ap (λ (s : Stop). offset_in (length bytes) s.kind s.left) same ∙ sym b.3 in

@@ -54,7 +54,7 @@ pub record IsAllowed (module_bytes document_bytes : List ℕ) (certificate : Cer
 pub record IsNoModule (bytes : List ℕ) (fault : DecodeFault) : Type 0 where
   pub no_module : («module» : Module) → ¬ SpellsWithin bytes «module»
   pub limits : Decodes {X = Module} (Err fault) (whole_at bytes)
-  pub fault : IsFaultOf {X = Module} (length bytes) (whole_at bytes) fault
+  pub stops : IsFaultOf {X = Module} (length bytes) (whole_at bytes) fault
   pub past : («module» : Module) (limit : Limit) → spells bytes «module» → RefusedBy {X = Module} limit (Err fault) → IsPast limit bytes «module»
   pub no_want : fault ≢ decode.OutOfMemory
 
