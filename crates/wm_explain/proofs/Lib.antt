@@ -1,1 +1,3 @@
 pub mod SiteShapes
+pub mod Unnumbered
+pub mod EventSites
