@@ -1,7 +1,7 @@
 -- The positions and the sites of a log's events, thread by thread.
-use Rattle.std.proofs.Common.{◌≡◌, ℕ, ◌+◌, ◌<◌, ◌≤◌, List, [], ◌∷◌, ◌++◌, length, Option, Some, None, refl, sym, ap, subst, ◌∙◌, inl, inr, length-append, arith}
+use Rattle.std.proofs.Common.{◌≡◌, ℕ, ◌+◌, ◌<◌, ◌≤◌, List, [], ◌∷◌, ◌++◌, length, get_or, Option, Some, None, refl, sym, ap, subst, ◌∙◌, inl, inr, length-append, arith}
 use Rattle.std.specs.Prelude.{IfSome, slice_get, unwrap_or}
-use Rattle.std.proofs.lemmas.Option.{option_and_then_some, same_Some}
+use Rattle.std.proofs.lemmas.Option.{option_and_then_some, same_Some, slice_get-get_or}
 use Rattle.wm_ast.specs.declared.module.Module.{Module}
 use Rattle.wm_event.specs.declared.event.Event.{Event}
 use Rattle.wm_event.specs.declared.event.EventKey.{EventKey}
@@ -14,7 +14,7 @@ use Rattle.wm_races.specs.declared.site.Site.{Site}
 use Rattle.wm_races.specs.Report.{site_in}
 use Rattle.wm_explain.specs.Sites.{ArePositionsOf, ArePositionsIn, AreSitesOf, AreThreadSites, IsSiteAt, IsSiteMade, IsSiteOf, IsSiteOrFirst, first_site, position_in}
 
-one_more : {X : Type 0} (n : ℕ) (xs new : List X) (x : X) → length xs ≡ n → new ≡ xs ++ x ∷ [] → length new ≡ n + 1
+pub one_more : {X : Type 0} (n : ℕ) (xs new : List X) (x : X) → length xs ≡ n → new ≡ xs ++ x ∷ [] → length new ≡ n + 1
 one_more n xs new x count is = ap length is ∙ length-append xs (x ∷ []) ∙ ap (λ (k : ℕ). k + 1) count
 
 pub positions_more : (m : Module) (log : List ThreadLog) (table new : List (List CodePosition)) (n : ℕ) (t : ThreadLog) (positions : List CodePosition) → length table ≡ n → ArePositionsIn m log table
@@ -83,3 +83,11 @@ event_site m table log sites keys each key e site at is =
     same : key_of e ≡ key
     same =
         ap (λ (x : ℕ). record { thread = x; number = e.number }) (keys key e at).0 ∙ ap (λ (x : ℕ). record { thread = key.thread; number = x }) (keys key e at).1
+
+pub all_counted : {X : Type 0} (log items : List ThreadLog) (table : List X) (n : ℕ) → items ≡ log → length items ≤ n → n ≤ length items → length table ≡ n → length table ≡ length log
+all_counted log items table n is past within count = let same : length items ≡ length log = ap length is in omega (arith, same)
+
+-- the event whose key is asked for
+pub event_at : (events items : List Event) (n : ℕ) (d : Event) (key : EventKey) → items ≡ events → n < length items → key ≡ key_of (get_or items n d) → (e : Event) × (slice_get events n ≡ Some e) × (key ≡ key_of e)
+event_at events items n d key is within same =
+    (get_or items n d, subst (λ (xs : List Event). slice_get xs n ≡ Some (get_or items n d)) is (slice_get-get_or items n d within), same)

@@ -7,5 +7,5 @@ abbrev pub invariant-loop-event : goal.invariant-loop-event
 invariant-loop-event l = record {
   count : length l.sites ≡ l.event-index;
   sites : AreThreadSites l.run.map l.run.positions.items l.thread.events l.sites;
-  same : l.run ≡ l.fn.run.now;
+  same : l.run ≡ l.fn.run;
 }
