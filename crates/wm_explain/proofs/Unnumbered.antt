@@ -56,7 +56,7 @@ split {blocks} {stack} (first ∷ ps) p body is q k (below_top {j = j} {k = more
       sum = ap (λ (x : ℕ). j + 1 + x) b.sum ∙ regroup j b.count b.more;
     })
 
-drop_at : (body : List Instr) (k : ℕ) (i : Instr) → slice_get body k ≡ Some i → drop k body ≡ i ∷ drop (k + 1) body
+pub drop_at : (body : List Instr) (k : ℕ) (i : Instr) → slice_get body k ≡ Some i → drop k body ≡ i ∷ drop (k + 1) body
 drop_at body k i is =
     let one : suc k ≡ k + 1 = omega arith in
     drop-cons body k i (slice_get_within body k i is) ∙ ap (λ (x : Instr). x ∷ drop (suc k) body) (get_or_from_slice_get body k i i is) ∙ ap (λ (n : ℕ). i ∷ drop n body) one
