@@ -19,15 +19,14 @@ one_more n xs new x count is = ap length is ∙ length-append xs (x ∷ []) ∙ 
 
 pub positions_more : (m : Module) (log : List ThreadLog) (table new : List (List CodePosition)) (n : ℕ) (t : ThreadLog) (positions : List CodePosition) → length table ≡ n → ArePositionsIn m log table
     → slice_get log n ≡ Some t → ArePositionsOf m n t positions → new ≡ table ++ positions ∷ [] → (length new ≡ n + 1) × ArePositionsIn m log new
-positions_more m log table new n t positions count each is one more =
-    (
-      one_more n table new positions count more,
-      subst (ArePositionsIn m log) (sym more)
+positions_more m log table new n t positions count each is one more = (
+  one_more n table new positions count more,
+  subst (ArePositionsIn m log) (sym more)
       (each_more (λ k found. (u : ThreadLog) → slice_get log k ≡ Some u → ArePositionsOf m k u found) table positions each
       (λ u at.
       let at_n : slice_get log n ≡ Some u = ap (slice_get log) (sym count) ∙ at in
       subst (λ k. ArePositionsOf m k u positions) (sym count) (subst (λ v. ArePositionsOf m n v positions) (same_Some t u (sym is ∙ at_n)) one))),
-    )
+)
 
 -- the sites of the first threads
 abbrev pub AreSitesIn : Module → List (List CodePosition) → List ThreadLog → List (List Site) → Type 0
@@ -35,14 +34,13 @@ AreSitesIn m table log sites = (k : ℕ) (own : List Site) → slice_get sites k
 
 pub sites_more : (m : Module) (table : List (List CodePosition)) (log : List ThreadLog) (sites new : List (List Site)) (n : ℕ) (t : ThreadLog) (own : List Site) → length sites ≡ n → AreSitesIn m table log sites
     → slice_get log n ≡ Some t → AreThreadSites m table t.events own → new ≡ sites ++ own ∷ [] → (length new ≡ n + 1) × AreSitesIn m table log new
-sites_more m table log sites new n t own count each is one more =
-    (
-      one_more n sites new own count more,
-      subst (AreSitesIn m table log) (sym more)
+sites_more m table log sites new n t own count each is one more = (
+  one_more n sites new own count more,
+  subst (AreSitesIn m table log) (sym more)
       (each_more (λ k found. (u : ThreadLog) → slice_get log k ≡ Some u → AreThreadSites m table u.events found) sites own each
       (λ u at.
       let at_n : slice_get log n ≡ Some u = ap (slice_get log) (sym count) ∙ at in subst (λ (v : ThreadLog). AreThreadSites m table v.events own) (same_Some t u (sym is ∙ at_n)) one)),
-    )
+)
 
 pub thread_sites_more : (m : Module) (table : List (List CodePosition)) (events : List Event) (sites new : List Site) (n : ℕ) (e : Event) (site : Site) → length sites ≡ n → AreThreadSites m table events sites
     → slice_get events n ≡ Some e → IsSiteAt m (position_in table (key_of e)) site → new ≡ sites ++ site ∷ [] → AreThreadSites m table events new

@@ -71,6 +71,7 @@ left_behind {blocks} {stack} {q} {k} p body i is at left = either (split (parts 
   where
     opened : drop p.at body ≡ i ∷ drop (p.at + 1) body
     opened = drop_at body p.at i at
+
     either : IsNumberedFrom blocks (next_of p) (parts i) (drop (p.at + 1) body) q k ⊎ Behind blocks (parts i) (drop (p.at + 1) body) stack q k → IsLeft blocks (p ∷ stack) q (1 + k)
     either (inl numbered) = in_top body is (subst (λ (xs : List Instr). IsNumberedFrom blocks p [] xs q (1 + k)) (sym opened) (behind numbered))
     either (inr b) =
@@ -156,8 +157,7 @@ pub numbering_more : (blocks : List (List Instr)) (old new : List (Vec (Option �
 numbering_more blocks old new number stack rest after p body noted left popped is notes passes =
     let on : IsNumberedOn blocks number (p ∷ reverse rest) = subst (IsNumberedOn blocks number) (ap reverse popped ∙ reverse-append rest (p ∷ [])) left in
     let turned : reverse after ≡ behind_of body p ++ reverse rest =
-    ap reverse passes ∙ reverse-append rest (reverse (behind_of body p)) ∙ ap (λ (xs : List BlockPosition). xs ++ reverse rest) (reverse-reverse (behind_of body p)) in
-    (
+    ap reverse passes ∙ reverse-append rest (reverse (behind_of body p)) ∙ ap (λ (xs : List BlockPosition). xs ++ reverse rest) (reverse-reverse (behind_of body p)) in (
       noted_more blocks old new p number noted (top_numbered blocks number p (reverse rest) body is on) notes,
       subst (IsNumberedOn blocks (number + 1)) (sym turned) (left_more blocks number p (reverse rest) body is on),
     )

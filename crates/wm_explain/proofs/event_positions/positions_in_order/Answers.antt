@@ -23,6 +23,6 @@ loop-number-preserved c =
 pub returns : goal.returns
 returns c = record {
   count = all_counted c.args.log.now c.threads-stated-items.result.now c.loop-number.positions.items c.loop-number.number c.threads-stated-items.ensures.value c.loop-number-test.false c.loop-number.auto.number-end
-    c.loop-number.invariant.count;
+      c.loop-number.invariant.count;
   each = c.loop-number.invariant.each;
 }

@@ -37,7 +37,7 @@ loop-thread-preserved c =
     in
     record {
       shape = subst (λ (sites : List (List Site)). map length sites ≡ event_counts (take (n + 1) log)) (sym {A = List (List Site)} c.in_ok-push.ensures.items)
-        (shape_more log c.loop-thread.sites.items n c.thread-item.result c.in_ok-thread_sites.field-0 is c.loop-thread.invariant.shape c.in_ok-thread_sites.ensures.count);
+          (shape_more log c.loop-thread.sites.items n c.thread-item.result c.in_ok-thread_sites.field-0 is c.loop-thread.invariant.shape c.in_ok-thread_sites.ensures.count);
       count = more.0;
       sites = subst (λ (r : RunSites). AreSitesIn r.map r.positions.items log new) (sym c.in_ok-thread_sites.ensures.same) more.1;
       same = c.in_ok-thread_sites.ensures.same ∙ c.loop-thread.invariant.same;
