@@ -1,1 +1,4 @@
 pub mod SiteShapes
+pub mod Unnumbered
+pub mod EventSites
+pub mod NumberingLaws

@@ -1,2 +1,4 @@
 pub mod Compared
+pub mod Numbering
 pub mod Said
+pub mod Sites

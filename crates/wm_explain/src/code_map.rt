@@ -1,8 +1,12 @@
 //! The numbers and the byte offsets of a module's instructions.
+ghost use Rattle.std.specs.Prelude.{◌≡◌, IfOk, IfSome, Some, slice_get};
+ghost use Rattle.wm_explain.specs.Numbering.{number_at};
+ghost use Rattle.wm_explain.specs.Sites.{AreFunctionMaps, IsFunctionMap, IsOpcodeAt, IsSiteOf, PutsMap, in_32_bits};
 
 use crate::module_code::ModuleCode;
 use crate::opcode_numbers::{BlockPosition, OpcodeNumbers, opcode_numbers};
 use std::alloc::{AllocError, Global};
+use std::marker::Model;
 use wm_ast::Module;
 use wm_decode::MAX_MODULE_BYTES;
 use wm_machine::CodePosition;
@@ -88,14 +92,44 @@ struct FunctionMap {
 
 impl FunctionMap {
     /// The number of an opcode and where it begins, if it is one of the function.
-    fn opcode(&self, position: BlockPosition) -> Option<(usize, usize)> {
+    fn opcode(&self, position: BlockPosition) -> Option<(usize, usize)>
+        ensures { IfSome result (λ found. number_at self.now.numbers position ≡ Some found.0) }
+    {
         let number = self.numbers.at(position)?;
         let offset = self.offsets.get(number).copied()?;
         Some((number, offset))
     }
 }
 
-/// The instructions of a module by their positions. Each function is read when its first position is asked for.
+/// No function read yet.
+fn unread(alloc: Global, module: &Module) -> Result<Vec<Option<FunctionMap>>, AllocError>
+    ensures { IfOk result (λ maps. AreFunctionMaps «module».now maps.items) }
+{
+    let mut functions = Vec::new(alloc);
+    for _func in module.funcs.as_slice() {
+        functions.push(None)?;
+    }
+    Ok(functions)
+}
+
+/// Puts down what a function is read as.
+fn put(functions: &mut Vec<Option<FunctionMap>>, function: usize, read: Option<FunctionMap>)
+    ensures { PutsMap functions.old.items functions.new.items function read }
+{
+    if let Some(place) = functions.get_mut(function) {
+        *place = read;
+    }
+}
+
+/// A number, or the greatest of 32 bits.
+fn in_32_bits(number: usize) -> u32
+    ensures { result ≡ in_32_bits number }
+{
+    u32::try_from(number).unwrap_or(u32::MAX)
+}
+
+/// The instructions of a module by their positions. Each function is read when its first position is asked for. Contracts see
+/// it as the module.
 #[derive(Drop)]
 pub(crate) struct CodeMap<'m> {
     alloc: Global,
@@ -106,20 +140,30 @@ pub(crate) struct CodeMap<'m> {
     functions: Vec<Option<FunctionMap>>,
 }
 
+impl<'m> Model for CodeMap<'m> {
+    ghost use Rattle.wm_ast.specs.declared.module.Module.{Module as Seen};
+    ghost use Rattle.wm_explain.specs.Sites.{AreFunctionMaps};
+
+    ghost Value = { Seen };
+
+    ghost view = { λ map. map.module.now };
+
+    ghost invariant = { λ map. AreFunctionMaps map.module.now map.functions.items };
+}
+
 impl<'m> CodeMap<'m> {
     /// The map of a module.
     ///
     /// # Errors
     ///
     /// Only if an allocation fails.
-    pub(crate) fn new(alloc: Global, code: ModuleCode<'m>) -> Result<Self, AllocError> {
+    pub(crate) fn new(alloc: Global, code: ModuleCode<'m>) -> Result<Self, AllocError>
+        ensures { IfOk result (λ map. map ≡ code.exit.module.now) }
+    {
         let ModuleCode { module, bytes } = code;
         let module = module.module();
         let bodies = body_offsets(alloc, bytes)?;
-        let mut functions = Vec::new(alloc);
-        for _ in module.funcs.as_slice() {
-            functions.push(None)?;
-        }
+        let functions = unread(alloc, module)?;
         Ok(CodeMap {
             alloc,
             module,
@@ -130,7 +174,9 @@ impl<'m> CodeMap<'m> {
     }
 
     /// The opcodes of a function, if the module has it.
-    fn read(&self, function: usize) -> Result<Option<FunctionMap>, AllocError> {
+    fn read(&self, function: usize) -> Result<Option<FunctionMap>, AllocError>
+        ensures { IfOk result (λ found. IfSome found (IsFunctionMap self.now function)) }
+    {
         let (Some(code), Some(body)) = (self.module.funcs.get(function), self.bodies.get(function))
         else {
             return Ok(None);
@@ -141,7 +187,9 @@ impl<'m> CodeMap<'m> {
     }
 
     /// The number of the opcode at a position, and where it begins.
-    fn opcode(&self, position: CodePosition) -> Option<(usize, usize)> {
+    fn opcode(&self, position: CodePosition) -> Option<(usize, usize)>
+        ensures { IfSome result (λ found. IsOpcodeAt self.now position found.0) }
+    {
         let CodePosition { func, block, at } = position;
         match self.functions.get(func) {
             Some(Some(map)) => map.opcode(BlockPosition { block, at }),
@@ -154,21 +202,22 @@ impl<'m> CodeMap<'m> {
     /// # Errors
     ///
     /// Only if an allocation fails.
-    pub(crate) fn site(&mut self, position: CodePosition) -> Result<Option<Site>, AllocError> {
+    pub(crate) fn site(&mut self, position: CodePosition) -> Result<Option<Site>, AllocError>
+        ensures site { IfOk result (λ found. IfSome found (IsSiteOf self.old position)) }
+        ensures same { self.new ≡ self.old }
+    {
         let func = position.func;
         if let Some(None) = self.functions.get(func) {
             let read = self.read(func)?;
-            if let Some(place) = self.functions.get_mut(func) {
-                *place = read;
-            }
+            put(&mut self.functions, func, read);
         }
         let Some((instruction, offset)) = self.opcode(position) else {
             return Ok(None);
         };
         Ok(Some(Site {
-            function: u32::try_from(func).unwrap_or(u32::MAX),
-            instruction: u32::try_from(instruction).unwrap_or(u32::MAX),
-            offset: u32::try_from(offset).unwrap_or(u32::MAX),
+            function: in_32_bits(func),
+            instruction: in_32_bits(instruction),
+            offset: in_32_bits(offset),
         }))
     }
 }

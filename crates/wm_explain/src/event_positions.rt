@@ -1,6 +1,7 @@
 //! Where in the code the threads of a log make its events.
-ghost use Rattle.std.specs.Prelude.{◌<◌, length};
+ghost use Rattle.std.specs.Prelude.{◌<◌, IfOk, length};
 ghost use Rattle.wm_event.specs.Log.{HasKeys};
+ghost use Rattle.wm_explain.specs.Sites.{AreLogPositions, ArePositionsOf};
 ghost use Rattle.wm_replay.specs.Following.{HasPlaces};
 
 use std::alloc::{AllocError, Global};
@@ -23,6 +24,7 @@ fn positions_of(
     number: usize,
 ) -> Result<List<CodePosition>, AllocError>
     requires { HasPlaces number stated.now.events }
+    ensures { IfOk result (ArePositionsOf «module».now number stated.now) }
 {
     match follow(alloc, module, stated, number, stated.steps)? {
         Ok(followed) => Ok(followed.positions),
@@ -39,7 +41,9 @@ pub(crate) fn positions_in_order(
     alloc: Global,
     module: &ValidModule,
     log: &Log,
-) -> Result<Vec<List<CodePosition>>, AllocError> {
+) -> Result<Vec<List<CodePosition>>, AllocError>
+    ensures { IfOk result (λ table. AreLogPositions «module».now log.now table.items) }
+{
     let mut positions = Vec::new(alloc);
     for (number, stated) in log.threads().iter().enumerate() {
         positions.push(positions_of(alloc, module, stated, number)?)?;

@@ -1,4 +1,6 @@
 //! The numbers of a function's opcodes in the order of the text.
+ghost use Rattle.std.specs.Prelude.{◌≡◌, ◌++◌, IfOk, None, reverse};
+ghost use Rattle.wm_explain.specs.Numbering.{AreNumbers, Notes, begins_of, behind_of, number_at, number_in};
 
 use std::alloc::{AllocError, Global};
 use wm_ast::{Block, Else, Instr};
@@ -12,7 +14,9 @@ pub(crate) struct BlockPosition {
 }
 
 /// Goes into the blocks of an instruction, the first of them on top.
-fn open(blocks: &mut Vec<BlockPosition>, instr: &Instr) -> Result<(), AllocError> {
+fn open(blocks: &mut Vec<BlockPosition>, instr: &Instr) -> Result<(), AllocError>
+    ensures { IfOk result (λ _. blocks.new.items ≡ blocks.old.items ++ reverse (begins_of instr.now)) }
+{
     match instr {
         Instr::Block(_, block) | Instr::Loop(_, block) => {
             blocks.push(BlockPosition {
@@ -42,6 +46,47 @@ fn open(blocks: &mut Vec<BlockPosition>, instr: &Instr) -> Result<(), AllocError
     Ok(())
 }
 
+/// Goes past an instruction of a block, into its own blocks first; past the block's end where there is none.
+fn go_past(
+    open_blocks: &mut Vec<BlockPosition>,
+    here: BlockPosition,
+    block: &Block,
+) -> Result<(), AllocError>
+    ensures { IfOk result (λ _. open_blocks.new.items ≡ open_blocks.old.items ++ reverse (behind_of block.now here)) }
+{
+    let instrs = block.as_slice();
+    if here.at < instrs.len() {
+        open_blocks.push(BlockPosition {
+            block: here.block,
+            at: here.at + 1,
+        })?;
+        open(open_blocks, &instrs[here.at])?;
+    }
+    Ok(())
+}
+
+/// A place for each opcode of the blocks, with no number yet.
+fn no_numbers(alloc: Global, blocks: &[Block]) -> Result<Vec<Vec<Option<usize>>>, AllocError>
+    ensures { IfOk result (λ table. (q : BlockPosition) → number_in table.items q ≡ None) }
+{
+    let mut table = Vec::new(alloc);
+    for block in blocks {
+        table.push(vec![in alloc; None; block.len().saturating_add(1)]?)?;
+    }
+    Ok(table)
+}
+
+/// Notes the number of an opcode.
+fn note(table: &mut Vec<Vec<Option<usize>>>, here: BlockPosition, number: usize)
+    ensures { Notes table.old.items table.new.items here number }
+{
+    if let Some(places) = table.get_mut(here.block) {
+        if let Some(place) = places.get_mut(here.at) {
+            *place = Some(number);
+        }
+    }
+}
+
 /// The opcodes of a function.
 #[derive(Drop)]
 pub(crate) struct OpcodeNumbers {
@@ -53,7 +98,9 @@ pub(crate) struct OpcodeNumbers {
 
 impl OpcodeNumbers {
     /// The number of an instruction of a block, or of the `else` or `end` after it; None if it isn't an opcode of the function.
-    pub(crate) fn at(&self, position: BlockPosition) -> Option<usize> {
+    pub(crate) fn at(&self, position: BlockPosition) -> Option<usize>
+        ensures { result ≡ number_at self.now position }
+    {
         self.numbers.get(position.block)?.get(position.at).copied()?
     }
 }
@@ -64,11 +111,10 @@ impl OpcodeNumbers {
 /// # Errors
 ///
 /// Only if an allocation fails.
-pub(crate) fn opcode_numbers(alloc: Global, blocks: &[Block]) -> Result<OpcodeNumbers, AllocError> {
-    let mut numbers = Vec::new(alloc);
-    for block in blocks {
-        numbers.push(vec![in alloc; None; block.len().saturating_add(1)]?)?;
-    }
+pub(crate) fn opcode_numbers(alloc: Global, blocks: &[Block]) -> Result<OpcodeNumbers, AllocError>
+    ensures { IfOk result (AreNumbers blocks.now) }
+{
+    let mut numbers = no_numbers(alloc, blocks)?;
     let mut open_blocks = Vec::new(alloc);
     open_blocks.push(BlockPosition { block: 0, at: 0 })?;
     for number in 0..MAX_MODULE_BYTES {
@@ -78,21 +124,11 @@ pub(crate) fn opcode_numbers(alloc: Global, blocks: &[Block]) -> Result<OpcodeNu
                 count: number,
             });
         };
-        if let Some(places) = numbers.get_mut(here.block) {
-            if let Some(place) = places.get_mut(here.at) {
-                *place = Some(number);
-            }
-        }
         let Some(block) = blocks.get(here.block) else {
             break;
         };
-        if let Some(instr) = block.get(here.at) {
-            open_blocks.push(BlockPosition {
-                block: here.block,
-                at: here.at.saturating_add(1),
-            })?;
-            open(&mut open_blocks, instr)?;
-        }
+        note(&mut numbers, here, number);
+        go_past(&mut open_blocks, here, block)?;
     }
     Ok(OpcodeNumbers {
         numbers,

@@ -1,5 +1,6 @@
 //! The instructions that make the events of a log.
-ghost use Rattle.std.specs.Prelude.{◌≡◌, IfOk, length};
+ghost use Rattle.std.specs.Prelude.{◌≡◌, IfOk, IfSome, length};
+ghost use Rattle.wm_explain.specs.Sites.{AreEventSites, AreSitesOf, AreThreadSites, IsSiteMade, position_in};
 ghost use Rattle.wm_races.specs.Report.{HasSites};
 
 use crate::code_map::CodeMap;
@@ -30,13 +31,18 @@ impl<'m> RunSites<'m> {
         alloc: Global,
         code: ModuleCode<'m>,
         positions: Vec<List<CodePosition>>,
-    ) -> Result<Self, AllocError> {
+    ) -> Result<Self, AllocError>
+        ensures map { IfOk result (λ run. run.map ≡ code.exit.module.now) }
+        ensures positions { IfOk result (λ run. run.positions.items ≡ positions.items) }
+    {
         let map = CodeMap::new(alloc, code)?;
         Ok(RunSites { map, positions })
     }
 
     /// Where an event is made.
-    fn position(&self, key: EventKey) -> Option<CodePosition> {
+    fn position(&self, key: EventKey) -> Option<CodePosition>
+        ensures { result ≡ position_in self.now.positions.items key }
+    {
         let thread = self.positions.get(key.thread as usize)?;
         thread.get(key.number as usize).copied()
     }
@@ -46,7 +52,10 @@ impl<'m> RunSites<'m> {
     /// # Errors
     ///
     /// Only if an allocation fails.
-    pub(crate) fn site(&mut self, key: EventKey) -> Result<Option<Site>, AllocError> {
+    pub(crate) fn site(&mut self, key: EventKey) -> Result<Option<Site>, AllocError>
+        ensures site { IfOk result (λ found. IfSome found (IsSiteMade self.old.map self.old.positions.items key)) }
+        ensures same { self.new ≡ self.old }
+    {
         match self.position(key) {
             Some(position) => self.map.site(position),
             None => Ok(None),
@@ -67,7 +76,9 @@ fn thread_sites(
     run: &mut RunSites,
     thread: &ThreadLog,
 ) -> Result<List<Site>, AllocError>
-    ensures { IfOk result (λ sites. length sites ≡ length thread.now.events) }
+    ensures count { IfOk result (λ sites. length sites ≡ length thread.now.events) }
+    ensures sites { IfOk result (AreThreadSites run.old.map run.old.positions.items thread.now.events) }
+    ensures same { run.new ≡ run.old }
 {
     let mut sites = List::new(alloc);
     for event in thread.events.as_slice() {
@@ -89,7 +100,8 @@ pub fn event_sites(
     module_bytes: &[u8],
     log: &Log,
 ) -> Result<Vec<List<Site>>, AllocError>
-    ensures { IfOk result (λ sites. HasSites log.now sites.items) }
+    ensures has { IfOk result (λ sites. HasSites log.now sites.items) }
+    ensures sites { IfOk result (λ sites. AreEventSites «module».now log.now sites.items) }
 {
     let code = ModuleCode {
         module,
@@ -116,7 +128,8 @@ pub fn position_sites(
     module_bytes: &[u8],
     positions: &[CodePosition],
 ) -> Result<List<Site>, AllocError>
-    ensures { IfOk result (λ sites. length sites ≡ length positions.now) }
+    ensures count { IfOk result (λ sites. length sites ≡ length positions.now) }
+    ensures sites { IfOk result (AreSitesOf «module».now positions.now) }
 {
     let code = ModuleCode {
         module,
