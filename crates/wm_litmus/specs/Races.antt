@@ -15,6 +15,7 @@ use Rattle.wm_event.specs.LoggedRun.{LoggedRun, execution}
 use Rattle.wm_event.specs.Rules.{IsValid}
 use Rattle.wm_event.specs.Shape.{IsWellShaped, event_count}
 use Rattle.wm_event.specs.Texts.{key_text}
+use Rattle.wm_explain.specs.Sites.{AreEventSites}
 use Rattle.wm_logfile.specs.declared.fault.DocFault.{DocFault}
 use Rattle.wm_logfile.specs.DocumentBytes.{IsDocumentOf, IsNoDocument}
 use Rattle.wm_races.specs.declared.pair.RacingPair.{RacingPair}
@@ -83,10 +84,11 @@ ListsFirst {X} line threads events shown total answer =
 
 -- ---- of a module and a document
 
--- the status and the text list the races of a run, reported by some sites of its events
-pub record ReportsRaces (run : LoggedRun) (certificate : Certificate) (status : ℕ) (text : List ℕ) : Type 0 where
+-- the status and the text list the races of a run, reported by the instructions that make its events
+pub record ReportsRaces («module» : Module) (run : LoggedRun) (certificate : Certificate) (status : ℕ) (text : List ℕ) : Type 0 where
   pub sites : List (List Site)
   pub has_sites : HasSites run.log sites
+  pub of_events : AreEventSites «module» run.log sites
   pub races : List SiteRace
   pub report : IsRaceReport (execution run) sites races
   pub lists : ListsRaces sites_text certificate.threads certificate.events races status text
@@ -99,7 +101,7 @@ IsNotAllowed (Broken breach) = ⊤
 -- the status and the text that answer a module and a document: the races of an allowed run; else the line of the verdict
 pub data AnswersRaces (module_bytes document_bytes : List ℕ) (status : ℕ) (text : List ℕ) : Type 0 where
   listed : («module» : Module) (run : LoggedRun) (certificate : Certificate) → IsCandidateOf module_bytes document_bytes «module» run
-      → Says module_bytes document_bytes (Allowed certificate) → IsValid (execution run) → ReportsRaces run certificate status text
+      → Says module_bytes document_bytes (Allowed certificate) → IsValid (execution run) → ReportsRaces «module» run certificate status text
       → AnswersRaces module_bytes document_bytes status text
   told : (verdict : Verdict) → Says module_bytes document_bytes verdict → IsNotAllowed verdict
       → status ≡ verdict_status verdict → text ≡ ended (verdict_text verdict) → AnswersRaces module_bytes document_bytes status text

@@ -1,5 +1,5 @@
 -- What the command `trace` answers.
-use Rattle.std.specs.Prelude.{◌≡◌, ◌≢◌, ℕ, Bool, true, false, List, [], ◌∷◌, ◌++◌, Option, None, Some, codes, length}
+use Rattle.std.specs.Prelude.{◌≡◌, ◌≢◌, ℕ, Bool, true, false, List, [], ◌∷◌, ◌++◌, Option, None, Some, codes, length, map}
 use Rattle.std.specs.Fmt.{decimal}
 use Rattle.std.specs.List.{flat_map}
 use Rattle.wm_access.specs.AccessWidth.{bytes_of}
@@ -17,6 +17,7 @@ use Rattle.wm_event.specs.Event.{is_atomic, key_of}
 use Rattle.wm_event.specs.Log.{event_in}
 use Rattle.wm_event.specs.Texts.{id_text, key_text}
 use Rattle.wm_event.specs.Witness.{writers_in}
+use Rattle.wm_explain.specs.Sites.{AreSitesOf}
 use Rattle.wm_races.specs.declared.site.Site.{Site}
 use Rattle.wm_run.specs.declared.fault.RunFault.{RunFault}
 use Rattle.wm_run.specs.declared.fault.RunFault.TheVariants.{OutOfMemory}
@@ -119,10 +120,11 @@ trace_text run entries sites = lines_text run entries sites ++ ended (codes "out
 
 -- ---- answers
 
--- the status and the text that show the turns of a run, with an instruction for each
-pub record ShowsTrace (run : Record) (entries : List TracedTurn) (status : ℕ) (text : List ℕ) : Type 0 where
+-- the status and the text that show the turns of a run, each with the instruction before which its thread was
+pub record ShowsTrace («module» : Module) (run : Record) (entries : List TracedTurn) (status : ℕ) (text : List ℕ) : Type 0 where
   pub sites : List Site
   pub count : length sites ≡ length entries
+  pub of_turns : AreSitesOf «module» (map (λ entry. entry.position) entries) sites
   pub status_is : status ≡ 0
   pub text_is : text ≡ trace_text run entries sites
 
@@ -133,7 +135,7 @@ pub data AnswersTrace (module_bytes : List ℕ) (plan : Plan) (turns : List Turn
   refused : («module» : Module) (fault : RunFault) → IsModuleOf module_bytes «module» → fault ≢ OutOfMemory → IsScriptFault «module» plan turns fault
       → status ≡ 2 → text ≡ ended (run_fault_line_text fault) → AnswersTrace module_bytes plan turns status text
   traced : («module» : Module) (run : Record) (entries : List TracedTurn) → IsModuleOf module_bytes «module» → IsScripted «module» plan turns run
-      → IsTraced «module» plan turns run entries → ShowsTrace run entries status text → AnswersTrace module_bytes plan turns status text
+      → IsTraced «module» plan turns run entries → ShowsTrace «module» run entries status text → AnswersTrace module_bytes plan turns status text
 
 -- an answer to a script, whichever bytes spell the module
 abbrev pub TracesOver : Module → Script → Answer → Type 0

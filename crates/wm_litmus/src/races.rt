@@ -173,7 +173,7 @@ fn list_allowed<R: AllocGlobal + Threads + Sync>(
     candidate: &Candidate,
 ) -> Result<Answer, AllocError>
     requires { KeepsOrder (execution candidate.now) }
-    ensures { IfOk result (Gives (ReportsRaces candidate.now certificate)) }
+    ensures { IfOk result (Gives (ReportsRaces «module».now candidate.now certificate)) }
 {
     let sites = event_sites(rt.alloc(), module, module_bytes, candidate.log())?;
     let races = report_of(rt, candidate, sites.as_slice())?;

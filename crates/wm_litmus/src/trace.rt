@@ -1,7 +1,9 @@
 //! The command `trace`: a script is played over a module, and each of its turns is shown.
-ghost use Rattle.std.specs.Prelude.{◌≡◌, IfOk, Some, length, string_bytes};
+ghost use Rattle.std.specs.Prelude.{◌≡◌, IfOk, Some, length, map, string_bytes};
+ghost use Rattle.wm_explain.specs.Sites.{AreSitesOf};
 ghost use Rattle.wm_litmus.specs.Prints.{Gives, ended};
 ghost use Rattle.wm_litmus.specs.Trace.{AnswersTrace, ShowsTrace, TracesOver, before_text, done_text, from_text, ids_text, kind_event_text, keys_text, line_text, lines_text, order_text, pending_text, range_text, rest_text, turn_text};
+ghost use Rattle.wm_run.specs.declared.traced.TracedTurn.{TracedTurn};
 
 use crate::answer::Answer;
 use crate::outcomes::outcome;
@@ -218,7 +220,7 @@ fn turn_lines(
 
 /// Where the threads are before the turns.
 fn positions_of(alloc: Global, entries: &[TracedTurn]) -> Result<Vec<CodePosition>, AllocError>
-    ensures { IfOk result (λ positions. length positions.items ≡ length entries.now) }
+    ensures { IfOk result (λ positions. positions.items ≡ map (λ (entry : TracedTurn). entry.position) entries.now) }
 {
     let mut positions = Vec::new(alloc);
     for entry in entries {
@@ -234,7 +236,8 @@ fn sites_of(
     module_bytes: &[u8],
     entries: &[TracedTurn],
 ) -> Result<List<Site>, AllocError>
-    ensures { IfOk result (λ sites. length sites ≡ length entries.now) }
+    ensures count { IfOk result (λ sites. length sites ≡ length entries.now) }
+    ensures sites { IfOk result (AreSitesOf «module».now (map (λ (entry : TracedTurn). entry.position) entries.now)) }
 {
     let positions = positions_of(alloc, entries)?;
     position_sites(alloc, module, module_bytes, positions.as_slice())
@@ -247,7 +250,7 @@ fn shown(
     module_bytes: &[u8],
     traced: &Trace,
 ) -> Result<Answer, AllocError>
-    ensures { IfOk result (Gives (ShowsTrace traced.now.run traced.now.turns)) }
+    ensures { IfOk result (Gives (ShowsTrace «module».now traced.now.run traced.now.turns)) }
 {
     let entries = traced.turns.as_slice();
     let sites = sites_of(alloc, module, module_bytes, entries)?;

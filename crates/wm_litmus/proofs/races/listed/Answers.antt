@@ -14,7 +14,7 @@ pub returns : goal.returns
 returns g c races first total =
     let line = g.L.RaceLine.text in
     let more : c.saturating_sub.result ≡ length races - 1000 =
-        c.saturating_sub.ensures ∙ ap (λ (n : ℕ). n - length c.args.shown.now) total ∙ left_out c.args.shown.now races first in
+    c.saturating_sub.ensures ∙ ap (λ (n : ℕ). n - length c.args.shown.now) total ∙ left_out c.args.shown.now races first in
     lists_some line c.args.threads c.args.events races (string_bytes c.push_str.new.self) (λ none. c.if-total-eq0.false (total ∙ none))
     (c.in_ok-push_str.ensures.bytes
     ∙ ap₂ (λ a b. a ++ b) (c.in_ok-text-2.ensures ∙ ap (shown_text line) first) (c.as_str.ensures.value ∙ c.in_ok-more.ensures ∙ ap more_text more))

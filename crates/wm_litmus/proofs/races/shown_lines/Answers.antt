@@ -13,7 +13,7 @@ loop-race-preserved g c =
     let line = g.L.RaceLine.text in
     let one : i + 1 ≡ suc i = omega arith in
     let next : take (i + 1) races ≡ take i races ++ (race ∷ []) =
-        ap (λ n. take n races) one ∙ take-suc races i race c.loop-race-test.true ∙ ap (λ r. take i races ++ (r ∷ [])) (sym c.race-item.is) in
+    ap (λ n. take n races) one ∙ take-suc races i race c.loop-race-test.true ∙ ap (λ r. take i races ++ (r ∷ [])) (sym c.race-item.is) in
     subst (λ (xs : List _). string_bytes c.push_str.new.self ≡ shown_text line xs) (sym next)
     (line_added line (take i races) race (string_bytes c.loop-race.text) c.as_str.result.now (string_bytes c.push_str.new.self) c.loop-race.invariant
     (c.as_str.ensures.value ∙ c.in_ok-row.ensures) c.in_ok-push_str.ensures.bytes)
