@@ -74,6 +74,9 @@ module _ (says : List ℕ → LineStatus → List ℕ → Type 0) where
     gains = front_of_whole a b (text_of p.answers) p.gains;
   }
 
+  pub front_of_whole_prints : (lines : List (List ℕ)) (status : LineStatus) (a b : Option (List ℕ)) → Prints says lines status a b → PrintsFront says lines a b
+  front_of_whole_prints lines status a b p = subst (λ all. PrintsFront says all a b) (append-nil lines) (front_of_prints lines [] status a b p)
+
   -- nothing is printed
   pub front_none : (lines : List (List ℕ)) (a : Option (List ℕ)) → PrintsFront says lines a a
   front_none lines a = front_of_prints [] lines Allowed a a (prints_none a)
