@@ -1,13 +1,11 @@
 -- Answers that are printed together.
-use Rattle.std.proofs.Common.{◌≡◌, ℕ, zero, suc, ◌+◌, List, [], ◌∷◌, ◌++◌, Bor, length, map, take, Option, None, Some, Result, Ok, IfOk, string_bytes, refl, sym, ap, ◌∙◌, subst, append_assoc, length-append, arith}
+use Rattle.std.proofs.Common.{◌≡◌, ℕ, suc, ◌+◌, List, [], ◌∷◌, ◌++◌, Bor, length, map, take, Option, Result, Ok, IfOk, string_bytes, refl, sym, ap, ◌∙◌, subst, arith}
 use Rattle.std.specs.Io.KnownBytes.{Appends}
 use Rattle.std.specs.List.{AllZip}
-use Rattle.std.proofs.KnownBytes.{Appends-nil, Appends-trans}
-use Rattle.std.proofs.lemmas.List.{append-nil, map-append, take_all, take-append-le}
+use Rattle.std.proofs.lemmas.List.{append-nil, map-append, take_all}
 use Rattle.wm_stream.specs.declared.answer.LineAnswer.{LineAnswer}
 use Rattle.wm_stream.specs.declared.answer.LineStatus.{LineStatus}
-use Rattle.wm_stream.specs.declared.answer.LineStatus.TheVariants.{Allowed}
-use Rattle.wm_stream.specs.Answers.{Answered, AreAnswers, Joins, Prints, PrintsFront, answered, overall, text_of, worse}
+use Rattle.wm_stream.specs.Answers.{AreAnswers, Joins, Prints, PrintsFront, answered, overall, text_of, worse}
 use Rattle.wm_stream.specs.Output.{AppendsFront}
 use Rattle.wm_stream.proofs.Answering.{overall-append, text-append, worse-allowed}
 

@@ -1,14 +1,12 @@
 -- The answers to the lines of a reader, part by part.
-use Rattle.std.proofs.Common.{◌≡◌, ℕ, zero, suc, ◌+◌, ◌<◌, List, [], ◌∷◌, ◌++◌, Bor, length, map, take, drop, Option, None, Some, IfSome, refl, sym, ap, ◌∙◌, subst, append_assoc, length-append, arith}
+use Rattle.std.proofs.Common.{◌≡◌, ℕ, suc, ◌+◌, ◌<◌, List, [], ◌∷◌, ◌++◌, Bor, length, take, drop, Option, None, Some, IfSome, sym, ap, ◌∙◌, subst, arith}
 use Rattle.std.specs.Io.KnownBytes.{Appends, Consumes, IsAtEnd}
-use Rattle.std.specs.List.{AllZip}
 use Rattle.std.proofs.KnownBytes.{Appends-trans, Consumes-nil, Consumes-trans, Consumes-whole}
 use Rattle.std.proofs.lemmas.List.{append-nil, take-append-le, take_all}
 use Rattle.wm_stream.specs.declared.answer.LineStatus.{LineStatus}
 use Rattle.wm_stream.specs.declared.answer.LineStatus.TheVariants.{Allowed}
 use Rattle.wm_stream.specs.Answers.{Answered, AreAnswers, Prints, PrintsFront, text_of, worse}
 use Rattle.wm_stream.specs.Lines.{AreLines, EndsLine, Splits, SplitsOn, cut_lines, last_line}
-use Rattle.wm_stream.specs.Output.{AppendsFront}
 use Rattle.wm_stream.specs.Stream.{AnswersAll, AnswersFirst, AnswersPart, AnswersPartFirst}
 use Rattle.wm_stream.proofs.Answering.{front_none, front_of_whole_prints, prints_more, prints_none, text-append, zip-append}
 use Rattle.wm_stream.proofs.Printing.{take_past}

@@ -1,10 +1,8 @@
-use Rattle.std.proofs.Common.{◌≡◌, ℕ, ◌<◌, List, [], ◌∷◌, ◌++◌, length, take, map, refl, sym, ap, subst, ◌∙◌, arith}
-use Rattle.std.specs.Io.KnownBytes.{Consumes, IsAtEnd}
+use Rattle.std.proofs.Common.{◌≡◌, ℕ, List, [], length, take, refl, ap, subst, ◌∙◌, arith}
 use Rattle.wm_stream.specs.Answers.{Prints, PrintsFront}
 use Rattle.wm_stream.specs.Lines.{last_line}
 use Rattle.wm_stream.specs.Stream.{AnswersPart, AnswersPartFirst}
 use Rattle.wm_stream.proofs.Answering.{on_err}
-use Rattle.std.proofs.lemmas.List.{take_all}
 use Rattle.wm_stream.proofs.Printing.{texts}
 use Rattle.wm_stream.proofs.Streaming.{answers_all, answers_more, reads_nothing, starts, stops, stops_at_last, stops_within, whole_buffer}
 use Rattle.wm_stream.proofs.stream.answer_lines.Goals as goal

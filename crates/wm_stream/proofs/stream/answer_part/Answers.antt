@@ -1,6 +1,6 @@
-use Rattle.std.proofs.Common.{◌≡◌, ℕ, List, [], ◌∷◌, ◌++◌, Option, take, ap, ◌∙◌, subst}
+use Rattle.std.proofs.Common.{take, subst}
 use Rattle.wm_stream.specs.Answers.{Prints, PrintsFront}
-use Rattle.wm_stream.specs.Lines.{AreLines, EndsLine, SplitsOn}
+use Rattle.wm_stream.specs.Lines.{AreLines, EndsLine}
 use Rattle.wm_stream.proofs.Answering.{front_of_whole_prints, on_err}
 use Rattle.wm_stream.proofs.Printing.{texts}
 use Rattle.wm_stream.proofs.Streaming.{part_lines, part_stops}
