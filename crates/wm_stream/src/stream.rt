@@ -108,14 +108,8 @@ pub fn answer_lines<R: AllocGlobal + Threads + Sync, I: Read, O: Write, J: Answe
             let last = last_line(rt.alloc(), begun.as_slice())?;
             return Ok(status.worse(print_answers(rt, judge, last.as_slice(), out)?));
         }
-        status = status.worse(answer_part(
-            rt,
-            &mut begun,
-            &buffer.as_slice()[..count],
-            out,
-            judge,
-            limit,
-        )?);
+        let part = &buffer.as_slice()[..count];
+        status = status.worse(answer_part(rt, &mut begun, part, out, judge, limit)?);
     }
     Err(StreamFault::Read)
 }
