@@ -1,5 +1,5 @@
 -- The answers to lines that follow other lines.
-use Rattle.std.proofs.Common.{◌≡◌, ℕ, ◌+◌, List, [], ◌∷◌, ◌++◌, length, map, take, Option, None, Some, Bool, true, false, true≢false, IfOk, OnErr, MatchResult, Result, Ok, Err, is_err, refl, sym, ap, ◌∙◌, subst, append_assoc, arith}
+use Rattle.std.proofs.Common.{◌≡◌, ℕ, List, [], ◌∷◌, ◌++◌, length, Option, Bool, true, false, true≢false, OnErr, MatchResult, Result, Ok, Err, is_err, refl, sym, ap, ◌∙◌, subst, append_assoc, arith}
 use Rattle.std.specs.Io.KnownBytes.{Appends}
 use Rattle.std.specs.List.{AllZip}
 use Rattle.std.proofs.KnownBytes.{Appends-nil, Appends-trans}
@@ -7,7 +7,6 @@ use Rattle.std.proofs.lemmas.List.{append-nil, take_all, take-append-le}
 use Rattle.wm_stream.specs.declared.answer.LineStatus.{LineStatus}
 use Rattle.wm_stream.specs.declared.answer.LineStatus.TheVariants.{Allowed, Broken, Refused}
 use Rattle.wm_stream.specs.Answers.{Answered, AreAnswers, Prints, PrintsFront, overall, text_of, worse}
-use Rattle.wm_stream.specs.Output.{AppendsFront}
 use Rattle.wm_stream.proofs.Writing.{front_of_whole}
 
 -- ---- statuses
@@ -73,6 +72,9 @@ module _ (says : List ℕ → LineStatus → List ℕ → Type 0) where
     are_answers = subst (λ first. AreAnswers says first p.answers) (sym (take-append-le (length lines) lines more (omega arith) ∙ take_all (length lines) lines (omega arith))) p.are_answers;
     gains = front_of_whole a b (text_of p.answers) p.gains;
   }
+
+  pub front_of_whole_prints : (lines : List (List ℕ)) (status : LineStatus) (a b : Option (List ℕ)) → Prints says lines status a b → PrintsFront says lines a b
+  front_of_whole_prints lines status a b p = subst (λ all. PrintsFront says all a b) (append-nil lines) (front_of_prints lines [] status a b p)
 
   -- nothing is printed
   pub front_none : (lines : List (List ℕ)) (a : Option (List ℕ)) → PrintsFront says lines a a

@@ -1,19 +1,17 @@
 -- Answers that are printed together.
-use Rattle.std.proofs.Common.{◌≡◌, ℕ, zero, suc, ◌+◌, List, [], ◌∷◌, ◌++◌, Vec, Global, length, map, take, Option, None, Some, Result, Ok, IfOk, string_bytes, refl, sym, ap, ◌∙◌, subst, append_assoc, length-append, arith}
+use Rattle.std.proofs.Common.{◌≡◌, ℕ, suc, ◌+◌, List, [], ◌∷◌, ◌++◌, Bor, length, map, take, Option, Result, Ok, IfOk, string_bytes, refl, sym, ap, ◌∙◌, subst, arith}
 use Rattle.std.specs.Io.KnownBytes.{Appends}
 use Rattle.std.specs.List.{AllZip}
-use Rattle.std.proofs.KnownBytes.{Appends-nil, Appends-trans}
-use Rattle.std.proofs.lemmas.List.{append-nil, map-append, take_all, take-append-le}
+use Rattle.std.proofs.lemmas.List.{append-nil, map-append, take_all}
 use Rattle.wm_stream.specs.declared.answer.LineAnswer.{LineAnswer}
 use Rattle.wm_stream.specs.declared.answer.LineStatus.{LineStatus}
-use Rattle.wm_stream.specs.declared.answer.LineStatus.TheVariants.{Allowed}
-use Rattle.wm_stream.specs.Answers.{Answered, AreAnswers, Joins, Prints, PrintsFront, answered, overall, text_of, worse}
+use Rattle.wm_stream.specs.Answers.{AreAnswers, Joins, Prints, PrintsFront, answered, overall, text_of, worse}
 use Rattle.wm_stream.specs.Output.{AppendsFront}
 use Rattle.wm_stream.proofs.Answering.{overall-append, text-append, worse-allowed}
 
 -- the bytes of lines
-abbrev pub texts : List (Vec ℕ Global) → List (List ℕ)
-texts lines = map (λ line. line.items) lines
+abbrev pub texts : List (Bor (List ℕ)) → List (List ℕ)
+texts lines = map (λ line. line.now) lines
 
 text_more : (answers : List LineAnswer) (answer : LineAnswer) → text_of (map answered (answers ++ answer ∷ [])) ≡ text_of (map answered answers) ++ string_bytes answer.text
 text_more answers answer =
@@ -44,26 +42,26 @@ take_past [] ys n = let none : 0 + n ≡ n = omega arith in ap (λ k. take k ys)
 take_past (x ∷ xs) ys n = let more : suc (length xs) + n ≡ suc (length xs + n) = omega arith in ap (λ k. take k (x ∷ (xs ++ ys))) more ∙ ap (λ rest. x ∷ rest) (take_past xs ys n)
 
 module _ (says : List ℕ → LineStatus → List ℕ → Type 0) where
-  abbrev Answer : Vec ℕ Global → LineAnswer → Type 0
-  Answer line answer = says line.items answer.status (string_bytes answer.text)
+  abbrev Answer : Bor (List ℕ) → LineAnswer → Type 0
+  Answer line answer = says line.now answer.status (string_bytes answer.text)
 
-  pub are_answers : (lines : List (Vec ℕ Global)) (answers rest : List LineAnswer) → AllZip Answer lines (answers ++ rest) → AreAnswers says (take (length answers) (texts lines)) (map answered answers)
+  pub are_answers : (lines : List (Bor (List ℕ))) (answers rest : List LineAnswer) → AllZip Answer lines (answers ++ rest) → AreAnswers says (take (length answers) (texts lines)) (map answered answers)
   are_answers lines [] rest zip = tt
   are_answers [] (answer ∷ answers) rest zip = absurd zip
   are_answers (line ∷ lines) (answer ∷ answers) rest zip = (zip.0, are_answers lines answers rest zip.1)
 
-  zip-length : (lines : List (Vec ℕ Global)) (answers : List LineAnswer) → AllZip Answer lines answers → length answers ≡ length (texts lines)
+  zip-length : (lines : List (Bor (List ℕ))) (answers : List LineAnswer) → AllZip Answer lines answers → length answers ≡ length (texts lines)
   zip-length [] [] zip = refl
   zip-length [] (answer ∷ answers) zip = absurd zip
   zip-length (line ∷ lines) [] zip = absurd zip
   zip-length (line ∷ lines) (answer ∷ answers) zip = ap suc (zip-length lines answers zip.1)
 
-  are_all : (lines : List (Vec ℕ Global)) (answers : List LineAnswer) → AllZip Answer lines answers → AreAnswers says (texts lines) (map answered answers)
+  are_all : (lines : List (Bor (List ℕ))) (answers : List LineAnswer) → AllZip Answer lines answers → AreAnswers says (texts lines) (map answered answers)
   are_all lines answers zip =
       subst (λ first. AreAnswers says first (map answered answers)) (take_all (length answers) (texts lines) (omega (arith, zip-length lines answers zip)))
       (are_answers lines answers [] (subst (AllZip Answer lines) (sym (append-nil answers)) zip))
 
-  pub all_printed : (lines : List (Vec ℕ Global)) (answers : List LineAnswer) (all : LineAnswer) (a b : Option (List ℕ)) → AllZip Answer lines answers
+  pub all_printed : (lines : List (Bor (List ℕ))) (answers : List LineAnswer) (all : LineAnswer) (a b : Option (List ℕ)) → AllZip Answer lines answers
       → Joins (map answered answers) all → Appends a b (string_bytes all.text) → Prints says (texts lines) all.status a b
   all_printed lines answers all a b zip is gains = record {
     answers = map answered answers;
@@ -72,7 +70,7 @@ module _ (says : List ℕ → LineStatus → List ℕ → Type 0) where
     gains = subst (Appends a b) is.text_is gains;
   }
 
-  pub some_printed : (lines : List (Vec ℕ Global)) (answers : List LineAnswer) (all : LineAnswer) (a b : Option (List ℕ)) → AllZip Answer lines answers
+  pub some_printed : (lines : List (Bor (List ℕ))) (answers : List LineAnswer) (all : LineAnswer) (a b : Option (List ℕ)) → AllZip Answer lines answers
       → Joins (map answered answers) all → AppendsFront a b (string_bytes all.text) → PrintsFront says (texts lines) a b
   some_printed lines answers all a b zip is gains = record {
     count = length answers;

@@ -1,13 +1,11 @@
 -- What a byte adds to the lines that precede it.
-use Rattle.std.proofs.Common.{◌≡◌, ℕ, zero, suc, ◌+◌, ◌-◌, ◌<◌, ◌≤◌, Bool, List, [], ◌∷◌, ◌++◌, length, get_or, map, take, Option, None, Some, IfSome, nat_eq, nat_lt, true, false, if◌then◌else◌, refl, sym, ap, ◌∙◌, subst, append_assoc, length-append, ⊎_elim, arith}
-use Rattle.std.specs.Io.KnownBytes.{Consumes, IsAtEnd}
-use Rattle.std.proofs.KnownBytes.{Consumes-whole}
-use Rattle.std.proofs.lemmas.Bool.{cases_lt}
+use Rattle.std.proofs.Common.{◌≡◌, ℕ, zero, suc, ◌+◌, ◌-◌, ◌<◌, ◌≤◌, Bool, List, [], ◌∷◌, ◌++◌, length, get_or, map, min, take, nat_eq, true, false, refl, sym, ap, ◌∙◌, subst, append_assoc, ⊎_elim, arith}
+use Rattle.std.proofs.lemmas.Bool.{cases_lt, eqb-true}
 use Rattle.std.proofs.Math.Seq.{take-append-add}
-use Rattle.std.proofs.lemmas.List.{append-nil, get_or-take, length-drop, length-take-le, take-append-drop, take-append-le, take_all, take_more}
+use Rattle.std.proofs.lemmas.List.{append-nil, get_or-take, length-drop, length-take, length-take-le, take-append-drop, take-append-le, take-take, take_all, take_more}
 use Rattle.std.specs.Prelude.{◌==◌, ⊤, drop}
 use Rattle.memchr.specs.Find.{Nowhere, Passes, is_byte}
-use Rattle.wm_stream.specs.Lines.{Splits, cut_lines, extended, last_line, lines_after}
+use Rattle.wm_stream.specs.Lines.{Splits, SplitsOn, cut_lines, extended, last_line, lines_after}
 
 extended_within : (limit : ℕ) (line bytes : List ℕ) → length line ≤ limit → extended limit (take limit line) bytes ≡ take limit (line ++ bytes)
 extended_within limit line bytes le =
@@ -92,24 +90,6 @@ no_newline (byte ∷ bytes) none = (not_true (nat_eq byte 10) (none 0 (omega ari
     not_true true never = absurd (never refl)
     not_true false never = refl
 
--- the bytes up to a newline, and the newline
-pub line_next : (limit : ℕ) (bytes done more : List ℕ) (before lines : List (List ℕ)) (begun : List ℕ) → HasNoNewline more
-    → Splits limit (bytes ++ done) (before ++ lines) begun
-    → Splits limit (bytes ++ (done ++ (more ++ 10 ∷ []))) (before ++ (lines ++ extended limit begun more ∷ [])) []
-line_next limit bytes done more before lines begun none is =
-    let more_is = after_bytes limit (bytes ++ done) (before ++ lines) begun more none is in
-    let line_is = after_newline limit ((bytes ++ done) ++ more) (before ++ lines) (extended limit begun more) more_is in
-    let text : ((bytes ++ done) ++ more) ++ 10 ∷ [] ≡ bytes ++ (done ++ (more ++ 10 ∷ [])) =
-    append_assoc (bytes ++ done) more (10 ∷ []) ∙ append_assoc bytes done (more ++ 10 ∷ []) in
-    subst (λ all. Splits limit all (before ++ (lines ++ extended limit begun more ∷ [])) []) text
-    (subst (λ all. Splits limit (((bytes ++ done) ++ more) ++ 10 ∷ []) all []) (append_assoc before lines (extended limit begun more ∷ [])) line_is)
-
--- the bytes after the last newline
-pub last_next : (limit : ℕ) (bytes done more : List ℕ) (lines : List (List ℕ)) (begun : List ℕ) → HasNoNewline more → Splits limit (bytes ++ done) lines begun
-    → Splits limit (bytes ++ (done ++ more)) lines (extended limit begun more)
-last_next limit bytes done more lines begun none is =
-    subst (λ all. Splits limit all lines (extended limit begun more)) (append_assoc bytes done more) (after_bytes limit (bytes ++ done) lines begun more none is)
-
 -- a newline, with what precedes it and what follows
 pub at_newline : (left : List ℕ) (e : ℕ) → e < length left → get_or left e 0 ≡ 10 → (take e left ++ 10 ∷ []) ++ take (length left - (e + 1)) (drop (e + 1) left) ≡ left
 at_newline left e l is =
@@ -121,3 +101,63 @@ pub none_before : (left : List ℕ) (e : ℕ) → e ≤ length left → Nowhere 
 none_before left e le none = no_newline (take e left) (λ k l is.
     let below : k < e = omega (arith, l, length-take-le e left le) in
     none k (omega arith) below (subst (λ byte. (byte == 10) ≡ true) (get_or-take e left k 0 below) is))
+
+-- ---- part by part
+
+pub splits_none : (limit : ℕ) (begun : List ℕ) → SplitsOn limit begun [] [] begun
+splits_none limit begun = λ bytes before h. rw (append-nil bytes, append-nil before) h
+
+-- the bytes up to a newline, and the newline
+pub newline_ends : (limit : ℕ) (begun more : List ℕ) → HasNoNewline more → SplitsOn limit begun (more ++ 10 ∷ []) (extended limit begun more ∷ []) []
+newline_ends limit begun more none = λ bytes before h.
+    subst (λ all. Splits limit all (before ++ extended limit begun more ∷ []) []) (append_assoc bytes more (10 ∷ []))
+    (after_newline limit (bytes ++ more) before (extended limit begun more) (after_bytes limit bytes before begun more none h))
+
+-- bytes with no newline
+pub continues : (limit : ℕ) (begun more : List ℕ) → HasNoNewline more → SplitsOn limit begun more [] (extended limit begun more)
+continues limit begun more none = λ bytes before h.
+    subst (λ lines. Splits limit (bytes ++ more) lines (extended limit begun more)) (sym (append-nil before)) (after_bytes limit bytes before begun more none h)
+
+-- a part, and then another
+pub splits_then : (limit : ℕ) (begun between next part rest : List ℕ) (lines more : List (List ℕ)) → SplitsOn limit begun part lines between → SplitsOn limit between rest more next
+    → SplitsOn limit begun (part ++ rest) (lines ++ more) next
+splits_then limit begun between next part rest lines more first second = λ bytes before h.
+    subst (λ all. Splits limit all (before ++ (lines ++ more)) next) (append_assoc bytes part rest)
+    (subst (λ all. Splits limit ((bytes ++ part) ++ rest) all next) (append_assoc before lines more) (second (bytes ++ part) (before ++ lines) (first bytes before h)))
+
+-- each part ends some lines
+pub splits_some : (limit : ℕ) (begun part : List ℕ) → (lines : List (List ℕ)) × (next : List ℕ) × SplitsOn limit begun part lines next
+splits_some limit begun [] = ([], begun, splits_none limit begun)
+splits_some limit begun (byte ∷ part) = go (nat_eq byte 10) refl (splits_some limit [] part) (splits_some limit (extended limit begun (byte ∷ [])) part)
+  where
+    go : (b : Bool) → nat_eq byte 10 ≡ b → ((lines : List (List ℕ)) × (next : List ℕ) × SplitsOn limit [] part lines next)
+        → ((lines : List (List ℕ)) × (next : List ℕ) × SplitsOn limit (extended limit begun (byte ∷ [])) part lines next)
+        → (lines : List (List ℕ)) × (next : List ℕ) × SplitsOn limit begun (byte ∷ part) lines next
+    go true is ended continued =
+        let line = extended limit begun [] in
+        let newline : byte ≡ 10 = eqb-true byte 10 is in (
+          line ∷ ended.0,
+          ended.1,
+          subst (λ first. SplitsOn limit begun (first ∷ part) (line ∷ ended.0) ended.1) (sym newline)
+              (splits_then limit begun [] ended.1 (10 ∷ []) part (line ∷ []) ended.0 (newline_ends limit begun [] tt) ended.2),
+        )
+    go false is ended continued = (
+      continued.0,
+      continued.1,
+      splits_then limit begun (extended limit begun (byte ∷ [])) continued.1 (byte ∷ []) part [] continued.0 (continues limit begun (byte ∷ []) (is, tt)) continued.2,
+    )
+
+-- ---- the kept bytes of a line within a part
+
+pub extended_none : (limit : ℕ) (bytes : List ℕ) → extended limit [] bytes ≡ take limit bytes
+extended_none limit bytes = let room : limit - 0 ≡ limit = omega arith in ap (λ n. take n bytes) room
+
+pub cut_within : (limit e : ℕ) (left : List ℕ) → take (min e limit) left ≡ extended limit [] (take e left)
+cut_within limit e left = ⊎_elim
+    (λ (short : e < limit).
+    let least : min e limit ≡ e = omega (arith, short) in
+    ap (λ n. take n left) least ∙ sym (extended_none limit (take e left) ∙ take_all limit (take e left) (omega (arith, short, length-take e left))))
+    (λ (long : limit ≤ e).
+    let least : min e limit ≡ limit = omega (arith, long) in
+    ap (λ n. take n left) least ∙ sym (extended_none limit (take e left) ∙ take-take limit e left long))
+    (cases_lt e limit)

@@ -1,18 +1,16 @@
 -- The answers to the lines of a reader, part by part.
-use Rattle.std.proofs.Common.{◌≡◌, ℕ, zero, suc, ◌+◌, ◌<◌, List, [], ◌∷◌, ◌++◌, length, map, take, drop, Option, None, Some, IfSome, refl, sym, ap, ◌∙◌, subst, append_assoc, length-append, arith}
+use Rattle.std.proofs.Common.{◌≡◌, ℕ, suc, ◌+◌, ◌<◌, List, [], ◌∷◌, ◌++◌, Bor, length, take, drop, Option, None, Some, IfSome, sym, ap, ◌∙◌, subst, arith}
 use Rattle.std.specs.Io.KnownBytes.{Appends, Consumes, IsAtEnd}
-use Rattle.std.specs.List.{AllZip}
 use Rattle.std.proofs.KnownBytes.{Appends-trans, Consumes-nil, Consumes-trans, Consumes-whole}
 use Rattle.std.proofs.lemmas.List.{append-nil, take-append-le, take_all}
 use Rattle.wm_stream.specs.declared.answer.LineStatus.{LineStatus}
 use Rattle.wm_stream.specs.declared.answer.LineStatus.TheVariants.{Allowed}
 use Rattle.wm_stream.specs.Answers.{Answered, AreAnswers, Prints, PrintsFront, text_of, worse}
-use Rattle.wm_stream.specs.Lines.{Splits, cut_lines, last_line}
-use Rattle.wm_stream.specs.Output.{AppendsFront}
-use Rattle.wm_stream.specs.Stream.{AnswersAll, AnswersFirst}
-use Rattle.wm_stream.proofs.Answering.{front_of_prints, prints_more, prints_none, text-append, zip-append}
+use Rattle.wm_stream.specs.Lines.{AreLines, EndsLine, Splits, SplitsOn, cut_lines, last_line}
+use Rattle.wm_stream.specs.Stream.{AnswersAll, AnswersFirst, AnswersPart, AnswersPartFirst}
+use Rattle.wm_stream.proofs.Answering.{front_none, front_of_whole_prints, prints_more, prints_none, text-append, zip-append}
 use Rattle.wm_stream.proofs.Printing.{take_past}
-use Rattle.wm_stream.proofs.Splitting.{begins, ends, goes_on}
+use Rattle.wm_stream.proofs.Splitting.{begins, ends, goes_on, splits_some, splits_then}
 
 take_lines : (xs ys : List (List ℕ)) (n : ℕ) → take (length xs + n) (xs ++ ys) ≡ xs ++ take n ys
 take_lines [] ys n = let none : 0 + n ≡ n = omega arith in ap (λ k. take k ys) none
@@ -53,19 +51,16 @@ module _ (says : List ℕ → LineStatus → List ℕ → Type 0) where
   pub starts : (limit : ℕ) (had old : Option (List ℕ)) → HasAnswered limit had had [] Allowed old old
   starts limit had old = record { seen = []; consumed = Consumes-nil had; lines = []; splits = begins limit; prints = prints_none says old }
 
-  -- a part adds these lines
-  abbrev pub AddsLines : ℕ → List ℕ → List ℕ → List (List ℕ) → List ℕ → Type 0
-  AddsLines limit part begun more next = (bytes : List ℕ) (before : List (List ℕ)) → Splits limit bytes before begun → Splits limit (bytes ++ part) (before ++ more) next
-
-  pub answers_more : (limit : ℕ) (had mid left : Option (List ℕ)) (begun next part : List ℕ) (more : List (List ℕ)) (status added : LineStatus) (old now new : Option (List ℕ))
-      → HasAnswered limit had mid begun status old now → Consumes mid left part → AddsLines limit part begun more next → Prints says more added now new
+  -- the answers to the lines of a part more
+  pub answers_more : (limit : ℕ) (had mid left : Option (List ℕ)) (begun next part : List ℕ) (status added : LineStatus) (old now new : Option (List ℕ))
+      → HasAnswered limit had mid begun status old now → Consumes mid left part → AnswersPart says limit begun part next now new added
       → HasAnswered limit had left next (worse status added) old new
-  answers_more limit had mid left begun next part more status added old now new has consumed adds prints = record {
+  answers_more limit had mid left begun next part status added old now new has consumed is = record {
     seen = has.seen ++ part;
     consumed = Consumes-trans had mid left has.seen part has.consumed consumed;
-    lines = has.lines ++ more;
-    splits = adds has.seen has.lines has.splits;
-    prints = prints_more says has.lines more status added old now new has.prints prints;
+    lines = has.lines ++ is.lines;
+    splits = is.are_lines has.seen has.lines has.splits;
+    prints = prints_more says has.lines is.lines status added old now new has.prints is.prints;
   }
 
   -- the end of the reader
@@ -84,18 +79,17 @@ module _ (says : List ℕ → LineStatus → List ℕ → Type 0) where
   stops limit had left begun status old new has = record {
     lines = has.lines;
     are_lines = begin_with had left has.seen (λ all. (others : List (List ℕ)) × (cut_lines limit all ≡ has.lines ++ others)) has.consumed (λ rest. goes_on limit has.seen has.lines begun rest has.splits);
-    prints = subst (λ lines. PrintsFront says lines old new) (append-nil has.lines) (front_of_prints says has.lines [] status old new has.prints);
+    prints = front_of_whole_prints says has.lines status old new has.prints;
   }
 
-  pub stops_within : (limit : ℕ) (had mid left : Option (List ℕ)) (begun next part : List ℕ) (more : List (List ℕ)) (status : LineStatus) (old now new : Option (List ℕ))
-      → HasAnswered limit had mid begun status old now → Consumes mid left part → AddsLines limit part begun more next → PrintsFront says more now new
-      → AnswersFirst says limit had old new
-  stops_within limit had mid left begun next part more status old now new has consumed adds front = record {
-    lines = has.lines ++ more;
-    are_lines = begin_with had left (has.seen ++ part) (λ all. (others : List (List ℕ)) × (cut_lines limit all ≡ (has.lines ++ more) ++ others))
+  pub stops_within : (limit : ℕ) (had mid left : Option (List ℕ)) (begun part : List ℕ) (status : LineStatus) (old now new : Option (List ℕ))
+      → HasAnswered limit had mid begun status old now → Consumes mid left part → AnswersPartFirst says limit begun part now new → AnswersFirst says limit had old new
+  stops_within limit had mid left begun part status old now new has consumed is = record {
+    lines = has.lines ++ is.lines;
+    are_lines = begin_with had left (has.seen ++ part) (λ all. (others : List (List ℕ)) × (cut_lines limit all ≡ (has.lines ++ is.lines) ++ others))
         (Consumes-trans had mid left has.seen part has.consumed consumed)
-        (λ rest. goes_on limit (has.seen ++ part) (has.lines ++ more) next rest (adds has.seen has.lines has.splits));
-    prints = front_after has.lines more status old now new has.prints front;
+        (λ rest. goes_on limit (has.seen ++ part) (has.lines ++ is.lines) is.next rest (is.are_lines has.seen has.lines has.splits));
+    prints = front_after has.lines is.lines status old now new has.prints is.prints;
   }
 
   pub stops_at_last : (limit : ℕ) (had left : Option (List ℕ)) (begun : List ℕ) (status : LineStatus) (old now new : Option (List ℕ)) → 0 < limit
@@ -117,6 +111,26 @@ module _ (says : List ℕ → LineStatus → List ℕ → Type 0) where
     splits = has.splits;
     prints = has.prints;
   }
+
+  -- ---- a part
+
+  -- the lines of a part that has some
+  pub part_lines : (limit : ℕ) (begun line left part : List ℕ) (rest : Bor (List ℕ)) (ended : List (List ℕ)) → EndsLine limit begun part line (Some rest) → AreLines limit line rest.now ended left
+      → SplitsOn limit begun part ended (take limit left)
+  part_lines limit begun line left part rest ended ends are =
+      let both = splits_then limit begun [] (take limit left) ends.0 rest.now (line ∷ []) are.0 ends.2 are.2 in
+      subst (λ bytes. SplitsOn limit begun bytes ended (take limit left)) (sym ends.1)
+      (subst (λ lines. SplitsOn limit begun (ends.0 ++ rest.now) lines (take limit left)) (sym are.1) both)
+
+  -- no answer is printed
+  pub part_stops : (limit : ℕ) (begun part : List ℕ) (a : Option (List ℕ)) → AnswersPartFirst says limit begun part a a
+  part_stops limit begun part a =
+      let some = splits_some limit begun part in
+      record { lines = some.0; next = some.1; are_lines = some.2; prints = front_none says some.0 a }
+
+  -- the part ends no line
+  pub part_continues : (limit : ℕ) (begun part next : List ℕ) (a : Option (List ℕ)) → SplitsOn limit begun part [] next → AnswersPart says limit begun part next a a Allowed
+  part_continues limit begun part next a splits = record { lines = []; are_lines = splits; prints = prints_none says a }
 
 -- a buffer that was read into is what the read left there
 pub whole_buffer : (new items : List ℕ) (n : ℕ) → length new ≡ n → take n (new ++ drop (length new) items) ≡ new

@@ -1,8 +1,8 @@
 -- Answers to lines, and what a writer gains of them.
-use Rattle.std.specs.Prelude.{◌≡◌, ℕ, List, [], ◌∷◌, ◌++◌, Option, IfSome, Vec, map, string_bytes, take}
+use Rattle.std.specs.Prelude.{◌≡◌, ℕ, List, [], ◌∷◌, ◌++◌, Option, map, string_bytes, take}
+use Rattle.std.specs.Borrow.{Bor}
 use Rattle.std.specs.Io.KnownBytes.{Appends}
 use Rattle.std.specs.List.{AllZip}
-use Rattle.std.specs.declared.alloc.Global.{Global}
 use Rattle.wm_stream.specs.declared.answer.LineAnswer.{LineAnswer}
 use Rattle.wm_stream.specs.declared.answer.LineStatus.{LineStatus}
 use Rattle.wm_stream.specs.declared.answer.LineStatus.TheVariants.{Allowed, Broken, Refused}
@@ -14,12 +14,12 @@ status_code Broken = 1
 status_code Refused = 2
 
 -- the bytes of each line
-abbrev pub texts_of : List (Vec ℕ Global) → List (List ℕ)
-texts_of lines = map (λ line. line.items) lines
+abbrev pub texts_of : List (Bor (List ℕ)) → List (List ℕ)
+texts_of lines = map (λ line. line.now) lines
 
 -- an answer of this status and text is what is said to a line
-abbrev pub AnswersAs : (List ℕ → LineStatus → List ℕ → Type 0) → Vec ℕ Global → LineAnswer → Type 0
-AnswersAs says line answer = says line.items answer.status (string_bytes answer.text)
+abbrev pub AnswersAs : (List ℕ → LineStatus → List ℕ → Type 0) → Bor (List ℕ) → LineAnswer → Type 0
+AnswersAs says line answer = says line.now answer.status (string_bytes answer.text)
 
 -- broken if one of them is, else refused if one of them is
 abbrev pub worse : LineStatus → LineStatus → LineStatus

@@ -1,5 +1,6 @@
 -- The lines of a text.
-use Rattle.std.specs.Prelude.{◌≡◌, ℕ, ◌-◌, List, [], ◌∷◌, ◌++◌, length, map, nat_eq, take, if◌then◌else◌}
+use Rattle.std.specs.Prelude.{◌≡◌, ℕ, ◌-◌, List, [], ◌∷◌, ◌++◌, Option, None, Some, length, map, nat_eq, take, if◌then◌else◌}
+use Rattle.std.specs.Borrow.{Bor}
 
 -- what follows the last newline is a line too, if it is not empty
 abbrev pub last_line : List ℕ → List (List ℕ)
@@ -33,3 +34,12 @@ pub record Splits (limit : ℕ) (bytes : List ℕ) (lines : List (List ℕ)) (be
 abbrev pub SplitsOn : ℕ → List ℕ → List ℕ → List (List ℕ) → List ℕ → Type 0
 SplitsOn limit begun part lines next =
     (bytes : List ℕ) (before : List (List ℕ)) → Splits limit bytes before begun → Splits limit (bytes ++ part) (before ++ lines) next
+
+-- a newline of the part ends the line that has begun, and this follows it; or the part has no newline and continues the line
+abbrev pub EndsLine : ℕ → List ℕ → List ℕ → List ℕ → Option (Bor (List ℕ)) → Type 0
+EndsLine limit begun part line None = SplitsOn limit begun part [] line
+EndsLine limit begun part line (Some rest) = (head : List ℕ) × (part ≡ head ++ rest.now) × SplitsOn limit begun head (line ∷ []) []
+
+-- `first`, and then the lines that a part ends if it follows a newline; `left` begins the next line
+abbrev pub AreLines : ℕ → List ℕ → List ℕ → List (List ℕ) → List ℕ → Type 0
+AreLines limit first part lines left = (more : List (List ℕ)) × (lines ≡ first ∷ more) × SplitsOn limit [] part more (take limit left)

@@ -18,7 +18,7 @@ const LINES_OF_A_THREAD: usize = 4;
 fn answers_to<R: AllocGlobal + Threads + Sync, J: AnswersLines>(
     rt: &R,
     judge: &J,
-    lines: &[Vec<u8>],
+    lines: &[&[u8]],
 ) -> Result<Vec<LineAnswer>, AllocError>
     ensures { IfOk result (λ answers. AllZip (AnswersAs (J.says judge.now)) lines.now answers.items) }
 {
@@ -27,9 +27,9 @@ fn answers_to<R: AllocGlobal + Threads + Sync, J: AnswersLines>(
         .par_iter()
         .with_min_len(LINES_OF_A_THREAD)
         .map(
-            |line: &Vec<u8>| -> Result<LineAnswer, AllocError>
-                ensures { IfOk result (λ a. J.says judge.entry.now line.now.items a.status (string_bytes a.text)) }
-            { judge.answer(alloc, line.as_slice()) },
+            |line: &&[u8]| -> Result<LineAnswer, AllocError>
+                ensures { IfOk result (λ a. J.says judge.entry.now line.now.now a.status (string_bytes a.text)) }
+            { judge.answer(alloc, line) },
         )
         .collect::<Result<Vec<LineAnswer>, AllocError>>(rt, alloc)?
 }
@@ -55,7 +55,7 @@ fn joined(alloc: Global, answers: &[LineAnswer]) -> Result<LineAnswer, AllocErro
 pub(crate) fn print_answers<R: AllocGlobal + Threads + Sync, O: Write, J: AnswersLines>(
     rt: &R,
     judge: &J,
-    lines: &[Vec<u8>],
+    lines: &[&[u8]],
     out: &mut O,
 ) -> Result<LineStatus, StreamFault>
     ensures printed { IfOk result (λ status.

@@ -1,11 +1,10 @@
 //! Bytes that come in parts, as lines.
-ghost use Rattle.std.specs.Prelude.{◌≡◌, IfOk, OnOk};
+ghost use Rattle.std.specs.Prelude.{◌≡◌, IfOk, OnOk, take};
 ghost use Rattle.wm_stream.specs.Answers.{texts_of};
-ghost use Rattle.wm_stream.specs.Lines.{SplitsOn, extended, last_line};
+ghost use Rattle.wm_stream.specs.Lines.{AreLines, EndsLine, extended, last_line};
 
 use memchr::memchr;
 use std::alloc::{AllocError, Global};
-use std::mem;
 
 /// What ends a line.
 const NEWLINE: u8 = b'\n';
@@ -18,31 +17,65 @@ fn extend_cut(begun: &mut Vec<u8>, limit: usize, bytes: &[u8]) -> Result<(), All
     begun.extend_from_slice(&bytes[..room.min(bytes.len())])
 }
 
-/// The lines that a part of a text ends, without their newlines. `begun` is what precedes the part in its line, and
-/// afterwards what begins the next line. Of each line the first `limit` bytes are kept.
-pub(crate) fn split_lines(
+/// Begins a line with these bytes, of which `limit` are kept, in the room of the line before.
+pub(crate) fn begin_line(begun: &mut Vec<u8>, limit: usize, bytes: &[u8]) -> Result<(), AllocError>
+    ensures { OnOk result (begun.new.items ≡ take limit bytes.now) }
+{
+    begun.clear();
+    extend_cut(begun, limit, bytes)
+}
+
+/// Adds to a line that has begun what precedes the first newline of a part, and gives what follows that newline. With no
+/// newline, the whole part is added. Of the line the first `limit` bytes are kept.
+pub(crate) fn end_line<'a>(
+    begun: &mut Vec<u8>,
+    limit: usize,
+    part: &'a [u8],
+) -> Result<Option<&'a [u8]>, AllocError>
+    ensures { IfOk result (EndsLine limit begun.old.items part.now begun.new.items) }
+{
+    match memchr(NEWLINE, part) {
+        Some(end) => {
+            extend_cut(begun, limit, &part[..end])?;
+            Ok(Some(&part[end + 1..]))
+        }
+        None => {
+            extend_cut(begun, limit, part)?;
+            Ok(None)
+        }
+    }
+}
+
+/// Lines that have ended, and the bytes that follow them.
+#[derive(Drop)]
+pub(crate) struct Lines<'a, 'b> {
+    /// Without their newlines.
+    pub(crate) ended: Vec<&'a [u8]>,
+    pub(crate) left: &'b [u8],
+}
+
+/// The line `first`, and then the lines that a part of a text ends. Of each of these the first `limit` bytes are kept.
+pub(crate) fn lines_in<'a, 'b: 'a>(
     alloc: Global,
     limit: usize,
-    begun: &mut Vec<u8>,
-    part: &[u8],
-) -> Result<Vec<Vec<u8>>, AllocError>
-    ensures { IfOk result (λ lines. SplitsOn limit begun.old.items part.now (texts_of lines.items) begun.new.items) }
+    first: &'a [u8],
+    part: &'b [u8],
+) -> Result<Lines<'a, 'b>, AllocError>
+    ensures { IfOk result (λ lines. AreLines limit first.now part.now (texts_of lines.ended.items) lines.left.now) }
 {
-    let mut lines = Vec::new(alloc);
+    let mut ended = Vec::new(alloc);
+    ended.push(first)?;
     let mut left = part;
     while let Some(end) = memchr(NEWLINE, left) {
-        extend_cut(begun, limit, &left[..end])?;
-        let line = mem::replace(begun, Vec::new(alloc));
-        lines.push(line)?;
+        ended.push(&left[..end.min(limit)])?;
         left = &left[end + 1..];
     }
-    extend_cut(begun, limit, left)?;
-    Ok(lines)
+    Ok(Lines { ended, left })
 }
 
 /// What follows the last newline, as a line; no line if nothing does.
-pub(crate) fn last_line(alloc: Global, begun: Vec<u8>) -> Result<Vec<Vec<u8>>, AllocError>
-    ensures { IfOk result (λ lines. texts_of lines.items ≡ last_line begun.items) }
+pub(crate) fn last_line<'a>(alloc: Global, begun: &'a [u8]) -> Result<Vec<&'a [u8]>, AllocError>
+    ensures { IfOk result (λ lines. texts_of lines.items ≡ last_line begun.now) }
 {
     let mut lines = Vec::new(alloc);
     if !begun.is_empty() {

@@ -1,12 +1,12 @@
 //! A stream of lines and the answers to them.
 ghost use Rattle.std.specs.Prelude.{◌≡◌, ◌<◌, IfOk, OnErr, length};
 ghost use Rattle.std.specs.Io.KnownBytes.{Keeps};
-ghost use Rattle.wm_stream.specs.Stream.{AnswersAll, AnswersFirst, Reads};
+ghost use Rattle.wm_stream.specs.Stream.{AnswersAll, AnswersFirst, AnswersPart, AnswersPartFirst, Reads};
 ghost use Rattle.wm_stream.specs.declared.stream.StreamFault.TheVariants.{OutOfMemory};
 
 use crate::answer::{AnswersLines, LineStatus};
 use crate::batch::print_answers;
-use crate::lines::{last_line, split_lines};
+use crate::lines::{begin_line, end_line, last_line, lines_in};
 use std::alloc::{AllocError, AllocGlobal};
 use std::io::{ErrorKind, Read, Write};
 use std::thread::Threads;
@@ -50,6 +50,36 @@ fn read_part<I: Read>(input: &mut I, buffer: &mut [u8]) -> Result<usize, StreamF
     Err(StreamFault::Read)
 }
 
+/// Answers the lines that a part of the input ends. `begun` is what precedes the part in its line, and afterwards what begins
+/// the next line.
+///
+/// # Errors
+///
+/// If an allocation or a write fails; the writer has then gained a front of the answers.
+fn answer_part<R: AllocGlobal + Threads + Sync, O: Write, J: AnswersLines>(
+    rt: &R,
+    begun: &mut Vec<u8>,
+    part: &[u8],
+    out: &mut O,
+    judge: &J,
+    limit: usize,
+) -> Result<LineStatus, StreamFault>
+    ensures answered { IfOk result
+        (AnswersPart (J.says judge.now) limit begun.old.items part.now begun.new.items (O.contents out.old) (O.contents out.new)) }
+    ensures stopped { OnErr result
+        (AnswersPartFirst (J.says judge.now) limit begun.old.items part.now (O.contents out.old) (O.contents out.new)) }
+{
+    let Some(rest) = end_line(begun, limit, part)? else {
+        return Ok(LineStatus::Allowed);
+    };
+    let lines = lines_in(rt.alloc(), limit, begun.as_slice(), rest)?;
+    let status = print_answers(rt, judge, lines.ended.as_slice(), out)?;
+    let left = lines.left;
+    drop(lines);
+    begin_line(begun, limit, left)?;
+    Ok(status)
+}
+
 /// Answers each line of the input, in their order, and returns the status of all answers together. What a read returned is
 /// answered and printed before the next read. Of each line the first `limit` bytes count. What follows the last newline
 /// is a line too, if it is not empty.
@@ -75,11 +105,11 @@ pub fn answer_lines<R: AllocGlobal + Threads + Sync, I: Read, O: Write, J: Answe
     for _ in 0..u64::MAX {
         let count = read_part(input, buffer.as_mut_slice())?;
         if count == 0 {
-            let last = last_line(rt.alloc(), begun)?;
+            let last = last_line(rt.alloc(), begun.as_slice())?;
             return Ok(status.worse(print_answers(rt, judge, last.as_slice(), out)?));
         }
-        let lines = split_lines(rt.alloc(), limit, &mut begun, &buffer.as_slice()[..count])?;
-        status = status.worse(print_answers(rt, judge, lines.as_slice(), out)?);
+        let part = &buffer.as_slice()[..count];
+        status = status.worse(answer_part(rt, &mut begun, part, out, judge, limit)?);
     }
     Err(StreamFault::Read)
 }
