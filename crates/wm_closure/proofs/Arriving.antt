@@ -1,8 +1,8 @@
 -- What the rows say once the nodes from one on have lowered those of their sources.
-use Rattle.std.proofs.Common.{◌≡◌, ◌≢◌, ℕ, ◌+◌, ◌*◌, ◌<◌, ◌≤◌, List, [], ◌∷◌, length, arith, sym, subst, refl, inl, inr, ◌⊎◌, ⊎_elim, ◌∙◌}
+use Rattle.std.proofs.Common.{◌≡◌, ◌≢◌, ℕ, ◌+◌, ◌*◌, ◌<◌, ◌≤◌, List, [], ◌∷◌, length, arith, sym, subst, ⊎_elim}
 use Rattle.std.specs.Prelude.{slice_index}
 use Rattle.std.proofs.lemmas.Bool.{cases_eq}
-use Rattle.wm_closure.specs.Graph.{AreArrivals, AreLanes, AreOwn, Arrives, Chain, entry, HasEdge, IsAmong, IsArrival, IsOrdered, IsReached, LowersSources, Reaches, sources_of}
+use Rattle.wm_closure.specs.Graph.{AreArrivals, AreLanes, Arrives, Chain, entry, HasEdge, IsOrdered, LowersSources, Reaches, sources_of}
 use Rattle.wm_closure.proofs.Chains.{chain_below, reached_before}
 
 -- no node has more than itself at its own lane, each node that a row names is reached, and along each edge to a node from n on the entries do not fall
@@ -10,24 +10,6 @@ pub record AreLowered (graph : List (List ℕ)) (lanes : List ℕ) (width n : �
   pub own : (a : ℕ) → a < length graph → entry rows width a (slice_index lanes a) ≤ a
   pub reached : (a lane : ℕ) → a < length graph → lane < width → entry rows width a lane < length graph → Arrives graph lanes lane a (entry rows width a lane)
   pub along : (a e lane : ℕ) → HasEdge graph a e → n ≤ e → e < length graph → lane < width → entry rows width a lane ≤ entry rows width e lane
-
--- before any node is taken
-pub lowered_none : (graph : List (List ℕ)) (lanes : List ℕ) (width : ℕ) (rows : List ℕ) → AreLanes graph lanes width → AreOwn lanes width (length lanes) rows
-    → AreLowered graph lanes width (length graph) rows
-lowered_none graph lanes width rows are is = record {
-  own = λ a below. let e : entry rows width a (slice_index lanes a) ≡ a = is.own a (let s = are.size in omega (arith, s, below)) in omega (arith, e);
-  reached = λ a lane below inside low.
-      let s : length lanes ≡ length graph = are.size in
-      let there : a < length lanes = omega (arith, s, below) in ⊎_elim
-      (λ (e : slice_index lanes a ≡ lane).
-      let same : entry rows width a lane ≡ a = subst (λ l. entry rows width a l ≡ a) e (is.own a there) in
-      (low, subst (λ x. slice_index lanes x ≡ lane) (sym same) e, inl (sym same)))
-      (λ (d : slice_index lanes a ≢ lane).
-      let none : entry rows width a lane ≡ length lanes = is.others a lane there inside (inl d) in
-      absurd (omega (arith, none, s, low)))
-      (cases_eq (slice_index lanes a) lane);
-  along = λ a e lane edge from below. absurd (omega (arith, from, below));
-}
 
 -- one node is taken
 module _ (graph : List (List ℕ)) (lanes : List ℕ) (width n : ℕ) (old new : List ℕ) (ordered : IsOrdered graph) (are : AreLanes graph lanes width) (there : n < length graph)

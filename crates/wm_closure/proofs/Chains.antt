@@ -1,5 +1,5 @@
 -- Chains in a graph whose edges lead forward.
-use Rattle.std.proofs.Common.{◌≡◌, ℕ, ◌<◌, ◌≤◌, length, arith, List, [], ◌∷◌, ◌++◌, refl, sym, ap, subst, ◌⊎◌, inl, inr, ⊎_elim}
+use Rattle.std.proofs.Common.{◌≡◌, ℕ, ◌<◌, ◌≤◌, length, arith, List, [], ◌∷◌, ◌++◌, ap, subst, ◌⊎◌, inr, ⊎_elim}
 use Rattle.std.proofs.lemmas.List.{get_or_past}
 use Rattle.wm_closure.specs.Graph.{sources_of, IsOrdered, HasEdge, Chain, Reaches, IsReached}
 

@@ -1,7 +1,7 @@
 -- The rows before any edge is followed.
-use Rattle.std.proofs.Common.{◌≡◌, ◌≢◌, ℕ, ◌+◌, ◌*◌, ◌<◌, ◌≤◌, List, length, set, arith, sym, subst, ◌⊎◌, inl, inr, ⊎_elim, ◌∙◌}
+use Rattle.std.proofs.Common.{◌≡◌, ◌≢◌, ℕ, ◌+◌, ◌*◌, ◌<◌, ◌≤◌, List, length, set, arith, sym, subst, inl, inr, ⊎_elim, ◌∙◌}
 use Rattle.std.specs.Prelude.{slice_index}
-use Rattle.std.proofs.lemmas.Bool.{cases_eq, cases_lt}
+use Rattle.std.proofs.lemmas.Bool.{cases_eq}
 use Rattle.std.proofs.lemmas.List.{get_or-set_same, get_or-set_other}
 use Rattle.wm_closure.specs.Graph.{AreOwn, entry}
 use Rattle.wm_closure.proofs.Rows.{places_apart, row_before}
@@ -9,12 +9,6 @@ use Rattle.wm_closure.proofs.Rows.{places_apart, row_before}
 -- a place of a row is inside the rows
 pub place_inside : (width a lane count : ℕ) → a < count → lane < width → a * width + lane < count * width
 place_inside width a lane count below inside = let p : a * width + width ≤ count * width = row_before width a count below in omega (arith, p, inside)
-
-pub own_none : (lanes : List ℕ) (width : ℕ) (rows : List ℕ) → ((k : ℕ) → k < length lanes * width → slice_index rows k ≡ length lanes) → AreOwn lanes width 0 rows
-own_none lanes width rows none = record {
-  own = λ a l. absurd (omega (arith, l));
-  others = λ a lane below inside o. none (a * width + lane) (place_inside width a lane (length lanes) below inside);
-}
 
 -- one node more
 module _ (lanes : List ℕ) (width n : ℕ) (rows : List ℕ) (each : (a : ℕ) → a < length lanes → slice_index lanes a < width) (there : n < length lanes)
