@@ -1,132 +1,75 @@
--- The first node of each lane with a bit, one node after the other.
-use Rattle.std.proofs.Common.{◌≡◌, ◌≢◌, ℕ, ◌+◌, ◌-◌, ◌*◌, ◌<◌, ◌≤◌, List, length, set, arith, sym, subst, ◌⊎◌, inl, inr, ⊎_elim, ◌∙◌}
+-- What the rows say once the nodes from one on have lowered those of their sources.
+use Rattle.std.proofs.Common.{◌≡◌, ◌≢◌, ℕ, ◌+◌, ◌*◌, ◌<◌, ◌≤◌, List, [], ◌∷◌, length, arith, sym, subst, ⊎_elim}
 use Rattle.std.specs.Prelude.{slice_index}
-use Rattle.std.proofs.lemmas.Bool.{cases_eq, cases_lt}
-use Rattle.std.proofs.lemmas.List.{get_or-set_same, get_or-set_other}
-use Rattle.wm_closure.specs.Graph.{AreArrivals, AreOthers, HasBit, IsColumn, IsOrdered, IsReached, Lowers}
-use Rattle.wm_closure.proofs.Chains.{reached_from}
+use Rattle.std.proofs.lemmas.Bool.{cases_eq}
+use Rattle.wm_closure.specs.Graph.{AreArrivals, AreLanes, Arrives, Chain, entry, HasEdge, IsOrdered, LowersSources, Reaches, sources_of}
+use Rattle.wm_closure.proofs.Chains.{chain_below, reached_before}
 
--- node first + i is of this lane and has bit s
-abbrev pub IsHit : List ℕ → ℕ → List ℕ → ℕ → ℕ → ℕ → Type 0
-IsHit lanes first column lane s i = (slice_index lanes (first + i) ≡ lane) × HasBit (slice_index column i) s
+-- no node has more than itself at its own lane, each node that a row names is reached, and along each edge to a node from n on the entries do not fall
+pub record AreLowered (graph : List (List ℕ)) (lanes : List ℕ) (width n : ℕ) (rows : List ℕ) : Type 0 where
+  pub own : (a : ℕ) → a < length graph → entry rows width a (slice_index lanes a) ≤ a
+  pub reached : (a lane : ℕ) → a < length graph → lane < width → entry rows width a lane < length graph → Arrives graph lanes lane a (entry rows width a lane)
+  pub along : (a e lane : ℕ) → HasEdge graph a e → n ≤ e → e < length graph → lane < width → entry rows width a lane ≤ entry rows width e lane
 
--- v is the first of the first n nodes that is hit, or behind all nodes of the graph where none is
-pub record IsFirst (graph : List (List ℕ)) (lanes : List ℕ) (first : ℕ) (column : List ℕ) (n lane s v : ℕ) : Type 0 where
-  pub least : (i : ℕ) → i < n → IsHit lanes first column lane s i → v ≤ first + i
-  pub there : (v ≡ length graph) ⊎ ((i : ℕ) × (i < n) × (v ≡ first + i) × IsHit lanes first column lane s i)
+-- one node is taken
+module _ (graph : List (List ℕ)) (lanes : List ℕ) (width n : ℕ) (old new : List ℕ) (ordered : IsOrdered graph) (are : AreLanes graph lanes width) (there : n < length graph)
+    (step : LowersSources width (sources_of graph n) n (length (sources_of graph n)) old new) (is : AreLowered graph lanes width (n + 1) old) where
+  -- a row from n on is as it was
+  row_same : (e lane : ℕ) → n ≤ e → lane < width → entry new width e lane ≡ entry old width e lane
+  row_same e lane from inside = ⊎_elim
+      (λ (s : entry new width e lane ≡ entry old width e lane). s)
+      (λ (s : HasEdge graph e n × (entry new width e lane ≡ entry old width n lane)). let l : e < n = ordered e n s.0 in absurd (omega (arith, l, from)))
+      (step.kept e lane inside)
 
-abbrev pub AreFirsts : List (List ℕ) → List ℕ → ℕ → ℕ → List ℕ → ℕ → List ℕ → Type 0
-AreFirsts graph lanes width first column n arrivals = (lane s : ℕ) → lane < width → s < 64 → IsFirst graph lanes first column n lane s (slice_index arrivals (lane * 64 + s))
+  reached_now : (a lane : ℕ) → a < length graph → lane < width → entry new width a lane < length graph → Arrives graph lanes lane a (entry new width a lane)
+  reached_now a lane below inside low = ⊎_elim
+      (λ (s : entry new width a lane ≡ entry old width a lane).
+      subst (λ v. Arrives graph lanes lane a v) (sym s) (is.reached a lane below inside (omega (arith, s, low))))
+      (λ (s : HasEdge graph a n × (entry new width a lane ≡ entry old width n lane)).
+      let same : entry new width a lane ≡ entry old width n lane = s.1 in
+      let arrives : Arrives graph lanes lane n (entry old width n lane) = is.reached n lane there inside (omega (arith, same, low)) in
+      subst (λ v. Arrives graph lanes lane a v) (sym same) (arrives.0, arrives.1, reached_before graph a n (entry old width n lane) s.0 arrives.2))
+      (step.kept a lane inside)
 
--- of each lane the bits that were seen have a node before node first + n
-abbrev pub AreSeen : ℕ → ℕ → ℕ → List ℕ → List ℕ → Type 0
-AreSeen width first n seen arrivals = (lane s : ℕ) → lane < width → s < 64 → HasBit (slice_index seen lane) s → slice_index arrivals (lane * 64 + s) < first + n
+  along_now : (a e lane : ℕ) → HasEdge graph a e → n ≤ e → e < length graph → lane < width → entry new width a lane ≤ entry new width e lane
+  along_now a e lane edge from below inside =
+      let same : entry new width e lane ≡ entry old width e lane = row_same e lane from inside in ⊎_elim
+      (λ (q : e ≡ n).
+      let l : entry new width a lane ≤ entry old width n lane = step.lowered a lane inside (subst (λ x. HasEdge graph a x) q edge) in
+      let m : entry new width a lane ≤ entry old width e lane = subst (λ x. entry new width a lane ≤ entry old width x lane) (sym q) l in
+      omega (arith, m, same))
+      (λ (d : e ≢ n).
+      let o : entry old width a lane ≤ entry old width e lane = is.along a e lane edge (omega (arith, from, d)) below inside in
+      let f : entry new width a lane ≤ entry old width a lane = step.falls a lane inside in
+      omega (arith, o, f, same))
+      (cases_eq e n)
 
--- one node more: it is that one, or one of those before
-below_or_at : (i n : ℕ) → i < n + 1 → (i < n) ⊎ (i ≡ n)
-below_or_at i n l = ⊎_elim (λ (b : i < n). inl b) (λ (b : n ≤ i). inr (omega arith)) (cases_lt i n)
-
-module _ (graph : List (List ℕ)) (lanes : List ℕ) (width first : ℕ) (column : List ℕ) (n : ℕ) where
-  abbrev at : ℕ
-  at = slice_index lanes (first + n)
-
-  first_later : (lane s v : ℕ) → (IsHit lanes first column lane s n → v ≤ first + n) → IsFirst graph lanes first column n lane s v → IsFirst graph lanes first column (n + 1) lane s v
-  first_later lane s v here is = record {
-    least = λ i l hit. ⊎_elim
-        (λ (b : i < n). is.least i b hit)
-        (λ (e : i ≡ n). subst (λ j. v ≤ first + j) (sym e) (here (subst (λ j. IsHit lanes first column lane s j) e hit)))
-        (below_or_at i n l);
-    there = ⊎_elim
-        (λ (e : v ≡ length graph). inl e)
-        (λ (f : (i : ℕ) × (i < n) × (v ≡ first + i) × IsHit lanes first column lane s i). inr (f.0, let l = f.1 in omega arith, f.2, f.3))
-        is.there;
+  pub lowered_more : AreLowered graph lanes width n new
+  lowered_more = record {
+    own = λ a below.
+        let f : entry new width a (slice_index lanes a) ≤ entry old width a (slice_index lanes a) = step.falls a (slice_index lanes a) (are.inside a below) in
+        let o : entry old width a (slice_index lanes a) ≤ a = is.own a below in
+        omega (arith, f, o);
+    reached = reached_now;
+    along = along_now;
   }
 
-  -- the bits of the node's word that its lane had not seen lower the lane's arrivals to the node
-  module _ (seen old new : List ℕ) (fresh : ℕ) (is : Lowers at fresh (first + n) 64 old new) (bits : AreOthers fresh (slice_index column n) (slice_index seen at))
-      (passed : AreSeen width first n seen old) where
-    -- each bit of the word has this node in its lane, or an earlier one
-    arrived : at < width → (s : ℕ) → s < 64 → HasBit (slice_index column n) s → slice_index new (at * 64 + s) ≤ first + n
-    arrived inside s small bit = ⊎_elim
-        (λ (f : HasBit fresh s). is.marked s small f)
-        (λ (o : HasBit (slice_index seen at) s).
-        let l : slice_index old (at * 64 + s) < first + n = passed at s inside small o in
-        let f : slice_index new (at * 64 + s) ≤ slice_index old (at * 64 + s) = is.falls (at * 64 + s) in
-        omega arith)
-        (bits.whole s small bit)
+-- all nodes have been taken
+module _ (graph : List (List ℕ)) (lanes : List ℕ) (width : ℕ) (rows : List ℕ) (ordered : IsOrdered graph) (are : AreLanes graph lanes width) (is : AreLowered graph lanes width 0 rows) where
+  chain_falls : (a : ℕ) (ms : List ℕ) (b lane : ℕ) → b < length graph → lane < width → Chain graph a ms b → entry rows width a lane ≤ entry rows width b lane
+  chain_falls a [] b lane below inside h = is.along a b lane h (omega arith) below inside
+  chain_falls a (m ∷ ms) b lane below inside h =
+      let l : m < b = chain_below graph ordered m ms b h.1 in
+      let first : entry rows width a lane ≤ entry rows width m lane = is.along a m lane h.0 (omega arith) (omega (arith, l, below)) inside in
+      let rest : entry rows width m lane ≤ entry rows width b lane = chain_falls m ms b lane below inside h.1 in
+      omega (arith, first, rest)
 
-    pub firsts_lowered : AreFirsts graph lanes width first column n old → AreFirsts graph lanes width first column (n + 1) new
-    firsts_lowered firsts lane s inside small = record {
-      least = λ i l hit. ⊎_elim
-          (λ (b : i < n). let o : slice_index old k ≤ first + i = before.least i b hit in let f : slice_index new k ≤ slice_index old k = is.falls k in omega arith)
-          (λ (e : i ≡ n). subst (λ j. slice_index new k ≤ first + j) (sym e) (here (subst (λ j. IsHit lanes first column lane s j) e hit)))
-          (below_or_at i n l);
-      there = ⊎_elim
-          (λ (o : slice_index new k ≡ slice_index old k). ⊎_elim
-          (λ (e : slice_index old k ≡ length graph). inl (o ∙ e))
-          (λ (f : (i : ℕ) × (i < n) × (slice_index old k ≡ first + i) × IsHit lanes first column lane s i). inr (f.0, (let l = f.1 in omega arith), o ∙ f.2, f.3))
-          before.there)
-          (λ (o : (slice_index new k ≡ first + n) × ((m : ℕ) × (m < 64) × (k ≡ at * 64 + m) × HasBit fresh m)).
-          let m = o.1.0 in
-          let lm : m < 64 = o.1.1 in
-          let place : lane * 64 + s ≡ at * 64 + m = o.1.2 in
-          let same_lane : at ≡ lane = omega arith in
-          let same_bit : m ≡ s = omega arith in
-          let bit : HasBit (slice_index column n) m = bits.part m lm o.1.3 in
-          inr (n, omega arith, o.0, (same_lane, subst (λ b. HasBit (slice_index column n) b) same_bit bit)))
-          (is.kept k);
-    }
-      where
-        k : ℕ
-        k = lane * 64 + s
+  least : (a lane e : ℕ) → lane < width → Arrives graph lanes lane a e → entry rows width a lane ≤ e
+  least a lane e inside arrives =
+      let own : entry rows width e lane ≤ e = subst (λ l. entry rows width e l ≤ e) arrives.1 (is.own e arrives.0) in ⊎_elim
+      (λ (q : a ≡ e). subst (λ x. entry rows width x lane ≤ e) (sym q) own)
+      (λ (r : Reaches graph a e). let f : entry rows width a lane ≤ entry rows width e lane = chain_falls a r.0 e lane arrives.0 inside r.1 in omega (arith, f, own))
+      arrives.2
 
-        before : IsFirst graph lanes first column n lane s (slice_index old (lane * 64 + s))
-        before = firsts lane s inside small
-
-        here : IsHit lanes first column lane s n → slice_index new (lane * 64 + s) ≤ first + n
-        here hit = subst (λ l. slice_index new (l * 64 + s) ≤ first + n) hit.0 (arrived (subst (λ l. l < width) (sym hit.0) inside) s small hit.1)
-
-    pub seen_lowered : at < length seen → AreSeen width first (n + 1) (set seen at (slice_index column n)) new
-    seen_lowered there lane s inside small bit = ⊎_elim
-        (λ (e : lane ≡ at).
-        let word : slice_index (set seen at (slice_index column n)) lane ≡ slice_index column n = subst (λ l. slice_index (set seen at (slice_index column n)) l ≡ slice_index column n) (sym e) (get_or-set_same seen at (slice_index column n) 0 there) in
-        let low : slice_index new (lane * 64 + s) ≤ first + n = subst (λ l. slice_index new (l * 64 + s) ≤ first + n) (sym e) (arrived (subst (λ l. l < width) e inside) s small (subst (λ w. HasBit w s) word bit)) in
-        omega arith)
-        (λ (d : lane ≢ at).
-        let word : slice_index (set seen at (slice_index column n)) lane ≡ slice_index seen lane = get_or-set_other seen at lane (slice_index column n) 0 d in
-        let l : slice_index old (lane * 64 + s) < first + n = passed lane s inside small (subst (λ w. HasBit w s) word bit) in
-        let f : slice_index new (lane * 64 + s) ≤ slice_index old (lane * 64 + s) = is.falls (lane * 64 + s) in
-        omega arith)
-        (cases_eq lane at)
-
--- behind the last node they are the arrivals
-pub arrivals_of : (graph : List (List ℕ)) (lanes : List ℕ) (width first : ℕ) (column arrivals : List ℕ) → IsOrdered graph → IsColumn graph first column → length arrivals ≡ width * 64
-    → AreFirsts graph lanes width first column (length column) arrivals → AreArrivals graph lanes width first arrivals
-arrivals_of graph lanes width first column arrivals ordered is size firsts = (
-  size,
-  λ lane s inside small.
-      let v = slice_index arrivals (lane * 64 + s) in
-      let one = firsts lane s inside small in
-      let whole : first + length column ≡ length graph = is.0 in record {
-        least = λ e arrives.
-            let from : first + s ≤ e = reached_from graph (first + s) e ordered arrives.2 in
-            let i = e - first in
-            let at : first + i ≡ e = omega arith in
-            let below : i < length column = (let l : e < length graph = arrives.0 in omega arith) in
-            let reached : IsReached graph (first + s) (first + i) = subst (λ x. IsReached graph (first + s) x) (sym at) arrives.2 in
-            let hit : IsHit lanes first column lane s i = (subst (λ x. slice_index lanes x ≡ lane) (sym at) arrives.1, (is.1 s i small below).1 reached) in
-            subst (λ x. v ≤ x) at (one.least i below hit);
-        there = λ low. ⊎_elim
-            (λ (e : v ≡ length graph). absurd (omega arith))
-            (λ (f : (i : ℕ) × (i < length column) × (v ≡ first + i) × IsHit lanes first column lane s i).
-            let reached : IsReached graph (first + s) (first + f.0) = (is.1 s f.0 small f.1).0 f.3.1 in
-            (low, subst (λ x. slice_index lanes x ≡ lane) (sym f.2) f.3.0, subst (λ x. IsReached graph (first + s) x) (sym f.2) reached))
-            one.there;
-      },
-)
-
-pub firsts_none : (graph : List (List ℕ)) (lanes : List ℕ) (width first : ℕ) (column arrivals : List ℕ) → ((k : ℕ) → k < width * 64 → slice_index arrivals k ≡ length graph) → AreFirsts graph lanes width first column 0 arrivals
-firsts_none graph lanes width first column arrivals none lane s inside small = record {
-  least = λ i l. absurd (omega (arith, l));
-  there = inl (none (lane * 64 + s) (omega arith));
-}
+  pub are_arrivals : length rows ≡ length graph * width → AreArrivals graph lanes width rows
+  are_arrivals size = (size, λ a lane below inside. record { least = λ e arrives. least a lane e inside arrives; there = is.reached a lane below inside })

@@ -1,31 +1,16 @@
--- A chain by its last edge.
-use Rattle.std.proofs.Common.{◌≡◌, ℕ, ◌<◌, ◌≤◌, length, arith, List, [], ◌∷◌, ◌++◌, refl, sym, ap, subst, ◌⊎◌, inl, inr, ⊎_elim}
+-- Chains in a graph whose edges lead forward.
+use Rattle.std.proofs.Common.{◌≡◌, ℕ, ◌<◌, ◌≤◌, length, arith, List, [], ◌∷◌, ◌++◌, ap, subst, ◌⊎◌, inr, ⊎_elim}
 use Rattle.std.proofs.lemmas.List.{get_or_past}
 use Rattle.wm_closure.specs.Graph.{sources_of, IsOrdered, HasEdge, Chain, Reaches, IsReached}
 
-chain_more : (graph : List (List ℕ)) (a : ℕ) (ms : List ℕ) (m b : ℕ) → Chain graph a ms m → HasEdge graph m b → Chain graph a (ms ++ m ∷ []) b
-chain_more graph a [] m b h e = (h, e)
-chain_more graph a (k ∷ ms) m b h e = (h.0, chain_more graph k ms m b h.1 e)
-
-pub reached_more : (graph : List (List ℕ)) (a p e : ℕ) → IsReached graph a p → HasEdge graph p e → IsReached graph a e
-reached_more graph a p e r edge = ⊎_elim
-    (λ (q : a ≡ p). inr ([], subst (λ p. HasEdge graph p e) (sym q) edge))
-    (λ (c : Reaches graph a p). inr (c.0 ++ p ∷ [], chain_more graph a c.0 p e c.1 edge))
+-- what a node reaches, its sources reach
+pub reached_before : (graph : List (List ℕ)) (a m b : ℕ) → HasEdge graph a m → IsReached graph m b → IsReached graph a b
+reached_before graph a m b edge r = ⊎_elim
+    (λ (q : m ≡ b). inr ([], subst (λ b. HasEdge graph a b) q edge))
+    (λ (c : Reaches graph m b). inr (m ∷ c.0, (edge, c.1)))
     r
 
-pub last_edge : (graph : List (List ℕ)) (a : ℕ) (ms : List ℕ) (e : ℕ) → Chain graph a ms e → (p : ℕ) × HasEdge graph p e × IsReached graph a p
-last_edge graph a [] e h = (a, h, inl refl)
-last_edge graph a (m ∷ ms) e h =
-    let r = last_edge graph m ms e h.1 in (
-      r.0,
-      r.1,
-      ⊎_elim
-          (λ (q : m ≡ r.0). inr ([], subst (λ p. HasEdge graph a p) q h.0))
-          (λ (c : Reaches graph m r.0). inr (m ∷ c.0, (h.0, c.1)))
-          r.2,
-    )
-
-chain_below : (graph : List (List ℕ)) → IsOrdered graph → (a : ℕ) (ms : List ℕ) (b : ℕ) → Chain graph a ms b → a < b
+pub chain_below : (graph : List (List ℕ)) → IsOrdered graph → (a : ℕ) (ms : List ℕ) (b : ℕ) → Chain graph a ms b → a < b
 chain_below graph ordered a [] b h = ordered a b h
 chain_below graph ordered a (m ∷ ms) b h =
     let first : a < m = ordered a m h.0 in
@@ -55,10 +40,3 @@ chain_join graph a (k ∷ ms) m ns b h c = (h.0, chain_join graph k ms m ns b h.
 
 pub reaches_join : (graph : List (List ℕ)) (a m b : ℕ) → Reaches graph a m → Reaches graph m b → Reaches graph a b
 reaches_join graph a m b first second = (first.0 ++ m ∷ second.0, chain_join graph a first.0 m second.0 b first.1 second.1)
-
--- what is reached is no earlier node
-pub reached_from : (graph : List (List ℕ)) (a b : ℕ) → IsOrdered graph → IsReached graph a b → a ≤ b
-reached_from graph a b ordered r = ⊎_elim
-    (λ (q : a ≡ b). omega arith)
-    (λ (c : Reaches graph a b). let l : a < b = reaches_below graph a b ordered c in omega arith)
-    r

@@ -1,79 +1,116 @@
--- The arrivals of 64 sources in one lane, lowered to one node.
-use Rattle.std.proofs.Common.{◌≡◌, ◌≢◌, ℕ, ◌+◌, ◌*◌, ◌<◌, ◌≤◌, List, length, set, arith, refl, sym, subst, inl, inr, ⊎_elim, ◌∙◌}
+-- The rows of a node's sources, lowered to that of the node.
+use Rattle.std.proofs.Common.{◌≡◌, ◌≢◌, ℕ, ◌+◌, ◌*◌, ◌<◌, ◌≤◌, min, List, length, set, arith, refl, sym, subst, ◌⊎◌, inl, inr, ⊎_elim, ◌∙◌}
 use Rattle.std.specs.Prelude.{slice_index}
 use Rattle.std.proofs.lemmas.Bool.{cases_eq, cases_lt}
 use Rattle.std.proofs.lemmas.List.{get_or-set_same, get_or-set_other}
-use Rattle.wm_closure.specs.Graph.{HasBit, Lowers}
+use Rattle.wm_closure.specs.Graph.{entry, IsAmong, LowersRow, LowersSources}
+use Rattle.wm_closure.proofs.Rows.{row_apart, row_before}
 
-pub lowers_none : (lane mask node : ℕ) (old : List ℕ) → Lowers lane mask node 0 old old
-lowers_none lane mask node old = record {
-  falls = λ k. omega arith;
-  marked = λ s below. absurd (omega (arith, below));
-  kept = λ k. inl refl;
+-- one lane more: the entry is the smaller of the two
+lane_more : (width source node n : ℕ) (old now new : List ℕ) → (slice_index new (source * width + n) ≡ min (entry old width source n) (entry old width node n))
+    → ((k : ℕ) → k ≢ source * width + n → slice_index new k ≡ slice_index now k) → LowersRow width source node n old now → LowersRow width source node (n + 1) old new
+lane_more width source node n old now new here other is = record {
+  lowered = λ lane below. ⊎_elim
+      (λ (l : lane < n). other (source * width + lane) (λ e. omega (arith, l, e)) ∙ is.lowered lane l)
+      (λ (l : n ≤ lane). let e : n ≡ lane = omega (arith, l, below) in
+      subst (λ m. slice_index new (source * width + m) ≡ min (entry old width source m) (entry old width node m)) e here)
+      (cases_lt lane n);
+  kept = λ k out. ⊎_elim
+      (λ (l : k < source * width). other k (λ e. omega (arith, l, e)) ∙ is.kept k (inl l))
+      (λ (l : source * width + (n + 1) ≤ k). other k (λ e. omega (arith, l, e)) ∙ is.kept k (inr (omega (arith, l))))
+      out;
 }
 
-pub lowers_kept : (lane mask node n : ℕ) (old now : List ℕ) → (HasBit mask n → slice_index now (lane * 64 + n) ≤ node)
-    → Lowers lane mask node n old now → Lowers lane mask node (n + 1) old now
-lowers_kept lane mask node n old now low is = record {
-  falls = is.falls;
-  marked = λ s below bit. ⊎_elim
-      (λ (l : s < n). is.marked s l bit)
-      (λ (l : n ≤ s). let e : s ≡ n = omega arith in subst (λ m. slice_index now (lane * 64 + m) ≤ node) (sym e) (low (subst (λ m. HasBit mask m) e bit)))
-      (cases_lt s n);
-  kept = is.kept;
-}
+module _ (width source node n : ℕ) (old now : List ℕ) (before : source < node) (inside : n < width) (is : LowersRow width source node n old now) where
+  -- the node's entry is as it was
+  pub node_kept : entry now width node n ≡ entry old width node n
+  node_kept = let p : source * width + width ≤ node * width = row_before width source node before in is.kept (node * width + n) (inr (omega (arith, p, inside)))
 
-pub lowers_set : (lane mask node n : ℕ) (old now : List ℕ) → n < 64 → lane * 64 + n < length now → HasBit mask n → node < slice_index now (lane * 64 + n)
-    → Lowers lane mask node n old now → Lowers lane mask node (n + 1) old (set now (lane * 64 + n) node)
-lowers_set lane mask node n old now small inside bit less is = record {
-  falls = λ k. ⊎_elim
-      (λ (e : k ≡ place). let f : slice_index now k ≤ slice_index old k = is.falls k in
-      let l : node < slice_index now k = subst (λ j. node < slice_index now j) (sym e) less in
-      let s : slice_index new k ≡ node = same k e in
-      omega arith)
-      (λ (d : k ≢ place). let f : slice_index now k ≤ slice_index old k = is.falls k in let o : slice_index new k ≡ slice_index now k = other k d in omega arith)
-      (cases_eq k place);
-  marked = λ s below b. ⊎_elim
-      (λ (e : lane * 64 + s ≡ place). let k : slice_index new (lane * 64 + s) ≡ node = same (lane * 64 + s) e in omega arith)
-      (λ (d : lane * 64 + s ≢ place). let o : slice_index new (lane * 64 + s) ≡ slice_index now (lane * 64 + s) = other (lane * 64 + s) d in
-      let m : slice_index now (lane * 64 + s) ≤ node = is.marked s (below_n s below d) b in
-      omega arith)
-      (cases_eq (lane * 64 + s) place);
-  kept = λ k. ⊎_elim
-      (λ (e : k ≡ place). inr (same k e, (n, small, e, bit)))
-      (λ (d : k ≢ place). ⊎_elim
-      (λ (o : slice_index now k ≡ slice_index old k). inl (other k d ∙ o))
-      (λ (o : (slice_index now k ≡ node) × ((s : ℕ) × (s < 64) × (k ≡ lane * 64 + s) × HasBit mask s)). inr (other k d ∙ o.0, o.1))
-      (is.kept k))
-      (cases_eq k place);
-}
-  where
-    place : ℕ
-    place = lane * 64 + n
+  source_kept : entry now width source n ≡ entry old width source n
+  source_kept = is.kept (source * width + n) (inr (omega arith))
 
-    new : List ℕ
-    new = set now place node
+  pub row_set : source * width + n < length now → entry now width node n < entry now width source n
+      → LowersRow width source node (n + 1) old (set now (source * width + n) (entry now width node n))
+  row_set fits less =
+      let p = source * width + n in
+      let v = entry now width node n in
+      let same : slice_index (set now p v) p ≡ v = get_or-set_same now p v 0 fits in
+      let a : entry now width node n ≡ entry old width node n = node_kept in
+      let b : entry now width source n ≡ entry old width source n = source_kept in
+      lane_more width source node n old now (set now p v) (omega (arith, same, a, b, less)) (λ k d. get_or-set_other now p k v 0 d) is
 
-    same : (k : ℕ) → k ≡ place → slice_index new k ≡ node
-    same k e = subst (λ j. slice_index new j ≡ node) (sym e) (get_or-set_same now place node 0 inside)
+  pub row_kept : entry now width source n ≤ entry now width node n → LowersRow width source node (n + 1) old now
+  row_kept less =
+      let a : entry now width node n ≡ entry old width node n = node_kept in
+      let b : entry now width source n ≡ entry old width source n = source_kept in
+      lane_more width source node n old now now (omega (arith, a, b, less)) (λ k d. refl) is
 
-    other : (k : ℕ) → k ≢ place → slice_index new k ≡ slice_index now k
-    other k d = get_or-set_other now place k node 0 d
+-- one source more
+module _ (width : ℕ) (sources : List ℕ) (node n source : ℕ) (old now new : List ℕ) (at : slice_index sources n ≡ source) (is : LowersSources width sources node n old now)
+    (row : LowersRow width source node width now new) where
+  other_kept : (a lane : ℕ) → lane < width → a ≢ source → entry new width a lane ≡ entry now width a lane
+  other_kept a lane inside d = row.kept (a * width + lane) (row_apart width a source lane d inside)
 
-    below_n : (s : ℕ) → s < n + 1 → lane * 64 + s ≢ lane * 64 + n → s < n
-    below_n s below d = ⊎_elim (λ (l : s < n). l) (λ (l : n ≤ s). absurd (d (let e : s ≡ n = omega arith in omega arith))) (cases_lt s n)
+  source_lowered : (a lane : ℕ) → lane < width → a ≡ source → entry new width a lane ≡ min (entry now width a lane) (entry now width node lane)
+  source_lowered a lane inside e = subst (λ s. entry new width s lane ≡ min (entry now width s lane) (entry now width node lane)) (sym e) (row.lowered lane inside)
 
--- no bit from n on, up to m
-abbrev pub HasNone : ℕ → ℕ → ℕ → Type 0
-HasNone mask n m = (s : ℕ) → n ≤ s → s < m → HasBit mask s → ⊥
+  node_now : (lane : ℕ) → lane < width → entry now width node lane ≡ entry old width node lane
+  node_now lane inside = ⊎_elim
+      (λ (e : entry now width node lane ≡ entry old width node lane). e)
+      (λ (e : IsAmong sources n node × (entry now width node lane ≡ entry old width node lane)). e.1)
+      (is.kept node lane inside)
 
--- bits that are not set need no arrival
-pub lowers_skipped : (lane mask node n m : ℕ) (old now : List ℕ) → HasNone mask n m → Lowers lane mask node n old now → Lowers lane mask node m old now
-lowers_skipped lane mask node n m old now none is = record {
-  falls = is.falls;
-  marked = λ s below bit. ⊎_elim
-      (λ (l : s < n). is.marked s l bit)
-      (λ (l : n ≤ s). absurd (none s l below bit))
-      (cases_lt s n);
-  kept = is.kept;
-}
+  falls_now : (a lane : ℕ) → lane < width → entry new width a lane ≤ entry now width a lane
+  falls_now a lane inside = ⊎_elim
+      (λ (e : a ≡ source). let m : entry new width a lane ≡ min (entry now width a lane) (entry now width node lane) = source_lowered a lane inside e in omega (arith, m))
+      (λ (d : a ≢ source). let m : entry new width a lane ≡ entry now width a lane = other_kept a lane inside d in omega (arith, m))
+      (cases_eq a source)
+
+  among_more : (a : ℕ) → IsAmong sources n a → IsAmong sources (n + 1) a
+  among_more a k = (k.0, (let l = k.1 in omega (arith, l)), k.2)
+
+  lowered_more : (a lane : ℕ) → lane < width → IsAmong sources (n + 1) a → entry new width a lane ≤ entry old width node lane
+  lowered_more a lane inside k = ⊎_elim
+      (λ (l : k.0 < n). let f : entry new width a lane ≤ entry now width a lane = falls_now a lane inside in
+      let o : entry now width a lane ≤ entry old width node lane = is.lowered a lane inside (k.0, l, k.2) in
+      omega (arith, f, o))
+      (λ (l : n ≤ k.0).
+      let below : k.0 < n + 1 = k.1 in
+      let last : k.0 ≡ n = omega (arith, l, below) in
+      let e : a ≡ source = sym k.2 ∙ subst (λ i. slice_index sources i ≡ source) (sym last) at in
+      let m : entry new width a lane ≡ min (entry now width a lane) (entry now width node lane) = source_lowered a lane inside e in
+      let o : entry now width node lane ≡ entry old width node lane = node_now lane inside in
+      omega (arith, m, o))
+      (cases_lt k.0 n)
+
+  -- the entry of the source is its own or the node's
+  one_of : (a lane : ℕ) → lane < width → a ≡ source → (entry new width a lane ≡ entry now width a lane) ⊎ (entry new width a lane ≡ entry old width node lane)
+  one_of a lane inside e =
+      let m : entry new width a lane ≡ min (entry now width a lane) (entry now width node lane) = source_lowered a lane inside e in
+      let o : entry now width node lane ≡ entry old width node lane = node_now lane inside in ⊎_elim
+      (λ (l : entry now width node lane < entry now width a lane). inr (omega (arith, m, o, l)))
+      (λ (l : entry now width a lane ≤ entry now width node lane). inl (omega (arith, m, l)))
+      (cases_lt (entry now width node lane) (entry now width a lane))
+
+  kept_before : (a lane : ℕ) → lane < width → entry new width a lane ≡ entry now width a lane
+      → (entry new width a lane ≡ entry old width a lane) ⊎ (IsAmong sources (n + 1) a × (entry new width a lane ≡ entry old width node lane))
+  kept_before a lane inside same = ⊎_elim
+      (λ (e : entry now width a lane ≡ entry old width a lane). inl (same ∙ e))
+      (λ (e : IsAmong sources n a × (entry now width a lane ≡ entry old width node lane)). inr (among_more a e.0, same ∙ e.1))
+      (is.kept a lane inside)
+
+  pub source_more : LowersSources width sources node (n + 1) old new
+  source_more = record {
+    falls = λ a lane inside.
+        let f : entry new width a lane ≤ entry now width a lane = falls_now a lane inside in
+        let o : entry now width a lane ≤ entry old width a lane = is.falls a lane inside in
+        omega (arith, f, o);
+    lowered = lowered_more;
+    kept = λ a lane inside. ⊎_elim
+        (λ (e : a ≡ source). ⊎_elim
+        (λ (m : entry new width a lane ≡ entry now width a lane). kept_before a lane inside m)
+        (λ (m : entry new width a lane ≡ entry old width node lane). inr ((n, omega arith, at ∙ sym e), m))
+        (one_of a lane inside e))
+        (λ (d : a ≢ source). kept_before a lane inside (other_kept a lane inside d))
+        (cases_eq a source);
+  }

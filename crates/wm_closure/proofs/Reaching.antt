@@ -1,39 +1,41 @@
 -- What an arrival says of a later node of its lane.
-use Rattle.std.proofs.Common.{◌≡◌, ◌≢◌, ℕ, ◌+◌, ◌*◌, ◌/◌, ◌%◌, ◌<◌, ◌≤◌, List, [], length, get_or, arith, refl, sym, subst, inr, ⊎_elim, ◌∙◌, ◌↔◌}
-use Rattle.std.specs.Prelude.{slice_index, slice_index_or}
+use Rattle.std.proofs.Common.{◌≡◌, ◌≢◌, ℕ, ◌+◌, ◌*◌, ◌<◌, ◌≤◌, List, length, get_or, arith, refl, sym, subst, inr, ⊎_elim, ◌∙◌, ◌↔◌}
+use Rattle.std.specs.Prelude.{slice_index}
 use Rattle.std.proofs.lemmas.Bool.{cases_eq}
 use Rattle.std.proofs.lemmas.List.{get_or_default}
-use Rattle.wm_closure.specs.Graph.{AreAllArrivals, AreArrivals, AreLanes, Arrives, IsArrival, Reaches}
+use Rattle.wm_closure.specs.Graph.{AreArrivals, AreLanes, Arrives, entry, IsArrival, Reaches}
 use Rattle.wm_closure.proofs.Chains.{reaches_join}
+use Rattle.wm_closure.proofs.Starting.{place_inside}
 
-module _ (graph : List (List ℕ)) (lanes : List ℕ) (width : ℕ) (lists : List (List ℕ)) (are : AreLanes graph lanes width) (all : AreAllArrivals graph lanes width lists)
-    (from to : ℕ) (later : from < to) (there : to < length graph) where
-  abbrev list : List ℕ
-  list = slice_index_or lists (from / 64) []
-
+module _ (graph : List (List ℕ)) (lanes : List ℕ) (width : ℕ) (rows : List ℕ) (are : AreLanes graph lanes width) (all : AreArrivals graph lanes width rows)
+    (from to : ℕ) (later : from < to) (behind : to < length graph) where
   abbrev lane : ℕ
   lane = slice_index lanes to
 
-  at : AreArrivals graph lanes width (from / 64 * 64) list
-  at = let l = all.0 in all.1 (from / 64) (omega (arith, l, later, there))
+  entry_inside : from * width + slice_index lanes to < length rows
+  entry_inside =
+      let l : length rows ≡ length graph * width = all.0 in
+      let p : from * width + lane < length graph * width = place_inside width from lane (length graph) (omega (arith, later, behind)) (are.inside to behind) in
+      omega (arith, l, p)
 
-  pub place_inside : slice_index lanes to * 64 + from % 64 < length (slice_index_or lists (from / 64) [])
-  place_inside =
-      let w : lane < width = are.inside to there in
-      let l : length list ≡ width * 64 = at.0 in
-      omega (arith, w, l)
+  arrival : IsArrival graph lanes lane from (entry rows width from lane)
+  arrival = all.1 from lane (omega (arith, later, behind)) (are.inside to behind)
 
-  arrival : IsArrival graph lanes lane from (slice_index list (lane * 64 + from % 64))
-  arrival =
-      let same : from / 64 * 64 + from % 64 ≡ from = omega arith in
-      subst (λ a. IsArrival graph lanes lane a (slice_index list (lane * 64 + from % 64))) same (at.1 lane (from % 64) (are.inside to there) (omega arith))
+  -- what was read of the lanes is that lane
+  lane_read : (read : ℕ) → read ≡ get_or lanes to read → read ≡ slice_index lanes to
+  lane_read read is = let size = are.size in is ∙ get_or_default lanes to read 0 (omega (arith, size, behind))
 
-  -- what was read of the lists is that lane and that list
-  pub lane_read : (read : ℕ) → read ≡ get_or lanes to read → read ≡ slice_index lanes to
-  lane_read read is = let size = are.size in is ∙ get_or_default lanes to read 0 (omega (arith, size, there))
+  -- the place that is read is inside the rows, and what is read there is the entry
+  pub read_inside : (read : ℕ) → read ≡ get_or lanes to read → from * width + read < length rows
+  read_inside read is =
+      let e : read ≡ slice_index lanes to = lane_read read is in
+      let l : from * width + lane < length rows = entry_inside in
+      omega (arith, e, l)
 
-  pub list_read : (read : List ℕ) → read ≡ get_or lists (from / 64) read → read ≡ slice_index_or lists (from / 64) []
-  list_read read is = let l = all.0 in is ∙ get_or_default lists (from / 64) read [] (omega (arith, l, later, there))
+  pub entry_read : (read found : ℕ) → read ≡ get_or lanes to read → found ≡ get_or rows (from * width + read) found → found ≡ entry rows width from (slice_index lanes to)
+  entry_read read found is there =
+      let e : read ≡ slice_index lanes to = lane_read read is in
+      subst (λ l. found ≡ entry rows width from l) e (there ∙ get_or_default rows (from * width + read) found 0 (read_inside read is))
 
   -- the first node of the lane that is reached reaches the later ones
   through : (v : ℕ) → v ≤ to → Arrives graph lanes lane from v → Reaches graph from to
@@ -44,15 +46,15 @@ module _ (graph : List (List ℕ)) (lanes : List ℕ) (width : ℕ) (lists : Lis
       a.2)
       (λ (d : v ≢ to).
       let less : v < to = omega (arith, low, d) in
-      let link : Reaches graph v to = are.linked v to less there a.1 in ⊎_elim
+      let link : Reaches graph v to = are.linked v to less behind a.1 in ⊎_elim
       (λ (q : from ≡ v). subst (λ x. Reaches graph x to) (sym q) link)
       (λ (r : Reaches graph from v). reaches_join graph from v to r link)
       a.2)
       (cases_eq v to)
 
-  pub arrives_reaches : (slice_index (slice_index_or lists (from / 64) []) (slice_index lanes to * 64 + from % 64) ≤ to) ↔ Reaches graph from to
+  pub arrives_reaches : (entry rows width from (slice_index lanes to) ≤ to) ↔ Reaches graph from to
   arrives_reaches =
-      let v = slice_index list (lane * 64 + from % 64) in (
-        (λ low. through v low (arrival.there (let l : v ≤ to = low in omega (arith, l, there)))),
-        (λ r. arrival.least to (there, refl, inr r)),
+      let v = entry rows width from lane in (
+        (λ low. through v low (arrival.there (let l : v ≤ to = low in omega (arith, l, behind)))),
+        (λ r. arrival.least to (behind, refl, inr r)),
       )

@@ -11,7 +11,6 @@ use crate::ordered::Ordered;
 use crate::steps::{graph, place_of, threads};
 use std::alloc::{AllocError, Global};
 use std::marker::Model;
-use std::thread::Threads;
 use wm_closure::Closure;
 use wm_event::{Candidate, EventId, EventKey};
 
@@ -34,31 +33,15 @@ impl<'c, 'i> Model for HappensBefore<'c, 'i> {
 }
 
 impl<'c, 'i> HappensBefore<'c, 'i> {
-    /// Happens-before of an ordered candidate, worked in parallel. An error comes only where memory was refused.
-    pub fn of(
-        rt: &(impl Threads + Sync),
-        alloc: Global,
-        ordered: &Ordered<'c, 'i>,
-    ) -> Result<Self, AllocError>
+    /// Happens-before of an ordered candidate. An error comes only where memory was refused.
+    pub fn of(alloc: Global, ordered: &Ordered<'c, 'i>) -> Result<Self, AllocError>
         ensures { IfOk result (λ h. h ≡ ordered.now) }
     {
         let candidate = ordered.candidate();
         let log = candidate.log();
         let steps = graph(alloc, candidate)?;
         let lanes = threads(alloc, candidate)?;
-        let closure = Closure::of(rt, alloc, steps, lanes, log.threads().len())?;
-        Ok(HappensBefore { candidate, closure })
-    }
-
-    /// Happens-before of an ordered candidate, by this thread alone. An error comes only where memory was refused.
-    pub fn sequential(alloc: Global, ordered: &Ordered<'c, 'i>) -> Result<Self, AllocError>
-        ensures { IfOk result (λ h. h ≡ ordered.now) }
-    {
-        let candidate = ordered.candidate();
-        let log = candidate.log();
-        let steps = graph(alloc, candidate)?;
-        let lanes = threads(alloc, candidate)?;
-        let closure = Closure::sequential(alloc, steps, lanes, log.threads().len())?;
+        let closure = Closure::of(alloc, steps, lanes, log.threads().len())?;
         Ok(HappensBefore { candidate, closure })
     }
 

@@ -37,7 +37,7 @@ fn relation_of<'c, 'i, R: AllocGlobal + Threads + Sync>(
     let Ok(ordered) = Ordered::of(candidate) else {
         unreachable!()
     };
-    HappensBefore::of(rt, rt.alloc(), &ordered)
+    HappensBefore::of(rt.alloc(), &ordered)
 }
 
 /// The races of a candidate whose order agrees with happens-before, by the sites of their events.

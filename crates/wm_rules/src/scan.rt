@@ -198,7 +198,7 @@ pub fn judge(
     match Ordered::of(candidate) {
         Err(edge) => Ok(Judgement::Broken(fault_of_edge(edge))),
         Ok(ordered) => {
-            let relation = HappensBefore::of(rt, rt.alloc(), &ordered)?;
+            let relation = HappensBefore::of(rt.alloc(), &ordered)?;
             match first_fault(rt, &relation) {
                 Some(fault) => Ok(Judgement::Broken(fault)),
                 None => Ok(Judgement::Valid),

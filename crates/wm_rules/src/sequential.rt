@@ -52,7 +52,7 @@ pub fn judge_sequentially(alloc: Global, candidate: &Candidate) -> Result<Judgem
     match Ordered::of(candidate) {
         Err(edge) => Ok(Judgement::Broken(fault_of_edge(edge))),
         Ok(ordered) => {
-            let relation = HappensBefore::sequential(alloc, &ordered)?;
+            let relation = HappensBefore::of(alloc, &ordered)?;
             match first_fault(&relation) {
                 Some(fault) => Ok(Judgement::Broken(fault)),
                 None => Ok(Judgement::Valid),

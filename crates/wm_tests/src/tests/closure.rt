@@ -134,7 +134,7 @@ pub(super) fn compares<R: Abort + AllocGlobal + Threads + Sync>(
     let Ok(ordered) = Ordered::of(candidate) else {
         return Ok(false);
     };
-    let relation = HappensBefore::of(rt, alloc, &ordered)?;
+    let relation = HappensBefore::of(alloc, &ordered)?;
     let ids = ids_of(alloc, candidate)?;
     let edges = edges_of(alloc, candidate, ids.as_slice())?;
     agrees(rt, &relation, ids.as_slice(), edges.as_slice())?;

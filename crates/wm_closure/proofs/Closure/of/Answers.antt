@@ -1,4 +1,4 @@
 use Rattle.wm_closure.proofs.Closure.of.Goals as goal
 
-pub all_arrivals-requires-clause-ordered : goal.all_arrivals-requires-clause-ordered
-all_arrivals-requires-clause-ordered g c κs within = rw c.as_slice.ensures.value c.requires.ordered
+pub arrivals-requires-clause-ordered : goal.arrivals-requires-clause-ordered
+arrivals-requires-clause-ordered c = rw c.as_slice.ensures.value c.requires.ordered
