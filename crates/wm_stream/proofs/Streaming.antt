@@ -128,10 +128,6 @@ module _ (says : List ℕ → LineStatus → List ℕ → Type 0) where
       let some = splits_some limit begun part in
       record { lines = some.0; next = some.1; are_lines = some.2; prints = front_none says some.0 a }
 
-  -- the part ends no line
-  pub part_continues : (limit : ℕ) (begun part next : List ℕ) (a : Option (List ℕ)) → SplitsOn limit begun part [] next → AnswersPart says limit begun part next a a Allowed
-  part_continues limit begun part next a splits = record { lines = []; are_lines = splits; prints = prints_none says a }
-
 -- a buffer that was read into is what the read left there
 pub whole_buffer : (new items : List ℕ) (n : ℕ) → length new ≡ n → take n (new ++ drop (length new) items) ≡ new
 whole_buffer new items n size = ap (λ k. take k (new ++ drop (length new) items)) (sym size) ∙ take-append-le (length new) new (drop (length new) items) (omega arith) ∙ take_all (length new) new (omega arith)

@@ -46,11 +46,12 @@ pub(crate) fn end_line<'a>(
     }
 }
 
-/// Lines that have ended, and the bytes that follow them.
+/// Lines that have ended, and what begins the next line.
 #[derive(Drop)]
 pub(crate) struct Lines<'a, 'b> {
     /// Without their newlines.
     pub(crate) ended: Vec<&'a [u8]>,
+    /// What follows the last newline.
     pub(crate) left: &'b [u8],
 }
 
