@@ -13,3 +13,4 @@ pub mod RaceTexts
 pub mod Explaining
 pub mod Streaming
 pub mod TraceTexts
+pub mod Telling

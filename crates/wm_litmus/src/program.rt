@@ -6,8 +6,9 @@ ghost use Rattle.wm_litmus.specs.Prints.{Gives};
 ghost use Rattle.wm_litmus.specs.Serving.{IsOfLines, IsReply, StreamsAll, StreamsFront};
 ghost use Rattle.wm_litmus.specs.Drive.{AnswersDrive, IsScriptAnswer};
 ghost use Rattle.wm_litmus.specs.Trace.{AnswersTrace};
-ghost use Rattle.wm_litmus.specs.Failures.{IsUnreadFile};
+ghost use Rattle.wm_litmus.specs.Failures.{IsUnreadFile, TellsFailure, failure_text, unread_text};
 ghost use Rattle.wm_litmus.specs.Input.{IsDocumentRead, IsReadOf};
+ghost use Rattle.wm_stream.specs.Output.{AppendsFront};
 ghost use Rattle.wm_litmus.specs.Rounds.{IsRoundsAnswer};
 ghost use Rattle.wm_litmus.specs.declared.program.Failure.TheVariants.{OutOfMemory};
 
@@ -50,6 +51,8 @@ enum Failure<'a> {
 }
 
 impl From<StreamFault> for Failure<'_> {
+    ghost from_gives = { λ _ stop. IsUnreadFile stop → ⊥ };
+
     fn from(fault: StreamFault) -> Self {
         match fault {
             StreamFault::Read => Failure::UnreadInput,
@@ -242,6 +245,8 @@ fn stream_lines<'a, R: AllocGlobal + Threads + Sync, F: Files, I: Read, O: Write
         (F.content_of files.old name.now) (I.remaining input.old) (O.contents out.old) (O.contents out.new) status) }
     ensures stopped { OnErr result (StreamsFront
         (F.content_of files.old name.now) (I.remaining input.old) (O.contents out.old) (O.contents out.new)) }
+    ensures unread { IfErr result (λ stop. IsUnreadFile stop
+        → F.failures_of files.old < F.failures_of files.new) }
 {
     let bytes = read_file(files, name, MAX_MODULE_BYTES)?;
     let judge = judge_of(rt.alloc(), bytes.as_slice())?;
@@ -338,16 +343,37 @@ fn reply_to<'a, R: AllocGlobal + Threads + Wait + Sync, F: Files, I: Read>(
     }
 }
 
+/// Writes a text, as far as the writer takes it.
+fn tell<E: Write>(err: &mut E, text: &str)
+    ensures { AppendsFront (E.contents err.old) (E.contents err.new) text.now }
+{
+    let _ = write_text(err, text);
+}
+
+/// Writes that a file was not read, as far as the writer takes it.
+fn tell_unread<E: Write>(err: &mut E, name: &str)
+    ensures { AppendsFront (E.contents err.old) (E.contents err.new) (unread_text name.now) }
+{
+    if write_text(err, "cannot read ").is_err() {
+        return;
+    }
+    if write_text(err, name).is_err() {
+        return;
+    }
+    tell(err, "\n");
+}
+
 /// Writes why there is no whole answer, and returns the exit status.
 fn report<E: Write>(err: &mut E, failure: Failure) -> u8
-    ensures { result ≡ 3 }
+    ensures status { result ≡ 3 }
+    ensures told { AppendsFront (E.contents err.old) (E.contents err.new) (failure_text failure.entry) }
 {
-    let _ = match failure {
-        Failure::UnreadFile(name) => writeln!(err, "cannot read {name}"),
-        Failure::UnreadInput => writeln!(err, "cannot read -"),
-        Failure::Unwritten => writeln!(err, "cannot write"),
-        Failure::OutOfMemory => writeln!(err, "out of memory"),
-    };
+    match failure {
+        Failure::UnreadFile(name) => tell_unread(err, name),
+        Failure::UnreadInput => tell(err, "cannot read -\n"),
+        Failure::Unwritten => tell(err, "cannot write\n"),
+        Failure::OutOfMemory => tell(err, "out of memory\n"),
+    }
     3
 }
 
@@ -394,6 +420,7 @@ pub fn serve<R: AllocGlobal + Threads + Wait + Sync, F: Files, I: Read, O: Write
     ensures status { result ≤ 3 }
     ensures answers { Serves words.now (F.content_of files.old) (I.remaining input.old) (O.contents out.old) (O.contents out.new) result }
     ensures silent { result < 3 → err.new ≡ err.old }
+    ensures told { TellsFailure (F.failures_of files.old) (F.failures_of files.new) (E.contents err.old) (E.contents err.new) }
     ensures stopped { StopsAt3 words.now (F.content_of files.old) (I.remaining input.old) (O.contents out.old) (O.contents out.new) result }
 {
     match reply_to(rt, words, files, input) {

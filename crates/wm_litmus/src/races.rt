@@ -27,8 +27,8 @@ use wm_valid::ValidModule;
 const MAX_LINES: usize = 1000;
 
 /// Happens-before of a candidate whose order agrees with it.
-fn relation_of<'c, 'i, R: AllocGlobal + Threads + Sync>(
-    rt: &R,
+fn relation_of<'c, 'i>(
+    alloc: Global,
     candidate: &'c Candidate<'i>,
 ) -> Result<HappensBefore<'c, 'i>, AllocError>
     requires { KeepsOrder (execution candidate.now) }
@@ -37,7 +37,7 @@ fn relation_of<'c, 'i, R: AllocGlobal + Threads + Sync>(
     let Ok(ordered) = Ordered::of(candidate) else {
         unreachable!()
     };
-    HappensBefore::of(rt.alloc(), &ordered)
+    HappensBefore::of(alloc, &ordered)
 }
 
 /// The races of a candidate whose order agrees with happens-before, by the sites of their events.
@@ -50,7 +50,7 @@ fn report_of<R: AllocGlobal + Threads + Sync>(
     requires sites { HasSites candidate.now.log sites.now }
     ensures { IfOk result (IsRaceReport (execution candidate.now) sites.now) }
 {
-    let before = relation_of(rt, candidate)?;
+    let before = relation_of(rt.alloc(), candidate)?;
     races(rt, rt.alloc(), &before, sites)
 }
 
@@ -62,7 +62,7 @@ fn first_of<R: AllocGlobal + Threads + Sync>(
     requires { KeepsOrder (execution candidate.now) }
     ensures { IfOk result (AreFirstRaces (execution candidate.now) 1000) }
 {
-    let before = relation_of(rt, candidate)?;
+    let before = relation_of(rt.alloc(), candidate)?;
     first_races(rt, rt.alloc(), &before, MAX_LINES)
 }
 
