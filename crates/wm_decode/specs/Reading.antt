@@ -30,7 +30,7 @@ signed_at most (b ∷ bytes) =
     else (if nat_lt b 128 then (if nat_lt (most / 2) (127 - b) then Err bad else Ok (most - (127 - b), bytes))
     else (if nat_lt most 128 then Err bad else (faulted_at (b ∷ bytes) (signed_at (most / 128) bytes) >>= λ x. Ok ((b - 128) + 128 * x.0, x.1))))
 
--- What a function returned, seen by view, is what reading gives, which stops where so many bytes are left.
+-- What a function returned, seen by view, is what reading gives, which stops when this many bytes are left.
 abbrev pub Gives : {X Y : Type 0} → (X → Y) → ℕ → Result X FaultKind → Result Y Stop → Type 0
 Gives view left (Ok x) read = read ≡ Ok (view x)
 Gives view left (Err kind) read = read ≡ Err (stop kind left)

@@ -36,7 +36,7 @@ module _ {X : Type 0} (item_at : List ℕ → Result (X × List ℕ) Stop) where
     count ← u32_at bytes
     items_at count.0 count.1
 
-  -- a value that takes all of these bytes, behind which are others
+  -- a value that takes all of these bytes, after which are others
   unfoldable pub filled_at : List ℕ × List ℕ → Result (X × List ℕ) Stop
   filled_at content = do
     value ← map_stop (before (length content.1)) (item_at content.0)

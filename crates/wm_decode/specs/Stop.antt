@@ -25,11 +25,11 @@ abbrev pub inner_kind : FaultKind → FaultKind
 inner_kind kind.Truncated = kind.SectionSize
 inner_kind k = k
 
--- a stop in a section or body, behind which so many bytes are
+-- a stop in a section or body, after which this many bytes follow
 abbrev pub before : ℕ → Stop → Stop
 before after s = stop (inner_kind s.kind) (s.left + after)
 
--- a stop in an item that is faulted as a whole, from whose first byte on so many bytes are left
+-- a stop in an item that is faulted as a whole, from whose first byte on this many bytes are left
 abbrev pub moved : ℕ → Stop → Stop
 moved left s = stop s.kind left
 
@@ -38,7 +38,7 @@ abbrev pub map_stop : {A : Type 0} → (Stop → Stop) → Result A Stop → Res
 map_stop f (Ok x) = Ok x
 map_stop f (Err s) = Err (f s)
 
--- where the faulty item begins in so many bytes; bytes that end too early are faulted at their end
+-- where the faulty item begins in this many bytes; bytes that end too early are faulted at their end
 abbrev pub offset_in : ℕ → FaultKind → ℕ → ℕ
 offset_in bytes kind.Truncated left = bytes
 offset_in bytes k left = bytes - left

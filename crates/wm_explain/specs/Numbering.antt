@@ -13,7 +13,7 @@ abbrev pub next_of : BlockPosition → BlockPosition
 next_of p = record { block = p.block; at = p.at + 1 }
 
 -- in these blocks and then the instructions from position p on to the end of its block, opcode k is at position q: the instruction there, or the
--- `else` or `end` behind the block
+-- `else` or `end` after the block
 pub data IsNumberedFrom (blocks : List (List Instr)) : BlockPosition → List Part → List Instr → BlockPosition → ℕ → Type 0 where
   here : {p : BlockPosition} {rest : List Instr} → IsNumberedFrom blocks p [] rest p 0
   behind : {p q : BlockPosition} {first : Instr} {rest : List Instr} {k : ℕ} → IsNumberedFrom blocks (next_of p) (parts first) rest q k → IsNumberedFrom blocks p [] (first ∷ rest) q (1 + k)

@@ -9,7 +9,7 @@ use Rattle.wm_event.specs.declared.rule.Judgement.TheVariants as judgement
 use Rattle.wm_hb.specs.Premises.{Shows}
 use Rattle.wm_hb.specs.declared.fault_chain.FaultChain.{FaultChain}
 
--- where the verdict names the first fault of the run, the chains are one for each of its premises, in their order; with another verdict there is none
+-- if the verdict names the first fault of the run, the chains are one for each of its premises, in their order; with another verdict they are empty
 abbrev pub HasChains : LoggedRun → Verdict → List FaultChain → Type 0
 HasChains x (Allowed certificate) chains = chains ≡ []
 HasChains x (Refused refusal) chains = chains ≡ []

@@ -401,7 +401,7 @@ fn report<E: Write>(err: &mut E, failure: Failure) -> u8
 ///
 /// Each file is read to its limit and one byte more, in at most that many reads, and any failed read ends
 /// the program. The clauses speak of the words, by clap's model of the parse, of what `files` and `input` hold, where
-/// that is known, and of the text and the status; the lines on `err` are shown by tests.
+/// that is known, of the text, the status, and what `err` gains; which of its lines that is, is shown by tests.
 ///
 /// # Errors
 ///

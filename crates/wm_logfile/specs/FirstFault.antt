@@ -20,20 +20,20 @@ use Rattle.wm_logfile.specs.Grammar.{value, small, width, order_form, values_fie
 use Rattle.wm_logfile.specs.Paths.{child}
 use Rattle.wm_logfile.specs.Reading.{◌>>=◌, list_at, version_from}
 
--- ---- of parts that are read one behind the other
+-- ---- of parts that are read one after the other
 
 -- the values of an event
 abbrev pub values_fault : EventKind → List ℕ → List Data → Option ReadFault
 values_fault kind path values = exact_fault (values_fields kind no_fields) path 4 values
 
--- what stands behind the word of an event, up to its values
+-- what follows the word of an event, up to its values
 abbrev pub parts_fault : EventKind → List ℕ → EventParts → List Data → Option ReadFault
 parts_fault kind path parts values =
     option_or (first_fault (order_form kind) (child path 1) (view parts.order.now))
     (option_or (first_fault small (child path 2) (view parts.address.now))
     (option_or (first_fault width (child path 3) (view parts.width.now)) (values_fault kind path values)))
 
--- what stands behind the values of an event
+-- what follows the values of an event
 abbrev pub by_fault : EventKind → List ℕ → List Data → Option ReadFault
 by_fault Read path lists = exact_fault (field writers no_fields) path 5 lists
 by_fault Write path lists = exact_fault no_fields path 5 lists
@@ -43,7 +43,7 @@ by_fault Update path lists = exact_fault (field writers no_fields) path 6 lists
 abbrev pub start_fault : List ℕ → Data → Data → Option ReadFault
 start_fault path name args = option_or (first_fault text (child path 0) name) (first_fault (items value) (child path 1) args)
 
--- what stands before the events of a thread
+-- what comes before the events of a thread
 abbrev pub head_fault : List ℕ → List Data → Option ReadFault
 head_fault path (name ∷ args ∷ ended ∷ steps ∷ events ∷ []) =
     option_or (start_fault path name args) (option_or (first_fault ending (child path 2) ended) (first_fault (up_to max_steps) (child path 3) steps))
@@ -66,17 +66,17 @@ few_fault fault path ds = if nat_le (length ds) max_threads then as_first (items
 abbrev pub threads_fault : Form → List ℕ → Data → Option DocFault
 threads_fault form path d = in_document (few_fault (numbered_fault (first_fault form)) path) path d
 
--- what stands behind the version
+-- what follows the version
 abbrev pub pair_fault : Version → List ℕ → Data → Data → Option DocFault
 pair_fault First path threads last = option_or (threads_fault thread (child path 2) threads) (as_first (first_fault witness (child path 3) last))
 pair_fault Second path threads last = option_or (threads_fault thread_by (child path 2) threads) (as_first (first_fault keys (child path 3) last))
 
--- a number that is no version; a known one is followed by what stands behind it
+-- a number that is not a version, or a known one and what follows it
 abbrev pub version_fault : (Version → Option DocFault) → List ℕ → Option Num → Option DocFault
 version_fault behind path None = Some (BadShape path)
 version_fault behind path (Some n) = option_map_or behind (as_u64 n >>= version_from) (Some BadVersion)
 
--- the name, the version and what stands behind it
+-- the name, the version and what follows it
 abbrev pub parts_fault_with : (Version → Data → Data → Option DocFault) → List ℕ → List Data → Option DocFault
 parts_fault_with behind path (name ∷ version ∷ threads ∷ last ∷ []) =
     option_or (as_first (first_fault format_name (child path 0) name)) (version_fault (λ v. behind v threads last) (child path 1) (as_number version))

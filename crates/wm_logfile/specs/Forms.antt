@@ -73,7 +73,7 @@ abbrev pub count_of : Fields → ℕ
 count_of no_fields = 0
 count_of (field form rest) = suc (count_of rest)
 
--- some case has so many items, its word among them
+-- some case has this many items, its word among them
 abbrev pub has_length : Cases → ℕ → Bool
 has_length no_cases n = false
 has_length (case w forms cases) n = if n == suc (count_of forms) then true else has_length cases n
@@ -110,7 +110,7 @@ abbrev mutual
   fields_fault (field form rest) path i [] = None
   fields_fault (field form rest) path i (d ∷ ds) = option_or (first_fault form (child path i) d) (fields_fault rest path (suc i) ds)
 
-  -- of what stands behind this word
+  -- of what follows this word
   pub case_fault : Cases → List ℕ → Option (List ℕ) → List Data → Option ReadFault
   case_fault no_cases path word ds = Some (Shape (child path 0))
   case_fault (case w forms cases) path word ds =

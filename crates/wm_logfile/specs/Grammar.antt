@@ -53,17 +53,17 @@ order_form Read = order
 order_form Write = order
 order_form Update = update_order
 
--- the values of an event of the kind, and what stands behind those of one that reads
+-- the values of an event of the kind, and what follows those of one that reads
 abbrev pub values_fields : EventKind → Fields → Fields
 values_fields Read by = field value by
 values_fields Write by = field value no_fields
 values_fields Update by = field value (field value by)
 
--- what an event of the kind has behind its word
+-- what an event of the kind has after its word
 abbrev pub event_fields : EventKind → Fields → Fields
 event_fields kind by = field (order_form kind) (field small (field width (values_fields kind by)))
 
--- each kind behind its word
+-- each kind after its word
 abbrev pub cases_with : Fields → Cases
 cases_with by = case (codes "r") (event_fields Read by) (case (codes "w") (event_fields Write by) (case (codes "x") (event_fields Update by) no_cases))
 
@@ -71,7 +71,7 @@ cases_with by = case (codes "r") (event_fields Read by) (case (codes "w") (event
 abbrev pub event_cases : Cases
 event_cases = cases_with no_fields
 
--- version 2: the writers of the bytes read stand behind the values
+-- version 2: the writers of the bytes read follow the values
 abbrev pub event_by_cases : Cases
 event_by_cases = cases_with (field writers no_fields)
 
@@ -110,7 +110,7 @@ thread = fields (thread_fields event)
 unfoldable pub thread_by : Form
 thread_by = fields (thread_fields event_by)
 
--- ---- what stands behind the threads
+-- ---- what follows the threads
 
 -- an order, as in version 2
 unfoldable pub keys : Form

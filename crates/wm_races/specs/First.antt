@@ -9,7 +9,7 @@ use Rattle.wm_races.specs.declared.first.FirstRaces.{FirstRaces}
 use Rattle.wm_races.specs.declared.pair.RacingPair.{RacingPair}
 use Rattle.wm_races.specs.declared.site.Site.{Site}
 
--- so many of the first of all races, and their number
+-- the first races, at most `limit` of them, and the number of all
 pub record AreFirstRaces (x : Execution) (limit : ℕ) (found : FirstRaces) : Type 0 where
   pub races : List RacingPair
   pub list : IsRaceList x races

@@ -134,7 +134,7 @@ pub record Reaches (C : Context) (n : ℕ) (labels : Labels) (before : List Inst
 abbrev pub IfUntyped : InstrFault → Type 0 → Type 0
 IfUntyped e P = e ≡ Breaks BadType → P
 
--- in whatever block this instruction stands behind others that make what the stack stands for, typing stops at its opcode `next`
+-- in whatever block this instruction stands after others that make what the stack stands for, typing stops at its opcode `next`
 abbrev pub StopsBehind : Context → ℕ → Labels → Instr → Stack → ℕ → ℕ → Type 0
 StopsBehind C n labels i old first next =
     (before after : List Instr) (result : Option ValType) (start : ℕ) → Reaches C n labels before old → Counted C.blocks before start first
@@ -150,7 +150,7 @@ StopsInside C b labels result first next = (body : List Instr) × (slice_get C.b
 abbrev pub StopsBlock : Context → ℕ → Labels → Option ValType → ℕ → ℕ → InstrFault → Type 0
 StopsBlock C b labels result first next e = IfUntyped e (StopsInside C b labels result first next)
 
--- typing stops in a block that block n names, or at the opcode in front of it where there is no such block behind block n
+-- typing stops in a block that block n names, or at the opcode in front of it where there is no such block after block n
 abbrev pub StopsAtOrInside : Context → ℕ → ℕ → Labels → Option ValType → ℕ → ℕ → Type 0
 StopsAtOrInside C n b labels result first next = ((IsBehind C n b → ⊥) × (next ≡ first)) ⊎ ((n < b) × StopsInside C b labels result (number_of (first + 1)) next)
 

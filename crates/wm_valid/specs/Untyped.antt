@@ -1,4 +1,4 @@
--- Where the typing of a block stops: the opcodes before have a typing, and with the next one there is none.
+-- Where the typing of a block stops: the opcodes before have a typing, and with the next one they have none.
 use Rattle.std.specs.Prelude.{ℕ, ◌≡◌, ◌+◌, ◌<◌, ◌++◌, List, [], ◌∷◌, Option, Some, None, slice_get}
 use Rattle.wm_ast.specs.declared.types.ValType.{ValType}
 use Rattle.wm_ast.specs.declared.types.ValType.TheVariants.{I32}
@@ -18,7 +18,7 @@ HasTyping C n labels before = (us : List ValType) × Typed C n labels before [] 
 abbrev pub HasTest : Context → ℕ → Labels → List Instr → Type 0
 HasTest C n labels before = (us : List ValType) × Typed C n labels before [] (I32 ∷ us)
 
--- block b is there, behind block n
+-- block b is there, after block n
 abbrev pub IsBehind : Context → ℕ → ℕ → Type 0
 IsBehind C n b = (n < b) × ((body : List Instr) × (slice_get C.blocks b ≡ Some body))
 
@@ -29,7 +29,7 @@ HasTypingWith C n labels before (Loop t b) = HasTyping C n labels before × IsBe
 HasTypingWith C n labels before (If t one other part) = HasTest C n labels before × IsBehind C n one
 HasTypingWith C n labels before i = HasTyping C n labels (before ++ i ∷ [])
 
--- the opcode behind the first block of an `if` goes on: an `else` opens a block, and an `end` closes an `if` whose else part is absent
+-- the opcode after the first block of an `if` goes on: an `else` opens a block, and an `end` closes an `if` whose else part is absent
 abbrev pub GoesOn : Context → ℕ → ℕ → Option ValType → Else → Type 0
 GoesOn C n other t Present = IsBehind C n other
 GoesOn C n other t Absent = AbsentElse C other t
@@ -41,20 +41,20 @@ block_result (Loop t b) = t
 block_result (If t one other part) = t
 block_result _ = None
 
--- they and an `if` up to the end of its first block, which has so many opcodes, have a typing
+-- they and an `if` up to the end of its first block, which has this many opcodes, have a typing
 pub record PastFirst (C : Context) (n : ℕ) (labels : Labels) (before : List Instr) (t : Option ValType) (one opcodes : ℕ) : Type 0 where
   pub test : HasTest C n labels before
   pub first : Nested C n one (t ∷ labels) t
   pub are_opcodes : Opcodes C.blocks [] first.block.body opcodes
 
--- instruction i stands in these instructions behind `before`, which have so many opcodes
+-- instruction i is in these instructions after `before`, which have this many opcodes
 pub record StandsBehind (C : Context) (instrs before : List Instr) (i : Instr) (opcodes : ℕ) : Type 0 where
   pub after : List Instr
   pub is : instrs ≡ before ++ i ∷ after
   pub are_opcodes : Opcodes C.blocks [] before opcodes
 
 -- In the block n of these instructions, under these labels and with this result, typing stops at opcode k: the opcodes before it have a typing, and with it
--- there is none. The opcode behind all the instructions is the block's `end`, or the `else` behind the first block of an `if`.
+-- they have none. The opcode after all the instructions is the block's `end`, or the `else` after the first block of an `if`.
 pub data StopsTyping (C : Context) : ℕ → Labels → Option ValType → List Instr → ℕ → Type 0 where
   -- at the opcode of an instruction
   at_opcode : {n k : ℕ} {labels : Labels} {result : Option ValType} {instrs : List Instr} (before : List Instr) (i : Instr) → StandsBehind C instrs before i k
@@ -66,7 +66,7 @@ pub data StopsTyping (C : Context) : ℕ → Labels → Option ValType → List 
   in_first : {n j k : ℕ} {labels : Labels} {result : Option ValType} {instrs : List Instr} (before : List Instr) (i : Instr) (p : Part) (ps : List Part) (body : List Instr) → StandsBehind C instrs before i j
       → HasTypingWith C n labels before i → parts i ≡ p ∷ ps → slice_get C.blocks p.block ≡ Some body → StopsTyping C p.block (p.label ∷ labels) (block_result i) body k
       → StopsTyping C n labels result instrs (j + (1 + k))
-  -- at the opcode behind the first block of an `if`
+  -- at the opcode after the first block of an `if`
   behind_first : {n j l : ℕ} {labels : Labels} {result : Option ValType} {instrs : List Instr} (before : List Instr) (t : Option ValType) (one other : ℕ) (part : Else)
       → StandsBehind C instrs before (If t one other part) j → PastFirst C n labels before t one l → (GoesOn C n other t part → ⊥) → StopsTyping C n labels result instrs (j + (1 + l))
   -- in the second block of an `if`
