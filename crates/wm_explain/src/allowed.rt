@@ -3,7 +3,7 @@
 use crate::row::EventTables;
 use std::alloc::AllocError;
 use wm_event::{EventId, ThreadLog};
-use wm_phrase::{Count, EndPhrase, JsonText};
+use wm_phrase::{AndEndPhrase, Count, JsonText};
 
 /// Adds how a thread starts and ends.
 fn add_thread(text: &mut String, number: usize, thread: &ThreadLog) -> Result<(), AllocError> {
@@ -11,10 +11,10 @@ fn add_thread(text: &mut String, number: usize, thread: &ThreadLog) -> Result<()
     let args = Count(thread.start.args.len() as u64, "argument");
     let steps = Count(u64::from(thread.steps), "step");
     let events = Count(thread.events.len() as u64, "event");
-    let end = EndPhrase(thread.end);
+    let end = AndEndPhrase(thread.end);
     writeln!(
         text,
-        "  thread {number} runs {name} on {args}: {steps}, {events}, and then it {end}"
+        "  thread {number} runs {name} on {args}: {steps}, {events}, {end}"
     )
 }
 

@@ -80,7 +80,7 @@ pub(crate) fn add_remedy(
         )?,
         Writers::Several(writers) => {
             text.push_str(
-                "This rule doesn't depend on the order of the events. With other writers, the same accesses may be allowed. The events that left the values read:\n",
+                "This rule doesn't depend on the order of the events. With other writers, the same accesses may be allowed. Events whose value at the address is the value read:\n",
             )?;
             add_fits(text, &writers)?;
         }

@@ -8,10 +8,11 @@ use crate::rule::add_fault_events;
 use crate::start_refusal::start_reason;
 use std::alloc::{AllocError, Global};
 use std::cmp::Ordering;
+use std::fmt;
 use std::thread::Threads;
 use wm_check::{Breach, Verdict};
 use wm_event::{Candidate, Judgement, MAX_STEPS, OpKind, Rule, RuleFault, ThreadLog};
-use wm_phrase::{Count, EndPhrase, JsonText};
+use wm_phrase::{AndEndPhrase, Count, EndPhrase, JsonText};
 use wm_replay::{Place, ReplayAnswer};
 use wm_rules::judge;
 use wm_valid::ValidModule;
@@ -21,6 +22,20 @@ use wm_valid::ValidModule;
 struct LoggedThread<'a> {
     number: usize,
     log: &'a ThreadLog,
+}
+
+/// That the first events of a log are the module's, by their number.
+#[derive(Clone, Copy)]
+struct MatchPhrase(usize);
+
+impl fmt::Display for MatchPhrase {
+    fn fmt<W: fmt::Write>(&self, f: &mut fmt::Formatter<W>) -> fmt::Result {
+        match self.0 {
+            0 => f.write_str("no events"),
+            1 => f.write_str("its event matches the log"),
+            events => write!(f, "its {events} events match the log"),
+        }
+    }
 }
 
 /// Adds what the log and the module have where they differ.
@@ -41,25 +56,22 @@ fn add_ends(
     compared: &Compared,
 ) -> Result<(), AllocError> {
     let said = Count(u64::from(thread.log.steps), "step");
-    let end = EndPhrase(thread.log.end);
+    let end = AndEndPhrase(thread.log.end);
     let steps = Count(u64::from(compared.steps), "step");
-    let events = Count(compared.events as u64, "event");
-    writeln!(text, "  the log has     {said}, and then it {end}")?;
+    let events = MatchPhrase(compared.events);
+    writeln!(text, "  the log has     {said}, {end}")?;
     match compared.made {
         Next::Ended(end) => {
             let end = EndPhrase(end);
-            writeln!(
-                text,
-                "  the module has  {steps} and {events} as logged, and then it {end}"
-            )
+            writeln!(text, "  the module has  {steps}; {events}; then it {end}")
         }
         Next::Limit => writeln!(
             text,
-            "  the module has  {events} as logged, and has not ended after {MAX_STEPS} steps"
+            "  the module has  {events}; it has not ended after {MAX_STEPS} steps"
         ),
         next => writeln!(
             text,
-            "  the module has  {steps} and {events} as logged, and then {next}"
+            "  the module has  {steps}; {events}; next access: {next}"
         ),
     }
 }
@@ -69,17 +81,29 @@ fn add_length(
     text: &mut String,
     thread: LoggedThread,
     compared: &Compared,
+    place: Place,
 ) -> Result<(), AllocError> {
-    let word = match thread.log.steps.cmp(&compared.steps) {
-        Ordering::Less => "few",
-        Ordering::Greater => "many",
-        Ordering::Equal => return Ok(()),
-    };
-    writeln!(
-        text,
-        "The log has too {word} steps: {}. The run has {}.",
-        thread.log.steps, compared.steps
-    )
+    let made = compared.steps;
+    let stated = thread.log.steps;
+    match (stated.cmp(&made), place) {
+        (Ordering::Equal, _) => Ok(()),
+        (Ordering::Greater, _) => writeln!(
+            text,
+            "The log has too many steps: {stated}. The run has {made}."
+        ),
+        (Ordering::Less, Place::End) => writeln!(
+            text,
+            "The log has too few steps: {stated}. The run has {made}."
+        ),
+        (Ordering::Less, Place::Event(number)) => {
+            let steps = Count(u64::from(stated), "step");
+            let of = thread.number;
+            writeln!(
+                text,
+                "The log has too few steps: after {steps} the module has not made event {of}.{number} yet. The run has {made}."
+            )
+        }
+    }
 }
 
 /// Adds why a run that did not end differs from a log with fewer steps.
@@ -104,7 +128,7 @@ fn add_unended(
         (Next::Access(_), Next::Event(event)) => {
             let logged = compared.logged;
             let key = event.key();
-            writeln!(text, "Event {key} differs too: the log has {logged}.")
+            writeln!(text, "Event {key} differs too. The log has: {logged}.")
         }
         (_, _) => Ok(()),
     }
@@ -126,7 +150,7 @@ fn add_place(
     }
     add_ends(text, thread, compared)?;
     match compared.made {
-        Next::Ended(_) => add_length(text, thread, compared),
+        Next::Ended(_) => add_length(text, thread, compared, place),
         _ if thread.log.steps < compared.steps => add_unended(text, thread, compared, place),
         _ => Ok(()),
     }
@@ -143,7 +167,7 @@ fn add_position(
     let start = thread.log.start.name.as_str();
     let place = position_phrase(alloc, code, start, compared.position)?;
     match compared.made {
-        Next::Ended(_) => writeln!(text, "The thread ended at {place}."),
+        Next::Ended(_) => writeln!(text, "The run ended at {place}."),
         _ => {
             let steps = Count(u64::from(compared.steps), "step");
             writeln!(text, "After {steps} the next instruction is {place}.")
@@ -154,18 +178,18 @@ fn add_position(
 /// What a fault of V1 at a read of the thread says about the thread's run.
 fn hint(compared: &Compared, fault: &RuleFault) -> &'static str {
     if fault.case != 3 {
-        return "That is about who wrote a byte. A thread's run depends only on the values that it reads, not on who wrote them.";
+        return "That is about who wrote a byte, so it can't be the cause: a thread's run depends only on the values that it reads.";
     }
     if (fault.event.number as usize) < compared.events {
-        return "That read comes before the difference and may be its cause. Check how its value was recorded.";
+        return "That read comes before the difference and may be the cause. Check how the read's value was recorded.";
     }
     match compared.made {
         Next::Access(op)
             if fault.event.number as usize == compared.events
                 && matches!(op.kind, OpKind::Rmw(_, _) | OpKind::CmpXchg(_, _)) => {
-            "That read is at the difference and may be its cause: what an update or a compare-exchange writes depends on the value that it reads."
+            "That read is at the difference and may be the cause: what an update or a compare-exchange writes depends on the value that it reads."
         }
-        _ => "That read doesn't come before the difference, so it isn't its cause.",
+        _ => "That read doesn't come before the difference, so it can't be the cause.",
     }
 }
 

@@ -99,7 +99,7 @@ impl RuleSentence {
         match case {
             1 => write!(
                 f,
-                "{event} takes its byte {byte}, at address {address}, from itself: what an update writes can't be what it reads."
+                "{event} takes its byte {byte}, at address {address}, from itself: an update can't read from its own write."
             ),
             2 => write!(
                 f,
@@ -125,11 +125,11 @@ impl RuleSentence {
         match case {
             1 => write!(
                 f,
-                "{writer} comes before {event} in their thread, and the order doesn't list it before {event}."
+                "{writer} comes before {event} in their thread, but the order lists {writer} after {event}."
             ),
             _ => write!(
                 f,
-                "{event} reads from {writer}, and both are atomic accesses of one range: so {writer} synchronizes with {event} and happens before it, and the order doesn't list it before {event}."
+                "{event} reads from {writer}, and both are atomic accesses of one range: so {writer} synchronizes with {event} and happens before it, but the order lists {writer} after {event}."
             ),
         }
     }
@@ -149,7 +149,7 @@ impl RuleSentence {
         match case {
             1 => write!(
                 f,
-                "{event} takes its byte {byte}, at address {address}, from {writer}, but {event} happens before {writer}: nothing is read before it is written."
+                "{event} takes its byte {byte}, at address {address}, from {writer}, but {event} happens before {writer}: a read can't take a byte from a write that it happens before."
             ),
             _ => write!(
                 f,
@@ -187,15 +187,15 @@ impl RuleSentence {
         match case {
             1 => write!(
                 f,
-                "{event} reads from {writer}, which synchronizes with it, but {other}, an atomic write of the same range, is between the two in the order: with this order {event} can't read from {writer}."
+                "{event} reads from {writer}, which synchronizes with it, but {other}, an atomic write of the same range, is between {writer} and {event} in the order: with this order {event} can't read from {writer}."
             ),
             2 => write!(
                 f,
-                "{event} reads from {writer}, but {other}, an atomic write of the range of {writer}, is between the two in the order, and both writes are atomic and happen before {event}: with this order {event} can't read from {writer}."
+                "{event} reads from {writer}, but {other}, an atomic write of the range of {writer}, is between {writer} and {event} in the order, and both writes are atomic and happen before {event}: with this order {event} can't read from {writer}."
             ),
             _ => write!(
                 f,
-                "{event} is atomic and reads from {writer}, but {other}, an atomic write of the same range, is between the two in the order, and {writer} happens before both: with this order {event} can't read from {writer}."
+                "{event} is atomic and reads from {writer}, but {other}, an atomic write of the same range, is between {writer} and {event} in the order, and {writer} happens before both: with this order {event} can't read from {writer}."
             ),
         }
     }
@@ -221,13 +221,15 @@ impl fmt::Display for RuleName {
     fn fmt<W: fmt::Write>(&self, f: &mut fmt::Formatter<W>) -> fmt::Result {
         match self.0 {
             Rule::WrittenValues => {
-                f.write_str("V1, written values: each byte read was written so by its writer.")
+                f.write_str(
+                    "V1, written values: each byte read has the value that its writer wrote there.",
+                )
             }
             Rule::Order => f.write_str(
                 "V2, order: what happens before an event precedes it in the order.",
             ),
             Rule::Coherence => f.write_str(
-                "V3, coherence: a read doesn't happen before its writer, and no write of the byte happens between the two.",
+                "V3, coherence: a read doesn't happen before its writer, and no write of the byte happens between them.",
             ),
             Rule::NoTearing => f.write_str(
                 "V4, no tearing: a read that may not tear takes bytes from at most one write of its range that may not tear.",

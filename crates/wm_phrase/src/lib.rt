@@ -5,4 +5,4 @@ mod json_text;
 mod phrase;
 
 pub use json_text::{JsonText, ShortText};
-pub use phrase::{Count, EndPhrase, EventPhrase, OpPhrase, ValueForm, WritersPhrase};
+pub use phrase::{AndEndPhrase, Count, EndPhrase, EventPhrase, OpPhrase, ValueForm, WritersPhrase};

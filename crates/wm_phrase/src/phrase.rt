@@ -197,3 +197,17 @@ impl fmt::Display for EndPhrase {
         }
     }
 }
+
+/// How a thread ends after its steps, as `and then it returns 1`, or `and has not ended`.
+#[derive(Clone, Copy)]
+pub struct AndEndPhrase(pub End);
+
+impl fmt::Display for AndEndPhrase {
+    fn fmt<W: fmt::Write>(&self, f: &mut fmt::Formatter<W>) -> fmt::Result {
+        let phrase = EndPhrase(self.0);
+        match self.0 {
+            End::Done(_) | End::Trap(_) => write!(f, "and then it {phrase}"),
+            End::Cut => write!(f, "and {phrase}"),
+        }
+    }
+}

@@ -40,7 +40,7 @@ impl fmt::Display for LimitSentence {
         match self.limit {
             Limit::ModuleBytes => write!(
                 f,
-                "The module has more than {MAX_MODULE_BYTES} bytes, the most that are read."
+                "The module has more than {MAX_MODULE_BYTES} bytes, the most that are supported."
             ),
             Limit::Pages => write!(
                 f,

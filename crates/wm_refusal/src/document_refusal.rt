@@ -35,17 +35,17 @@ impl fmt::Display for TooLargeSentence<'_> {
         if size > MAX_DOCUMENT_BYTES {
             return write!(
                 f,
-                "The document has more than {MAX_DOCUMENT_BYTES} bytes, the most that are read."
+                "The document has more than {MAX_DOCUMENT_BYTES} bytes, the most that are supported."
             );
         }
         match count_threads(self.0) {
             Some(threads) => write!(
                 f,
-                "The document has {threads} threads. At most {MAX_THREADS} are read."
+                "The document has {threads} threads. At most {MAX_THREADS} are supported."
             ),
             None => write!(
                 f,
-                "The document has too many threads. At most {MAX_THREADS} are read."
+                "The document has too many threads. At most {MAX_THREADS} are supported."
             ),
         }
     }

@@ -179,7 +179,7 @@ pub(crate) fn remedy(feature: Feature) -> &'static str {
         Feature::Wait => "Load the value in a loop instead",
         Feature::Notify => "Leave it out: without wait no thread sleeps",
         Feature::Fence =>
-            "Leave it out: each atomic access is sequentially consistent; engines/lower drops it",
+            "Leave it out, or run engines/lower, which drops it: no rule of the model depends on it, but an engine may still order plain accesses by it",
         Feature::Growth =>
             "Declare the memory with all its pages; engines/lower makes memory.grow return -1",
         Feature::NarrowCmpxchg => "Use a compare-exchange of the whole type: of 32 bits on an i32",

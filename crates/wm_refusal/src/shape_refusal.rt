@@ -208,7 +208,7 @@ fn add_log_fault(
     match fault {
         ShapeFault::TooManyEvents => writeln!(
             text,
-            "The log has {events} events. At most {MAX_EVENTS} are read."
+            "The log has {events} events. At most {MAX_EVENTS} are supported."
         ),
         ShapeFault::OrderNotPermutation => {
             let order = witness.order.as_slice();
