@@ -1,5 +1,5 @@
 -- The faults of V4 at a byte.
-use Rattle.std.proofs.Common.{◌≡◌, ℕ, ◌<◌, List, [], ◌∷◌, Option, None, Some, IsSome, arith, refl, sym, ap, subst, ◌∙◌, length, slice_get}
+use Rattle.std.proofs.Common.{◌≡◌, ℕ, ◌<◌, List, [], ◌∷◌, Option, None, Some, IsSome, IfSome, is_some, true, arith, refl, sym, ap, subst, ◌∙◌, length, slice_get}
 use Rattle.std.proofs.lemmas.Option.{slice_get_within}
 use Rattle.std.specs.Option.{option_map}
 use Rattle.wm_event.specs.declared.event.Event.{Event}
@@ -14,7 +14,7 @@ use Rattle.wm_event.specs.Faults.{AtRead, Breaks, BreaksRule, BreaksNoTearing, r
 use Rattle.wm_event.specs.First.{Under}
 use Rattle.wm_event.specs.LoggedRun.{LoggedRun, execution}
 use Rattle.wm_event.specs.Shape.{ListsEachOnce}
-use Rattle.wm_rules.specs.Others.{FindsListed}
+use Rattle.wm_rules.specs.Others.{FindsListed, IsOnlyWriter}
 use Rattle.wm_hb.specs.Scan.{Finds, IsEventOf}
 use Rattle.wm_rules.proofs.CaseLemmas.{finds_other, first_case, last_case}
 use Rattle.wm_hb.proofs.FaultLemmas.{read_moves, rule_four, same_key_parts, some_of}
@@ -63,3 +63,14 @@ tearing_byte x t i writers are f u =
     let key : f.event ≡ record { thread = t; number = i } = same_key_parts f.event (record { thread = t; number = i }) u.1.1.0 u.1.1.1.0 in
     let reads : slice_get writers f.byte ≡ Some f.writer = ap (λ (ws : List EventId). slice_get ws f.byte) (are ∙ ap x.writers_of (sym key)) ∙ says.1.2.2 in
     slice_get_within writers f.byte f.writer reads
+
+-- a read with one writer has no fault of V4
+pub tearing_none : (x : Execution) (e : Event) (writer : Option EventId) → is_some writer ≡ true → IfSome writer (IsOnlyWriter x (key_of e)) → Finds x (4 ∷ e.thread ∷ e.number ∷ []) None
+tearing_none x e None some only = absurd (cc)
+tearing_none x e (Some w) some only = λ f u.
+    let says : (f.case ≡ 1) × ((v : EventId) × (f.other ≡ Some v) × AtRead x f (λ e. BreaksNoTearing x f.event e f.byte f.writer v)) = subst (BreaksRule x f) (rule_four f.rule u.1.0) u.0 in
+    let key : f.event ≡ key_of e = same_key_parts f.event (key_of e) u.1.1.0 u.1.1.1.0 in
+    let breaks = says.1.2.3 in
+    let here = only f.byte f.writer (subst (λ (r : EventKey). ReadsFrom x r f.byte f.writer) key says.1.2.2) in
+    let before = only breaks.earlier.0 says.1.0 (subst (λ (r : EventKey). ReadsFrom x r breaks.earlier.0 says.1.0) key breaks.earlier.2) in
+    breaks.two (before ∙ sym here)

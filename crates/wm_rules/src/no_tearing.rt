@@ -11,6 +11,7 @@ ghost use Rattle.wm_event.specs.Shape.{ListsEachOnce};
 ghost use Rattle.wm_rules.specs.Others.{FindsListed, Tears};
 ghost use Rattle.wm_hb.specs.Scan.{Finds, IsEventOf};
 
+use crate::writers::only_writer;
 use wm_access::AccessWidth;
 use wm_event::{Candidate, Event, EventId, EventKey, Rule, RuleFault};
 
@@ -123,6 +124,9 @@ pub fn tearing_fault(candidate: &Candidate, event: &Event) -> Option<RuleFault>
     requires { IsEventOf (execution candidate.now) event.now }
     ensures { Finds (execution candidate.now) (4 ∷ event.now.thread ∷ event.now.number ∷ []) result }
 {
+    if only_writer(candidate, event).is_some() {
+        return None;
+    }
     for (byte, writer) in candidate.writers(event.key()).iter().enumerate() {
         let fault = tearing_fault_at(candidate, event, byte as u8, *writer);
         if fault.is_some() {
