@@ -1,5 +1,5 @@
 //! V3: a read doesn't happen before its writer, and no write of the byte happens between the two.
-ghost use Rattle.std.specs.Prelude.{◌≡◌, ◌+◌, ◌<◌, ◌↔◌, [], ◌∷◌, IsTrue, Some, slice_get};
+ghost use Rattle.std.specs.Prelude.{◌≡◌, ◌+◌, ◌<◌, ◌↔◌, [], ◌∷◌, IsTrue, None, Some, slice_get};
 ghost use Rattle.wm_event.specs.declared.event.EventId.TheVariants.{At};
 ghost use Rattle.wm_event.specs.Event.{key_of};
 ghost use Rattle.wm_event.specs.Execution.{ReadsFrom};
@@ -7,16 +7,22 @@ ghost use Rattle.wm_event.specs.LoggedRun.{execution};
 ghost use Rattle.wm_event.specs.Shape.{IsThere, ListsEachOnce};
 ghost use Rattle.wm_event.specs.declared.event.EventKey.{EventKey};
 ghost use Rattle.wm_rules.specs.Between.{FindsAt, IsPlaceOf};
+ghost use Rattle.wm_rules.specs.Near.{IsTrueIfIncoherent};
 ghost use Rattle.wm_rules.specs.Others.{FindsListed, IsWrittenBetween, WritesBetween};
 ghost use Rattle.wm_hb.specs.Scan.{Finds, IsEventOf};
 
 use crate::between::{is_after, part_between};
 use crate::by_thread::earliest_between;
+use crate::near::{is_any_between, place_after};
+use crate::writers::only_writer;
 use wm_event::{Event, EventId, EventKey, Rule, RuleFault};
 use wm_hb::HappensBefore;
 
 /// How many writes are looked at one after the other; among more of them each thread's are searched.
 const FEW: usize = 64;
+
+/// How many events between a read and its writer are looked at before the writes of each byte are.
+const NEAR: usize = 32;
 
 /// Whether an event writes a byte of a read and happens between it and the byte's writer.
 pub fn is_written_between(
@@ -166,11 +172,47 @@ fn coherence_fault_at(
     between_fault_at(relation, event, byte, writer)
 }
 
+/// Whether a read may break the rule at a byte with this writer. It looks only at events that stand near.
+fn may_be_incoherent(relation: &HappensBefore, event: &Event, writer: EventId) -> bool
+    requires listed { IsEventOf (execution relation.now) event.now }
+    requires there { IsThere relation.now.log writer }
+    ensures { IsTrueIfIncoherent relation.now event.now writer result }
+{
+    let candidate = relation.candidate();
+    let _log = candidate.log();
+    let _order = candidate.witness();
+    let Some(end) = candidate.place(EventId::At(event.key())) else {
+        return true;
+    };
+    let start = candidate.place(writer);
+    let Some(first) = place_after(start, end) else {
+        return true;
+    };
+    if !is_after(relation, writer, start, end) {
+        return false;
+    }
+    end - first > NEAR || is_any_between(relation, event, writer, start, first, end)
+}
+
+/// Whether a quick look tells that a read has no fault.
+fn is_surely_coherent(relation: &HappensBefore, event: &Event) -> bool
+    requires { IsEventOf (execution relation.now) event.now }
+    ensures { IsTrue result → Finds (execution relation.now) (3 ∷ event.now.thread ∷ event.now.number ∷ []) None }
+{
+    match only_writer(relation.candidate(), event) {
+        None => false,
+        Some(writer) => !may_be_incoherent(relation, event, writer),
+    }
+}
+
 /// The first fault of an event.
 pub fn coherence_fault(relation: &HappensBefore, event: &Event) -> Option<RuleFault>
     requires { IsEventOf (execution relation.now) event.now }
     ensures { Finds (execution relation.now) (3 ∷ event.now.thread ∷ event.now.number ∷ []) result }
 {
+    if is_surely_coherent(relation, event) {
+        return None;
+    }
     let writers = relation.candidate().writers(event.key());
     for (byte, writer) in writers.iter().enumerate() {
         let fault = coherence_fault_at(relation, event, byte as u8, *writer);
