@@ -114,7 +114,7 @@ range_listed run v e write range =
     all false b m n k l ta tb e f = absurd (cc)
 
 -- the write of a fault of V5 is an atomic write of the range of its case
-overtaken_listed : (run : LoggedRun) (w : EventId) (v r : EventKey) (e : Event) (c : ℕ) (range : Range) → (c ≡ 2 → (f : Event) → event_at (execution run) w ≡ Some f → range ≡ range_of f) → (c ≢ 2 → range ≡ range_of e)
+pub overtaken_listed : (run : LoggedRun) (w : EventId) (v r : EventKey) (e : Event) (c : ℕ) (range : Range) → (c ≡ 2 → (f : Event) → event_at (execution run) w ≡ Some f → range ≡ range_of f) → (c ≢ 2 → range ≡ range_of e)
     → IsAtomicWrite (execution run) (At v) → Overtakes (execution run) w (At v) r e c → begins_atomic run.log range.width range.address v ≡ true
 overtaken_listed run w v r e c range second others write (synchronized one t at s has) =
     ap (λ (q : Range). begins_atomic run.log q.width q.address v) (others (λ t. absurd (omega arith))) ∙ range_listed run v e write has

@@ -6,7 +6,7 @@ use Rattle.wm_event.specs.declared.event.EventId.{EventId}
 use Rattle.wm_event.specs.declared.event.EventId.TheVariants.{At}
 use Rattle.wm_event.specs.Event.{key_of}
 use Rattle.wm_event.specs.Execution.{ReadsFrom}
-use Rattle.wm_event.specs.Faults.{BreaksCoherence}
+use Rattle.wm_event.specs.Faults.{BreaksCoherence, BreaksSequentialConsistency}
 use Rattle.wm_event.specs.LoggedRun.{LoggedRun, execution}
 use Rattle.wm_event.specs.Rules.{Writes}
 use Rattle.wm_rules.specs.Between.{IfListedAt}
@@ -28,3 +28,7 @@ IsTrueIfNear run e w first last b = (place : ℕ) → first ≤ place → place 
 abbrev pub IsTrueIfIncoherent : LoggedRun → Event → EventId → Bool → Type 0
 IsTrueIfIncoherent run e w b =
     (k c : ℕ) (other : Option EventId) → ReadsFrom (execution run) (key_of e) k w → BreaksCoherence (execution run) (key_of e) e k w c other → IsTrue b
+
+-- true where a write breaks sequential consistency between the writer w and its read e
+abbrev pub IsTrueIfInconsistent : LoggedRun → Event → EventId → Bool → Type 0
+IsTrueIfInconsistent run e w b = (v : EventId) (c : ℕ) → BreaksSequentialConsistency (execution run) (key_of e) e w v c → IsTrue b

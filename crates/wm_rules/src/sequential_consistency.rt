@@ -1,5 +1,5 @@
 //! V5: no atomic write stands in the order between an atomic read and its writer.
-ghost use Rattle.std.specs.Prelude.{◌≡◌, ◌≢◌, ◌<◌, ◌↔◌, [], ◌∷◌, IsTrue, Some, slice_get};
+ghost use Rattle.std.specs.Prelude.{◌≡◌, ◌≢◌, ◌<◌, ◌↔◌, [], ◌∷◌, ℕ, IsTrue, None, Some, slice_get};
 ghost use Rattle.wm_event.specs.declared.event.Event.{Event};
 ghost use Rattle.wm_event.specs.declared.event.EventKey.{EventKey};
 ghost use Rattle.wm_event.specs.declared.event.EventId.{EventId};
@@ -12,11 +12,14 @@ ghost use Rattle.wm_event.specs.Faults.{BreaksSequentialConsistency};
 ghost use Rattle.wm_event.specs.LoggedRun.{execution};
 ghost use Rattle.wm_event.specs.Rules.{HasRange, IsAtomicWrite, Overtakes};
 ghost use Rattle.wm_event.specs.Shape.{IsThere, ListsEachOnce};
+ghost use Rattle.wm_rules.specs.Near.{IsTrueIfInconsistent};
 ghost use Rattle.wm_rules.specs.Others.{FindsListed, IsOutOfOrder};
 ghost use Rattle.wm_hb.specs.Scan.{Finds, IsEventOf};
 
 use crate::between::{is_after, key_at, part_between};
+use crate::near::place_after;
 use crate::no_tearing::has_earlier;
+use crate::writers::only_writer;
 use wm_event::{Candidate, Event, EventId, EventKey, Range, Rule, RuleFault};
 use wm_hb::{HappensBefore, stands_before, synchronizes};
 
@@ -277,11 +280,71 @@ fn consistency_fault_at(
     None
 }
 
+/// Whether a read or its writer is atomic. Else no write overtakes it.
+fn can_be_overtaken(candidate: &Candidate, event: &Event, writer: EventId) -> bool
+    ensures { (v : EventId) (c : ℕ) → Overtakes (execution candidate.now) writer v (key_of event.now) event.now c → IsTrue result }
+{
+    if event.is_atomic() {
+        return true;
+    }
+    match candidate.event(writer) {
+        None => false,
+        Some(written) => written.is_atomic(),
+    }
+}
+
+/// Whether the writer of a read has its range, if it is a listed event.
+fn has_range_if_listed(candidate: &Candidate, event: &Event, writer: EventId) -> bool
+    ensures { IsTrue result → (f : Event) → event_at (execution candidate.now) writer ≡ Some f → range_of event.now ≡ range_of f }
+{
+    match candidate.event(writer) {
+        None => true,
+        Some(written) => written.range() == event.range(),
+    }
+}
+
+/// Whether a read may break the rule at a byte with this writer. It looks for any atomic write between the two.
+fn may_be_inconsistent(relation: &HappensBefore, event: &Event, writer: EventId) -> bool
+    requires { IsThere relation.now.log writer }
+    ensures { IsTrueIfInconsistent relation.now event.now writer result }
+{
+    let candidate = relation.candidate();
+    let _order = candidate.witness();
+    if !can_be_overtaken(candidate, event, writer) {
+        return false;
+    }
+    if !has_range_if_listed(candidate, event, writer) {
+        return true;
+    }
+    let Some(end) = candidate.place(EventId::At(event.key())) else {
+        return true;
+    };
+    let Some(first) = place_after(candidate.place(writer), end) else {
+        return true;
+    };
+    let writes = candidate.atomic_writes(event.range());
+    !part_between(writes, first, end).is_empty()
+}
+
+/// Whether a quick look tells that a read has no fault.
+fn is_surely_consistent(relation: &HappensBefore, event: &Event) -> bool
+    requires { IsEventOf (execution relation.now) event.now }
+    ensures { IsTrue result → Finds (execution relation.now) (5 ∷ event.now.thread ∷ event.now.number ∷ []) None }
+{
+    match only_writer(relation.candidate(), event) {
+        None => false,
+        Some(writer) => !may_be_inconsistent(relation, event, writer),
+    }
+}
+
 /// The first fault of an event. A writer of several bytes is looked at once.
 pub fn consistency_fault(relation: &HappensBefore, event: &Event) -> Option<RuleFault>
     requires { IsEventOf (execution relation.now) event.now }
     ensures { Finds (execution relation.now) (5 ∷ event.now.thread ∷ event.now.number ∷ []) result }
 {
+    if is_surely_consistent(relation, event) {
+        return None;
+    }
     let writers = relation.candidate().writers(event.key());
     for (byte, writer) in writers.iter().enumerate() {
         if !has_earlier(relation.candidate(), event, byte as u8, *writer) {
