@@ -20,6 +20,7 @@ pub mod Again
 pub mod Once
 pub mod Documents
 pub mod Taking
+pub mod Digits
 pub mod TakingEvents
 pub mod TakingThreads
 pub mod TakingDocuments

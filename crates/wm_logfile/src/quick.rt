@@ -73,11 +73,35 @@ pub(crate) fn take_text<'a>(reader: &mut Reader<'a>) -> Result<&'a str, TakeFaul
     }
 }
 
+/// A number up to this can take one more digit within 64 bits.
+const ROOM_FOR_A_DIGIT: u64 = 1_000_000_000_000_000_000;
+
+/// The number that a text of digits alone writes, where it is small enough to be read digit by digit.
+fn number_of_digits(bytes: &[u8]) -> Option<u64>
+    ensures { IfSome result (λ n. number_of bytes.now ≡ Some (unsigned n)) }
+{
+    if bytes.is_empty() {
+        return None;
+    }
+    let mut number = 0;
+    for byte in bytes {
+        if !byte.is_ascii_digit() || number > ROOM_FOR_A_DIGIT {
+            return None;
+        }
+        number = number * 10 + u64::from(*byte - b'0');
+    }
+    Some(number)
+}
+
 /// The whole number of 64 bits that a number's text writes, where it has no sign.
 fn natural_of(text: &str) -> Option<u64>
     ensures { IfSome result (λ n. number_of text.now ≡ Some (unsigned n)) }
 {
     let bytes = text.as_bytes();
+    // Most numbers of a log are a few digits and nothing else. Only the others are scanned.
+    if let Some(number) = number_of_digits(bytes) {
+        return Some(number);
+    }
     if bytes.is_empty() || bytes[0] == b'-' {
         return None;
     }
