@@ -134,16 +134,17 @@ pub(crate) trait ItemTaker<T> {
             Taken (levels self.now) (reads self.now index) reader.old x reader.new) };
 }
 
-/// Takes the items of a list up to its end.
+/// Takes the items of a list up to its end. Memory for `room` items is taken at once, and more as it is needed.
 fn take_items<T: Drop, R: ItemTaker<T>>(
     alloc: Global,
     taker: &R,
+    room: usize,
     reader: &mut Reader<'_>,
 ) -> Result<List<T>, TakeFault>
     ensures { IfOk result (λ xs.
         TakenOn (R.levels taker.now) (traverse (R.reads taker.now) 0) reader.old xs reader.new) }
 {
-    let mut found = Vec::new(alloc);
+    let mut found = Vec::with_capacity(alloc, room)?;
     for index in 0..MAX_DOCUMENT_BYTES {
         if reader.take_end_array() {
             return Ok(List::from_vec(found));
@@ -152,6 +153,20 @@ fn take_items<T: Drop, R: ItemTaker<T>>(
         found.push(item)?;
     }
     Err(TakeFault::Other)
+}
+
+/// Takes a list. Memory for `room` items is taken at once, and more where the list is longer.
+pub(crate) fn take_list_with_room<T: Drop, R: ItemTaker<T>>(
+    alloc: Global,
+    taker: &R,
+    room: usize,
+    reader: &mut Reader<'_>,
+) -> Result<List<T>, TakeFault>
+    ensures { IfOk result (λ xs.
+        Taken (suc (R.levels taker.now)) (items_at (R.reads taker.now)) reader.old xs reader.new) }
+{
+    open_list(reader)?;
+    take_items(alloc, taker, room, reader)
 }
 
 /// Takes a list.
@@ -163,8 +178,7 @@ pub(crate) fn take_list<T: Drop, R: ItemTaker<T>>(
     ensures { IfOk result (λ xs.
         Taken (suc (R.levels taker.now)) (items_at (R.reads taker.now)) reader.old xs reader.new) }
 {
-    open_list(reader)?;
-    take_items(alloc, taker, reader)
+    take_list_with_room(alloc, taker, 0, reader)
 }
 
 /// Takes a number of 64 bits.

@@ -32,7 +32,7 @@ impl ItemTaker<List<EventId>> for EventWritersTaker {
         reader: &mut Reader<'_>,
         _index: usize,
     ) -> Result<List<EventId>, TakeFault> {
-        take_event_writers(alloc, reader)
+        take_event_writers(alloc, 0, reader)
     }
 }
 

@@ -4,7 +4,7 @@ ghost use Rattle.wm_logfile.specs.Reading.{kind_at, order_at, order_for, width_a
 ghost use Rattle.wm_logfile.specs.Taking.{Taken, TakenFront, TakenOn, TakenEvent, TakenValues};
 
 use crate::quick::{
-    ItemTaker, TakeFault, close_list, open_list, take_list, take_number, take_text,
+    ItemTaker, TakeFault, close_list, open_list, take_list_with_room, take_number, take_text,
 };
 use crate::words::{kind_of_word, order_of_word, width_of_bytes};
 use json::Reader;
@@ -207,6 +207,9 @@ impl ItemTaker<EventId> for WriterTaker {
     }
 }
 
+/// Orders of up to this many names take memory once.
+const ORDER_ROOM: usize = 64;
+
 /// Takes the names in an order.
 pub(crate) fn take_order_keys(
     alloc: Global,
@@ -214,17 +217,18 @@ pub(crate) fn take_order_keys(
 ) -> Result<List<EventKey>, TakeFault>
     ensures { IfOk result (λ ks. Taken 2 keys_at reader.old ks reader.new) }
 {
-    take_list(alloc, &KeyTaker, reader)
+    take_list_with_room(alloc, &KeyTaker, ORDER_ROOM, reader)
 }
 
-/// Takes the writers of the bytes of an event.
+/// Takes the writers of the bytes of an event. Memory for `room` of them is taken at once.
 pub(crate) fn take_event_writers(
     alloc: Global,
+    room: usize,
     reader: &mut Reader<'_>,
 ) -> Result<List<EventId>, TakeFault>
     ensures { IfOk result (λ ws. Taken 2 event_writers_at reader.old ws reader.new) }
 {
-    take_list(alloc, &WriterTaker, reader)
+    take_list_with_room(alloc, &WriterTaker, room, reader)
 }
 
 /// Takes the writers behind the values of an event of the kind, and the end of the event. A write has none.
@@ -232,6 +236,7 @@ pub(crate) fn take_event_writers(
 fn take_writers_by(
     alloc: Global,
     kind: EventKind,
+    width: AccessWidth,
     reader: &mut Reader<'_>,
 ) -> Result<List<EventId>, TakeFault>
     ensures { IfOk result (λ ws. TakenOn 2 (by_from kind) reader.old ws reader.new) }
@@ -240,7 +245,7 @@ fn take_writers_by(
         close_list(reader)?;
         return Ok(List::new(alloc));
     }
-    let writers = take_event_writers(alloc, reader)?;
+    let writers = take_event_writers(alloc, width.bytes() as usize, reader)?;
     close_list(reader)?;
     Ok(writers)
 }
@@ -257,7 +262,7 @@ fn take_event_by(
 {
     open_list(reader)?;
     let event = take_event_front(reader, thread, number)?;
-    let writers = take_writers_by(alloc, event.kind, reader)?;
+    let writers = take_writers_by(alloc, event.kind, event.width, reader)?;
     Ok((event, writers))
 }
 

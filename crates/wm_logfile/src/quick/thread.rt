@@ -7,7 +7,8 @@ ghost use Rattle.wm_logfile.specs.Taking.{Taken, TakenOn, TakenHead, result_at};
 use crate::items::unzipped;
 use crate::quick::event::{EventByTaker, EventTaker};
 use crate::quick::{
-    ItemTaker, NumberTaker, TakeFault, close_list, open_list, take_list, take_number, take_text,
+    ItemTaker, NumberTaker, TakeFault, close_list, open_list, take_list, take_list_with_room,
+    take_number, take_text,
 };
 use crate::thread::ThreadHead;
 use crate::words::trap_of_word;
@@ -100,6 +101,9 @@ fn take_head(alloc: Global, reader: &mut Reader<'_>) -> Result<ThreadHead, TakeF
     })
 }
 
+/// Threads of up to this many events take memory for them once.
+const EVENTS_ROOM: usize = 16;
+
 /// Takes the log of a thread.
 #[tactic(auto, using(crate::proofs::TakingThreads::thread_taken))]
 fn take_thread(alloc: Global, reader: &mut Reader<'_>, thread: u32) -> Result<ThreadLog, TakeFault>
@@ -107,7 +111,7 @@ fn take_thread(alloc: Global, reader: &mut Reader<'_>, thread: u32) -> Result<Th
 {
     open_list(reader)?;
     let head = take_head(alloc, reader)?;
-    let events = take_list(alloc, &EventTaker { thread }, reader)?;
+    let events = take_list_with_room(alloc, &EventTaker { thread }, EVENTS_ROOM, reader)?;
     close_list(reader)?;
     Ok(head.with_events(events))
 }
@@ -123,7 +127,7 @@ fn take_thread_by(
 {
     open_list(reader)?;
     let head = take_head(alloc, reader)?;
-    let events = take_list(alloc, &EventByTaker { thread }, reader)?;
+    let events = take_list_with_room(alloc, &EventByTaker { thread }, EVENTS_ROOM, reader)?;
     close_list(reader)?;
     let (events, writers) = unzipped(alloc, events)?;
     Ok((head.with_events(events), writers))

@@ -4,7 +4,7 @@ use Rattle.wm_logfile.proofs.quick.take_items.Goals as goal
 
 pub loop-index-init : goal.loop-index-init
 loop-index-init g c =
-    no_items_taken (g.R.ItemTaker.levels c.args.taker.now) (g.R.ItemTaker.reads c.args.taker.now) c.args.reader.now c.new-found.result.items c.new-found.ensures.items
+    no_items_taken (g.R.ItemTaker.levels c.args.taker.now) (g.R.ItemTaker.reads c.args.taker.now) c.args.reader.now c.in_ok-found.found.items c.in_ok-found.ensures.items
 
 pub returns-then-take_end_array : goal.returns-then-take_end_array
 returns-then-take_end_array g c =

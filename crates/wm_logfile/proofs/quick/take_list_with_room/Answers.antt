@@ -1,7 +1,7 @@
 use Rattle.std.proofs.lemmas.Result.{IfOk-weaker}
 use Rattle.wm_logfile.specs.Reading.{traverse}
 use Rattle.wm_logfile.proofs.Taking.{list_taken}
-use Rattle.wm_logfile.proofs.quick.take_list.Goals as goal
+use Rattle.wm_logfile.proofs.quick.take_list_with_room.Goals as goal
 
 pub returns : goal.returns
 returns g c =
