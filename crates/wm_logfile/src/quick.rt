@@ -93,19 +93,28 @@ fn number_of_digits(bytes: &[u8]) -> Option<u64>
     Some(number)
 }
 
+/// The whole number of 64 bits that a numeral writes, where it has no sign.
+#[cold]
+#[inline(never)]
+fn scanned_natural(bytes: &[u8]) -> Option<u64>
+    ensures { IfSome result (λ n. number_of bytes.now ≡ Some (unsigned n)) }
+{
+    if bytes.is_empty() || bytes[0] == b'-' {
+        return None;
+    }
+    Numeral::scan(bytes).to_u64()
+}
+
 /// The whole number of 64 bits that a number's text writes, where it has no sign.
 fn natural_of(text: &str) -> Option<u64>
     ensures { IfSome result (λ n. number_of text.now ≡ Some (unsigned n)) }
 {
     let bytes = text.as_bytes();
     // Most numbers of a log are a few digits and nothing else. Only the others are scanned.
-    if let Some(number) = number_of_digits(bytes) {
-        return Some(number);
+    match number_of_digits(bytes) {
+        Some(number) => Some(number),
+        None => scanned_natural(bytes),
     }
-    if bytes.is_empty() || bytes[0] == b'-' {
-        return None;
-    }
-    Numeral::scan(bytes).to_u64()
 }
 
 /// Takes a whole number that is at most the limit.
