@@ -133,7 +133,7 @@ fn take_thread_by(
     Ok((head.with_events(events), writers))
 }
 
-/// Takes the log of a thread in a list.
+/// Takes the log of a thread in a list of at most [`MAX_THREADS`].
 #[derive(Clone, Copy)]
 pub(crate) struct ThreadTaker;
 
@@ -148,14 +148,14 @@ impl ItemTaker<ThreadLog> for ThreadTaker {
         reader: &mut Reader<'_>,
         index: usize,
     ) -> Result<ThreadLog, TakeFault> {
-        if index > u32::MAX as usize {
+        if index >= MAX_THREADS {
             return Err(TakeFault::Other);
         }
         take_thread(alloc, reader, index as u32)
     }
 }
 
-/// Takes the log of a thread with the writers of its events in a list.
+/// Takes the log of a thread with the writers of its events in a list of at most [`MAX_THREADS`].
 #[derive(Clone, Copy)]
 pub(crate) struct ThreadByTaker;
 
@@ -170,7 +170,7 @@ impl ItemTaker<(ThreadLog, List<List<EventId>>)> for ThreadByTaker {
         reader: &mut Reader<'_>,
         index: usize,
     ) -> Result<(ThreadLog, List<List<EventId>>), TakeFault> {
-        if index > u32::MAX as usize {
+        if index >= MAX_THREADS {
             return Err(TakeFault::Other);
         }
         take_thread_by(alloc, reader, index as u32)
