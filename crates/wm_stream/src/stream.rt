@@ -12,7 +12,7 @@ use std::io::{ErrorKind, Read, Write};
 use std::thread::Threads;
 
 /// How many bytes a read asks for at most. The lines that end among them are answered at the same time.
-const PART: usize = 1 << 22;
+const PART: usize = 1 << 24;
 
 /// Why a stream was not answered to its end.
 #[derive(Clone, Copy, Debug, PartialEq, Eq)]
