@@ -1,4 +1,4 @@
-//! V3: a read doesn't happen before its writer, and no write of the byte happens between the two.
+//! V3: a read doesn't happen before its writer, and no write of the byte happens between them.
 ghost use Rattle.std.specs.Prelude.{◌≡◌, ◌+◌, ◌<◌, ◌↔◌, [], ◌∷◌, IsTrue, None, Some, slice_get};
 ghost use Rattle.wm_event.specs.declared.event.EventId.TheVariants.{At};
 ghost use Rattle.wm_event.specs.Event.{key_of};
@@ -172,7 +172,7 @@ fn coherence_fault_at(
     between_fault_at(relation, event, byte, writer)
 }
 
-/// Whether a read may break the rule at a byte with this writer. It looks only at events that stand near.
+/// Whether a read may break the rule at a byte with this writer. It looks at the events between the two if they are few.
 fn may_be_incoherent(relation: &HappensBefore, event: &Event, writer: EventId) -> bool
     requires listed { IsEventOf (execution relation.now) event.now }
     requires there { IsThere relation.now.log writer }

@@ -1,4 +1,4 @@
-//! The events that stand between a read and its writer, where they are few.
+//! The events between a read and its writer, if they are few.
 ghost use Rattle.std.specs.Prelude.{◌≡◌, ℕ, ◌+◌, ◌<◌, IsSome, IsTrue, Some, slice_get};
 ghost use Rattle.wm_access.specs.AccessWidth.{bytes_of};
 ghost use Rattle.wm_event.specs.Event.{byte_written, key_of};
@@ -9,7 +9,7 @@ use crate::between::is_after;
 use wm_event::{Candidate, Event, EventId};
 use wm_hb::HappensBefore;
 
-/// The place after a writer's, which is 0 for Init; None where the writer doesn't stand before a read's place.
+/// The place after a writer's, which is 0 for Init; None if the writer isn't before a read's place.
 pub fn place_after(start: Option<usize>, end: usize) -> Option<usize>
     ensures { IsPlaceAfter start end result }
 {
@@ -67,7 +67,7 @@ fn is_between_at(
         && overlaps(relation.candidate(), event, place)
 }
 
-/// Whether one of the events from a place on and before a read's place is such.
+/// Whether one of the events from a place on and before a read's place does.
 pub fn is_any_between(
     relation: &HappensBefore,
     event: &Event,

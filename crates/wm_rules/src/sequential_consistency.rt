@@ -1,4 +1,4 @@
-//! V5: no atomic write stands in the order between an atomic read and its writer.
+//! V5: in three cases no atomic write is between a read and its writer in the order.
 ghost use Rattle.std.specs.Prelude.{◌≡◌, ◌≢◌, ◌<◌, ◌↔◌, [], ◌∷◌, ℕ, IsTrue, None, Some, slice_get};
 ghost use Rattle.wm_event.specs.declared.event.Event.{Event};
 ghost use Rattle.wm_event.specs.declared.event.EventKey.{EventKey};

@@ -7,7 +7,7 @@ ghost use Rattle.wm_rules.specs.Others.{IsOnlyWriter};
 
 use wm_event::{Candidate, Event, EventId};
 
-/// The writer of every byte of a read, where no two bytes have different ones.
+/// The writer of all bytes of a read, if they have the same one.
 pub fn only_writer(candidate: &Candidate, event: &Event) -> Option<EventId>
     ensures only { IfSome result (IsOnlyWriter (execution candidate.now) (key_of event.now)) }
     ensures there { IfSome result (IsThere candidate.now.log) }
