@@ -14,6 +14,7 @@ pub mod Runs
 pub mod Limits
 pub mod Driving
 pub mod TracedTurns
+pub mod TracedEvents
 pub mod Together
 pub mod Rounds
 pub mod Refusing

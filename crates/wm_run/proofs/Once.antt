@@ -25,7 +25,7 @@ use Rattle.wm_run.proofs.Runs.{turns_count}
 
 -- ---- a turn leads to one state
 
-no_access : (op : OpFields) (next : Config) (s : Outcome) → s ≡ ReducesTo None next → access_of s ≡ Some op → ⊥
+pub no_access : (op : OpFields) (next : Config) (s : Outcome) → s ≡ ReducesTo None next → access_of s ≡ Some op → ⊥
 no_access op next s local_step asks = none-some op (sym (ap access_of local_step) ∙ asks)
 
 one_step : (g : Setting) (h : List HistoryStep) (t : ℕ) (old a b : ThreadState) (is js : List HistoryStep) → StepsTo g h t old a is → StepsTo g h t old b js → (a ≡ b) × (is ≡ js)

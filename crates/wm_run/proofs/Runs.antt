@@ -143,16 +143,16 @@ abbrev pub event_after : Setting → List HistoryStep → ℕ → OpFields → E
 event_after g h u op = made_after g.initial (ready (done g h) u op) u op
 
 -- its thread has one event more
-own_events : (g : Setting) (h : List HistoryStep) (u : ℕ) (op : OpFields) → events_of (done g (h ++ access_items (drains_first (done g h) u op) u op)) u ≡ events_of (done g h) u ++ event_after g h u op ∷ []
+pub own_events : (g : Setting) (h : List HistoryStep) (u : ℕ) (op : OpFields) → events_of (done g (h ++ access_items (drains_first (done g h) u op) u op)) u ≡ events_of (done g h) u ++ event_after g h u op ∷ []
 own_events g h u op =
     ap (λ s. events_of s u) (added g.initial h u op) ∙ events_made g.initial (ready (done g h) u op) u op ∙ ap (λ es. es ++ event_after g h u op ∷ []) (ready_events (done g h) u u op)
 
 -- another thread has the same ones
-same_events : (g : Setting) (h : List HistoryStep) (u t : ℕ) (op : OpFields) → (t ≡ u → ⊥) → events_of (done g (h ++ access_items (drains_first (done g h) u op) u op)) t ≡ events_of (done g h) t
+pub same_events : (g : Setting) (h : List HistoryStep) (u t : ℕ) (op : OpFields) → (t ≡ u → ⊥) → events_of (done g (h ++ access_items (drains_first (done g h) u op) u op)) t ≡ events_of (done g h) t
 same_events g h u t op not =
     ap (λ s. events_of s t) (added g.initial h u op) ∙ others_events g.initial (ready (done g h) u op) u op t not ∙ ready_events (done g h) u t op
 
-drain_events : (g : Setting) (h : List HistoryStep) (t : ℕ) (turn : Turn) (drain : HistoryStep) → drain_of turn ≡ Some drain → events_of (done g (h ++ drain ∷ [])) t ≡ events_of (done g h) t
+pub drain_events : (g : Setting) (h : List HistoryStep) (t : ℕ) (turn : Turn) (drain : HistoryStep) → drain_of turn ≡ Some drain → events_of (done g (h ++ drain ∷ [])) t ≡ events_of (done g h) t
 drain_events g h t (turn.Step u) drain is = absurd (none-some drain is)
 drain_events g h t (turn.Drain u) drain is =
     ap (λ s. events_of s t) (one_added g.initial h drain) ∙ ap (λ d. events_of (step_of g.initial (done g h) d ∷ done g h) t) (sym (same_Some (item.Drain u) drain is))

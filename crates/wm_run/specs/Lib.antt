@@ -6,6 +6,7 @@ pub mod Script
 pub mod Runner
 pub mod Scripted
 pub mod Traced
+pub mod TracedEvents
 pub mod Tracing
 pub mod Launch
 pub mod Finish

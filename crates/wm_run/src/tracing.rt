@@ -10,6 +10,7 @@ ghost use Rattle.wm_run.specs.Refusal.{IsScriptFault};
 ghost use Rattle.wm_run.specs.Runner.{IsSet, runner_state, script_state, setting_of};
 ghost use Rattle.wm_run.specs.Scripted.{IsScripted};
 ghost use Rattle.wm_run.specs.Traced.{Does, DrainDoes, IsTraced, StepDoes, pending, store_before};
+ghost use Rattle.wm_run.specs.TracedEvents.{TracedAccessesAreLogged};
 ghost use Rattle.wm_run.specs.Tracing.{PlaysTraced, TakesTraced, TurnDoes};
 
 use crate::fault::RunFault;
@@ -233,3 +234,8 @@ pub fn trace(
     let run = finish(alloc, starts, runners.as_slice(), recorder)?;
     Ok(Trace { run, turns: traced })
 }
+
+/// Each access that a trace names is an event of its run: the log has the event of that thread and number.
+pub fn traced_accesses_are_logged()
+    ensures { TracedAccessesAreLogged }
+{}
