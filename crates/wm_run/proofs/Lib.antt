@@ -15,6 +15,7 @@ pub mod Limits
 pub mod Driving
 pub mod TracedTurns
 pub mod TracedEvents
+pub mod TracedStores
 pub mod Together
 pub mod Rounds
 pub mod Refusing

@@ -10,6 +10,7 @@ use Rattle.wm_event.specs.declared.log.ThreadLog.{ThreadLog}
 use Rattle.wm_event.specs.declared.op.OpFields.{OpFields}
 use Rattle.wm_event.specs.Event.{key_of}
 use Rattle.wm_event.specs.Limits.{max_events}
+use Rattle.wm_event.specs.Log.{event_in}
 use Rattle.wm_machine.specs.Step.{access_of, step}
 use Rattle.wm_memory.specs.declared.history_step.HistoryStep.{HistoryStep}
 use Rattle.wm_memory.specs.Memory.{drains_first, ready}
@@ -27,7 +28,7 @@ use Rattle.wm_run.specs.Script.{Rests, ScriptState, Setting, StepsTo, ThreadStat
 use Rattle.wm_run.specs.Scripted.{IsLogOf}
 use Rattle.wm_run.specs.Traced.{Asks, Does, DrainDoes, StepDoes, TracesTurns, event_of}
 use Rattle.wm_run.specs.Traced as traced
-use Rattle.wm_run.specs.TracedEvents.{IsLogged, TracedAccessesAreLogged}
+use Rattle.wm_run.specs.TracedEvents.{TracedAccessesAreLogged}
 use Rattle.wm_run.proofs.Accesses.{ready_events}
 use Rattle.wm_run.proofs.Logging.{get_some}
 use Rattle.wm_run.proofs.Once.{no_access}
@@ -35,15 +36,14 @@ use Rattle.wm_run.proofs.OneEach.{among_others, first_is}
 use Rattle.wm_run.proofs.Runs.{drain_events, event_after, own_events, same_events, turn_count, turns_count}
 use Rattle.wm_run.proofs.TracedTurns.{turns_of_trace}
 
--- the steps made this event, which has this key
-abbrev HasAt : List Step → EventKey → Event → Type 0
+-- the steps made this event as the one of this key
+abbrev pub HasAt : List Step → EventKey → Event → Type 0
 HasAt s key e = slice_get (events_of s key.thread) key.number ≡ Some e
 
--- a thread of the state made the event of this key
-record IsMade (g : Setting) (state : ScriptState) (key : EventKey) : Type 0 where
-  pub event : Event
-  pub made : HasAt (done g state.history) key event
-  pub named : key_of event ≡ key
+-- a thread of the state made this event, which has this key
+pub record IsMade (g : Setting) (state : ScriptState) (key : EventKey) (e : Event) : Type 0 where
+  pub made : HasAt (done g state.history) key e
+  pub named : key_of e ≡ key
   pub there : key.thread < length state.threads
 
 -- ---- an event that was made stays
@@ -67,14 +67,16 @@ after_turn g old _ _ key e (rests at rest) made = made
 after_turn g old _ t key e (drains {drain = drain} is may) made = ap (λ (es : List Event). slice_get es key.number) (drain_events g old.history key.thread t drain is) ∙ made
 after_turn g old _ t key e (keeps is cannot) made = made
 
-stays_made : (g : Setting) (now last : ScriptState) (turns : List Turn) (key : EventKey) → TurnsLead g now turns last → IsMade g now key → IsMade g last key
-stays_made g now last [] key leads made = subst (λ (s : ScriptState). IsMade g s key) leads made
-stays_made g now last (t ∷ turns) key leads made = stays_made g leads.0 last turns key leads.2 (record {
-  event = made.event;
-  made = after_turn g now leads.0 t key made.event leads.1 made.made;
+after_turns : (g : Setting) (now last : ScriptState) (turns : List Turn) (key : EventKey) (e : Event) → TurnsLead g now turns last → HasAt (done g now.history) key e → HasAt (done g last.history) key e
+after_turns g now last [] key e leads made = subst (λ (s : ScriptState). HasAt (done g s.history) key e) leads made
+after_turns g now last (t ∷ turns) key e leads made = after_turns g leads.0 last turns key e leads.2 (after_turn g now leads.0 t key e leads.1 made)
+
+pub stays_made : (g : Setting) (now last : ScriptState) (turns : List Turn) (key : EventKey) (e : Event) → TurnsLead g now turns last → IsMade g now key e → IsMade g last key e
+stays_made g now last turns key e leads made = record {
+  made = after_turns g now last turns key e leads made.made;
   named = made.named;
-  there = let count = turn_count g now leads.0 t leads.1 in omega (arith, count, made.there);
-})
+  there = let there = made.there in let count = turns_count g now last turns leads in omega (arith, count, there);
+}
 
 -- ---- an access makes its event
 
@@ -110,19 +112,20 @@ made_in g old _ t thread op at below asks few (drains {drain = drain} is may) = 
 made_in g old _ t thread op at below asks few (keeps {drain = drain} is cannot) = absurd (none-some drain is)
 
 step_makes : (g : Setting) (old new : ScriptState) (t : ℕ) (thread : ThreadState) (what : TurnDone) (key : EventKey) (store : Option EventKey) → slice_get old.threads t ≡ Some thread
-    → StepDoes g (done g old.history) t thread what → what ≡ Accessed key store → TurnLeads g old (turn.Step t) new → IsMade g new key
+    → StepDoes g (done g old.history) t thread what → what ≡ Accessed key store → TurnLeads g old (turn.Step t) new → (e : Event) × IsMade g new key e
 step_makes g old new t thread _ key store at (traced.ended over) is leads = absurd (cc is)
 step_makes g old new t thread _ key store at (traced.spent running all) is leads = absurd (cc is)
 step_makes g old new t thread _ key store at (traced.full op below asks much) is leads = absurd (cc is)
 step_makes g old new t thread _ key store at (traced.stepped running below none) is leads = absurd (cc is)
 step_makes g old new t thread _ key store at (traced.accessed op below asks few) is leads =
-    let same : event_of g (done g old.history) t op ≡ key = cc in
-    subst (IsMade g new) same (record {
-      event = event_after g old.history t op;
-      made = made_in g old new t thread op at below asks few leads;
-      named = refl;
-      there = let within = slice_get_within old.threads t thread at in let count = turn_count g old new (turn.Step t) leads in omega (arith, within, count);
-    })
+    let same : event_of g (done g old.history) t op ≡ key = cc in (
+      event_after g old.history t op,
+      subst (λ k. IsMade g new k (event_after g old.history t op)) same (record {
+        made = made_in g old new t thread op at below asks few leads;
+        named = refl;
+        there = let within = slice_get_within old.threads t thread at in let count = turn_count g old new (turn.Step t) leads in omega (arith, within, count);
+      }),
+    )
 
 no_drain : (s : List Step) (t k : ℕ) (what : TurnDone) (key : EventKey) (store : Option EventKey) → DrainDoes s t k what → what ≡ Accessed key store → ⊥
 no_drain s t k _ key store (traced.drained left at passes) is = absurd (cc is)
@@ -130,7 +133,7 @@ no_drain s t k _ key store (traced.held waits cannot) is = absurd (cc is)
 no_drain s t k _ key store (traced.absent past) is = absurd (cc is)
 
 turn_makes : (g : Setting) (old new : ScriptState) (t : Turn) (what : TurnDone) (key : EventKey) (store : Option EventKey) → Does g old t what → what ≡ Accessed key store → TurnLeads g old t new
-    → IsMade g new key
+    → (e : Event) × IsMade g new key e
 turn_makes g old new (turn.Step t) what key store does is leads = step_makes g old new t does.0 what key store does.1 does.2 is leads
 turn_makes g old new (turn.Drain t) what key store does is leads = absurd (no_drain (done g old.history) t 0 what key store does is)
 turn_makes g old new (turn.DrainAt t k) what key store does is leads = absurd (no_drain (done g old.history) t k what key store does is)
@@ -138,25 +141,27 @@ turn_makes g old new (turn.DrainAt t k) what key store does is leads = absurd (n
 -- ---- all turns
 
 named_in : (g : Setting) (first last : ScriptState) (turns : List Turn) (entries : List TracedTurn) (k : ℕ) (entry : TracedTurn) (key : EventKey) (store : Option EventKey)
-    → TracesTurns g first turns entries last → slice_get entries k ≡ Some entry → entry.done ≡ Accessed key store → IsMade g last key
+    → TracesTurns g first turns entries last → slice_get entries k ≡ Some entry → entry.done ≡ Accessed key store → (e : Event) × IsMade g last key e
 named_in g first last [] [] k entry key store traces at is = absurd (let within : k < 0 = slice_get_within [] k entry at in omega (arith, within))
 named_in g first last [] (x ∷ entries) k entry key store traces at is = absurd traces
 named_in g first last (t ∷ turns) [] k entry key store traces at is = absurd traces
 named_in g first last (t ∷ turns) (x ∷ entries) zero entry key store traces at is =
     let done_is : x.done ≡ Accessed key store = ap (λ (y : TracedTurn). y.done) (first_is x entries entry at) ∙ is in
-    stays_made g traces.0 last turns key (turns_of_trace g traces.0 turns entries last traces.2) (turn_makes g first traces.0 t x.done key store traces.1.does done_is traces.1.leads)
+    let made = turn_makes g first traces.0 t x.done key store traces.1.does done_is traces.1.leads in
+    (made.0, stays_made g traces.0 last turns key made.0 (turns_of_trace g traces.0 turns entries last traces.2) made.1)
 named_in g first last (t ∷ turns) (x ∷ entries) (suc k) entry key store traces at is =
     named_in g traces.0 last turns entries k entry key store traces.2 (among_others x entries k entry at) is
 
 -- the log has what was made
-is_logged : (starts : List Start) (g : Setting) (last : ScriptState) (run : Record) (key : EventKey) → length last.threads ≡ length starts → IsLogOf starts last.threads (done g last.history) run → IsMade g last key
-    → IsLogged run key
-is_logged starts g last run key count logged made =
+pub is_logged : (starts : List Start) (g : Setting) (last : ScriptState) (run : Record) (key : EventKey) (e : Event) → length last.threads ≡ length starts → IsLogOf starts last.threads (done g last.history) run
+    → IsMade g last key e → event_in run.log key ≡ Some e
+is_logged starts g last run key e count logged made =
     let thread = get_some last.threads key.thread made.there in
     let start = get_some starts key.thread (let there = made.there in omega (arith, there, count)) in
-    (made.event, ap (option_and_then (λ (log : ThreadLog). slice_get log.events key.number)) (logged.each key.thread start.0 thread.0 start.1 thread.1) ∙ made.made, made.named)
+    ap (option_and_then (λ (log : ThreadLog). slice_get log.events key.number)) (logged.each key.thread start.0 thread.0 start.1 thread.1) ∙ made.made
 
 pub accesses_are_logged : TracedAccessesAreLogged
 accesses_are_logged m plan turns run entries is k entry key store at accessed =
     let count : length is.last.threads ≡ length plan.starts = turns_count is.setting is.first is.last turns (turns_of_trace is.setting is.first turns entries is.last is.traces) ∙ is.begins.count in
-    is_logged plan.starts is.setting is.last run key count is.logged (named_in is.setting is.first is.last turns entries k entry key store is.traces at accessed)
+    let made = named_in is.setting is.first is.last turns entries k entry key store is.traces at accessed in
+    (made.0, is_logged plan.starts is.setting is.last run key made.0 count is.logged made.1, made.1.named)

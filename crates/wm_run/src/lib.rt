@@ -30,7 +30,7 @@ pub use round::{WorkPromise, run_round};
 pub use run::{Run, write_run};
 pub use script::{drive, one_scripted_run};
 pub use traced::{Rest, Trace, TracedTurn, TurnDone};
-pub use tracing::{trace, traced_accesses_are_logged};
+pub use tracing::{trace, traced_accesses_are_logged, traced_stores_are_logged};
 pub use turn::Turn;
 pub use worker::work;
 

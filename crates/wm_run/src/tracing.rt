@@ -10,7 +10,7 @@ ghost use Rattle.wm_run.specs.Refusal.{IsScriptFault};
 ghost use Rattle.wm_run.specs.Runner.{IsSet, runner_state, script_state, setting_of};
 ghost use Rattle.wm_run.specs.Scripted.{IsScripted};
 ghost use Rattle.wm_run.specs.Traced.{Does, DrainDoes, IsTraced, StepDoes, pending, store_before};
-ghost use Rattle.wm_run.specs.TracedEvents.{TracedAccessesAreLogged};
+ghost use Rattle.wm_run.specs.TracedEvents.{TracedAccessesAreLogged, TracedStoresAreLogged};
 ghost use Rattle.wm_run.specs.Tracing.{PlaysTraced, TakesTraced, TurnDoes};
 
 use crate::fault::RunFault;
@@ -238,4 +238,9 @@ pub fn trace(
 /// Each access that a trace names is an event of its run: the log has the event of that thread and number.
 pub fn traced_accesses_are_logged()
     ensures { TracedAccessesAreLogged }
+{}
+
+/// Each store that a trace names is a write of its run: the one that a turn drained, and the one that left a full buffer.
+pub fn traced_stores_are_logged()
+    ensures { TracedStoresAreLogged }
 {}
