@@ -195,7 +195,7 @@ impl RuleSentence {
             ),
             _ => write!(
                 f,
-                "{event} is atomic and reads from {writer}, but {other}, an atomic write of the same range, is between {writer} and {event} in the order, and {writer} happens before both: with this order {event} can't read from {writer}."
+                "{event} is atomic and reads from {writer}, but {other}, an atomic write of the same range, is between {writer} and {event} in the order, and {writer} happens before {other} and {event}: with this order {event} can't read from {writer}."
             ),
         }
     }
