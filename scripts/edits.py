@@ -7,8 +7,8 @@
     scripts/edits.py --sync          copies those that edits/gate.txt lists to crates/CRATE/must-fail/
     scripts/edits.py --functions     tries those that edits/gate.txt lists with a function, on that function alone
 
-Each is tried on a copy, over the proofs that are there. --functions needs what `rt ci` left in out/, and first proves
-the functions without the edits. The last line is `N passed, N failed`.
+Each is tried on a copy, over the proofs that are there. --functions needs what `rt ci` left in out/: it has proved the
+functions without the edits. The last line is `N passed, N failed`.
 """
 import argparse
 import concurrent.futures
@@ -93,6 +93,17 @@ def try_all(tally, crates, jobs, with_gate):
                 print(f"{crate}: {count} of {len(names)} refused", flush=True)
 
 
+def changed_since(crate):
+    """What is said if a file of a crate is newer than its library, or nothing."""
+    top = f"{TOP}/crates/{crate}"
+    proved = os.path.getmtime(f"{top}/out/rlib") if os.path.isdir(f"{top}/out/rlib") else 0
+    for part in ("src", "specs", "proofs"):
+        for path in glob.glob(f"{top}/{part}/**/*.*", recursive=True):
+            if os.path.getmtime(path) > proved:
+                return f"{os.path.relpath(path, TOP)} is newer than what `rt ci` proved"
+    return None
+
+
 class Copy:
     """A copy of a crate in a folder, in which functions are proved. What was proved is kept there, so that an edit
     costs only what it changes."""
@@ -113,46 +124,94 @@ class Copy:
                 file.write(text)
 
     def prove(self, functions):
-        """Whether the prover proves these functions, and what they call; and what it said. Nothing if it did not come
-        so far."""
+        """What the prover says of these functions, and of what they call."""
         only = [word for function in functions for word in ("--only", f"{self.crate}::{function}")]
         words = [*self.words, *only]
         ran = subprocess.run(
             words, cwd=self.room, stdout=subprocess.PIPE, stderr=subprocess.STDOUT, text=True, check=False
         )
-        counts = re.search(r"^only=(\d+) proved=(\d+)$", ran.stdout, re.MULTILINE)
-        if not counts or counts[1] == "0" or ran.returncode not in (0, 1):
-            return None, ran.stdout
-        return counts[1] == counts[2], ran.stdout
+        return ran.stdout
 
 
-# What the prover says at a place of a file, and of a proof that names what an edit took away: the latter shows nothing
-# about the contract.
-GOAL = re.compile(r"note: \S+:\d+:\d+: |\S+:\d+:\d+: error")
-NAMES = re.compile(r"proofs/.*(has no field|is not in scope|has no `|was not admitted)")
+# What the prover says at a place of a proof, and if the proof names what an edit took away: that shows nothing about
+# the contract.
+PLACE = re.compile(r"\./(proofs/\S+):\d+:\d+: error")
+NAMES = re.compile(r"has no field|is not in scope|has no `|was not admitted")
 
 
-def refused(copy, edit, function):
-    """Whether the prover refuses a function with the edit, by a goal of its contract; and what it said."""
-    changed = edits.changed_files(edit)
+def goal_of(said, crate, function):
+    """The line of what the prover said that names an open goal of a function's contract, or nothing."""
+    verdict = re.search(rf"^fn {crate}::{re.escape(function)}: (.*)$", said, re.MULTILINE)
+    if verdict and "`search` did not prove" in verdict[1]:
+        return verdict[0]
+    if not verdict or verdict[1] != "not proved":
+        return None
+    proofs = f"proofs/{function.replace('::', '/')}/"
+    told = [line for line in said.split("\n") if PLACE.match(line) and not NAMES.search(line)]
+    return next((line for line in told if PLACE.match(line)[1].startswith(proofs)), None)
+
+
+def refusals(copy, batch):
+    """For each of some edits, tried at the same time, whether the prover refuses its function by a goal of the
+    contract; and what it said."""
+    changed = {}
+    for edit in batch:
+        changed = edits.changed_files(edit, changed_before=changed)
     copy.write(changed)
-    is_proved, said = copy.prove([function])
+    said = copy.prove(sorted(set(batch.values())))
     copy.write({path: edits.text_of(path) for path in changed})
-    told = [line for line in said.split("\n") if GOAL.match(line) and not NAMES.search(line)]
-    if is_proved is None or is_proved or not told:
-        return False, f"it is not refused: {said[-500:]}"
-    return True, told[0][:200]
+    answers = {}
+    for edit, function in batch.items():
+        goal = goal_of(said, copy.crate, function)
+        answers[edit] = (goal is not None, goal[:200] if goal else f"it is not refused: {said[-500:]}")
+    return answers
+
+
+FUNCTION = re.compile(r"\bfn (\w+)")
+
+
+def changes_only(edit, function):
+    """Whether all that an edit changes is in its function."""
+    changed = list(edits.changed_files(edit).items())
+    path, text = changed[0]
+    before = edits.text_of(path)
+    start = len(os.path.commonprefix([before, text]))
+    end = len(before) - len(os.path.commonprefix([before[::-1], text[::-1]]))
+    named = FUNCTION.findall(before[: max(start, end)])
+    return len(changed) == 1 and named == FUNCTION.findall(before[:start]) and named[-1:] == [function.split("::")[-1]]
+
+
+def next_batch(waiting, alone):
+    """Edits to try at the same time: of each function one, and none that changes what another has changed."""
+    batch, changed = {}, {}
+    for edit, function in waiting.items():
+        if edit in alone or function in batch.values():
+            continue
+        tried = edits.changed_files(edit, changed_before=changed)
+        if not isinstance(tried, str):
+            batch[edit], changed = function, tried
+    return batch or dict([next(iter(waiting.items()))])
 
 
 def try_crate(crate, listed):
-    """For each edit of a crate, with its function, whether it is refused, and what is said of it. First the functions
-    are proved without the edits."""
+    """For each edit of a crate, with its function, whether it is refused, and what is said of it. `rt ci` has proved
+    the functions without the edits. An edit is tried alone if it changes more than its function, or if it is not
+    refused beside others, since its function calls theirs, say."""
+    whys = {edit: changed_since(crate) or edits.changed_files(edit) for edit in listed}
+    answers = {edit: (False, why) for edit, why in whys.items() if isinstance(why, str)}
+    waiting = {edit: function for edit, function in listed.items() if edit not in answers}
+    alone = {edit for edit, function in waiting.items() if not changes_only(edit, function)}
     with tempfile.TemporaryDirectory() as room:
         copy = Copy(crate, room)
-        is_proved, said = copy.prove(sorted(set(listed.values())))
-        if not is_proved:
-            return {edit: (False, f"not proved without the edit: {said[-500:]}") for edit in listed}
-        return {edit: refused(copy, edit, function) for edit, function in listed.items()}
+        while waiting:
+            batch = next_batch(waiting, alone)
+            for edit, answer in refusals(copy, batch).items():
+                if answer[0] or len(batch) == 1:
+                    answers[edit] = answer
+                    del waiting[edit]
+                else:
+                    alone.add(edit)
+    return answers
 
 
 def try_functions(tally, jobs):

@@ -28,11 +28,12 @@ def text_of(path):
         return file.read()
 
 
-def changed_files(edit, top=TOP, path_of_edit=None):
+def changed_files(edit, top=TOP, path_of_edit=None, changed_before=None):
     """The files that an edit changes, each with its new text; or a sentence that says why it cannot be applied. `top`
-    is the repository that is changed."""
+    is the repository that is changed; `changed_before` has the files that other edits changed, which are kept."""
     crate = os.path.join(top, "crates", os.path.basename(os.path.dirname(edit)))
-    texts, path, old, changes = {}, "", "", 0
+    texts = {os.path.relpath(path, crate): text for path, text in (changed_before or {}).items()}
+    path, old, changes = "", "", 0
     for line in text_of(path_of_edit or os.path.join(top, edit)).split("\n"):
         if line.startswith("file: "):
             path = line.removeprefix("file: ").strip()

@@ -1,5 +1,5 @@
 -- Answers to lines, and what a writer gains of them.
-use Rattle.std.specs.Prelude.{◌≡◌, ℕ, List, [], ◌∷◌, ◌++◌, Option, map, string_bytes, take}
+use Rattle.std.specs.Prelude.{◌≡◌, ℕ, List, [], ◌∷◌, ◌++◌, Option, flat_map, map, string_bytes, take}
 use Rattle.std.specs.Borrow.{Bor}
 use Rattle.std.specs.Io.KnownBytes.{Appends}
 use Rattle.std.specs.List.{AllZip}
@@ -16,10 +16,6 @@ status_code Refused = 2
 -- the bytes of each line
 abbrev pub texts_of : List (Bor (List ℕ)) → List (List ℕ)
 texts_of lines = map (λ line. line.now) lines
-
--- an answer of this status and text is what is said to a line
-abbrev pub AnswersAs : (List ℕ → LineStatus → List ℕ → Type 0) → Bor (List ℕ) → LineAnswer → Type 0
-AnswersAs says line answer = says line.now answer.status (string_bytes answer.text)
 
 -- broken if one of them is, else refused if one of them is
 abbrev pub worse : LineStatus → LineStatus → LineStatus
@@ -53,6 +49,18 @@ pub record Joins (answers : List Answered) (all : LineAnswer) : Type 0 where
 -- each line has the answer at its place
 abbrev pub AreAnswers : (List ℕ → LineStatus → List ℕ → Type 0) → List (List ℕ) → List Answered → Type 0
 AreAnswers says lines answers = AllZip (λ line answer. says line answer.status answer.text) lines answers
+
+-- the answers to these lines, in their order, as one
+pub record AnswersTogether (says : List ℕ → LineStatus → List ℕ → Type 0) (lines : List (List ℕ)) (all : LineAnswer) : Type 0 where
+  pub answers : List Answered
+  pub are_answers : AreAnswers says lines answers
+  pub joins : Joins answers all
+
+-- the lines are cut into chunks, and each answer is that to the chunk at its place
+pub record AnswersByChunks (says : List ℕ → LineStatus → List ℕ → Type 0) (lines : List (List ℕ)) (answers : List LineAnswer) : Type 0 where
+  pub chunks : List (List (List ℕ))
+  pub are_all : flat_map (λ chunk. chunk) chunks ≡ lines
+  pub are_answers : AllZip (AnswersTogether says) chunks answers
 
 -- the writer gains the answers to these lines, in their order, and nothing else
 pub record Prints (says : List ℕ → LineStatus → List ℕ → Type 0) (lines : List (List ℕ)) (status : LineStatus) (old new : Option (List ℕ)) : Type 0 where

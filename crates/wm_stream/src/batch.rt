@@ -1,7 +1,6 @@
 //! Lines that are answered at the same time.
-ghost use Rattle.std.specs.Prelude.{IfOk, OnErr, map, string_bytes};
-ghost use Rattle.std.specs.List.{AllZip};
-ghost use Rattle.wm_stream.specs.Answers.{AnswersAs, Joins, Prints, PrintsFront, answered, texts_of};
+ghost use Rattle.std.specs.Prelude.{IfOk, OnErr, map};
+ghost use Rattle.wm_stream.specs.Answers.{AnswersByChunks, AnswersTogether, Joins, Prints, PrintsFront, answered, texts_of};
 
 use crate::answer::{AnswersLines, LineAnswer, LineStatus};
 use crate::output::write_text;
@@ -11,25 +10,42 @@ use std::alloc::{AllocError, AllocGlobal, Global};
 use std::io::Write;
 use std::thread::Threads;
 
-/// How many lines a thread answers at least. A line costs a thread's start a hundred times over, or a tenth of it.
-const LINES_OF_A_THREAD: usize = 4;
+/// How many chunks the lines are cut into, each answered by one thread, if there are as many lines.
+const CHUNKS: usize = 256;
 
-/// The answer to each line, in their order; they are found on as many threads as there are processors.
-fn answers_to<R: AllocGlobal + Threads + Sync, J: AnswersLines>(
+/// How many chunks a thread takes at least. A line costs a thread's start a hundred times over, or a tenth of it.
+const CHUNKS_OF_A_THREAD: usize = 4;
+
+/// The answers to lines as one: their texts in the order of the lines, and the status of all.
+fn answer_chunk<J: AnswersLines>(judge: &J, alloc: Global, lines: &[&[u8]]) -> Result<LineAnswer, AllocError>
+    ensures { IfOk result (AnswersTogether (J.says judge.now) (texts_of lines.now)) }
+{
+    let mut text = String::new(alloc);
+    let mut status = LineStatus::Allowed;
+    for line in lines {
+        let answer = judge.answer(alloc, line)?;
+        text.push_str(answer.text.as_str())?;
+        status = status.worse(answer.status);
+    }
+    Ok(LineAnswer { text, status })
+}
+
+/// The answers to lines by chunks, in their order; they are found on as many threads as there are processors.
+fn answers_by_chunks<R: AllocGlobal + Threads + Sync, J: AnswersLines>(
     rt: &R,
     judge: &J,
     lines: &[&[u8]],
 ) -> Result<Vec<LineAnswer>, AllocError>
-    ensures { IfOk result (λ answers. AllZip (AnswersAs (J.says judge.now)) lines.now answers.items) }
+    ensures { IfOk result (λ answers. AnswersByChunks (J.says judge.now) (texts_of lines.now) answers.items) }
 {
     let alloc = rt.alloc();
     lines
-        .par_iter()
-        .with_min_len(LINES_OF_A_THREAD)
+        .par_chunks(lines.len() / CHUNKS + 1)
+        .with_min_len(CHUNKS_OF_A_THREAD)
         .map(
-            |line: &&[u8]| -> Result<LineAnswer, AllocError>
-                ensures { IfOk result (λ a. J.says judge.entry.now line.now.now a.status (string_bytes a.text)) }
-            { judge.answer(alloc, line) },
+            |chunk: &[&[u8]]| -> Result<LineAnswer, AllocError>
+                ensures { IfOk result (AnswersTogether (J.says judge.entry.now) (texts_of chunk.now)) }
+            { answer_chunk(judge, alloc, chunk) },
         )
         .collect::<Result<Vec<LineAnswer>, AllocError>>(rt, alloc)?
 }
@@ -62,7 +78,7 @@ pub(crate) fn print_answers<R: AllocGlobal + Threads + Sync, O: Write, J: Answer
         Prints (J.says judge.now) (texts_of lines.now) status (O.contents out.old) (O.contents out.new)) }
     ensures stopped { OnErr result (PrintsFront (J.says judge.now) (texts_of lines.now) (O.contents out.old) (O.contents out.new)) }
 {
-    let answers = answers_to(rt, judge, lines)?;
+    let answers = answers_by_chunks(rt, judge, lines)?;
     let all = joined(rt.alloc(), answers.as_slice())?;
     match write_text(out, all.text.as_str()) {
         Ok(()) => Ok(all.status),
