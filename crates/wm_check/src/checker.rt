@@ -15,7 +15,7 @@ use std::alloc::{AllocError, Global};
 use std::thread::Threads;
 use wm_decode::{DecodeFault, decode};
 use wm_event::{Candidate, Judgement, Log, Misshapen, ShapeFault, ThreadLog, Witness};
-use wm_logfile::{DocFault, read_document};
+use wm_logfile::{DocFault, ReadingRoom, read_document_in};
 use wm_replay::{ReplayAnswer, replay};
 use wm_rules::judge;
 use wm_valid::{ValidFault, ValidModule, validate};
@@ -45,12 +45,16 @@ pub fn read_module(alloc: Global, bytes: &[u8]) -> Result<ValidModule, Unread>
     }
 }
 
-/// The log with its witness that the bytes spell.
-pub(crate) fn read_log(alloc: Global, bytes: &[u8]) -> Result<(Log, Witness), Unread>
+/// The log with its witness that the bytes spell, read in this room.
+pub(crate) fn read_log(
+    alloc: Global,
+    room: &mut ReadingRoom,
+    bytes: &[u8],
+) -> Result<(Log, Witness), Unread>
     ensures read { IfOk result (λ p. IsDocumentOf bytes.now p.0 p.1) }
     ensures refused { IfErr result (IsUnreadDocument bytes.now) }
 {
-    match read_document(alloc, bytes) {
+    match read_document_in(alloc, room, bytes) {
         Ok(read) => Ok(read),
         Err(DocFault::OutOfMemory) => Err(Unread::OutOfMemory),
         Err(fault) => Err(Unread::Refused(Refusal::Document(fault))),
@@ -161,7 +165,8 @@ pub fn check_log<'m, R: AllocGlobal + Threads + Sync>(
     ensures misshapen { IfOk result (λ checked.
         KeepsMisshapen (IsDocumentOf document_bytes.now) checked.verdict checked.misshapen) }
 {
-    match read_log(rt.alloc(), document_bytes) {
+    let mut room = ReadingRoom::new(rt.alloc());
+    match read_log(rt.alloc(), &mut room, document_bytes) {
         Ok((log, witness)) => compare_log(rt, module, log, witness),
         Err(Unread::Refused(refusal)) => Ok(CheckedLog {
             verdict: Verdict::Refused(refusal),

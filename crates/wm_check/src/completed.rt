@@ -6,7 +6,7 @@ use crate::checker::{Unread, read_log, read_module};
 use crate::verdict::Refusal;
 use std::alloc::{AllocError, Global};
 use wm_event::{Candidate, Log, ShapeFault, Witness};
-use wm_logfile::write_document;
+use wm_logfile::{ReadingRoom, write_document};
 use wm_replay::{Completion, ReplayAnswer, complete};
 use wm_valid::ValidModule;
 
@@ -74,7 +74,8 @@ pub fn complete_document(
         Err(Unread::Refused(refusal)) => return Ok(CompletedDocument::Refused(refusal)),
         Err(Unread::OutOfMemory) => return Err(AllocError),
     };
-    match read_log(alloc, document_bytes) {
+    let mut room = ReadingRoom::new(alloc);
+    match read_log(alloc, &mut room, document_bytes) {
         Ok((log, witness)) => complete_over(alloc, &module, log, witness),
         Err(Unread::Refused(refusal)) => Ok(CompletedDocument::Refused(refusal)),
         Err(Unread::OutOfMemory) => Err(AllocError),

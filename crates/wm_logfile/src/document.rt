@@ -24,6 +24,7 @@ use crate::path::Path;
 use crate::quick::{TakeFault, take_document};
 use crate::thread::{ThreadByReader, ThreadReader};
 use crate::witness::{order_keys_of, witness_of};
+use json::Scratch;
 use serde_json::Value;
 use std::alloc::Global;
 use wm_event::{Log, MAX_THREADS, ThreadLog, Witness};
@@ -154,6 +155,58 @@ fn document_of(alloc: Global, value: &Value) -> Result<(Log, Witness), DocFault>
     }
 }
 
+/// Room that the reading of a document takes: some 16 KiB, which serve one document after the other.
+#[derive(Drop)]
+pub struct ReadingRoom {
+    scratch: Scratch,
+}
+
+impl ReadingRoom {
+    /// Room for any document.
+    pub fn new(alloc: Global) -> ReadingRoom {
+        ReadingRoom {
+            scratch: Scratch::new(alloc),
+        }
+    }
+}
+
+/// The same as [`read_document`], in room that other documents may have been read in.
+///
+/// # Errors
+///
+/// Those of [`read_document`].
+pub fn read_document_in(
+    alloc: Global,
+    room: &mut ReadingRoom,
+    bytes: &[u8],
+) -> Result<(Log, Witness), DocFault>
+    // What is read is spelled so, and is within the limits.
+    ensures spelled { IfOk result (λ p. Spells bytes.now p.0 p.1) }
+    ensures within { IfOk result (λ p. (length bytes.now ≤ max_document_bytes) × IsLog p.0
+        × IsWithinLimits p.0 p.1) }
+
+    // Within the limits no other pair is spelled so.
+    ensures only { IfOk result (λ p. IsOnlyPair bytes.now p.0 p.1) }
+
+    // Only what is spelled so by no pair within the limits is refused, with its fault, or for want of memory.
+    ensures refused { IfErr result (λ e. e ≢ DocFault.OutOfMemory → IsNoDocument bytes.now e) }
+{
+    if bytes.len() > MAX_DOCUMENT_BYTES {
+        return Err(DocFault::TooLarge);
+    }
+    match take_document(alloc, &mut room.scratch, bytes) {
+        Ok(pair) => return Ok(pair),
+        Err(TakeFault::Memory) => return Err(DocFault::OutOfMemory),
+        // The value of the text says where it falls short.
+        Err(TakeFault::Other) => {}
+    }
+    match Value::from_slice(alloc, bytes) {
+        Ok(value) => document_of(alloc, &value),
+        Err(e) if e.is_memory() => Err(DocFault::OutOfMemory),
+        Err(_) => Err(DocFault::NotJson),
+    }
+}
+
 /// The log and the witness that the bytes spell, in version 1 or 2. JSON's white space is read anywhere.
 ///
 /// # Errors
@@ -172,20 +225,8 @@ pub fn read_document(alloc: Global, bytes: &[u8]) -> Result<(Log, Witness), DocF
     // Only what is spelled so by no pair within the limits is refused, with its fault, or for want of memory.
     ensures refused { IfErr result (λ e. e ≢ DocFault.OutOfMemory → IsNoDocument bytes.now e) }
 {
-    if bytes.len() > MAX_DOCUMENT_BYTES {
-        return Err(DocFault::TooLarge);
-    }
-    match take_document(alloc, bytes) {
-        Ok(pair) => return Ok(pair),
-        Err(TakeFault::Memory) => return Err(DocFault::OutOfMemory),
-        // The value of the text says where it falls short.
-        Err(TakeFault::Other) => {}
-    }
-    match Value::from_slice(alloc, bytes) {
-        Ok(value) => document_of(alloc, &value),
-        Err(e) if e.is_memory() => Err(DocFault::OutOfMemory),
-        Err(_) => Err(DocFault::NotJson),
-    }
+    let mut room = ReadingRoom::new(alloc);
+    read_document_in(alloc, &mut room, bytes)
 }
 
 /// A value spells at most one log with a witness, whatever the version and the limits.

@@ -83,11 +83,14 @@ module _ (says : List ℕ → LineStatus → List ℕ → Type 0) where
   of_chunks (chunk ∷ chunks) (answer ∷ answers) zip =
       let xs = zip.0.answers in
       let rest = of_chunks chunks answers zip.1 in
-      let ys = rest.0 in
-      (xs ++ ys,
-      (zip-append (λ line (a : Answered). says line a.status a.text) chunk (flat_map (λ each. each) chunks) xs ys zip.0.are_answers rest.1.0,
-      text-append xs ys ∙ ap (λ text. text ++ text_of ys) (sym zip.0.joins.text_is) ∙ ap (λ text. string_bytes answer.text ++ text) rest.1.1,
-      overall-append xs ys ∙ ap (λ s. worse s (overall ys)) (sym zip.0.joins.status_is) ∙ ap (worse answer.status) rest.1.2))
+      let ys = rest.0 in (
+        xs ++ ys,
+        (
+          zip-append (λ line (a : Answered). says line a.status a.text) chunk (flat_map (λ each. each) chunks) xs ys zip.0.are_answers rest.1.0,
+          text-append xs ys ∙ ap (λ text. text ++ text_of ys) (sym zip.0.joins.text_is) ∙ ap (λ text. string_bytes answer.text ++ text) rest.1.1,
+          overall-append xs ys ∙ ap (λ s. worse s (overall ys)) (sym zip.0.joins.status_is) ∙ ap (worse answer.status) rest.1.2,
+        ),
+      )
 
   -- the chunks of borrowed lines
   pub answers_by_chunks : (chunks : List (List (Bor (List ℕ)))) (lines : List (Bor (List ℕ))) (answers : List LineAnswer) → flat_map (λ chunk. chunk) chunks ≡ lines

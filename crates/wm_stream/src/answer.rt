@@ -47,14 +47,26 @@ pub struct LineAnswer {
 
 /// What answers lines, each by itself.
 pub trait AnswersLines: Sync {
+    /// Room that an answer takes, which serves one line after the other.
+    type Room: Drop + Send;
+
     // Whether a status and a text answer a line.
     ghost says: { Self → List ℕ → LineStatus → List ℕ → Type 0 };
 
-    /// The answer to a line, which is given without its newline. Lines are answered at the same time, each by one thread.
+    /// Room for any line.
+    fn room(&self, alloc: Global) -> Self::Room;
+
+    /// The answer to a line, which is given without its newline. Lines are answered at the same time, each by one thread, in
+    /// room in which others may have been answered.
     ///
     /// # Errors
     ///
     /// Only if an allocation fails.
-    fn answer(&self, alloc: Global, line: &[u8]) -> Result<LineAnswer, AllocError>
+    fn answer(
+        &self,
+        alloc: Global,
+        room: &mut Self::Room,
+        line: &[u8],
+    ) -> Result<LineAnswer, AllocError>
         ensures { IfOk result (λ answer. says self.now line.now answer.status (string_bytes answer.text)) };
 }

@@ -17,13 +17,18 @@ const CHUNKS: usize = 256;
 const CHUNKS_OF_A_THREAD: usize = 4;
 
 /// The answers to lines as one: their texts in the order of the lines, and the status of all.
-fn answer_chunk<J: AnswersLines>(judge: &J, alloc: Global, lines: &[&[u8]]) -> Result<LineAnswer, AllocError>
+fn answer_chunk<J: AnswersLines>(
+    judge: &J,
+    alloc: Global,
+    lines: &[&[u8]],
+) -> Result<LineAnswer, AllocError>
     ensures { IfOk result (AnswersTogether (J.says judge.now) (texts_of lines.now)) }
 {
     let mut text = String::new(alloc);
     let mut status = LineStatus::Allowed;
+    let mut room = judge.room(alloc);
     for line in lines {
-        let answer = judge.answer(alloc, line)?;
+        let answer = judge.answer(alloc, &mut room, line)?;
         text.push_str(answer.text.as_str())?;
         status = status.worse(answer.status);
     }

@@ -140,11 +140,14 @@ fn take_whole(alloc: Global, reader: &mut Reader<'_>) -> Result<(Log, Witness), 
 
 /// The log and the witness that a text spells, where that is seen in one pass over its tokens.
 #[tactic(auto, using(crate::proofs::TakingDocuments::text_taken_whole))]
-fn take_text_whole(alloc: Global, text: &str) -> Result<(Log, Witness), TakeFault>
+fn take_text_whole(
+    alloc: Global,
+    scratch: &mut Scratch,
+    text: &str,
+) -> Result<(Log, Witness), TakeFault>
     ensures { IfOk result (λ p. TakenText text.now p.0 p.1) }
 {
-    let mut scratch = Scratch::new(alloc);
-    let mut reader = Reader::new(text, &mut scratch)?;
+    let mut reader = Reader::new(text, scratch)?;
     let (log, witness) = take_whole(alloc, &mut reader)?;
     if reader.next().is_some() {
         return Err(TakeFault::Other);
@@ -158,12 +161,16 @@ fn take_text_whole(alloc: Global, text: &str) -> Result<(Log, Witness), TakeFaul
 ///
 /// `Memory` where memory was refused, and `Other` where the bytes spell nothing, or it wasn't seen what.
 #[tactic(auto, using(crate::proofs::TakingDocuments::bytes_taken))]
-pub(crate) fn take_document(alloc: Global, bytes: &[u8]) -> Result<(Log, Witness), TakeFault>
+pub(crate) fn take_document(
+    alloc: Global,
+    scratch: &mut Scratch,
+    bytes: &[u8],
+) -> Result<(Log, Witness), TakeFault>
     ensures { IfOk result (λ p. TakenDocument bytes.now p.0 p.1) }
 {
     let Ok(text) = from_utf8(bytes) else {
         return Err(TakeFault::Other);
     };
-    let (log, witness) = take_text_whole(alloc, text)?;
+    let (log, witness) = take_text_whole(alloc, scratch, text)?;
     Ok((log, witness))
 }
