@@ -13,7 +13,7 @@ use Rattle.wm_event.specs.declared.atomic_writes.WidthIndex.{WidthIndex}
 use Rattle.wm_event.specs.declared.atomic_writes.AtomicWrites.{AtomicWrites}
 use Rattle.wm_event.specs.Event.{is_atomic, writes}
 use Rattle.wm_event.specs.Log.{event_in}
-use Rattle.wm_event.specs.Writes.{is_at, listed_from}
+use Rattle.wm_event.specs.Writes.{IsOfEachThread, is_at, listed_from}
 
 -- whether an event of a log is an atomic write of that width that begins at a
 abbrev pub begins_atomic : List ThreadLog → AccessWidth → ℕ → EventKey → Bool
@@ -30,6 +30,10 @@ pub record AreAtomicWrites (log : List ThreadLog) (order : List EventKey) (w : A
   pub two : IsWidthIndex log Two order w.two
   pub four : IsWidthIndex log Four order w.four
   pub eight : IsWidthIndex log Eight order w.eight
+
+-- those of each thread alone
+abbrev pub AreThreadAtomicWrites : List ThreadLog → List AtomicWrites → Type 0
+AreThreadAtomicWrites log ws = IsOfEachThread (AreAtomicWrites log) log ws
 
 abbrev pub begin_in : AtomicWrites → AccessWidth → WidthIndex
 begin_in w One = w.one
