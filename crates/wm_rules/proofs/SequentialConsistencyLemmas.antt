@@ -1,17 +1,13 @@
 -- The cases of V5, and its faults at a byte.
 use Rattle.std.proofs.Common.{◌≡◌, ◌==◌, ℕ, ◌<◌, ◌≤◌, [], ◌∷◌, Bool, IsTrue, ◌↔◌, Option, None, Some, IsSome, true, false, ◌≢◌, ◌+◌, ◌&&◌, List, length, slice_get, arith, refl, sym, ap, ◌∙◌, subst}
-use Rattle.std.specs.List.{filter}
-use Rattle.std.specs.Prelude.{unwrap_or}
 use Rattle.std.proofs.lemmas.Option.{same_Some, slice_get_within}
 use Rattle.std.proofs.lemmas.Bool.Decides.{nat_tests}
 use Rattle.wm_access.specs.AccessWidth.{bytes_of}
+use Rattle.wm_access.specs.declared.AccessWidth.{AccessWidth}
+use Rattle.wm_access.specs.declared.AccessWidth.TheVariants.{One, Two, Four, Eight}
 use Rattle.wm_event.specs.declared.event.Range.{Range}
-use Rattle.wm_event.specs.declared.writes.ByteWrite.{ByteWrite}
 use Rattle.wm_event.specs.AtomicWrites.{begins_atomic}
-use Rattle.wm_event.specs.Writes.{listed_from}
 use Rattle.wm_event.proofs.Scan.{NoneBelow, none_below-more}
-use Rattle.wm_rules.specs.Between.{IsPlaceOf, stands_between}
-use Rattle.wm_rules.proofs.BetweenLemmas.{Covers, covers_between}
 use Rattle.std.specs.Option.{option_map, option_map_or}
 use Rattle.wm_event.specs.declared.event.Event.{Event}
 use Rattle.wm_event.specs.declared.event.EventKey.{EventKey}
@@ -25,9 +21,12 @@ use Rattle.wm_event.specs.Faults.{AtRead, Breaks, BreaksRule, BreaksSequentialCo
 use Rattle.wm_event.specs.First.{Under}
 use Rattle.wm_event.specs.HappensBefore.{HappensBefore, SynchronizesWith}
 use Rattle.wm_event.specs.LoggedRun.{LoggedRun, execution}
-use Rattle.wm_event.specs.Rules.{HasRange, IsAtomicWrite, Overtakes, synchronized, written_over, read_past}
+use Rattle.wm_event.specs.Log.{event_in}
+use Rattle.wm_event.specs.Rules.{HasRange, IsAtomicWrite, KeepsOrder, Overtakes, synchronized, written_over, read_past}
 use Rattle.wm_event.specs.Shape.{ListsEachOnce}
-use Rattle.wm_rules.specs.Others.{FindsListed}
+use Rattle.wm_rules.specs.Others.{FindsListed, IsOutOfOrder}
+use Rattle.wm_rules.specs.Overtaking.{IsPast}
+use Rattle.wm_rules.proofs.ThreadLemmas.{HoldsSooner, before_join}
 use Rattle.wm_hb.specs.Scan.{Finds, IsEventOf}
 use Rattle.wm_rules.proofs.CaseLemmas.{finds_other}
 use Rattle.wm_hb.proofs.FaultLemmas.{read_moves, rule_five, same_key_parts, some_of}
@@ -123,16 +122,88 @@ overtaken_listed run w v r e c range second others write (written_over two f at 
 overtaken_listed run w v r e c range second others write (read_past three atomic wr wv has) =
     ap (λ (q : Range). begins_atomic run.log q.width q.address v) (others (λ t. absurd (omega arith))) ∙ range_listed run v e write has
 
--- the atomic writes of that range between a writer and the read have each write of such a fault
-pub covers_overtaking : (run : LoggedRun) → ListsEachOnce run.log run.witness.order → (e : Event) (w : EventId) (c : ℕ) (range : Range) (start : Option ℕ) (end : ℕ) (part : List ByteWrite)
-    → (c ≡ 2 → (f : Event) → event_at (execution run) w ≡ Some f → range ≡ range_of f) → (c ≢ 2 → range ≡ range_of e)
-    → IsPlaceOf run.witness.order start w → slice_get run.witness.order end ≡ Some (key_of e)
-    → part ≡ filter (stands_between (unwrap_or start 0) end) (listed_from (begins_atomic run.log range.width range.address) range.address 0 run.witness.order)
-    → Covers run.witness.order part (λ key. BreaksSequentialConsistency (execution run) (key_of e) e w (At key) c)
-covers_overtaking run once e w c range start end part second others is at same =
-    subst (λ (xs : List ByteWrite). Covers run.witness.order xs (λ key. BreaksSequentialConsistency (execution run) (key_of e) e w (At key) c)) (sym same)
-    (covers_between run once w start (unwrap_or start 0) end (key_of e) is refl at (begins_atomic run.log range.width range.address) range.address (λ key. BreaksSequentialConsistency (execution run) (key_of e) e w (At key) c)
-    (λ v p. (overtaken_listed run w v (key_of e) e c range second others p.write p.overtakes, p.between.0, p.between.1)))
+-- and an event that is
+pub breaking_there : (run : LoggedRun) (r : EventKey) (e : Event) (w : EventId) (v : EventKey) (c : ℕ) → BreaksSequentialConsistency (execution run) r e w (At v) c → IsSome (event_in run.log v)
+breaking_there run r e w v c h = some_of (event_in run.log v) h.write.0 h.write.1
+
+same_width : (v w : AccessWidth) → bytes_of v ≡ bytes_of w → v ≡ w
+same_width One One e = refl
+same_width One Two e = absurd (omega (arith, e))
+same_width One Four e = absurd (omega (arith, e))
+same_width One Eight e = absurd (omega (arith, e))
+same_width Two One e = absurd (omega (arith, e))
+same_width Two Two e = refl
+same_width Two Four e = absurd (omega (arith, e))
+same_width Two Eight e = absurd (omega (arith, e))
+same_width Four One e = absurd (omega (arith, e))
+same_width Four Two e = absurd (omega (arith, e))
+same_width Four Four e = refl
+same_width Four Eight e = absurd (omega (arith, e))
+same_width Eight One e = absurd (omega (arith, e))
+same_width Eight Two e = absurd (omega (arith, e))
+same_width Eight Four e = absurd (omega (arith, e))
+same_width Eight Eight e = refl
+
+-- what passes the test of the range is an atomic write of the range
+write_of_range : (run : LoggedRun) (range : Range) (v : EventKey) → begins_atomic run.log range.width range.address v ≡ true
+    → (f : Event) × (event_in run.log v ≡ Some f) × IsTrue (is_atomic f) × IsTrue (writes f) × (range_of f ≡ range)
+write_of_range run range v = of (event_in run.log v)
+  where
+    parts : (f : Event) (a b : Bool) (m n k l : ℕ) → ((a && (b && (m == n))) && (k == l)) ≡ true → IsTrue a × IsTrue b × (m ≡ n) × (k ≡ l)
+    parts f true true m n k l h = (refl, refl, grind (arith, nat_tests), grind (arith, nat_tests))
+    parts f true false m n k l h = absurd (cc)
+    parts f false b m n k l h = absurd (cc)
+
+    of : (o : Option Event) → option_map_or (λ (f : Event). (is_atomic f && (writes f && (bytes_of f.width == bytes_of range.width))) && (f.address == range.address)) o false ≡ true
+        → (f : Event) × (o ≡ Some f) × IsTrue (is_atomic f) × IsTrue (writes f) × (range_of f ≡ range)
+    of None h = absurd (cc)
+    of (Some f) h =
+        let p = parts f (is_atomic f) (writes f) (bytes_of f.width) (bytes_of range.width) f.address range.address h in
+        let width : f.width ≡ range.width = same_width f.width range.width p.2 in
+        let address : f.address ≡ range.address = p.3 in
+        (f, refl, p.0, p.1, rw (width, address) refl)
+
+-- what the third case says
+third_after : (x : Execution) (w v : EventId) (r : EventKey) (e : Event) (c : ℕ) → c ≡ 3 → Overtakes x w v r e c → HappensBefore x w v
+third_after x w v r e c three (synchronized one t at s range) = absurd (omega arith)
+third_after x w v r e c three (written_over two f at atomic wr vr range) = absurd (omega arith)
+third_after x w v r e c three (read_past is atomic wr wv range) = wv
+
+-- an atomic write of the range of the case that is past the writer breaks V5 as soon as a write does that it happens before
+breaks_sooner : (run : LoggedRun) → KeepsOrder (execution run) → (e : Event) (w : EventId) (c : ℕ) (range : Range) → (c ≡ 2 → (f : Event) → event_at (execution run) w ≡ Some f → range ≡ range_of f) → (c ≢ 2 → range ≡ range_of e)
+    → (u v : EventKey) → begins_atomic run.log range.width range.address u ≡ true → IsPast (execution run) w c (At u) → HappensBefore (execution run) (At u) (At v) → IsOutOfOrder run e w c v → IsOutOfOrder run e w c u
+breaks_sooner run agrees e w c range second others u v is past b h =
+    let x = execution run in
+    let write = write_of_range run range u is in
+    let o = agrees (At u) (At v) b in
+    let before = h.between.1 in
+    record {
+      write = (write.0, write.1, write.2, write.3);
+      between = (past.0, omega (arith, o, before));
+      overtakes = over h.overtakes;
+    }
+  where
+    over : Overtakes (execution run) w (At v) (key_of e) e c → Overtakes (execution run) w (At u) (key_of e) e c
+    over (synchronized one t at s has) = let write = write_of_range run range u is in synchronized one t at s (write.0, write.1, write.4 ∙ others (λ t. absurd (omega arith)))
+    over (written_over two f at atomic wr vr has) = let write = write_of_range run range u is in
+        written_over two f at atomic wr (before_join (execution run) (At u) (At v) (At (key_of e)) b vr) (write.0, write.1, write.4 ∙ second two f at)
+    over (read_past three atomic wr wv has) = let write = write_of_range run range u is in read_past three atomic wr (past.1 three) (write.0, write.1, write.4 ∙ others (λ t. absurd (omega arith)))
+
+pub overtaking_sooner : (run : LoggedRun) → KeepsOrder (execution run) → (e : Event) (w : EventId) (c : ℕ) (range : Range) → (c ≡ 2 → (f : Event) → event_at (execution run) w ≡ Some f → range ≡ range_of f) → (c ≢ 2 → range ≡ range_of e)
+    → HoldsSooner run (begins_atomic run.log range.width range.address) (λ v. IsPast (execution run) w c v) (IsOutOfOrder run e w c)
+overtaking_sooner run agrees e w c range second others = record {
+  there = λ v h. breaking_there run (key_of e) e w v c h;
+  passes = λ v h. overtaken_listed run w v (key_of e) e c range second others h.write h.overtakes;
+  holds = λ v h. (h.between.0, λ three. third_after (execution run) w (At v) (key_of e) e c three h.overtakes);
+  sooner = λ u v is past b h. breaks_sooner run agrees e w c range second others u v is past b h;
+}
+
+-- what is past a writer is so of all that it happens before
+pub past_onward : (run : LoggedRun) → KeepsOrder (execution run) → (w : EventId) (c : ℕ) (u v : EventId) → HappensBefore (execution run) u v → IsPast (execution run) w c u → IsPast (execution run) w c v
+past_onward run agrees w c u v b past =
+    let o = agrees u v b in
+    let after = past.0 in
+    (omega (arith, o, after), λ three. before_join (execution run) w u v (past.1 three) b)
 
 -- a fault of V5 is at one of the bytes that have a writer
 pub consistency_byte : (x : Execution) (t i : ℕ) (writers : List EventId) → writers ≡ x.writers_of (record { thread = t; number = i }) → (f : RuleFault)
@@ -150,14 +221,3 @@ repeated_none x e j k w there first reads less none =
     (λ f u.
     let s = consistency_says x e k w there reads f u in
     none j less (record { rule = SequentialConsistency; case = f.case; event = key_of e; byte = j; writer = w; other = f.other }) (s.0, s.1, (e, there, first, s.2)) (refl, (refl, (refl, (refl, tt)))))
-
--- what case 2 and case 3 say of the two places
-pub second_before : (x : Execution) (w v : EventId) (r : EventKey) (e : Event) (c : ℕ) → c ≡ 2 → Overtakes x w v r e c → HappensBefore x v (At r)
-second_before x w v r e c two (synchronized one t at s range) = absurd (omega arith)
-second_before x w v r e c two (written_over is f at atomic wr vr range) = vr
-second_before x w v r e c two (read_past three atomic wr wv range) = absurd (omega arith)
-
-pub third_after : (x : Execution) (w v : EventId) (r : EventKey) (e : Event) (c : ℕ) → c ≡ 3 → Overtakes x w v r e c → HappensBefore x w v
-third_after x w v r e c three (synchronized one t at s range) = absurd (omega arith)
-third_after x w v r e c three (written_over two f at atomic wr vr range) = absurd (omega arith)
-third_after x w v r e c three (read_past is atomic wr wv range) = wv

@@ -1,21 +1,19 @@
 -- The event that stands first in the order among those of which something holds.
 use Rattle.std.specs.Prelude.{◌≡◌, ℕ, ◌<◌, ◌≤◌, List, Option, None, Some, ltb, slice_get, if◌then◌else◌}
-use Rattle.wm_event.specs.declared.event.Event.{Event}
-use Rattle.wm_event.specs.Event.{key_of}
 use Rattle.wm_event.specs.declared.event.EventKey.{EventKey}
 use Rattle.wm_event.specs.declared.event.EventId.{EventId}
 use Rattle.wm_event.specs.declared.event.EventId.TheVariants.{At}
 use Rattle.wm_event.specs.Execution.{Execution, place}
 use Rattle.wm_event.specs.HappensBefore.{HappensBefore}
-use Rattle.wm_rules.specs.Others.{IsWrittenBetween}
 
 -- each happens before those after it
 abbrev pub AreInSequence : Execution → List EventId → Type 0
 AreInSequence x ids = (i j : ℕ) (a b : EventId) → i < j → slice_get ids i ≡ Some a → slice_get ids j ≡ Some b → HappensBefore x a b
 
--- how many of the ids, all of them first, the writer doesn't happen before
-abbrev pub IsCountNotAfter : Execution → EventId → List EventId → ℕ → Type 0
-IsCountNotAfter x w ids count = (i : ℕ) (v : EventId) → i < count → slice_get ids i ≡ Some v → HappensBefore x w v → ⊥
+-- of the ids T holds from the n-th on, and of none before it
+pub record HoldsFrom (T : EventId → Type 0) (ids : List EventId) (n : ℕ) : Type 0 where
+  pub fails : (i : ℕ) (v : EventId) → i < n → slice_get ids i ≡ Some v → T v → ⊥
+  pub holds : (i : ℕ) (v : EventId) → n ≤ i → slice_get ids i ≡ Some v → T v
 
 -- of the events of which P holds the one that stands first, or None where it holds of none
 abbrev pub FindsEarliest : Execution → (EventKey → Type 0) → Option EventKey → Type 0
@@ -28,18 +26,18 @@ earlier_of x None second = second
 earlier_of x (Some a) None = Some a
 earlier_of x (Some a) (Some b) = if ltb (place x (At b)) (place x (At a)) then Some b else Some a
 
--- v is an event of thread t that writes byte k of the read between it and the writer w
-abbrev pub IsWrittenInThread : Execution → Event → EventKey → ℕ → EventId → ℕ → EventKey → Type 0
-IsWrittenInThread x e r k w t v = (v.thread ≡ t) × IsWrittenBetween x r e k w (At v)
+-- v is an event of thread t of which P holds
+abbrev pub IsInThread : ℕ → (EventKey → Type 0) → EventKey → Type 0
+IsInThread t P v = (v.thread ≡ t) × P v
 
--- the first write of byte k in thread t between the read and the writer w
-abbrev pub FindsInThread : Execution → Event → ℕ → EventId → ℕ → Option EventKey → Type 0
-FindsInThread x e k w t result = FindsEarliest x (IsWrittenInThread x e (key_of e) k w t) result
+-- of thread t's events of which P holds the one that stands first
+abbrev pub FindsInThread : Execution → ℕ → (EventKey → Type 0) → Option EventKey → Type 0
+FindsInThread x t P result = FindsEarliest x (IsInThread t P) result
 
 -- v is such an event of one of the first n threads
-abbrev pub IsWrittenBelow : Execution → Event → EventKey → ℕ → EventId → ℕ → EventKey → Type 0
-IsWrittenBelow x e r k w n v = (v.thread < n) × IsWrittenBetween x r e k w (At v)
+abbrev pub IsBelow : ℕ → (EventKey → Type 0) → EventKey → Type 0
+IsBelow n P v = (v.thread < n) × P v
 
--- the first write of byte k in the first n threads between the read and the writer w
-abbrev pub FindsBelow : Execution → Event → ℕ → EventId → ℕ → Option EventKey → Type 0
-FindsBelow x e k w n result = FindsEarliest x (IsWrittenBelow x e (key_of e) k w n) result
+-- of the first n threads' events of which P holds the one that stands first
+abbrev pub FindsBelow : Execution → ℕ → (EventKey → Type 0) → Option EventKey → Type 0
+FindsBelow x n P result = FindsEarliest x (IsBelow n P) result

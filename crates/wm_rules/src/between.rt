@@ -1,15 +1,14 @@
 //! The writes of a byte between two places of the order.
 ghost use Rattle.std.specs.Prelude.{◌≡◌, ◌≤◌, ◌↔◌, length, ltb, IsTrue};
-ghost use Rattle.wm_event.specs.Shape.{ListsEachOnce};
 ghost use Rattle.std.specs.List.{filter};
 ghost use Rattle.std.specs.List.Sorted.{IsNonDecreasingBy};
 ghost use Rattle.wm_event.specs.declared.writes.ByteWrite.{ByteWrite};
 ghost use Rattle.wm_event.specs.declared.event.EventId.TheVariants.{At};
 ghost use Rattle.wm_event.specs.HappensBefore.{HappensBefore as IsBefore};
 ghost use Rattle.wm_event.specs.LoggedRun.{execution};
-ghost use Rattle.wm_rules.specs.Between.{IfListedAt, IsCountBefore, IsListed, IsPlaceOf, Rises, stands_between};
+ghost use Rattle.wm_rules.specs.Between.{IfListedAt, IsCountBefore, IsPlaceOf, Rises, stands_between};
 
-use wm_event::{ByteWrite, EventId, EventKey};
+use wm_event::{ByteWrite, EventId};
 use wm_hb::HappensBefore;
 
 /// How many of the writes stand before a place.
@@ -51,13 +50,4 @@ pub fn is_after(
         None => true,
         Some(start) => relation.before_at(start, place),
     }
-}
-
-/// The event at a place of the order.
-pub fn key_at(relation: &HappensBefore, place: usize) -> Option<EventKey>
-    ensures value { IsListed relation.now.witness.order place result }
-    ensures order { ListsEachOnce relation.now.log relation.now.witness.order }
-{
-    let order = relation.candidate().witness().order.as_slice();
-    order.get(place).copied()
 }

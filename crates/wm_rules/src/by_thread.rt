@@ -1,11 +1,11 @@
 //! The first write of a byte that happens between a read and its writer, found in one thread after the other.
-ghost use Rattle.std.specs.Prelude.{◌≡◌, ◌<◌, ◌≤◌, ℕ, IfSome, Some, length, slice_get};
-ghost use Rattle.wm_event.specs.declared.event.EventId.{EventId};
+ghost use Rattle.std.specs.Prelude.{◌≡◌, ◌<◌, ◌≤◌, IfSome, length};
 ghost use Rattle.wm_event.specs.declared.event.EventId.TheVariants.{At};
 ghost use Rattle.wm_event.specs.HappensBefore.{HappensBefore as IsBefore};
 ghost use Rattle.wm_event.specs.LoggedRun.{execution};
 ghost use Rattle.wm_event.specs.Shape.{IsThere};
-ghost use Rattle.wm_rules.specs.Earliest.{AreInSequence, FindsBelow, FindsInThread, IsCountNotAfter, earlier_of};
+ghost use Rattle.wm_rules.specs.Earliest.{AreInSequence, FindsBelow, FindsInThread, HoldsFrom, earlier_of};
+ghost use Rattle.wm_rules.specs.Others.{WritesBetween};
 
 use crate::coherence::is_written_between;
 use wm_event::{Candidate, Event, EventId, EventKey};
@@ -15,8 +15,7 @@ use wm_hb::{HappensBefore, stands_before};
 fn count_not_after(relation: &HappensBefore, writer: EventId, writes: &[EventId]) -> usize
     requires { AreInSequence (execution relation.now) writes.now }
     ensures bound { result ≤ length writes.now }
-    ensures not_after { IsCountNotAfter (execution relation.now) writer writes.now result }
-    ensures after { (i : ℕ) (v : EventId) → result ≤ i → slice_get writes.now i ≡ Some v → IsBefore (execution relation.now) writer v }
+    ensures turn { HoldsFrom (IsBefore (execution relation.now) writer) writes.now result }
 {
     let mut low = 0usize;
     let mut high = writes.len();
@@ -40,7 +39,7 @@ fn first_in_thread(
     thread: usize,
 ) -> Option<EventKey>
     requires { thread < length relation.now.log }
-    ensures { FindsInThread (execution relation.now) event.now byte writer thread result }
+    ensures { FindsInThread (execution relation.now) thread (WritesBetween relation.now event.now byte writer) result }
 {
     let candidate = relation.candidate();
     let _log = candidate.log();
@@ -60,7 +59,7 @@ fn first_in_thread(
 }
 
 /// The one of two events that stands first in the order.
-fn earlier(
+pub fn earlier(
     candidate: &Candidate,
     first: Option<EventKey>,
     second: Option<EventKey>,
@@ -89,7 +88,7 @@ pub fn earliest_between(
     byte: u8,
     writer: EventId,
 ) -> Option<EventKey>
-    ensures { FindsBelow (execution relation.now) event.now byte writer (length relation.now.log) result }
+    ensures { FindsBelow (execution relation.now) (length relation.now.log) (WritesBetween relation.now event.now byte writer) result }
 {
     let candidate = relation.candidate();
     let mut earliest = None;

@@ -1,10 +1,8 @@
 //! V5: in three cases no atomic write is between a read and its writer in the order.
-ghost use Rattle.std.specs.Prelude.{◌≡◌, ◌≢◌, ◌<◌, ◌↔◌, [], ◌∷◌, ℕ, IsTrue, None, Some, slice_get};
+ghost use Rattle.std.specs.Prelude.{◌≡◌, ◌≢◌, ◌<◌, ◌↔◌, [], ◌∷◌, ℕ, IsTrue, None, Some};
 ghost use Rattle.wm_event.specs.declared.event.Event.{Event};
-ghost use Rattle.wm_event.specs.declared.event.EventKey.{EventKey};
 ghost use Rattle.wm_event.specs.declared.event.EventId.{EventId};
 ghost use Rattle.wm_event.specs.Execution.{event_at};
-ghost use Rattle.wm_rules.specs.Between.{FindsAt, IsPlaceOf, IsTrueIfOvertaken};
 ghost use Rattle.wm_event.specs.declared.event.EventId.TheVariants.{At};
 ghost use Rattle.wm_event.specs.Event.{key_of, range_of};
 ghost use Rattle.wm_event.specs.Execution.{ReadsFrom};
@@ -16,9 +14,10 @@ ghost use Rattle.wm_rules.specs.Near.{IsTrueIfInconsistent};
 ghost use Rattle.wm_rules.specs.Others.{FindsListed, IsOutOfOrder};
 ghost use Rattle.wm_hb.specs.Scan.{Finds, IsEventOf};
 
-use crate::between::{is_after, key_at, part_between};
+use crate::between::part_between;
 use crate::near::place_after;
 use crate::no_tearing::has_earlier;
+use crate::overtaking::earliest_out_of_order;
 use crate::writers::only_writer;
 use wm_event::{Candidate, Event, EventId, EventKey, Range, Rule, RuleFault};
 use wm_hb::{HappensBefore, stands_before, synchronizes};
@@ -102,7 +101,7 @@ fn overtakes(
 }
 
 /// Whether an atomic write stands between a read and its writer where it may not, by a case of the rule.
-fn is_out_of_order(
+pub fn is_out_of_order(
     relation: &HappensBefore,
     event: &Event,
     writer: EventId,
@@ -140,27 +139,8 @@ fn may_be_overtaken(relation: &HappensBefore, event: &Event, writer: EventId, ca
     }
 }
 
-/// Whether the event at a place can overtake a writer, by a case of the rule.
-fn may_overtake(
-    relation: &HappensBefore,
-    writer: EventId,
-    start: Option<usize>,
-    end: usize,
-    place: usize,
-    case: u8,
-) -> bool
-    requires { IsPlaceOf relation.now.witness.order start writer }
-    ensures { IsTrueIfOvertaken relation.now writer place end case result }
-{
-    match case {
-        2 => relation.before_at(place, end),
-        3 => is_after(relation, writer, start, place),
-        _ => true,
-    }
-}
-
 /// The range that the other write has, by a case of the rule.
-fn range_by_case(candidate: &Candidate, event: &Event, writer: EventId, case: u8) -> Range
+pub fn range_by_case(candidate: &Candidate, event: &Event, writer: EventId, case: u8) -> Range
     ensures second { case ≡ 2 → (f : Event) → event_at (execution candidate.now) writer ≡ Some f → result ≡ range_of f }
     ensures others { case ≢ 2 → result ≡ range_of event.now }
 {
@@ -170,35 +150,6 @@ fn range_by_case(candidate: &Candidate, event: &Event, writer: EventId, case: u8
     match candidate.event(writer) {
         Some(written) => written.range(),
         None => event.range(),
-    }
-}
-
-/// The event at a place of the order, where it is a write that stands so, by a case of the rule.
-fn out_of_order_at(
-    relation: &HappensBefore,
-    event: &Event,
-    writer: EventId,
-    start: Option<usize>,
-    end: usize,
-    place: usize,
-    case: u8,
-) -> Option<EventKey>
-    requires listed { IsEventOf (execution relation.now) event.now }
-    requires writer { IsThere relation.now.log writer }
-    requires start { IsPlaceOf relation.now.witness.order start writer }
-    requires end { slice_get relation.now.witness.order end ≡ Some (key_of event.now) }
-    ensures { FindsAt relation.now.witness.order place (IsOutOfOrder relation.now event.now writer case) result }
-{
-    if !may_overtake(relation, writer, start, end, place, case) {
-        return None;
-    }
-    let Some(key) = key_at(relation, place) else {
-        return None;
-    };
-    if is_out_of_order(relation, event, writer, EventId::At(key), case) {
-        Some(key)
-    } else {
-        None
     }
 }
 
@@ -219,18 +170,7 @@ fn first_out_of_order(
     if !may_be_overtaken(relation, event, writer, case) {
         return None;
     }
-    let Some(end) = candidate.place(EventId::At(event.key())) else {
-        return None;
-    };
-    let start = candidate.place(writer);
-    let writes = candidate.atomic_writes(range_by_case(candidate, event, writer, case));
-    for write in part_between(writes, start.unwrap_or(0), end) {
-        let found = out_of_order_at(relation, event, writer, start, end, write.place, case);
-        if found.is_some() {
-            return found;
-        }
-    }
-    None
+    earliest_out_of_order(relation, event, writer, case)
 }
 
 /// The fault at a byte of a read, by a case of the rule.

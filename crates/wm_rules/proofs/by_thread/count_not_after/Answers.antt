@@ -1,11 +1,10 @@
-use Rattle.std.proofs.Common.{◌≡◌, ◌<◌, ◌≤◌, ◌+◌, ◌-◌, ◌/◌, Some, get_or, slice_get, arith, sym, ap, ◌∙◌, subst, ⊎_elim}
-use Rattle.std.proofs.lemmas.Bool.{both_ways, cases_lt}
-use Rattle.std.proofs.lemmas.Option.{same_Some, slice_get-get_or}
-use Rattle.wm_event.specs.declared.event.EventId.{EventId}
+use Rattle.std.proofs.Common.{◌+◌, ◌-◌, ◌/◌, get_or, arith}
+use Rattle.std.proofs.lemmas.Bool.{both_ways}
+use Rattle.std.proofs.lemmas.Option.{slice_get-get_or}
 use Rattle.wm_event.specs.declared.event.EventId.TheVariants.{Init}
 use Rattle.wm_event.specs.HappensBefore.{HappensBefore}
 use Rattle.wm_event.specs.LoggedRun.{execution}
-use Rattle.wm_rules.proofs.ThreadLemmas.{before_join}
+use Rattle.wm_rules.proofs.ThreadLemmas.{before_join, parted_high, parted_low}
 use Rattle.wm_rules.proofs.by_thread.count_not_after.Goals as goal
 
 pub loop-low-preserved-then-before : goal.loop-low-preserved-then-before
@@ -14,22 +13,10 @@ loop-low-preserved-then-before c =
     let xs = c.args.writes.now in
     let w = c.args.writer in
     let m = c.loop-low.low + (c.loop-low.high - c.loop-low.low) / 2 in
-    let u = get_or xs m Init in
-    let order = c.loop-low.invariant.order in
     let bound = c.loop-low.invariant.bound in
     let less = c.loop-low-test.true in
-    let here : HappensBefore x w u = c.before-in-loop-low.ensures.0 c.if-before.true in
-    let at : slice_get xs m ≡ Some u = slice_get-get_or xs m Init (omega arith) in
-    record {
-      order = omega arith;
-      bound = omega arith;
-      not_after = c.loop-low.invariant.not_after;
-      after = λ i v l at_v. ⊎_elim
-          (λ (h : m < i). before_join x w u v here (c.requires m i u v h at at_v))
-          (λ (h : i ≤ m). let e : m ≡ i = omega (arith, l, h) in
-          subst (λ (z : EventId). HappensBefore x w z) (same_Some u v (sym at ∙ ap (slice_get xs) e ∙ at_v)) here)
-          (cases_lt m i);
-    }
+    parted_high x (λ v. HappensBefore x w v) (λ u v h b. before_join x w u v b h) xs c.requires c.loop-low.low c.loop-low.high m (get_or xs m Init) (slice_get-get_or xs m Init (omega arith)) (omega arith) (omega arith) c.loop-low.invariant
+    (c.before-in-loop-low.ensures.0 c.if-before.true)
 
 pub loop-low-preserved : goal.loop-low-preserved
 loop-low-preserved c =
@@ -37,19 +24,7 @@ loop-low-preserved c =
     let xs = c.args.writes.now in
     let w = c.args.writer in
     let m = c.loop-low.low + (c.loop-low.high - c.loop-low.low) / 2 in
-    let u = get_or xs m Init in
-    let order = c.loop-low.invariant.order in
     let bound = c.loop-low.invariant.bound in
     let less = c.loop-low-test.true in
-    let not : HappensBefore x w u → ⊥ = λ h. both_ways c.before-in-loop-low.result c.if-before.false (c.before-in-loop-low.ensures.1 h) in
-    let at : slice_get xs m ≡ Some u = slice_get-get_or xs m Init (omega arith) in
-    record {
-      order = omega arith;
-      bound = bound;
-      not_after = λ i v l at_v b. ⊎_elim
-          (λ (h : i < m). not (before_join x w v u b (c.requires i m v u h at_v at)))
-          (λ (h : m ≤ i). let e : m ≡ i = omega (arith, l, h) in
-          not (subst (λ (z : EventId). HappensBefore x w z) (same_Some v u (sym at_v ∙ ap (slice_get xs) (sym e) ∙ at)) b))
-          (cases_lt i m);
-      after = c.loop-low.invariant.after;
-    }
+    parted_low x (λ v. HappensBefore x w v) (λ u v h b. before_join x w u v b h) xs c.requires c.loop-low.low c.loop-low.high m (get_or xs m Init) (slice_get-get_or xs m Init (omega arith)) (omega arith) (omega arith) c.loop-low.invariant
+    (λ h. both_ways c.before-in-loop-low.result c.if-before.false (c.before-in-loop-low.ensures.1 h))

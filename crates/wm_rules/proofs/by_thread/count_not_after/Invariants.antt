@@ -1,19 +1,11 @@
-use Rattle.std.proofs.Common.{◌-◌, ◌≡◌, ◌<◌, ◌≤◌, ℕ, List, Some, length, slice_get}
-use Rattle.wm_event.specs.declared.event.EventId.{EventId}
-use Rattle.wm_event.specs.Execution.{Execution}
+use Rattle.std.proofs.Common.{◌-◌}
 use Rattle.wm_event.specs.HappensBefore.{HappensBefore}
 use Rattle.wm_event.specs.LoggedRun.{execution}
+use Rattle.wm_rules.proofs.ThreadLemmas.{IsParted}
 use Rattle.wm_rules.proofs.by_thread.count_not_after.Given as goal
 
--- below `low` the writer doesn't happen before the writes, from `high` on it does
-pub record IsParted (x : Execution) (writer : EventId) (writes : List EventId) (low high : ℕ) : Type 0 where
-  pub order : low ≤ high
-  pub bound : high ≤ length writes
-  pub not_after : (i : ℕ) (v : EventId) → i < low → slice_get writes i ≡ Some v → HappensBefore x writer v → ⊥
-  pub after : (i : ℕ) (v : EventId) → high ≤ i → slice_get writes i ≡ Some v → HappensBefore x writer v
-
 abbrev pub invariant-loop-low : goal.invariant-loop-low
-invariant-loop-low l = IsParted (execution l.relation) l.writer l.writes l.low l.high
+invariant-loop-low l = IsParted (λ v. HappensBefore (execution l.relation) l.writer v) l.writes l.low l.high
 
 abbrev pub decreases-loop-low : goal.decreases-loop-low
 decreases-loop-low l = l.high - l.low

@@ -10,7 +10,8 @@ use Rattle.wm_event.specs.Rules.{KeepsOrder}
 use Rattle.wm_event.specs.Shape.{ListsEachOnce}
 use Rattle.wm_event.specs.Writes.{writes_byte, writes_from}
 use Rattle.wm_rules.specs.Between.{IsPlaceOf, Rises, stands_between}
-use Rattle.wm_rules.specs.Others.{IsWrittenBetween}
+use Rattle.wm_rules.specs.Others.{IsWrittenBetween, WritesBetween}
+use Rattle.wm_rules.proofs.Before.{before_from}
 use Rattle.wm_rules.proofs.BetweenLemmas.{found_none, found_some, none_written, writes_rise}
 use Rattle.wm_rules.proofs.CoherenceLemmas.{covers_written}
 use Rattle.wm_rules.proofs.ThreadLemmas.{earliest_listed}
@@ -23,7 +24,7 @@ part_between-part-requires c =
 pub returns-then-part-gt-FEW-clause-first : goal.returns-then-part-gt-FEW-clause-first
 returns-then-part-gt-FEW-clause-first c =
     let once : ListsEachOnce c.args.relation.now.log c.args.relation.now.witness.order = search rules in
-    earliest_listed c.args.relation.now once c.args.event.now c.args.byte c.args.writer c.earliest_between.result c.earliest_between.ensures
+    earliest_listed c.args.relation.now once (WritesBetween c.args.relation.now c.args.event.now c.args.byte c.args.writer) (λ v h. before_from c.args.relation.now (At v) (At (key_of c.args.event.now)) h.before) c.earliest_between.result c.earliest_between.ensures
 
 pub returns-then-is_some-clause-first : goal.returns-then-is_some-clause-first
 returns-then-is_some-clause-first c =
