@@ -1,4 +1,4 @@
--- The event that stands first in the order among those of which something holds.
+-- The event that the order lists first among those of which something holds.
 use Rattle.std.specs.Prelude.{◌≡◌, ℕ, ◌<◌, ◌≤◌, List, Option, None, Some, ltb, slice_get, if◌then◌else◌}
 use Rattle.wm_event.specs.declared.event.EventKey.{EventKey}
 use Rattle.wm_event.specs.declared.event.EventId.{EventId}
@@ -15,12 +15,12 @@ pub record HoldsFrom (T : EventId → Type 0) (ids : List EventId) (n : ℕ) : T
   pub fails : (i : ℕ) (v : EventId) → i < n → slice_get ids i ≡ Some v → T v → ⊥
   pub holds : (i : ℕ) (v : EventId) → n ≤ i → slice_get ids i ≡ Some v → T v
 
--- of the events of which P holds the one that stands first, or None where it holds of none
+-- of the events of which P holds the one that the order lists first, or None if it holds of no event
 abbrev pub FindsEarliest : Execution → (EventKey → Type 0) → Option EventKey → Type 0
 FindsEarliest x P None = (v : EventKey) → P v → ⊥
 FindsEarliest x P (Some key) = P key × ((v : EventKey) → P v → place x (At key) ≤ place x (At v))
 
--- the one of two that stands first
+-- the one of two that the order lists first
 abbrev pub earlier_of : Execution → Option EventKey → Option EventKey → Option EventKey
 earlier_of x None second = second
 earlier_of x (Some a) None = Some a
@@ -30,7 +30,7 @@ earlier_of x (Some a) (Some b) = if ltb (place x (At b)) (place x (At a)) then S
 abbrev pub IsInThread : ℕ → (EventKey → Type 0) → EventKey → Type 0
 IsInThread t P v = (v.thread ≡ t) × P v
 
--- of thread t's events of which P holds the one that stands first
+-- of thread t's events of which P holds the one that the order lists first
 abbrev pub FindsInThread : Execution → ℕ → (EventKey → Type 0) → Option EventKey → Type 0
 FindsInThread x t P result = FindsEarliest x (IsInThread t P) result
 
@@ -38,6 +38,6 @@ FindsInThread x t P result = FindsEarliest x (IsInThread t P) result
 abbrev pub IsBelow : ℕ → (EventKey → Type 0) → EventKey → Type 0
 IsBelow n P v = (v.thread < n) × P v
 
--- of the first n threads' events of which P holds the one that stands first
+-- of the first n threads' events of which P holds the one that the order lists first
 abbrev pub FindsBelow : Execution → ℕ → (EventKey → Type 0) → Option EventKey → Type 0
 FindsBelow x n P result = FindsEarliest x (IsBelow n P) result

@@ -7,7 +7,7 @@ use Rattle.wm_event.specs.Execution.{Execution, place}
 use Rattle.wm_event.specs.HappensBefore.{HappensBefore}
 use Rattle.wm_event.specs.Writes.{id_in, thread_keys}
 
--- v stands after the writer w, which in the third case happens before it
+-- v comes after the writer w in the order, and in the third case w happens before it
 abbrev pub IsPast : Execution → EventId → ℕ → EventId → Type 0
 IsPast x w case v = (place x w < place x v) × (case ≡ 3 → HappensBefore x w v)
 

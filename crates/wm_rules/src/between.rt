@@ -11,7 +11,7 @@ ghost use Rattle.wm_rules.specs.Between.{IfListedAt, IsCountBefore, IsPlaceOf, R
 use wm_event::{ByteWrite, EventId};
 use wm_hb::HappensBefore;
 
-/// How many of the writes stand before a place.
+/// How many of the writes come before a place.
 fn count_before(writes: &[ByteWrite], place: usize) -> usize
     requires { IsNonDecreasingBy (λ (b : ByteWrite). b.place) writes.now }
     ensures bound { result ≤ length writes.now }

@@ -58,7 +58,7 @@ fn first_in_thread(
     }
 }
 
-/// The one of two events that stands first in the order.
+/// The one of two events that the order lists first.
 pub fn earlier(
     candidate: &Candidate,
     first: Option<EventKey>,

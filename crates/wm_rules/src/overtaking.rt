@@ -27,7 +27,7 @@ fn id_in_thread(candidate: &Candidate, thread: usize, write: ByteWrite) -> Event
     }
 }
 
-/// Whether an event stands after a writer, which in the third case must happen before it.
+/// Whether the order lists an event after a writer, which in the third case must happen before it.
 fn is_past(relation: &HappensBefore, writer: EventId, other: EventId, case: u8) -> bool
     requires writer { IsThere relation.now.log writer }
     requires other { IsThere relation.now.log other }

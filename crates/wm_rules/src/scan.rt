@@ -82,7 +82,7 @@ fn is_faulty(relation: &HappensBefore, rule: LateRule, event: &Event) -> bool
     fault_at_event(relation, rule, event).is_some()
 }
 
-/// Where the first event with a fault by a rule stands among events, worked in parallel.
+/// The place among events of the first with a fault by a rule, looked for in parallel.
 fn first_faulty(
     rt: &(impl Threads + Sync),
     relation: &HappensBefore,

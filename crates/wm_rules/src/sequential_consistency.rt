@@ -82,7 +82,7 @@ fn is_read_past(relation: &HappensBefore, event: &Event, writer: EventId, other:
         && relation.before(writer, other)
 }
 
-/// Whether a write may not stand between a read and its writer, by a case of the rule.
+/// Whether a write may not be between a read and its writer, by a case of the rule.
 fn overtakes(
     relation: &HappensBefore,
     event: &Event,
@@ -100,7 +100,7 @@ fn overtakes(
     }
 }
 
-/// Whether an atomic write stands between a read and its writer where it may not, by a case of the rule.
+/// Whether an atomic write is between a read and its writer where it may not be, by a case of the rule.
 pub fn is_out_of_order(
     relation: &HappensBefore,
     event: &Event,
@@ -153,7 +153,7 @@ pub fn range_by_case(candidate: &Candidate, event: &Event, writer: EventId, case
     }
 }
 
-/// The first listed write that stands so, by a case of the rule.
+/// The first listed write that is between a read and its writer where it may not be, by a case of the rule.
 fn first_out_of_order(
     relation: &HappensBefore,
     event: &Event,
