@@ -9,3 +9,6 @@ small_fits One v h = omega (arith, h)
 small_fits Two v h = omega (arith, h)
 small_fits Four v h = omega (arith, h)
 small_fits Eight v h = omega (arith, h)
+
+pub half_fits : (v : ℕ) → v < 65536 → v < 2 ^ (8 * bytes_of Eight)
+half_fits v h = omega (arith, h)

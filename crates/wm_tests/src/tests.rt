@@ -1,5 +1,7 @@
 //! Each crate below the program, through its public calls, and several of them together.
+mod accesses;
 mod buffered_memory;
+mod calls;
 mod candidates;
 mod closure;
 mod decoding;
@@ -15,6 +17,7 @@ mod recorder;
 mod recordings;
 mod refusals;
 mod rounds;
+mod shared;
 mod thread;
 mod validation;
 
@@ -24,4 +27,9 @@ use std::process::Abort;
 /// Stops the test where the two differ. Each `assert_eq!` of a test would lengthen its proof by some seconds.
 fn same<R: Abort, T: PartialEq + Debug + Drop>(rt: &R, got: T, wanted: T) {
     assert_eq!(rt; got, wanted);
+}
+
+/// The same of one case of a table, which the message names.
+fn same_in<R: Abort, C: Debug, T: PartialEq + Debug + Drop>(rt: &R, case: &C, got: T, wanted: T) {
+    assert_eq!(rt; got, wanted, "{case:?}");
 }

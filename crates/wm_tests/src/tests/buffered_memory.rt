@@ -1,58 +1,14 @@
 //! Rows of buffered memory, with values from outside, and each call once where it succeeds.
 ghost use Rattle.std.specs.Prelude.{◌<◌, ◌≤◌, ◌^◌};
 
-use super::same;
+use super::accesses::{atomic_load, exchange, load, load_byte, store_byte, store_word};
+use super::{same, same_in};
 use std::alloc::Global;
 use std::process::Abort;
 use std::test::Fail;
-use wm_access::{AccessWidth, MemoryOrder};
-use wm_event::{EventId, EventKey, Initial, Op, OpFields, OpKind, Reply};
+use wm_access::AccessWidth;
+use wm_event::{EventId, EventKey, Initial, Op, Reply};
 use wm_memory::{MemFault, Memory};
-
-fn load(address: u32, width: AccessWidth) -> Op {
-    Op::new(OpFields {
-        kind: OpKind::Read,
-        address,
-        width,
-        order: MemoryOrder::Unordered,
-    })
-}
-
-fn atomic_load(address: u32) -> Op {
-    Op::new(OpFields {
-        kind: OpKind::Read,
-        address,
-        width: AccessWidth::One,
-        order: MemoryOrder::SeqCst,
-    })
-}
-
-fn store_byte(address: u32, value: u8) -> Op {
-    Op::new(OpFields {
-        kind: OpKind::Write(value as u64),
-        address,
-        width: AccessWidth::One,
-        order: MemoryOrder::Unordered,
-    })
-}
-
-fn store_word(address: u32, value: u32) -> Op {
-    Op::new(OpFields {
-        kind: OpKind::Write(value as u64),
-        address,
-        width: AccessWidth::Four,
-        order: MemoryOrder::Unordered,
-    })
-}
-
-fn exchange(expected: u64, new: u64) -> Op {
-    Op::new(OpFields {
-        kind: OpKind::CmpXchg(expected, new),
-        address: 0,
-        width: AccessWidth::Eight,
-        order: MemoryOrder::SeqCst,
-    })
-}
 
 // Each call of a memory stands in a function of its own, which hands none of its contract on, so that a test is proved in
 // seconds.
@@ -88,11 +44,77 @@ fn access<R: Abort>(rt: &R, memory: &mut Memory, thread: u32, op: Op) -> Result<
 }
 
 fn reads<R: Abort>(rt: &R, memory: &mut Memory, thread: u32, address: u32) -> Option<u64> {
-    match access(rt, memory, thread, load(address, AccessWidth::One)) {
+    match access(rt, memory, thread, load_byte(address)) {
         Ok(reply) => reply.read,
         Err(_) => None,
     }
 }
+
+/// A step of a test: a thread, and what the step takes and gives.
+#[derive(Clone, Copy)]
+enum Step {
+    /// A store of a byte to an address.
+    StoreByte(u32, u32, u8),
+    /// A store of a word to an address.
+    StoreWord(u32, u32, u8),
+    /// A load of the byte at an address, and its value.
+    Reads(u32, u32, u64),
+    /// An atomic load of the byte at an address.
+    AtomicLoad(u32, u32),
+    /// How many stores wait.
+    Pending(u32, usize),
+    /// How many accesses were made.
+    Accesses(u32, u32),
+    /// A drain of the oldest store, and whether there was one.
+    Drain(u32, bool),
+    /// A drain of the store with so many older ones, and whether it left.
+    DrainAt(u32, u32, bool),
+}
+
+/// Makes the step with so many earlier ones.
+fn take<R: Abort>(rt: &R, memory: &mut Memory, number: usize, step: Step) -> Result<(), MemFault> {
+    match step {
+        Step::StoreByte(thread, address, value) => {
+            access(rt, memory, thread, store_byte(address, value))?;
+        }
+        Step::StoreWord(thread, address, value) => {
+            access(rt, memory, thread, store_word(address, value))?;
+        }
+        Step::Reads(thread, address, value) => {
+            same_in(rt, &number, reads(rt, memory, thread, address), Some(value));
+        }
+        Step::AtomicLoad(thread, address) => {
+            access(rt, memory, thread, atomic_load(address, AccessWidth::One))?;
+        }
+        Step::Pending(thread, count) => same_in(rt, &number, pending(memory, thread), count),
+        Step::Accesses(thread, count) => same_in(rt, &number, accesses(memory, thread), count),
+        Step::Drain(thread, left) => same_in(rt, &number, drain(memory, thread), left),
+        Step::DrainAt(thread, index, left) => {
+            same_in(rt, &number, drain_at(memory, thread, index), left);
+        }
+    }
+    Ok(())
+}
+
+/// Makes the steps over a memory of two threads.
+fn take_all<R: Abort>(rt: &R, memory: &mut Memory, steps: &[Step]) -> Result<(), MemFault> {
+    for (number, step) in steps.iter().enumerate() {
+        take(rt, memory, number, *step)?;
+    }
+    Ok(())
+}
+
+/// What a memory of two threads gives whose thread 0 stored to the first 65 bytes.
+const FULL_BUFFER: [Step; 8] = [
+    Step::Pending(0, 64),
+    Step::Reads(1, 0, 1),
+    Step::Reads(1, 1, 0),
+    Step::Reads(0, 1, 1),
+    Step::AtomicLoad(0, 0),
+    Step::Pending(0, 0),
+    Step::Reads(1, 64, 1),
+    Step::Accesses(0, 67),
+];
 
 #[test]
 fn a_full_buffer_drains_its_oldest_store(rt: HostRuntime) -> Result<(), Fail> {
@@ -100,86 +122,112 @@ fn a_full_buffer_drains_its_oldest_store(rt: HostRuntime) -> Result<(), Fail> {
     same(&rt, memory.threads(), 2);
     same(&rt, memory.initial().len(), 65_536);
     for address in 0..65u32 {
-        access(&rt, &mut memory, 0, store_byte(address, 1))?;
+        take(&rt, &mut memory, 0, Step::StoreByte(0, address, 1))?;
     }
-    same(&rt, pending(&memory, 0), 64);
-    same(&rt, reads(&rt, &mut memory, 1, 0), Some(1));
-    same(&rt, reads(&rt, &mut memory, 1, 1), Some(0));
-    same(&rt, reads(&rt, &mut memory, 0, 1), Some(1));
-    access(&rt, &mut memory, 0, atomic_load(0))?;
-    same(&rt, pending(&memory, 0), 0);
-    same(&rt, reads(&rt, &mut memory, 1, 64), Some(1));
-    same(&rt, accesses(&memory, 0), 67);
+    take_all(&rt, &mut memory, &FULL_BUFFER)?;
     Ok(())
 }
+
+/// Stores of which the second overlaps the first.
+const OVERLAPPING: [Step; 14] = [
+    Step::StoreWord(0, 0, 1),
+    Step::StoreWord(0, 2, 2),
+    Step::StoreWord(0, 8, 3),
+    Step::DrainAt(0, 1, false),
+    Step::DrainAt(0, 3, false),
+    Step::DrainAt(2, 0, false),
+    Step::DrainAt(0, 2, true),
+    Step::Pending(0, 2),
+    Step::Reads(1, 8, 3),
+    Step::Reads(1, 0, 0),
+    Step::Drain(0, true),
+    Step::Drain(0, true),
+    Step::Drain(0, false),
+    Step::Reads(1, 0, 1),
+];
 
 #[test]
 fn a_store_leaves_before_older_ones_that_it_does_not_overlap(rt: HostRuntime) -> Result<(), Fail> {
     let mut memory = zeros(rt.alloc(), 2)?;
-    for (address, value) in [(0, 1), (2, 2), (8, 3)] {
-        access(&rt, &mut memory, 0, store_word(address, value))?;
-    }
-    assert!(rt; !drain_at(&mut memory, 0, 1));
-    assert!(rt; !drain_at(&mut memory, 0, 3));
-    assert!(rt; !drain_at(&mut memory, 2, 0));
-    assert!(rt; drain_at(&mut memory, 0, 2));
-    same(&rt, pending(&memory, 0), 2);
-    same(&rt, reads(&rt, &mut memory, 1, 8), Some(3));
-    same(&rt, reads(&rt, &mut memory, 1, 0), Some(0));
-    assert!(rt; drain(&mut memory, 0) && drain(&mut memory, 0) && !drain(&mut memory, 0));
-    same(&rt, reads(&rt, &mut memory, 1, 0), Some(1));
+    take_all(&rt, &mut memory, &OVERLAPPING)?;
     same(&rt, reads(&rt, &mut memory, 1, 2), Some(2));
     Ok(())
 }
 
+/// Why an access is refused, None where it is made.
+fn fault_of<R: Abort>(rt: &R, memory: &mut Memory, thread: u32, op: Op) -> Option<MemFault> {
+    access(rt, memory, thread, op).err()
+}
+
+/// A memory of four bytes for one thread.
+fn four_bytes(alloc: Global) -> Result<Memory, Fail> {
+    let initial = Initial::of(alloc, &[1, 2, 3, 4])?;
+    Ok(Memory::new(alloc, &initial, 1)?)
+}
+
 #[test]
 fn accesses_are_refused_in_order(rt: HostRuntime) -> Result<(), Fail> {
-    let initial = Initial::of(rt.alloc(), &[1, 2, 3, 4])?;
-    let mut memory = Memory::new(rt.alloc(), &initial, 1)?;
+    let mut memory = four_bytes(rt.alloc())?;
     let outside = load(1, AccessWidth::Four);
-    assert!(rt;
-        matches!(
-            access(&rt, &mut memory, 1, outside),
-            Err(MemFault::NoThread)
-        )
-    );
-    assert!(rt;
-        matches!(
-            access(&rt, &mut memory, 0, outside),
-            Err(MemFault::OutOfBounds)
-        )
-    );
+    let fault = fault_of(&rt, &mut memory, 1, outside);
+    same(&rt, fault, Some(MemFault::NoThread));
+    let fault = fault_of(&rt, &mut memory, 0, outside);
+    same(&rt, fault, Some(MemFault::OutOfBounds));
     let reply = access(&rt, &mut memory, 0, load(0, AccessWidth::Four))?;
     same(&rt, reply.read, Some(0x0403_0201));
     same(&rt, accesses(&memory, 0), 1);
-    same(
-        &rt,
-        format!(in rt.alloc(); "{}", MemFault::OutOfBounds)?.as_str(),
-        "OutOfBounds",
-    );
+    Ok(())
+}
+
+#[test]
+fn a_fault_has_its_name(rt: HostRuntime) -> Result<(), Fail> {
+    let text = format!(in rt.alloc(); "{}", MemFault::OutOfBounds)?;
+    same(&rt, text.as_str(), "OutOfBounds");
+    Ok(())
+}
+
+/// The store of thread 0 with so many earlier accesses.
+fn own(number: u32) -> EventId {
+    EventId::At(EventKey { thread: 0, number })
+}
+
+/// Makes an access, and compares whether it stored, what it read, and the writers of the bytes read.
+fn replies<R: Abort>(
+    rt: &R,
+    memory: &mut Memory,
+    op: Op,
+    wanted: (bool, Option<u64>),
+    writers: [EventId; 8],
+) -> Result<(), MemFault> {
+    let reply = access(rt, memory, 0, op)?;
+    same(rt, (reply.stored, reply.read), wanted);
+    same(rt, reply.writers.as_slice(), writers.as_slice());
+    Ok(())
+}
+
+/// Makes a compare-exchange of 8 bytes, and compares whether it stored and what it read.
+fn exchanges<R: Abort>(
+    rt: &R,
+    memory: &mut Memory,
+    op: Op,
+    wanted: (bool, Option<u64>),
+) -> Result<(), MemFault> {
+    let reply = access(rt, memory, 0, op)?;
+    same(rt, (reply.stored, reply.read), wanted);
     Ok(())
 }
 
 #[test]
 fn a_reply_names_the_writers_of_the_bytes_read(rt: HostRuntime) -> Result<(), Fail> {
     let mut memory = zeros(rt.alloc(), 1)?;
-    let stored = access(&rt, &mut memory, 0, store_byte(1, 7))?;
-    assert!(rt; stored.stored && stored.read == None);
-    let mut expected = [EventId::Init; 8];
-    same(&rt, stored.writers.as_slice(), expected.as_slice());
-    let own = EventId::At(EventKey {
-        thread: 0,
-        number: 0,
-    });
-    expected[1] = own;
-    let reply = access(&rt, &mut memory, 0, load(0, AccessWidth::Two))?;
-    assert!(rt; !reply.stored && reply.read == Some(0x700));
-    same(&rt, reply.writers.as_slice(), expected.as_slice());
-    let failed = access(&rt, &mut memory, 0, exchange(1, 2))?;
-    assert!(rt; !failed.stored && failed.read == Some(0x700));
+    let mut writers = [EventId::Init; 8];
+    replies(&rt, &mut memory, store_byte(1, 7), (true, None), writers)?;
+    writers[1] = own(0);
+    let both = load(0, AccessWidth::Two);
+    replies(&rt, &mut memory, both, (false, Some(0x700)), writers)?;
+    exchanges(&rt, &mut memory, exchange(1, 2), (false, Some(0x700)))?;
     same(&rt, pending(&memory, 0), 0);
-    let done = access(&rt, &mut memory, 0, exchange(0x700, 2))?;
-    assert!(rt; done.stored && done.read == Some(0x700));
+    exchanges(&rt, &mut memory, exchange(0x700, 2), (true, Some(0x700)))?;
     same(&rt, reads(&rt, &mut memory, 0, 0), Some(2));
     Ok(())
 }

@@ -1,12 +1,13 @@
 //! What a candidate and the initial memory give, and the events of accesses.
 ghost use Rattle.wm_event.specs.Op.{KindFits};
 
+use super::calls::{candidate, read};
 use super::same;
+use std::alloc::{AllocError, Global};
 use std::process::Abort;
 use std::test::Fail;
 use wm_access::{AccessWidth, MemoryOrder, RmwOperator};
 use wm_event::{Candidate, EventId, EventKey, EventKind, Initial, Op, OpFields, OpKind};
-use wm_logfile::read_document;
 
 /// A thread that writes 9 to bytes 1 and 2 and then updates byte 1, over three bytes.
 const UPDATE: &str =
@@ -22,46 +23,67 @@ const SECOND: EventKey = EventKey {
     number: 1,
 };
 
-fn candidate_of<'a, R: Abort + AllocGlobal>(rt: &R, initial: &'a Initial) -> Candidate<'a> {
-    match read_document(rt.alloc(), UPDATE.as_bytes()) {
-        Ok((log, witness)) => match Candidate::new(rt.alloc(), log, witness, initial) {
-            Ok(candidate) => candidate,
-            Err(fault) => panic!(rt; "{fault}"),
-        },
-        Err(fault) => panic!(rt; "{fault}"),
-    }
+fn candidate_of<'a>(alloc: Global, initial: &'a Initial) -> Result<Candidate<'a>, Fail> {
+    let (log, witness) = read(alloc, UPDATE)?;
+    Ok(candidate(alloc, log, witness, initial)?)
+}
+
+/// The three bytes of the initial memory.
+fn three_bytes(alloc: Global) -> Result<Initial, AllocError> {
+    Initial::of(alloc, &[4, 5, 7])
+}
+
+/// How many threads, places of the order and initial bytes a candidate has.
+fn sizes(candidate: &Candidate) -> [usize; 3] {
+    [
+        candidate.log().threads().len(),
+        candidate.witness().order.len(),
+        candidate.initial().len(),
+    ]
 }
 
 #[test]
 fn a_candidate_gives_what_it_was_made_of(rt: HostRuntime) -> Result<(), Fail> {
-    let initial = Initial::of(rt.alloc(), &[4, 5, 7])?;
+    let initial = three_bytes(rt.alloc())?;
     same(&rt, initial.byte(2), Some(7));
     same(&rt, initial.byte(3), None);
-    let candidate = candidate_of(&rt, &initial);
-    same(&rt, candidate.log().threads().len(), 1);
-    same(&rt, candidate.witness().order.len(), 2);
-    same(&rt, candidate.initial().len(), 3);
+    let candidate = candidate_of(rt.alloc(), &initial)?;
+    same(&rt, sizes(&candidate), [1, 2, 3]);
     Ok(())
+}
+
+/// What an event of a candidate writes.
+fn written(candidate: &Candidate, id: EventId) -> Option<u64> {
+    candidate.event(id).map(|event| event.written)
+}
+
+fn events_and_places<R: Abort>(rt: &R, candidate: &Candidate) {
+    same(rt, written(candidate, EventId::At(SECOND)), Some(6));
+    same(rt, written(candidate, EventId::Init), None);
+    same(rt, candidate.place(EventId::At(SECOND)), Some(1));
+    same(rt, candidate.place(EventId::Init), None);
+}
+
+fn writers_and_bytes<R: Abort>(rt: &R, candidate: &Candidate) {
+    let writers = [EventId::At(WRITE)];
+    same(rt, candidate.writers(SECOND), writers.as_slice());
+    same(rt, candidate.byte_by(EventId::At(SECOND), 1), Some(6));
+    same(rt, candidate.byte_by(EventId::Init, 2), Some(7));
+}
+
+fn writes_by_byte<R: Abort>(rt: &R, candidate: &Candidate) {
+    let writes = [EventId::At(WRITE), EventId::At(SECOND)];
+    same(rt, candidate.writes_to(1), writes.as_slice());
+    same(rt, candidate.writes_to(0).len(), 0);
 }
 
 #[test]
 fn a_candidate_gives_its_events_places_and_writers(rt: HostRuntime) -> Result<(), Fail> {
-    let initial = Initial::of(rt.alloc(), &[4, 5, 7])?;
-    let candidate = candidate_of(&rt, &initial);
-    let written = candidate
-        .event(EventId::At(SECOND))
-        .map(|event| event.written);
-    same(&rt, written, Some(6));
-    assert!(rt; candidate.event(EventId::Init).is_none());
-    same(&rt, candidate.place(EventId::At(SECOND)), Some(1));
-    same(&rt, candidate.place(EventId::Init), None);
-    let writers = [EventId::At(WRITE)];
-    same(&rt, candidate.writers(SECOND), writers.as_slice());
-    same(&rt, candidate.byte_by(EventId::At(SECOND), 1), Some(6));
-    same(&rt, candidate.byte_by(EventId::Init, 2), Some(7));
-    let writes = [EventId::At(WRITE), EventId::At(SECOND)];
-    same(&rt, candidate.writes_to(1), writes.as_slice());
-    same(&rt, candidate.writes_to(0).len(), 0);
+    let initial = three_bytes(rt.alloc())?;
+    let candidate = candidate_of(rt.alloc(), &initial)?;
+    events_and_places(&rt, &candidate);
+    writers_and_bytes(&rt, &candidate);
+    writes_by_byte(&rt, &candidate);
     Ok(())
 }
 

@@ -1,12 +1,12 @@
 //! Happens-before in bit columns beside the plain closure of its edges.
+use super::calls::{candidate, read};
 use super::documents::{ALLOWED, BROKEN};
 use std::alloc::{AllocError, Global};
 use std::process::Abort;
 use std::test::Fail;
 use std::thread::Threads;
-use wm_event::{Candidate, EventId, EventKey, Initial, Log, Witness};
+use wm_event::{Candidate, EventId, EventKey, Initial};
 use wm_hb::{HappensBefore, Ordered, synchronizes};
-use wm_logfile::read_document;
 
 /// Whether there is an edge of happens-before between two ids.
 fn has_edge(candidate: &Candidate, from: EventId, to: EventId) -> bool {
@@ -70,10 +70,10 @@ fn reached_from(
 }
 
 /// Init, the events in the order, and one id that isn't there.
-fn ids_of(alloc: Global, candidate: &Candidate) -> Result<Vec<EventId>, AllocError> {
+fn ids_of(alloc: Global, order: &[EventKey]) -> Result<Vec<EventId>, AllocError> {
     let mut ids = Vec::new(alloc);
     ids.push(EventId::Init)?;
-    for key in candidate.witness().order.as_slice() {
+    for key in order {
         ids.push(EventId::At(*key))?;
     }
     ids.push(EventId::At(EventKey {
@@ -135,18 +135,10 @@ pub(super) fn compares<R: Abort + AllocGlobal + Threads + Sync>(
         return Ok(false);
     };
     let relation = HappensBefore::of(alloc, &ordered)?;
-    let ids = ids_of(alloc, candidate)?;
+    let ids = ids_of(alloc, candidate.witness().order.as_slice())?;
     let edges = edges_of(alloc, candidate, ids.as_slice())?;
     agrees(rt, &relation, ids.as_slice(), edges.as_slice())?;
     Ok(true)
-}
-
-/// The log and the witness of a document.
-fn read<R: Abort + AllocGlobal>(rt: &R, document: &str) -> (Log, Witness) {
-    match read_document(rt.alloc(), document.as_bytes()) {
-        Ok(read) => read,
-        Err(_) => panic!(rt; "{document}"),
-    }
 }
 
 /// The same of a document.
@@ -155,8 +147,10 @@ pub(super) fn compares_document<R: Abort + AllocGlobal + Threads + Sync>(
     document: &str,
     initial: &Initial,
 ) -> Result<bool, AllocError> {
-    let (log, witness) = read(rt, document);
-    let Ok(candidate) = Candidate::new(rt.alloc(), log, witness, initial) else {
+    let Ok((log, witness)) = read(rt.alloc(), document) else {
+        panic!(rt; "{document}")
+    };
+    let Ok(candidate) = candidate(rt.alloc(), log, witness, initial) else {
         panic!(rt; "{document}")
     };
     compares(rt, &candidate)

@@ -1,4 +1,5 @@
 //! Modules that are decoded, beside the same modules by hand, and validated.
+use super::calls::module_of;
 use super::modules::{
     ARGUMENT, DATA_SEGMENT, NAME_SECTION_BEHIND, OVERLAPPING_LOAD, PADDED_SIZE, SPINS,
     STORE_BUFFERING, STORE_BUFFERING_ATOMIC, TRAPS,
@@ -10,7 +11,6 @@ use wm_ast::{
     AccessKind, Block, ConstExpr, DataSegment, Export, ExportKind, Exports, Func, FuncType, Instr,
     Limits, MemArg, Memory, Module, Storage, ValType,
 };
-use wm_check::read_module;
 use wm_decode::decode;
 use wm_list::List;
 use wm_num::Width;
@@ -60,29 +60,41 @@ fn same_memory(one: &Option<Memory>, two: &Option<Memory>) -> bool {
     }
 }
 
+/// Whether the exports of two modules have these names, in this order, and export the same.
+fn same_exports(one: &Exports, two: &Exports, names: &[&str]) -> bool {
+    let mut are_same = one.len() == names.len() && two.len() == names.len();
+    for (position, name) in names.iter().enumerate() {
+        are_same = are_same
+            && one.at(position) == two.at(position)
+            && one.get(name) == two.at(position)
+            && two.get(name) == two.at(position);
+    }
+    are_same
+}
+
+fn same_types(one: &[FuncType], two: &[FuncType]) -> bool {
+    let mut pairs = one.iter().zip(two.iter());
+    one.len() == two.len() && pairs.all(|(a, b)| same_type(a, b))
+}
+
+fn same_funcs(one: &[Func], two: &[Func]) -> bool {
+    let mut pairs = one.iter().zip(two.iter());
+    one.len() == two.len() && pairs.all(|(a, b)| same_func(a, b))
+}
+
+fn same_data(one: &[DataSegment], two: &[DataSegment]) -> bool {
+    let mut pairs = one.iter().zip(two.iter());
+    one.len() == two.len() && pairs.all(|(a, b)| same_segment(a, b))
+}
+
 /// Whether two modules are the same; their exports have these names, in this order.
 fn same_module(one: &Module, two: &Module, names: &[&str]) -> bool {
-    let mut types = one.types.as_slice().iter().zip(two.types.as_slice().iter());
-    let mut funcs = one.funcs.as_slice().iter().zip(two.funcs.as_slice().iter());
-    let mut data = one.data.as_slice().iter().zip(two.data.as_slice().iter());
-    let mut exports = true;
-    for (position, name) in names.iter().enumerate() {
-        exports = exports
-            && one.exports.at(position) == two.exports.at(position)
-            && one.exports.get(name) == two.exports.at(position)
-            && two.exports.get(name) == two.exports.at(position);
-    }
-    one.types.len() == two.types.len()
-        && types.all(|(a, b)| same_type(a, b))
-        && one.funcs.len() == two.funcs.len()
-        && funcs.all(|(a, b)| same_func(a, b))
+    same_types(one.types.as_slice(), two.types.as_slice())
+        && same_funcs(one.funcs.as_slice(), two.funcs.as_slice())
         && same_memory(&one.memory, &two.memory)
         && one.globals.as_slice() == two.globals.as_slice()
-        && one.exports.len() == names.len()
-        && two.exports.len() == names.len()
-        && exports
-        && one.data.len() == two.data.len()
-        && data.all(|(a, b)| same_segment(a, b))
+        && same_exports(&one.exports, &two.exports, names)
+        && same_data(one.data.as_slice(), two.data.as_slice())
 }
 
 fn access(kind: AccessKind, alignment: u32) -> Instr {
@@ -213,25 +225,40 @@ fn decodes(
     }
 }
 
+/// Whether the bytes spell store buffering with these accesses.
+fn is_store_buffering(
+    alloc: Global,
+    bytes: &[u8],
+    store: AccessKind,
+    load: AccessKind,
+) -> Result<bool, AllocError> {
+    let wanted = store_buffering(alloc, store, load)?;
+    decodes(alloc, bytes, &wanted, &["a", "b"])
+}
+
+fn data_segment_is_decoded(alloc: Global) -> Result<bool, AllocError> {
+    let mut wanted = store_buffering(alloc, STORE, LOAD)?;
+    wanted.data = one_byte_at_four(alloc)?;
+    decodes(alloc, &DATA_SEGMENT, &wanted, &["a", "b"])
+}
+
 /// A store and a load beside one another, in two functions.
 #[test]
 fn store_buffering_is_decoded(rt: HostRuntime) -> Result<(), Fail> {
-    let alloc = rt.alloc();
-    let names = ["a", "b"];
-    let plain = store_buffering(alloc, STORE, LOAD)?;
-    let same_bytes: [&[u8]; 3] = [&STORE_BUFFERING, &NAME_SECTION_BEHIND, &PADDED_SIZE];
-    for bytes in &same_bytes {
-        assert!(rt; decodes(alloc, bytes, &plain, &names)?);
+    let cases: [(&[u8], bool); 5] = [
+        (&STORE_BUFFERING, true),
+        (&NAME_SECTION_BEHIND, true),
+        (&PADDED_SIZE, true),
+        (&STORE_BUFFERING_ATOMIC, false),
+        (&DATA_SEGMENT, false),
+    ];
+    for (bytes, wanted) in &cases {
+        let is_plain = is_store_buffering(rt.alloc(), bytes, STORE, LOAD)?;
+        same(&rt, is_plain, *wanted);
     }
-    let other_bytes: [&[u8]; 2] = [&STORE_BUFFERING_ATOMIC, &DATA_SEGMENT];
-    for bytes in &other_bytes {
-        assert!(rt; !decodes(alloc, bytes, &plain, &names)?);
-    }
-    let atomic = store_buffering(alloc, ATOMIC_STORE, ATOMIC_LOAD)?;
-    assert!(rt; decodes(alloc, &STORE_BUFFERING_ATOMIC, &atomic, &names)?);
-    let mut with_data = plain;
-    with_data.data = one_byte_at_four(alloc)?;
-    assert!(rt; decodes(alloc, &DATA_SEGMENT, &with_data, &names)?);
+    let atomic = &STORE_BUFFERING_ATOMIC;
+    assert!(rt; is_store_buffering(rt.alloc(), atomic, ATOMIC_STORE, ATOMIC_LOAD)?);
+    assert!(rt; data_segment_is_decoded(rt.alloc())?);
     Ok(())
 }
 
@@ -290,30 +317,45 @@ fn spinning(alloc: Global) -> Result<Vec<Func>, AllocError> {
     Ok(vec![in alloc; func]?)
 }
 
+fn traps_is_decoded(alloc: Global) -> Result<bool, AllocError> {
+    let names = ["a", "b", "c"];
+    let funcs = three_loads(alloc)?;
+    let wanted = one_page(alloc, Vec::new(alloc), Some(ValType::I32), funcs, &names)?;
+    decodes(alloc, &TRAPS, &wanted, &names)
+}
+
+fn overlapping_load_is_decoded(alloc: Global) -> Result<bool, AllocError> {
+    let funcs = one_func(alloc, mixed_widths(alloc)?)?;
+    let wanted = one_page(alloc, Vec::new(alloc), Some(ValType::I32), funcs, &["a"])?;
+    decodes(alloc, &OVERLAPPING_LOAD, &wanted, &["a"])
+}
+
+fn argument_is_decoded(alloc: Global) -> Result<bool, AllocError> {
+    let funcs = one_func(alloc, use_of_parameter(alloc)?)?;
+    let params = vec![in alloc; ValType::I32]?;
+    let wanted = one_page(alloc, params, Some(ValType::I32), funcs, &["f"])?;
+    decodes(alloc, &ARGUMENT, &wanted, &["f"])
+}
+
+fn spins_is_decoded(alloc: Global) -> Result<bool, AllocError> {
+    let wanted = one_page(alloc, Vec::new(alloc), None, spinning(alloc)?, &["a"])?;
+    decodes(alloc, &SPINS, &wanted, &["a"])
+}
+
 #[test]
 fn other_modules_are_decoded(rt: HostRuntime) -> Result<(), Fail> {
-    let alloc = rt.alloc();
-    let number = Some(ValType::I32);
-    let names = ["a", "b", "c"];
-    let traps = one_page(alloc, Vec::new(alloc), number, three_loads(alloc)?, &names)?;
-    assert!(rt; decodes(alloc, &TRAPS, &traps, &names)?);
-    let load = one_func(alloc, mixed_widths(alloc)?)?;
-    let overlapping = one_page(alloc, Vec::new(alloc), number, load, &["a"])?;
-    assert!(rt; decodes(alloc, &OVERLAPPING_LOAD, &overlapping, &["a"])?);
-    let params = vec![in alloc; ValType::I32]?;
-    let own = one_func(alloc, use_of_parameter(alloc)?)?;
-    let argument = one_page(alloc, params, number, own, &["f"])?;
-    assert!(rt; decodes(alloc, &ARGUMENT, &argument, &["f"])?);
-    let spins = one_page(alloc, Vec::new(alloc), None, spinning(alloc)?, &["a"])?;
-    assert!(rt; decodes(alloc, &SPINS, &spins, &["a"])?);
+    assert!(rt; traps_is_decoded(rt.alloc())?);
+    assert!(rt; overlapping_load_is_decoded(rt.alloc())?);
+    assert!(rt; argument_is_decoded(rt.alloc())?);
+    assert!(rt; spins_is_decoded(rt.alloc())?);
     Ok(())
 }
 
 /// How many pages the module has that the bytes spell, None where they spell no valid one.
 fn pages(alloc: Global, bytes: &[u8]) -> Option<u32> {
-    match read_module(alloc, bytes) {
-        Ok(module) => Some(module.pages()),
-        Err(_) => None,
+    match module_of(alloc, bytes) {
+        Ok(Some(module)) => Some(module.pages()),
+        _ => None,
     }
 }
 
@@ -334,9 +376,9 @@ fn six_modules_are_valid(rt: HostRuntime) {
 
 /// The first byte that the module of a data segment has at an address.
 fn initial_byte(alloc: Global, at: usize) -> Option<u8> {
-    match read_module(alloc, &DATA_SEGMENT) {
-        Ok(module) => module.init_byte(at),
-        Err(_) => None,
+    match module_of(alloc, &DATA_SEGMENT) {
+        Ok(Some(module)) => module.init_byte(at),
+        _ => None,
     }
 }
 

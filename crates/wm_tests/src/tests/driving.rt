@@ -1,5 +1,6 @@
 //! Scripts of turns from seeds: each run is allowed, which is proved, and what happens before what in it is the plain
 //! closure. The test plays, writes, reads, checks and compares each of them.
+use super::calls::module_of;
 use super::closure::compares_document;
 use super::modules::{STORE_BUFFERING, STORE_BUFFERING_ATOMIC};
 use super::same;
@@ -7,7 +8,7 @@ use std::alloc::{AllocError, Global};
 use std::process::Abort;
 use std::test::Fail;
 use std::thread::Threads;
-use wm_check::{Verdict, check, read_module};
+use wm_check::{Verdict, check};
 use wm_event::{Initial, Start};
 use wm_list::{List, Text};
 use wm_run::{Plan, Run, Turn, drive, write_run};
@@ -57,17 +58,38 @@ fn plan(alloc: Global) -> Result<Plan, AllocError> {
     })
 }
 
+/// What is written of a run.
+fn document_of(alloc: Global, run: &Run) -> Result<String, AllocError> {
+    write_run(alloc, run)
+}
+
+/// Whether the check of a document allows it.
+fn allows<R: Abort + AllocGlobal + Threads + Sync>(
+    rt: &R,
+    module_bytes: &[u8],
+    document: &str,
+) -> Result<bool, AllocError> {
+    match check(rt, module_bytes, document.as_bytes())? {
+        Verdict::Allowed(_) => Ok(true),
+        _ => Ok(false),
+    }
+}
+
 /// Whether the check of what is written of a run allows it, and what happens before what in it is the plain closure.
 fn is_allowed<R: Abort + AllocGlobal + Threads + Sync>(
     rt: &R,
     module_bytes: &[u8],
     run: &Run,
 ) -> Result<bool, AllocError> {
-    let document = write_run(rt.alloc(), run)?;
+    let document = document_of(rt.alloc(), run)?;
     let initial = Initial::zeros(rt.alloc(), 1);
     let is_compared = compares_document(rt, document.as_str(), &initial)?;
-    let verdict = check(rt, module_bytes, document.as_bytes())?;
-    Ok(is_compared && matches!(verdict, Verdict::Allowed(_)))
+    Ok(allows(rt, module_bytes, document.as_str())? && is_compared)
+}
+
+/// The run of these turns, None where there is none.
+fn driven(alloc: Global, module: &ValidModule, plan: &Plan, turns: &[Turn]) -> Option<Run> {
+    drive(alloc, module, plan, turns).ok()
 }
 
 /// Whether the run of these turns is allowed.
@@ -78,10 +100,39 @@ fn plays_allowed<R: Abort + AllocGlobal + Threads + Sync>(
     plan: &Plan,
     turns: &[Turn],
 ) -> Result<bool, AllocError> {
-    match drive(rt.alloc(), module, plan, turns) {
-        Ok(run) => is_allowed(rt, module_bytes, &run),
-        Err(_) => Ok(false),
+    match driven(rt.alloc(), module, plan, turns) {
+        Some(run) => is_allowed(rt, module_bytes, &run),
+        None => Ok(false),
     }
+}
+
+/// Whether the run of the turns that are drawn from a seed is allowed.
+fn seed_is_allowed<R: Abort + AllocGlobal + Threads + Sync>(
+    rt: &R,
+    module: &ValidModule,
+    module_bytes: &[u8],
+    plan: &Plan,
+    seed: (u32, bool),
+) -> Result<bool, AllocError> {
+    let turns = turns(rt.alloc(), seed.0, seed.1)?;
+    plays_allowed(rt, module, module_bytes, plan, turns.as_slice())
+}
+
+/// How many of 200 seeds give a run of the module that is allowed.
+fn count_over<R: Abort + AllocGlobal + Threads + Sync>(
+    rt: &R,
+    module: &ValidModule,
+    module_bytes: &[u8],
+    plan: &Plan,
+    in_order: bool,
+) -> Result<u32, AllocError> {
+    let mut allowed = 0u32;
+    for seed in 1..201u32 {
+        if seed_is_allowed(rt, module, module_bytes, plan, (seed, in_order))? {
+            allowed = allowed.saturating_add(1);
+        }
+    }
+    Ok(allowed)
 }
 
 /// How many of 200 seeds give a run of the module that is allowed; 0 where the bytes spell none.
@@ -91,17 +142,10 @@ fn count_allowed<R: Abort + AllocGlobal + Threads + Sync>(
     in_order: bool,
 ) -> Result<u32, AllocError> {
     let plan = plan(rt.alloc())?;
-    let Ok(module) = read_module(rt.alloc(), module_bytes) else {
-        return Ok(0);
-    };
-    let mut allowed = 0u32;
-    for seed in 1..201u32 {
-        let turns = turns(rt.alloc(), seed, in_order)?;
-        if plays_allowed(rt, &module, module_bytes, &plan, turns.as_slice())? {
-            allowed = allowed.saturating_add(1);
-        }
+    match module_of(rt.alloc(), module_bytes)? {
+        Some(module) => count_over(rt, &module, module_bytes, &plan, in_order),
+        None => Ok(0),
     }
-    Ok(allowed)
 }
 
 #[test]

@@ -1,20 +1,17 @@
 //! What workers over a memory that is full make with a recorder, and what a drainer does with a locked memory.
-ghost use Rattle.std.specs.Prelude.{◌≡◌, ◌≤◌, All, IfOk};
-ghost use Rattle.wm_access.specs.declared.AccessWidth.TheVariants as AccessWidth;
-ghost use Rattle.wm_access.specs.declared.MemoryOrder.TheVariants as MemoryOrder;
-ghost use Rattle.wm_event.specs.Op.{IsOp};
+ghost use Rattle.std.specs.Prelude.{◌≡◌, All, IfOk};
 ghost use Rattle.wm_recorder.specs.Locked.{IsOver};
 
+use super::calls::{module_of, two_threads};
 use super::modules::STORE_BUFFERING;
 use super::same;
+use super::shared::{drain, read, write};
 use std::alloc::{AllocError, Global};
 use std::marker::Brand;
 use std::process::Abort;
 use std::sync::Wait;
 use std::test::Fail;
-use wm_access::{AccessWidth, MemoryOrder};
-use wm_check::{Unread, read_module};
-use wm_event::{End, Initial, Op, OpFields, OpKind, Reply, Start};
+use wm_event::{End, Initial, Op, Reply, Start};
 use wm_list::{List, Text};
 use wm_recorder::{AccessFault, LockedMemory, Over, Recorder, Shared};
 use wm_run::{OpenGate, RunFault, Stop, ThreadEnd, drainer, gather, work};
@@ -64,21 +61,32 @@ fn both_ends(
     Ok(ends)
 }
 
+/// A recorder of two threads over one page, or over two.
+fn recorder(alloc: Global, of_two_pages: bool) -> Result<Recorder, AllocError> {
+    let initial = Initial::zeros(alloc, if of_two_pages { 2 } else { 1 });
+    Recorder::new(alloc, &initial, 2)
+}
+
 /// Why these ends make no run with a recorder of two threads and no event over so many pages.
 fn fault(
     alloc: Global,
     module: &ValidModule,
-    pages: usize,
+    of_two_pages: bool,
     threads: [u32; 2],
-) -> Result<(), RunFault>
-    requires { pages ≤ 16 }
-{
+) -> Result<(), RunFault> {
     let ends = both_ends(alloc, module, threads)?;
-    let initial = Initial::zeros(alloc, pages);
-    let recorder = Recorder::new(alloc, &initial, 2)?;
-    match gather(alloc, module, recorder, ends) {
+    match gather(alloc, module, recorder(alloc, of_two_pages)?, ends) {
         Ok(_) => Ok(()),
         Err(fault) => Err(fault),
+    }
+}
+
+/// What is left of an answer where want of memory is set apart.
+fn known(answer: Result<(), RunFault>) -> Result<Option<RunFault>, AllocError> {
+    match answer {
+        Ok(()) => Ok(None),
+        Err(RunFault::OutOfMemory) => Err(AllocError),
+        Err(fault) => Ok(Some(fault)),
     }
 }
 
@@ -87,58 +95,52 @@ fn fault(
 /// # Errors
 ///
 /// Only where memory was refused.
-fn gathered(alloc: Global, pages: usize, threads: [u32; 2]) -> Result<Option<RunFault>, AllocError>
-    requires { pages ≤ 16 }
-{
-    match read_module(alloc, &STORE_BUFFERING) {
-        Ok(module) => match fault(alloc, &module, pages, threads) {
-            Err(RunFault::OutOfMemory) => Err(AllocError),
-            answer => Ok(answer.err()),
-        },
-        Err(Unread::OutOfMemory) => Err(AllocError),
-        Err(Unread::Refused(_)) => Ok(None),
+fn gathered(
+    alloc: Global,
+    of_two_pages: bool,
+    threads: [u32; 2],
+) -> Result<Option<RunFault>, AllocError> {
+    match module_of(alloc, &STORE_BUFFERING)? {
+        Some(module) => known(fault(alloc, &module, of_two_pages, threads)),
+        None => Ok(None),
     }
 }
 
 /// `bench/refusals` runs this with each allocation refused in turn.
 #[test]
 fn what_does_not_belong_together_is_not_gathered(rt: HostRuntime) -> Result<(), Fail> {
-    same(
-        &rt,
-        gathered(rt.alloc(), 1, [0, 0])?,
-        Some(RunFault::Ends(0)),
-    );
-    same(
-        &rt,
-        gathered(rt.alloc(), 1, [0, 7])?,
-        Some(RunFault::Ends(1)),
-    );
-    same(
-        &rt,
-        gathered(rt.alloc(), 2, [0, 0])?,
-        Some(RunFault::Foreign),
-    );
-    same(
-        &rt,
-        gathered(rt.alloc(), 1, [0, 1])?,
-        Some(RunFault::Split(0)),
-    );
-    same(
-        &rt,
-        gathered(rt.alloc(), 1, [1, 0])?,
-        Some(RunFault::Split(0)),
-    );
+    let cases = [
+        (false, [0, 0], RunFault::Ends(0)),
+        (false, [0, 7], RunFault::Ends(1)),
+        (true, [0, 0], RunFault::Foreign),
+        (false, [0, 1], RunFault::Split(0)),
+        (false, [1, 0], RunFault::Split(0)),
+    ];
+    for (of_two_pages, threads, fault) in cases {
+        let found = gathered(rt.alloc(), of_two_pages, threads)?;
+        same(&rt, found, Some(fault));
+    }
     Ok(())
 }
 
-/// Where a worker over a full memory stops.
-fn stopped(alloc: Global) -> Option<(Stop, End, u32)> {
-    match read_module(alloc, &STORE_BUFFERING) {
-        Ok(module) => match end(alloc, &module, 0, "a") {
-            Ok(end) => Some((end.stop, end.end, end.steps)),
-            Err(_) => None,
-        },
+/// Where the end of a worker is.
+fn stop_of(end: &ThreadEnd) -> (Stop, End, u32) {
+    (end.stop, end.end, end.steps)
+}
+
+/// Where a worker of the module over a full memory stops.
+fn stopped_over(alloc: Global, module: &ValidModule) -> Option<(Stop, End, u32)> {
+    match end(alloc, module, 0, "a") {
+        Ok(end) => Some(stop_of(&end)),
         Err(_) => None,
+    }
+}
+
+/// Where a worker of store buffering over a full memory stops.
+fn stopped(alloc: Global) -> Option<(Stop, End, u32)> {
+    match module_of(alloc, &STORE_BUFFERING) {
+        Ok(Some(module)) => stopped_over(alloc, &module),
+        _ => None,
     }
 }
 
@@ -148,42 +150,35 @@ fn a_full_memory_stops_a_worker_before_its_access(rt: HostRuntime) -> Result<(),
     Ok(())
 }
 
-/// A plain access of four bytes.
-fn plain(kind: OpKind, address: u32) -> Op
-    requires { IsOp (record { kind = kind; address = address; width = AccessWidth.Four; order = MemoryOrder.Unordered }) }
-{
-    Op::new(OpFields {
-        kind,
-        address,
-        width: AccessWidth::Four,
-        order: MemoryOrder::Unordered,
-    })
+/// Makes a drainer take so many turns over two threads.
+fn take<S: Shared>(shared: &S, turns: u32) -> Result<(), Fail> {
+    Ok(drainer(shared, 2, turns, &OpenGate)?)
 }
 
 /// Two stores of thread 0 and one of thread 1, of which a drain and a drainer of two turns make the first of each leave.
 fn take_turns<R: Abort, S: Shared>(rt: &R, shared: &S) -> Result<(), Fail> {
-    shared.access(0, plain(OpKind::Write(1), 0))?;
-    shared.access(0, plain(OpKind::Write(2), 8))?;
-    shared.access(1, plain(OpKind::Write(3), 4))?;
-    assert!(rt; shared.drain(0)?);
-    same(rt, shared.access(1, plain(OpKind::Read, 0))?.read, Some(1));
-    same(rt, shared.access(1, plain(OpKind::Read, 8))?.read, Some(0));
-    drainer(shared, 2, 2, &OpenGate)?;
-    same(rt, shared.access(1, plain(OpKind::Read, 8))?.read, Some(2));
-    same(rt, shared.access(0, plain(OpKind::Read, 4))?.read, Some(3));
-    assert!(rt; !shared.drain(0)?);
+    write(shared, 0, 0, 1)?;
+    write(shared, 0, 8, 2)?;
+    write(shared, 1, 4, 3)?;
+    same(rt, drain(shared, 0)?, true);
+    same(rt, read(shared, 1, 0)?, Some(1));
+    same(rt, read(shared, 1, 8)?, Some(0));
+    take(shared, 2)?;
+    same(rt, read(shared, 1, 8)?, Some(2));
+    same(rt, read(shared, 0, 4)?, Some(3));
+    same(rt, drain(shared, 0)?, false);
     Ok(())
 }
 
 /// Three stores of thread 0, of which a drainer of three turns makes the first leave and then the one behind the second.
 fn pass_one<R: Abort, S: Shared>(rt: &R, shared: &S) -> Result<(), Fail> {
-    shared.access(0, plain(OpKind::Write(1), 0))?;
-    shared.access(0, plain(OpKind::Write(1), 4))?;
-    shared.access(0, plain(OpKind::Write(1), 8))?;
-    drainer(shared, 2, 3, &OpenGate)?;
-    same(rt, shared.access(1, plain(OpKind::Read, 0))?.read, Some(1));
-    same(rt, shared.access(1, plain(OpKind::Read, 4))?.read, Some(0));
-    same(rt, shared.access(1, plain(OpKind::Read, 8))?.read, Some(1));
+    write(shared, 0, 0, 1)?;
+    write(shared, 0, 4, 1)?;
+    write(shared, 0, 8, 1)?;
+    take(shared, 3)?;
+    same(rt, read(shared, 1, 0)?, Some(1));
+    same(rt, read(shared, 1, 4)?, Some(0));
+    same(rt, read(shared, 1, 8)?, Some(1));
     Ok(())
 }
 
@@ -205,15 +200,11 @@ fn pass_one_locked<N: Over, R: Abort + Wait>(rt: &R, recorder: Recorder) -> Resu
 
 #[test]
 fn the_drainer_takes_turns(rt: HostRuntime) -> Result<(), Fail> {
-    let initial = Initial::zeros(rt.alloc(), 1);
-    let recorder = Recorder::new(rt.alloc(), &initial, 2)?;
-    take_locked_turns::<Brand, _>(&rt, recorder)
+    take_locked_turns::<Brand, _>(&rt, two_threads(rt.alloc())?)
 }
 
 /// The second time round the drainer takes the store behind the oldest one.
 #[test]
 fn the_drainer_passes_the_oldest_store(rt: HostRuntime) -> Result<(), Fail> {
-    let initial = Initial::zeros(rt.alloc(), 1);
-    let recorder = Recorder::new(rt.alloc(), &initial, 2)?;
-    pass_one_locked::<Brand, _>(&rt, recorder)
+    pass_one_locked::<Brand, _>(&rt, two_threads(rt.alloc())?)
 }

@@ -1,4 +1,5 @@
 //! Instructions in the words of the text format.
+use super::same;
 use std::alloc::{AllocError, Global};
 use std::test::Fail;
 use wm_access::RmwOperator;
@@ -104,12 +105,12 @@ fn instructions_have_their_texts(rt: HostRuntime) -> Result<(), Fail> {
         };
         let instr = Instr::Access(*kind, operands);
         let got = text_of(rt.alloc(), &instr)?;
-        assert_eq!(rt; got.as_str(), *text);
+        same(&rt, got.as_str(), *text);
     }
     for (number, text) in OTHERS.iter().enumerate() {
         let instr = other(rt.alloc(), number)?;
         let got = text_of(rt.alloc(), &instr)?;
-        assert_eq!(rt; got.as_str(), *text);
+        same(&rt, got.as_str(), *text);
     }
     Ok(())
 }

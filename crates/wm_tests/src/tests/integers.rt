@@ -4,64 +4,59 @@ mod table_32;
 mod table_64;
 mod table_bytes;
 
+use super::same_in;
 use wm_num::{
     Comparison, Conversion, Width, binary, compare, convert, extend_bytes, low_bytes, unary,
 };
 
 #[test]
 fn binary_at_32(rt: HostRuntime) {
-    for (op, left, right, expected) in &table_32::BINARY {
-        let result = binary(*op, Width::W32, u64::from(*left), u64::from(*right));
-        assert_eq!(rt; result, expected.map(u64::from), "{op:?} {left} {right}");
+    for case in &table_32::BINARY {
+        let (op, left, right, expected) = *case;
+        let result = binary(op, Width::W32, u64::from(left), u64::from(right));
+        same_in(&rt, case, result, expected.map(u64::from));
     }
 }
 
 #[test]
 fn binary_at_64(rt: HostRuntime) {
-    for (op, left, right, expected) in &table_64::BINARY {
-        assert_eq!(rt;
-            binary(*op, Width::W64, *left, *right),
-            *expected,
-            "{op:?} {left} {right}"
-        );
+    for case in &table_64::BINARY {
+        let (op, left, right, expected) = *case;
+        same_in(&rt, case, binary(op, Width::W64, left, right), expected);
     }
 }
 
 #[test]
 fn unary_at_32(rt: HostRuntime) {
-    for (op, operand, expected) in &table_32::UNARY {
-        let result = unary(*op, Width::W32, u64::from(*operand));
-        assert_eq!(rt; result, u64::from(*expected), "{op:?} {operand}");
+    for case in &table_32::UNARY {
+        let (op, operand, expected) = *case;
+        let result = unary(op, Width::W32, u64::from(operand));
+        same_in(&rt, case, result, u64::from(expected));
     }
 }
 
 #[test]
 fn unary_at_64(rt: HostRuntime) {
-    for (op, operand, expected) in &table_64::UNARY {
-        assert_eq!(rt;
-            unary(*op, Width::W64, *operand),
-            *expected,
-            "{op:?} {operand}"
-        );
+    for case in &table_64::UNARY {
+        let (op, operand, expected) = *case;
+        same_in(&rt, case, unary(op, Width::W64, operand), expected);
     }
 }
 
 #[test]
 fn compare_at_32(rt: HostRuntime) {
-    for (op, left, right, expected) in &table_32::COMPARE {
-        let result = compare(*op, Width::W32, u64::from(*left), u64::from(*right));
-        assert_eq!(rt; result, *expected, "{op:?} {left} {right}");
+    for case in &table_32::COMPARE {
+        let (op, left, right, expected) = *case;
+        let result = compare(op, Width::W32, u64::from(left), u64::from(right));
+        same_in(&rt, case, result, expected);
     }
 }
 
 #[test]
 fn compare_at_64(rt: HostRuntime) {
-    for (op, left, right, expected) in &table_64::COMPARE {
-        assert_eq!(rt;
-            compare(*op, Width::W64, *left, *right),
-            *expected,
-            "{op:?} {left} {right}"
-        );
+    for case in &table_64::COMPARE {
+        let (op, left, right, expected) = *case;
+        same_in(&rt, case, compare(op, Width::W64, left, right), expected);
     }
 }
 
@@ -73,43 +68,40 @@ fn equal_to_zero(rt: HostRuntime) {
 
 #[test]
 fn wraps_and_extends(rt: HostRuntime) {
-    for (operand, wrapped) in &table_bytes::WRAP {
-        assert_eq!(rt;
-            convert(Conversion::WrapI64, *operand),
-            *wrapped,
-            "{operand}"
-        );
+    for case in &table_bytes::WRAP {
+        let (operand, wrapped) = *case;
+        same_in(&rt, case, convert(Conversion::WrapI64, operand), wrapped);
     }
-    for (operand, signed, unsigned) in &table_bytes::EXTEND {
-        let operand = u64::from(*operand);
-        assert_eq!(rt;
-            convert(Conversion::ExtendI32S, operand),
-            *signed,
-            "{operand}"
-        );
-        assert_eq!(rt;
+    for case in &table_bytes::EXTEND {
+        let (operand, signed, unsigned) = *case;
+        let operand = u64::from(operand);
+        same_in(&rt, case, convert(Conversion::ExtendI32S, operand), signed);
+        same_in(
+            &rt,
+            case,
             convert(Conversion::ExtendI32U, operand),
-            *unsigned,
-            "{operand}"
+            unsigned,
         );
     }
 }
 
 #[test]
 fn takes_low_bytes(rt: HostRuntime) {
-    for (value, bytes, expected) in &table_bytes::LOW_BYTES {
-        assert_eq!(rt; low_bytes(*value, *bytes), *expected, "{value} {bytes:?}");
+    for case in &table_bytes::LOW_BYTES {
+        let (value, bytes, expected) = *case;
+        same_in(&rt, case, low_bytes(value, bytes), expected);
     }
 }
 
 #[test]
 fn extends_bytes(rt: HostRuntime) {
-    for (value, bytes, width, signedness, expected) in &table_bytes::EXTEND_BYTES {
-        let result = extend_bytes(*value, *bytes, *width, *signedness);
-        assert_eq!(rt;
-            result,
-            *expected,
-            "{value} {bytes:?} {width:?} {signedness:?}"
+    for case in &table_bytes::EXTEND_BYTES {
+        let (value, bytes, width, signedness, expected) = *case;
+        same_in(
+            &rt,
+            case,
+            extend_bytes(value, bytes, width, signedness),
+            expected,
         );
     }
 }

@@ -3,50 +3,18 @@ mod locked;
 
 ghost use Rattle.std.specs.Prelude.{◌<◌, ◌^◌};
 
+use super::accesses::{load_byte, store_byte, store_word};
+use super::calls::two_threads;
 use super::same;
 use std::alloc::{AllocError, Global};
 use std::process::Abort;
 use std::test::Fail;
-use wm_access::{AccessWidth, MemoryOrder};
-use wm_event::{EventId, EventKey, Initial, MAX_EVENTS, Op, OpFields, OpKind, Reply};
+use wm_event::{EventId, EventKey, MAX_EVENTS, Op, Reply};
 use wm_memory::HistoryStep;
 use wm_recorder::{AccessFault, Parts, Recorder};
 
-fn load(address: u32) -> Op {
-    Op::new(OpFields {
-        kind: OpKind::Read,
-        address,
-        width: AccessWidth::One,
-        order: MemoryOrder::Unordered,
-    })
-}
-
-fn store(address: u32, value: u8) -> Op {
-    Op::new(OpFields {
-        kind: OpKind::Write(value as u64),
-        address,
-        width: AccessWidth::One,
-        order: MemoryOrder::Unordered,
-    })
-}
-
-fn store_word(address: u32, value: u32) -> Op {
-    Op::new(OpFields {
-        kind: OpKind::Write(value as u64),
-        address,
-        width: AccessWidth::Four,
-        order: MemoryOrder::Unordered,
-    })
-}
-
 // Each call of a recorder stands in a function of its own, which hands none of its contract on: so a test is proved in
 // seconds, and not in a minute.
-
-/// A recorder of two threads over a page of zeros.
-fn two_threads(alloc: Global) -> Result<Recorder, Fail> {
-    let initial = Initial::zeros(alloc, 1);
-    Ok(Recorder::new(alloc, &initial, 2)?)
-}
 
 fn access(recorder: &mut Recorder, thread: u32, op: Op) -> Result<Reply, AccessFault> {
     recorder.step_access(thread, op)
@@ -116,7 +84,7 @@ fn step<R: Abort>(
 }
 
 fn reads<R: Abort>(rt: &R, recorder: &mut Recorder, thread: u32, address: u32) -> Option<u64> {
-    match step(rt, recorder, thread, load(address)) {
+    match step(rt, recorder, thread, load_byte(address)) {
         Ok(reply) => reply.read,
         Err(_) => None,
     }
@@ -128,14 +96,14 @@ fn a_forced_drain_is_a_step_of_its_own(rt: HostRuntime) -> Result<(), Fail> {
     same(&rt, recorder.threads(), 2);
     same(&rt, recorder.initial().len(), 65_536);
     for address in 0..65u32 {
-        step(&rt, &mut recorder, 0, store(address, 1))?;
+        step(&rt, &mut recorder, 0, store_byte(address, 1))?;
     }
     same(&rt, steps(&recorder), 66);
     same(&rt, step_at(&recorder, 64), Some(HistoryStep::Drain(0)));
     same(
         &rt,
         step_at(&recorder, 65),
-        Some(HistoryStep::Access(0, store(64, 1))),
+        Some(HistoryStep::Access(0, store_byte(64, 1))),
     );
     same(&rt, pending(&recorder, 0), 64);
     Ok(())
@@ -144,9 +112,9 @@ fn a_forced_drain_is_a_step_of_its_own(rt: HostRuntime) -> Result<(), Fail> {
 /// A recorder of two threads that made as many accesses as it may, the first a store of thread 0 that waits.
 fn full<R: Abort>(rt: &R, alloc: Global) -> Result<Recorder, Fail> {
     let mut recorder = two_threads(alloc)?;
-    step(rt, &mut recorder, 0, store(0, 1))?;
+    step(rt, &mut recorder, 0, store_byte(0, 1))?;
     for _made in 1..MAX_EVENTS {
-        step(rt, &mut recorder, 1, load(0))?;
+        step(rt, &mut recorder, 1, load_byte(0))?;
     }
     Ok(recorder)
 }
@@ -162,27 +130,23 @@ fn fault_of(recorder: &mut Recorder, thread: u32, op: Op) -> Option<AccessFault>
 #[test]
 fn a_full_recorder_refuses_accesses(rt: HostRuntime) -> Result<(), Fail> {
     let mut recorder = full(&rt, rt.alloc())?;
-    same(
-        &rt,
-        fault_of(&mut recorder, 2, load(0)),
-        Some(AccessFault::NoThread),
-    );
-    same(
-        &rt,
-        fault_of(&mut recorder, 0, load(65_536)),
-        Some(AccessFault::OutOfBounds),
-    );
-    same(
-        &rt,
-        fault_of(&mut recorder, 0, load(0)),
-        Some(AccessFault::Full),
-    );
+    let refused = [
+        (2, 0, AccessFault::NoThread),
+        (0, 65_536, AccessFault::OutOfBounds),
+        (0, 0, AccessFault::Full),
+    ];
+    for (thread, address, fault) in refused {
+        let found = fault_of(&mut recorder, thread, load_byte(address));
+        same(&rt, found, Some(fault));
+    }
     same(&rt, steps(&recorder), MAX_EVENTS);
-    same(
-        &rt,
-        format!(in rt.alloc(); "{}", AccessFault::Full)?.as_str(),
-        "Full",
-    );
+    Ok(())
+}
+
+#[test]
+fn a_fault_has_its_name(rt: HostRuntime) -> Result<(), Fail> {
+    let text = format!(in rt.alloc(); "{}", AccessFault::Full)?;
+    same(&rt, text.as_str(), "Full");
     Ok(())
 }
 
@@ -196,17 +160,29 @@ fn a_full_recorder_drains(rt: HostRuntime) -> Result<(), Fail> {
     Ok(())
 }
 
+/// Stores 1 at 0, 2 at 2 and 3 at 8, each of four bytes.
+fn store_three<R: Abort>(rt: &R, recorder: &mut Recorder) -> Result<(), AccessFault> {
+    for (address, value) in [(0, 1), (2, 2), (8, 3)] {
+        step(rt, recorder, 0, store_word(address, value))?;
+    }
+    Ok(())
+}
+
+/// The third of the stores leaves, and not the second, which overlaps the first.
+fn third_leaves<R: Abort>(rt: &R, recorder: &mut Recorder) -> Result<(), AllocError> {
+    same(rt, drain_at(recorder, 0, 1)?, false);
+    same(rt, steps(recorder), 3);
+    same(rt, drain_at(recorder, 0, 2)?, true);
+    same(rt, step_at(recorder, 3), Some(HistoryStep::DrainAt(0, 2)));
+    same(rt, pending(recorder, 0), 2);
+    Ok(())
+}
+
 #[test]
 fn a_store_leaves_before_older_ones_that_it_does_not_overlap(rt: HostRuntime) -> Result<(), Fail> {
     let mut recorder = two_threads(rt.alloc())?;
-    for (address, value) in [(0, 1), (2, 2), (8, 3)] {
-        step(&rt, &mut recorder, 0, store_word(address, value))?;
-    }
-    same(&rt, drain_at(&mut recorder, 0, 1)?, false);
-    same(&rt, steps(&recorder), 3);
-    same(&rt, drain_at(&mut recorder, 0, 2)?, true);
-    same(&rt, step_at(&recorder, 3), Some(HistoryStep::DrainAt(0, 2)));
-    same(&rt, pending(&recorder, 0), 2);
+    store_three(&rt, &mut recorder)?;
+    third_leaves(&rt, &mut recorder)?;
     same(&rt, reads(&rt, &mut recorder, 1, 8), Some(3));
     same(&rt, reads(&rt, &mut recorder, 1, 0), Some(0));
     same(&rt, drain_at(&mut recorder, 0, 2)?, false);
@@ -226,10 +202,10 @@ fn writer_of(parts: &Parts, thread: usize, number: usize) -> Option<EventId> {
 /// What thread 0 recorded that read a byte before and after a store of thread 1 to it was drained.
 fn two_reads<R: Abort>(rt: &R, alloc: Global) -> Result<Parts, Fail> {
     let mut recorder = two_threads(alloc)?;
-    step(rt, &mut recorder, 1, store(3, 9))?;
-    step(rt, &mut recorder, 0, load(3))?;
+    step(rt, &mut recorder, 1, store_byte(3, 9))?;
+    step(rt, &mut recorder, 0, load_byte(3))?;
     drain(&mut recorder, 1)?;
-    step(rt, &mut recorder, 0, load(3))?;
+    step(rt, &mut recorder, 0, load_byte(3))?;
     recorder.recorded_log_is_valid();
     Ok(parts_of(recorder)?)
 }
@@ -238,19 +214,24 @@ fn parts_of(recorder: Recorder) -> Result<Parts, AllocError> {
     recorder.into_parts()
 }
 
+fn key(thread: u32, number: u32) -> EventKey {
+    EventKey { thread, number }
+}
+
+/// What the reads of thread 0 read, and which write they read from.
+fn reads_are<R: Abort>(rt: &R, parts: &Parts) {
+    same(rt, read_of(parts, 0, 0), Some(0));
+    same(rt, read_of(parts, 0, 1), Some(9));
+    same(rt, writer_of(parts, 0, 0), Some(EventId::Init));
+    same(rt, writer_of(parts, 0, 1), Some(EventId::At(key(1, 0))));
+}
+
 #[test]
 fn what_is_recorded_is_given_as_lists(rt: HostRuntime) -> Result<(), Fail> {
     let parts = two_reads(&rt, rt.alloc())?;
-    let key = |thread: u32, number: u32| EventKey { thread, number };
     same(&rt, parts.history.len(), 4);
-    same(
-        &rt,
-        parts.order.as_slice(),
-        [key(1, 0), key(0, 0), key(0, 1)].as_slice(),
-    );
-    same(&rt, read_of(&parts, 0, 0), Some(0));
-    same(&rt, read_of(&parts, 0, 1), Some(9));
-    same(&rt, writer_of(&parts, 0, 0), Some(EventId::Init));
-    same(&rt, writer_of(&parts, 0, 1), Some(EventId::At(key(1, 0))));
+    let order = [key(1, 0), key(0, 0), key(0, 1)];
+    same(&rt, parts.order.as_slice(), order.as_slice());
+    reads_are(&rt, &parts);
     Ok(())
 }

@@ -4,6 +4,7 @@
 ghost use Rattle.std.specs.Prelude.{◌≡◌, ◌<◌, IfOk, map};
 ghost use Rattle.wm_event.specs.declared.log.ThreadLog.{ThreadLog};
 
+use super::calls::candidate;
 use super::closure::compares;
 use std::alloc::{AllocError, Global};
 use std::process::Abort;
@@ -157,6 +158,36 @@ fn recorded(alloc: Global, initial: &Initial, random: &mut Random) -> Result<Rec
     Ok(recorder)
 }
 
+/// A recorded history, as a candidate.
+fn candidate_of<'a>(
+    alloc: Global,
+    initial: &'a Initial,
+    random: &mut Random,
+) -> Result<Candidate<'a>, Fail> {
+    let (log, witness) = run_of(alloc, recorded(alloc, initial, random)?)?;
+    Ok(candidate(alloc, log, witness, initial)?)
+}
+
+/// Whether a candidate is judged to be valid.
+fn is_valid<R: Abort + AllocGlobal + Threads + Sync>(
+    rt: &R,
+    candidate: &Candidate,
+) -> Result<bool, AllocError> {
+    match judge(rt, candidate)? {
+        Judgement::Valid => Ok(true),
+        _ => Ok(false),
+    }
+}
+
+/// The memory whose bytes are their addresses.
+fn counting(alloc: Global) -> Result<Initial, AllocError> {
+    let mut bytes = [0u8; BYTES];
+    for k in 0..BYTES {
+        bytes[k] = k as u8;
+    }
+    Initial::of(alloc, &bytes)
+}
+
 /// Records so many histories from a seed, and judges each.
 fn all_are_valid<R: Abort + AllocGlobal + Threads + Sync>(
     rt: &R,
@@ -164,17 +195,10 @@ fn all_are_valid<R: Abort + AllocGlobal + Threads + Sync>(
     count: u32,
 ) -> Result<(), Fail> {
     let mut random = Random { state: seed };
-    let mut bytes = [0u8; BYTES];
-    for k in 0..BYTES {
-        bytes[k] = k as u8;
-    }
-    let initial = Initial::of(rt.alloc(), &bytes)?;
+    let initial = counting(rt.alloc())?;
     for number in 0..count {
-        let recorder = recorded(rt.alloc(), &initial, &mut random)?;
-        let (log, witness) = run_of(rt.alloc(), recorder)?;
-        let candidate = Candidate::new(rt.alloc(), log, witness, &initial)?;
-        let judgement = judge(rt, &candidate)?;
-        assert!(rt; matches!(judgement, Judgement::Valid), "history {number}");
+        let candidate = candidate_of(rt.alloc(), &initial, &mut random)?;
+        assert!(rt; is_valid(rt, &candidate)?, "history {number}");
         if number % COMPARED == 0 {
             assert!(rt; compares(rt, &candidate)?, "history {number}");
         }

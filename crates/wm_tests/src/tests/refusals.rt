@@ -5,11 +5,11 @@ ghost use Rattle.std.specs.Prelude.{◌≡◌};
 ghost use Rattle.wm_access.specs.declared.AccessWidth.TheVariants as AccessWidth;
 ghost use Rattle.wm_access.specs.declared.MemoryOrder.TheVariants as MemoryOrder;
 
+use super::calls::two_threads;
 use super::same;
-use std::alloc::{AllocError, Global};
 use std::test::Fail;
 use wm_access::{AccessWidth, MemoryOrder, RmwOperator};
-use wm_event::{Initial, Op, OpFields, OpKind};
+use wm_event::{Op, OpFields, OpKind};
 use wm_recorder::{AccessFault, Recorder};
 
 /// How many steps, events and writers of both threads, places of the order, and waiting stores of thread 0 there are.
@@ -106,12 +106,6 @@ fn digest(recorder: &Recorder, thread: u32) -> u64 {
             .wrapping_add(event.written);
     }
     sum
-}
-
-/// A recorder of two threads over a page of zeros.
-fn two_threads(alloc: Global) -> Result<Recorder, AllocError> {
-    let initial = Initial::zeros(alloc, 1);
-    Recorder::new(alloc, &initial, 2)
 }
 
 #[test]

@@ -1,6 +1,7 @@
 //! Rounds of store buffering, with gates that hold threads back.
 ghost use Rattle.std.specs.Prelude.{false};
 
+use super::calls::module_of;
 use super::modules::{ARGUMENT, STORE_BUFFERING};
 use super::same;
 use std::alloc::{AllocError, Global};
@@ -8,7 +9,6 @@ use std::sync::Wait;
 use std::sync::atomic::{AtomicBool, Ordering};
 use std::test::Fail;
 use std::thread::{Threads, yield_now};
-use wm_check::read_module;
 use wm_event::{End, Start};
 use wm_list::{List, Text};
 use wm_run::{Gate, OpenGate, Plan, Run, run_round};
@@ -67,9 +67,9 @@ fn round<R: AllocGlobal + Threads + Wait + Sync, G: Gate + Sync>(
     plan: &Plan,
     gate: &G,
 ) -> [Option<End>; 2] {
-    match read_module(rt.alloc(), module_bytes) {
-        Ok(module) => ends_over(rt, &module, plan, gate),
-        Err(_) => [None, None],
+    match module_of(rt.alloc(), module_bytes) {
+        Ok(Some(module)) => ends_over(rt, &module, plan, gate),
+        _ => [None, None],
     }
 }
 

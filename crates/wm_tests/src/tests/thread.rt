@@ -3,15 +3,17 @@ ghost use Rattle.std.specs.Prelude.{◌≡◌};
 ghost use Rattle.wm_event.specs.Op.{kind_finds};
 ghost use Rattle.wm_event.specs.Reply.{ReadAnswers};
 
+use super::accesses::atomic_load;
 use super::same;
 use std::alloc::Global;
+use std::process::Abort;
 use std::test::Fail;
-use wm_access::{AccessWidth, MemoryOrder};
+use wm_access::AccessWidth;
 use wm_ast::{
     AccessKind, Export, ExportKind, Exports, Func, FuncType, Instr, Limits, MemArg, Memory, Module,
     Storage, ValType,
 };
-use wm_event::{End, EventId, Op, OpFields, OpKind, Reply, TrapKind};
+use wm_event::{End, EventId, Op, Reply, TrapKind};
 use wm_list::List;
 use wm_machine::{CodePosition, Need, StartFault, Stepped, Thread, never_stuck};
 use wm_num::{BinaryOperator, Width, low_bytes};
@@ -155,12 +157,29 @@ fn body_at(at: usize) -> CodePosition {
 
 /// The atomic load of an i32 at this address.
 fn load(address: u32) -> Op {
-    Op::new(OpFields {
-        kind: OpKind::Read,
-        address,
-        width: AccessWidth::Four,
-        order: MemoryOrder::SeqCst,
-    })
+    atomic_load(address, AccessWidth::Four)
+}
+
+/// From the start to the access, which reads 7.
+fn reads_seven<R: Abort>(rt: &R, thread: &mut Thread) {
+    same(rt, position(thread), body_at(0));
+    same(rt, stepped(thread), Some(Stepped::Local));
+    same(rt, next(thread), Need::Access(load(8)));
+    same(rt, stepped(thread), Some(Stepped::Access(load(8))));
+    same(rt, position(thread), body_at(1));
+    same(rt, advanced(thread, 7), true);
+    same(rt, position(thread), body_at(2));
+}
+
+/// From behind the access to the end.
+fn returns_twelve<R: Abort>(rt: &R, thread: &mut Thread) {
+    same(rt, advanced(thread, 0), true);
+    same(rt, stepped(thread), Some(Stepped::Local));
+    same(rt, position(thread), body_at(4));
+    same(rt, stepped(thread), Some(Stepped::Local));
+    let end = End::Done(Some(12));
+    same(rt, next(thread), Need::Ended(end));
+    same(rt, stepped(thread), Some(Stepped::Ended(end)));
 }
 
 #[test]
@@ -168,20 +187,8 @@ fn a_thread_returns_what_it_read_and_five(rt: HostRuntime) -> Result<(), Fail> {
     never_stuck();
     let module = loads_and_adds(rt.alloc())?;
     let mut thread = started(rt.alloc(), &module, 8)?;
-    same(&rt, position(&thread), body_at(0));
-    same(&rt, stepped(&mut thread), Some(Stepped::Local));
-    same(&rt, next(&thread), Need::Access(load(8)));
-    same(&rt, stepped(&mut thread), Some(Stepped::Access(load(8))));
-    same(&rt, position(&thread), body_at(1));
-    same(&rt, advanced(&mut thread, 7), true);
-    same(&rt, position(&thread), body_at(2));
-    same(&rt, advanced(&mut thread, 0), true);
-    same(&rt, stepped(&mut thread), Some(Stepped::Local));
-    same(&rt, position(&thread), body_at(4));
-    same(&rt, stepped(&mut thread), Some(Stepped::Local));
-    let end = End::Done(Some(12));
-    same(&rt, next(&thread), Need::Ended(end));
-    same(&rt, stepped(&mut thread), Some(Stepped::Ended(end)));
+    reads_seven(&rt, &mut thread);
+    returns_twelve(&rt, &mut thread);
     Ok(())
 }
 

@@ -1,49 +1,51 @@
 //! A recorder under its lock, on one thread and on two.
 ghost use Rattle.wm_recorder.specs.Locked.{IsOver};
 
+use super::super::accesses::load_byte;
+use super::super::calls::two_threads;
 use super::super::same;
-use super::{event_count, load, order_length, pending, steps, store_word, two_threads};
+use super::super::shared::{drain, read, write};
+use super::{event_count, order_length, pending, steps};
 use std::marker::Brand;
 use std::process::Abort;
 use std::sync::Wait;
 use std::test::Fail;
 use std::thread;
 use std::thread::Threads;
-use wm_access::{AccessWidth, MemoryOrder};
-use wm_event::{Op, OpFields, OpKind};
 use wm_recorder::{AccessFault, LockedMemory, Over, Recorder, Shared};
-
-fn load_word(address: u32) -> Op {
-    Op::new(OpFields {
-        kind: OpKind::Read,
-        address,
-        width: AccessWidth::Four,
-        order: MemoryOrder::Unordered,
-    })
-}
-
-/// The value that a thread reads.
-fn read<S: Shared>(shared: &S, thread: u32, address: u32) -> Result<Option<u64>, AccessFault> {
-    Ok(shared.access(thread, load_word(address))?.read)
-}
-
-/// Stores a word.
-fn write<S: Shared>(shared: &S, thread: u32, address: u32, value: u32) -> Result<(), AccessFault> {
-    let _reply = shared.access(thread, store_word(address, value))?;
-    Ok(())
-}
-
-/// Whether a thread's oldest store left its buffer.
-fn drain<S: Shared>(shared: &S, thread: u32) -> Result<bool, AccessFault> {
-    match shared.drain(thread) {
-        Ok(drained) => Ok(drained),
-        Err(_) => Err(AccessFault::OutOfMemory),
-    }
-}
 
 /// Why a load is refused, None where it is made.
 fn refusal<S: Shared>(shared: &S, thread: u32) -> Option<AccessFault> {
-    shared.access(thread, load(0)).err()
+    shared.access(thread, load_byte(0)).err()
+}
+
+/// How many steps, places of the order and waiting stores of thread 0 there are.
+fn sizes(recorder: &Recorder) -> [usize; 3] {
+    [
+        steps(recorder),
+        order_length(recorder),
+        pending(recorder, 0),
+    ]
+}
+
+/// Three stores of two threads, and a drain of the first one's oldest.
+fn drain_first<R: Abort, S: Shared>(rt: &R, shared: &S) -> Result<(), AccessFault> {
+    write(shared, 0, 0, 1)?;
+    write(shared, 0, 8, 2)?;
+    write(shared, 1, 4, 3)?;
+    same(rt, drain(shared, 0)?, true);
+    same(rt, read(shared, 1, 0)?, Some(1));
+    same(rt, read(shared, 1, 8)?, Some(0));
+    Ok(())
+}
+
+/// Drains of the other thread, and an access of none.
+fn drain_second<R: Abort, S: Shared>(rt: &R, shared: &S) -> Result<(), AccessFault> {
+    same(rt, drain(shared, 1)?, true);
+    same(rt, drain(shared, 1)?, false);
+    same(rt, read(shared, 0, 4)?, Some(3));
+    same(rt, refusal(shared, 2), Some(AccessFault::NoThread));
+    Ok(())
 }
 
 /// Three stores of two threads, of which a drain shows the oldest of each to the other.
@@ -51,20 +53,10 @@ fn drain_and_read<N: Over, R: Abort + Wait>(rt: &R, recorder: Recorder) -> Resul
     requires { IsOver N.initial N.threads recorder }
 {
     let shared = LockedMemory::<R, N>::new(rt, recorder);
-    write(&shared, 0, 0, 1)?;
-    write(&shared, 0, 8, 2)?;
-    write(&shared, 1, 4, 3)?;
-    same(rt, drain(&shared, 0)?, true);
-    same(rt, read(&shared, 1, 0)?, Some(1));
-    same(rt, read(&shared, 1, 8)?, Some(0));
-    same(rt, drain(&shared, 1)?, true);
-    same(rt, drain(&shared, 1)?, false);
-    same(rt, read(&shared, 0, 4)?, Some(3));
-    same(rt, refusal(&shared, 2), Some(AccessFault::NoThread));
+    drain_first(rt, &shared)?;
+    drain_second(rt, &shared)?;
     let recorder = shared.into_recorder();
-    same(rt, steps(&recorder), 8);
-    same(rt, order_length(&recorder), 6);
-    same(rt, pending(&recorder, 0), 1);
+    same(rt, sizes(&recorder), [8, 6, 1]);
     Ok(())
 }
 
@@ -113,11 +105,9 @@ fn drain_beside_reads<N: Over + Send + Sync, R: Abort + Threads + Wait + Sync>(
     same(rt, read(&shared, 1, 0)?, Some(0));
     let recorder = shared.into_recorder();
     recorder.recorded_log_is_valid();
-    same(rt, pending(&recorder, 0), 2);
     same(rt, event_count(&recorder, 0), 3);
     same(rt, event_count(&recorder, 1), 32);
-    same(rt, order_length(&recorder), 35);
-    same(rt, steps(&recorder), 36);
+    same(rt, sizes(&recorder), [36, 35, 2]);
     Ok(())
 }
 
