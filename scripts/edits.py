@@ -200,6 +200,8 @@ def try_crate(crate, listed):
     whys = {edit: changed_since(crate) or edits.changed_files(edit) for edit in listed}
     answers = {edit: (False, why) for edit, why in whys.items() if isinstance(why, str)}
     waiting = {edit: function for edit, function in listed.items() if edit not in answers}
+    if not waiting:
+        return answers
     alone = {edit for edit, function in waiting.items() if not changes_only(edit, function)}
     with tempfile.TemporaryDirectory() as room:
         copy = Copy(crate, room)
