@@ -133,22 +133,29 @@ class Copy:
         return ran.stdout
 
 
-# What the prover says at a place of a proof, and if the proof names what an edit took away: that shows nothing about
-# the contract.
+# What the prover says of a function, after its open goals, each with its place in the source; and at a place of a
+# proof, unless the proof names what an edit took away: that shows nothing about the contract.
+VERDICT = re.compile(r"fn (\S+): (not proved|no proof)\b")
+OPEN = re.compile(r"note: src/\S+:\d+:\d+: it is not proved that ")
 PLACE = re.compile(r"\./(proofs/\S+):\d+:\d+: error")
 NAMES = re.compile(r"has no field|is not in scope|has no `|was not admitted")
 
 
 def goal_of(said, crate, function):
     """The line of what the prover said that names an open goal of a function's contract, or nothing."""
-    verdict = re.search(rf"^fn {crate}::{re.escape(function)}: (.*)$", said, re.MULTILINE)
-    if verdict and "`search` did not prove" in verdict[1]:
-        return verdict[0]
-    if not verdict or verdict[1] != "not proved":
-        return None
     proofs = f"proofs/{function.replace('::', '/')}/"
-    told = [line for line in said.split("\n") if PLACE.match(line) and not NAMES.search(line)]
-    return next((line for line in told if PLACE.match(line)[1].startswith(proofs)), None)
+    of_proofs, of_function = [], []
+    for line in said.split("\n"):
+        place, verdict = PLACE.match(line), VERDICT.match(line)
+        if place and place[1].startswith(proofs) and not NAMES.search(line):
+            of_proofs.append(line)
+        elif OPEN.match(line):
+            of_function.append(line)
+        elif verdict and verdict[1] == f"{crate}::{function}":
+            return next(iter(of_proofs + of_function), None)
+        elif line.startswith("fn "):
+            of_function = []
+    return None
 
 
 def refusals(copy, batch):
