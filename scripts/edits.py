@@ -94,9 +94,11 @@ def try_all(tally, crates, jobs, with_gate):
 
 
 def changed_since(crate):
-    """What is said if a file of a crate is newer than its library, or nothing."""
+    """What is said if a crate has no library, or one that is older than a file of the crate; else nothing."""
     top = f"{TOP}/crates/{crate}"
-    proved = os.path.getmtime(f"{top}/out/rlib") if os.path.isdir(f"{top}/out/rlib") else 0
+    if not os.path.isdir(f"{top}/out/rlib"):
+        return f"{crate} has no library: run `rt ci {crate}` first"
+    proved = os.path.getmtime(f"{top}/out/rlib")
     for part in ("src", "specs", "proofs"):
         for path in glob.glob(f"{top}/{part}/**/*.*", recursive=True):
             if os.path.getmtime(path) > proved:
