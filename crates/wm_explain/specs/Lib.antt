@@ -1,4 +1,2 @@
 pub mod Compared
-pub mod Numbering
 pub mod Said
-pub mod Sites

@@ -1,11 +1,11 @@
 //! The names of a module's functions.
 
-use crate::module_code::ModuleCode;
 use std::alloc::{AllocError, Global};
 use std::fmt;
 use wm_ast::{ExportKind, Module};
 use wm_module_bytes::section_names;
 use wm_phrase::ShortText;
+use wm_sites::ModuleCode;
 
 /// How a function is named.
 #[derive(Clone, Copy)]

@@ -1,14 +1,12 @@
 //! Instructions with the names of their functions.
 
-use crate::event_positions::log_positions;
 use crate::function_name::{BriefName, FunctionName, FunctionNames};
-use crate::module_code::ModuleCode;
-use crate::sites::RunSites;
 use std::alloc::{AllocError, Global};
 use std::fmt;
 use std::thread::Threads;
 use wm_event::{EventKey, Log, ThreadLog};
 use wm_races::Site;
+use wm_sites::{ModuleCode, RunSites};
 use wm_valid::ValidModule;
 
 /// An instruction with the name of its function.
@@ -52,12 +50,10 @@ impl<'a> NamedSites<'a> {
         code: ModuleCode<'a>,
         log: &'a Log,
     ) -> Result<Self, AllocError> {
-        let alloc = rt.alloc();
-        let positions = log_positions(rt, code.module, log)?;
         Ok(NamedSites {
             log,
-            sites: RunSites::new(alloc, code, positions)?,
-            names: FunctionNames::of(alloc, code)?,
+            sites: RunSites::of(rt, code, log)?,
+            names: FunctionNames::of(rt.alloc(), code)?,
         })
     }
 

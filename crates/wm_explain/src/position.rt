@@ -1,13 +1,12 @@
 //! Where a thread is in the text of its module.
 
-use crate::code_map::CodeMap;
 use crate::function_name::FunctionNames;
-use crate::module_code::ModuleCode;
 use std::alloc::{AllocError, Global};
 use std::fmt;
 use wm_ast::{Instr, InstrText};
 use wm_machine::CodePosition;
 use wm_races::Site;
+use wm_sites::{CodeMap, ModuleCode};
 
 /// The instruction there, or the end of its block.
 #[derive(Clone, Copy)]

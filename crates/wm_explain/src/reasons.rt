@@ -1,7 +1,6 @@
 //! Why a verdict says what it says.
 
 use crate::allowed::{allowed_reason, permitted_reason};
-use crate::module_code::ModuleCode;
 use crate::replay::replay_reason;
 use crate::row::EventTables;
 use crate::rule::rule_reason;
@@ -10,6 +9,7 @@ use std::thread::Threads;
 use wm_check::{Breach, Refusal, Verdict};
 use wm_event::{Candidate, Judgement, Misshapen};
 use wm_refusal::{decode_reason, document_reason, shape_reason, valid_reason};
+use wm_sites::ModuleCode;
 use wm_valid::ValidModule;
 
 /// Why the bytes of a module or of a document are refused: where the fault is, what was found and what was expected.

@@ -1,7 +1,6 @@
 //! Why a thread's log isn't its run.
 
 use crate::compared::{Compared, Next, compare};
-use crate::module_code::ModuleCode;
 use crate::position::position_phrase;
 use crate::row::EventTables;
 use crate::rule::add_fault_events;
@@ -15,6 +14,7 @@ use wm_event::{Candidate, Judgement, MAX_STEPS, OpKind, Rule, RuleFault, ThreadL
 use wm_phrase::{AndEndPhrase, Count, EndPhrase, JsonText};
 use wm_replay::{Place, ReplayAnswer};
 use wm_rules::judge;
+use wm_sites::ModuleCode;
 use wm_valid::ValidModule;
 
 /// A thread of a log, by its number.

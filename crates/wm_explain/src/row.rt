@@ -1,6 +1,5 @@
 //! The table of events.
 
-use crate::module_code::ModuleCode;
 use crate::named_site::{NamedSite, NamedSites};
 use std::alloc::{AllocError, Global};
 use std::fmt;
@@ -8,6 +7,7 @@ use std::thread::Threads;
 use wm_event::{Candidate, Event, EventId, EventKey};
 use wm_hb::{WriterRun, writer_runs};
 use wm_phrase::{EventPhrase, ValueForm, WritersPhrase};
+use wm_sites::ModuleCode;
 
 /// An event in a table: its place in the order, its name, what it does, and who wrote what it read.
 #[derive(Clone, Copy)]

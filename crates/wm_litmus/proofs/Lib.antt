@@ -1,7 +1,5 @@
 pub mod Answering
-pub mod Entered
 pub mod EventExplaining
-pub mod Words
 pub mod Pieces
 pub mod OwnVerdicts
 pub mod Counting

@@ -7,9 +7,9 @@ use Rattle.wm_stream.specs.declared.answer.LineStatus.{LineStatus}
 use Rattle.wm_stream.specs.Answers.{Answered, AreAnswers, status_code, text_of}
 use Rattle.wm_stream.specs.Stream.{AnswersAll, AnswersFirst}
 use Rattle.clap.specs.Words.{Text}
-use Rattle.wm_litmus.specs.declared.command.Command.TheVariants.{Stream}
+use Rattle.wm_command.specs.declared.command.Command.TheVariants.{Stream}
 use Rattle.wm_litmus.specs.declared.stream.Judge.{Judge}
-use Rattle.wm_litmus.specs.Commands.{IsCommand}
+use Rattle.wm_command.specs.Commands.{IsCommand}
 use Rattle.wm_litmus.specs.Input.{IsReadOf}
 use Rattle.wm_litmus.specs.Replies.{Given, WritesAnswer, WritesFront}
 use Rattle.wm_litmus.specs.Replies.IsAnswer.{stream_of}

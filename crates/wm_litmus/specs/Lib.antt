@@ -6,7 +6,6 @@ pub mod Explanation
 pub mod Rounds
 pub mod Outcomes
 pub mod Own
-pub mod Commands
 pub mod Counts
 pub mod Failures
 pub mod Help

@@ -15,7 +15,7 @@ use Rattle.wm_event.specs.LoggedRun.{LoggedRun, execution}
 use Rattle.wm_event.specs.Rules.{IsValid}
 use Rattle.wm_event.specs.Shape.{IsWellShaped, event_count}
 use Rattle.wm_event.specs.Texts.{key_text}
-use Rattle.wm_explain.specs.Sites.{AreEventSites}
+use Rattle.wm_sites.specs.Sites.{AreEventSites}
 use Rattle.wm_logfile.specs.declared.fault.DocFault.{DocFault}
 use Rattle.wm_logfile.specs.DocumentBytes.{IsDocumentOf, IsNoDocument}
 use Rattle.wm_races.specs.declared.pair.RacingPair.{RacingPair}

@@ -17,8 +17,8 @@ use Rattle.wm_logfile.specs.DocumentBytes.{IsNoDocument}
 use Rattle.wm_logfile.specs.Migration.{IsMigrated, IsMisplaced}
 use Rattle.wm_replay.specs.declared.answer.ReplayAnswer.{ReplayAnswer}
 use Rattle.clap.specs.Words.{Text}
-use Rattle.wm_litmus.specs.declared.command.Command.TheVariants.{Rules, Check, Migrate, Complete, Verify, Stream, Drive, Trace, Run, Races, EventRaces, Explain, ExplainEvents, Graph, GraphEvents, Help, Version}
-use Rattle.wm_litmus.specs.Commands.{IsCommand, IsNoCommand}
+use Rattle.wm_command.specs.declared.command.Command.TheVariants.{Rules, Check, Migrate, Complete, Verify, Stream, Drive, Trace, Run, Races, EventRaces, Explain, ExplainEvents, Graph, GraphEvents, Help, Version}
+use Rattle.wm_command.specs.Commands.{IsCommand, IsNoCommand}
 use Rattle.wm_litmus.specs.Drive.{AnswersDrive, IsScriptAnswer}
 use Rattle.wm_litmus.specs.EventExplanation.{AnswersEventExplain, AnswersEventGraph}
 use Rattle.wm_litmus.specs.Explanation.{AnswersExplain, AnswersGraph}

@@ -1,10 +1,10 @@
 -- What the parts of the program answer.
 use Rattle.std.specs.Prelude.{◌≡◌, ℕ, List, Option, string_bytes, ⊤}
 use Rattle.wm_decode.specs.Bounds.{max_module_bytes}
-use Rattle.wm_litmus.specs.declared.command.Command.TheVariants.{Stream}
+use Rattle.wm_command.specs.declared.command.Command.TheVariants.{Stream}
 use Rattle.wm_litmus.specs.declared.program.Reply.{Reply}
 use Rattle.wm_litmus.specs.declared.program.Reply.TheVariants as reply
-use Rattle.wm_litmus.specs.Commands.{IsCommand}
+use Rattle.wm_command.specs.Commands.{IsCommand}
 use Rattle.wm_litmus.specs.Input.{IsReadOf}
 use Rattle.wm_litmus.specs.Replies.{Given, IsAnswer}
 use Rattle.wm_litmus.specs.Stream.{AnswersFirstLines, AnswersStream}

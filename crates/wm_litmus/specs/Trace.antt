@@ -17,7 +17,7 @@ use Rattle.wm_event.specs.Event.{is_atomic, key_of}
 use Rattle.wm_event.specs.Log.{event_in}
 use Rattle.wm_event.specs.Texts.{id_text, key_text}
 use Rattle.wm_event.specs.Witness.{writers_in}
-use Rattle.wm_explain.specs.Sites.{AreSitesOf}
+use Rattle.wm_sites.specs.Sites.{AreSitesOf}
 use Rattle.wm_races.specs.declared.site.Site.{Site}
 use Rattle.wm_run.specs.declared.fault.RunFault.{RunFault}
 use Rattle.wm_run.specs.declared.fault.RunFault.TheVariants.{OutOfMemory}

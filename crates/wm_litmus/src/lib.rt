@@ -23,7 +23,6 @@ pub const INITIAL_PAGES: usize = 16;
 
 mod answer;
 mod check;
-mod command;
 mod completion;
 mod drive;
 mod event_explanation;

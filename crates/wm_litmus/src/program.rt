@@ -14,7 +14,6 @@ ghost use Rattle.wm_litmus.specs.declared.program.Failure.TheVariants.{OutOfMemo
 
 use crate::answer::Answer;
 use crate::check::check_answer;
-use crate::command::{Command, CommandFault, read_command};
 use crate::completion::completion_answer;
 use crate::drive::drive_answer;
 use crate::event_explanation::{explain_events_answer, graph_events_answer};
@@ -32,6 +31,7 @@ use std::alloc::{AllocError, Global};
 use std::io::{Read, Write};
 use std::sync::Wait;
 use std::thread::Threads;
+use wm_command::{Command, CommandFault, read_command};
 use wm_decode::MAX_MODULE_BYTES;
 use wm_logfile::MAX_DOCUMENT_BYTES;
 use wm_stream::{StreamFault, answer_lines, write_text};

@@ -15,12 +15,12 @@ use std::fmt;
 use std::thread::Threads;
 use wm_check::{Certificate, Unread, Verdict, check_log, count_events, read_module};
 use wm_event::{Candidate, Initial, Judgement, Log, Witness};
-use wm_explain::event_sites;
 use wm_hb::{HappensBefore, Ordered};
 use wm_list::List;
 use wm_logfile::read_document;
 use wm_races::{FirstRaces, RacingPair, Site, SiteRace, first_races, races};
 use wm_rules::judge;
+use wm_sites::event_sites;
 use wm_valid::ValidModule;
 
 /// How many lines are printed at most.

@@ -1,6 +1,6 @@
 //! The command `trace`: a script is played over a module, and each of its turns is shown.
 ghost use Rattle.std.specs.Prelude.{◌≡◌, IfOk, Some, length, map, string_bytes};
-ghost use Rattle.wm_explain.specs.Sites.{AreSitesOf};
+ghost use Rattle.wm_sites.specs.Sites.{AreSitesOf};
 ghost use Rattle.wm_litmus.specs.Prints.{Gives, ended};
 ghost use Rattle.wm_litmus.specs.Trace.{AnswersTrace, ShowsTrace, TracesOver, before_text, done_text, from_text, ids_text, kind_event_text, keys_text, line_text, lines_text, order_text, pending_text, range_text, rest_text, turn_text};
 ghost use Rattle.wm_run.specs.declared.traced.TracedTurn.{TracedTurn};
@@ -12,11 +12,11 @@ use std::alloc::{AllocError, Global};
 use std::fmt;
 use wm_check::{Unread, Verdict, read_module};
 use wm_event::{Event, EventId, EventKey, EventKind};
-use wm_explain::position_sites;
 use wm_list::List;
 use wm_machine::CodePosition;
 use wm_races::Site;
 use wm_run::{Rest, Run, RunFault, Trace, TracedTurn, Turn, TurnDone, trace};
+use wm_sites::position_sites;
 use wm_valid::ValidModule;
 use wm_words::Script;
 

@@ -3,7 +3,7 @@ ghost use Rattle.std.specs.Prelude.{◌≡◌, ◌≢◌, ◌<◌, IfErr, IfOk, 
 ghost use Rattle.wm_event.specs.Fitting.{FitsLog};
 ghost use Rattle.wm_logfile.specs.Document.{IsWithinLimits};
 ghost use Rattle.wm_logfile.specs.DocumentBytes.{IsNoDocument, IsWrittenTooLarge};
-ghost use Rattle.wm_logfile.specs.Migration.{IsMigrated, IsMisplaced};
+ghost use Rattle.wm_logfile.specs.Migration.{IsMigrated, IsMisplaced, IsRewriteFault, IsRewritten};
 
 use crate::document::read_document;
 use crate::fault::DocFault;
@@ -24,6 +24,18 @@ pub fn migrate(alloc: Global, bytes: &[u8]) -> Result<String, DocFault>
         → IsNoDocument bytes.now e) }
 {
     let (log, witness) = read_document(alloc, bytes)?;
+    rewrite(alloc, log, witness)
+}
+
+/// The text in version 2 of a log with its witness.
+///
+/// # Errors
+///
+/// `Misplaced` where the witness doesn't fit the log; `OutOfMemory` where memory was refused.
+fn rewrite(alloc: Global, log: Log, witness: Witness) -> Result<String, DocFault>
+    ensures written { IfOk result (λ s. IsRewritten log witness (string_bytes s)) }
+    ensures refused { IfErr result (IsRewriteFault log witness) }
+{
     if !witness.fits(&log) {
         return Err(DocFault::Misplaced);
     }

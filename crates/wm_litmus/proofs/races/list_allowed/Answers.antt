@@ -1,7 +1,7 @@
 use Rattle.std.proofs.Common.{◌≡◌, length, min, take, sym, ap, ◌∙◌, subst, arith}
 use Rattle.std.proofs.lemmas.List.{take_min}
 use Rattle.std.proofs.lemmas.Result.{IfOk-weaker}
-use Rattle.wm_explain.specs.Sites.{AreEventSites}
+use Rattle.wm_sites.specs.Sites.{AreEventSites}
 use Rattle.wm_races.specs.Report.{HasSites}
 use Rattle.wm_litmus.proofs.races.list_allowed.Goals as goal
 

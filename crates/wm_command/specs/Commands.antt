@@ -1,0 +1,181 @@
+-- Which words are a command, by clap's own model of the parse.
+use Rattle.std.specs.Prelude.{◌≡◌, ◌⊎◌, true, List, [], ◌∷◌, ◌++◌, Option, None, Some, Contains, codes, fold, map}
+use Rattle.std.specs.List.{AllByRecursion}
+use Rattle.clap.specs.Lexer.{usize_max}
+use Rattle.clap.specs.Words.{AddsSubcommand, App, Row, Rule, Text, app_of, fault_of, first_of, found_of, new_app, new_rule, rows_of, subcommand_of, with_rule, with_subcommand}
+use Rattle.clap.specs.declared.builder.command.Command.{Command as Parser}
+use Rattle.clap.specs.declared.parser.matches.ArgMatches.{ArgMatches}
+use Rattle.clap.specs.declared.builder.action.ArgAction.TheVariants.{Append, Set}
+use Rattle.clap.specs.declared.error.kind.ErrorKind.{ErrorKind}
+use Rattle.clap.specs.declared.error.kind.ErrorKind.TheVariants as kind
+use Rattle.wm_command.specs.declared.command.Command.{Command}
+use Rattle.wm_command.specs.declared.command.Command.TheVariants.{Rules, Check, Migrate, Complete, Verify, Stream, Drive, Trace, Run, Races, EventRaces, Explain, ExplainEvents, Graph, GraphEvents, Help, Version}
+use Rattle.wm_command.specs.declared.command.CommandFault.{CommandFault}
+use Rattle.wm_command.specs.declared.command.CommandFault.TheVariants.{Words, OutOfMemory}
+
+abbrev pub fault_of_kind : ErrorKind → CommandFault
+fault_of_kind kind.OutOfMemory = OutOfMemory
+fault_of_kind _ = Words
+
+-- ---- the table of the commands
+
+-- a command's name, the words that it requires, in their order, the words that may follow these, and those of which any number may
+pub record Form : Type 0 where
+  pub name : Text
+  pub required : List Text
+  pub optional : List Text
+  pub repeated : List Text
+
+abbrev pub plain_form : Text → Form
+plain_form name = record { name = name; required = []; optional = []; repeated = [] }
+
+abbrev pub document_form : Text → Form
+document_form name = record { name = name; required = codes "document" ∷ []; optional = []; repeated = [] }
+
+abbrev pub module_form : Text → Form
+module_form name = record { name = name; required = codes "module" ∷ []; optional = []; repeated = [] }
+
+abbrev pub checked_form : Text → Form
+checked_form name = record { name = name; required = codes "module" ∷ codes "document" ∷ []; optional = []; repeated = [] }
+
+-- a document, or a module and a document
+abbrev pub log_form : Text → Form
+log_form name = record { name = name; required = codes "file" ∷ []; optional = codes "document" ∷ []; repeated = [] }
+
+-- a module, how its threads run, and what they start with
+abbrev pub started_form : Text → Text → Form
+started_form name how = record { name = name; required = codes "module" ∷ how ∷ []; optional = []; repeated = codes "start" ∷ [] }
+
+abbrev pub forms : List Form
+forms =
+    document_form (codes "rules")
+    ∷ checked_form (codes "check")
+    ∷ document_form (codes "migrate")
+    ∷ checked_form (codes "complete")
+    ∷ checked_form (codes "verify")
+    ∷ module_form (codes "stream")
+    ∷ started_form (codes "drive") (codes "turns")
+    ∷ started_form (codes "trace") (codes "turns")
+    ∷ started_form (codes "run") (codes "rounds")
+    ∷ log_form (codes "races")
+    ∷ log_form (codes "explain")
+    ∷ log_form (codes "graph")
+    ∷ plain_form (codes "help")
+    ∷ plain_form (codes "version")
+    ∷ []
+
+-- ---- the parser of the table
+
+-- a required word
+abbrev pub word_rule : Text → Rule
+word_rule id = record (new_rule id) { required = true; action = Some Set }
+
+-- a word that may be missing
+abbrev pub optional_rule : Text → Rule
+optional_rule id = record (new_rule id) { action = Some Set }
+
+-- any number of words
+abbrev pub any_words_rule : Text → Rule
+any_words_rule id = record (new_rule id) { range = Some record { start_inclusive = 0; end_inclusive = usize_max }; action = Some Append }
+
+abbrev pub form_app : Form → App
+form_app form = fold with_rule (new_app form.name) (map word_rule form.required ++ (map optional_rule form.optional ++ map any_words_rule form.repeated))
+
+abbrev pub with_form : App → Form → App
+with_form app form = with_subcommand app (form_app form).top
+
+-- a parser which, added to another, adds this command
+abbrev pub AddsAs : App → Parser → Type 0
+AddsAs added parser = (old more : Parser) → AddsSubcommand old parser more → app_of more ≡ with_subcommand (app_of old) added.top
+
+-- the program before it has commands: one of them is required, no name of the program precedes it, and there is neither a help flag nor a
+-- version flag
+abbrev pub empty_app : App
+empty_app = let a = new_app (codes "wmlab") in
+    record a { top = record a.top { disable_help_flag = true; disable_version_flag = true; no_binary_name = true; disable_help_subcommand = true; subcommand_required = true } }
+
+abbrev pub wmlab_app : App
+wmlab_app = fold with_form empty_app forms
+
+-- ---- the words of a command
+
+abbrev pub name_of : Command → Text
+name_of (Rules document) = codes "rules"
+name_of (Check file document) = codes "check"
+name_of (Migrate document) = codes "migrate"
+name_of (Complete file document) = codes "complete"
+name_of (Verify file document) = codes "verify"
+name_of (Stream file) = codes "stream"
+name_of (Drive file turns) = codes "drive"
+name_of (Trace file turns) = codes "trace"
+name_of (Run file rounds) = codes "run"
+name_of (Races file document) = codes "races"
+name_of (EventRaces document) = codes "races"
+name_of (Explain file document) = codes "explain"
+name_of (ExplainEvents document) = codes "explain"
+name_of (Graph file document) = codes "graph"
+name_of (GraphEvents document) = codes "graph"
+name_of Help = codes "help"
+name_of Version = codes "version"
+
+-- the name and the value of each word but those that may be repeated
+abbrev pub fields_of : Command → List (Text × Text)
+fields_of (Rules document) = (codes "document", document.now) ∷ []
+fields_of (Check file document) = (codes "module", file.now) ∷ (codes "document", document.now) ∷ []
+fields_of (Migrate document) = (codes "document", document.now) ∷ []
+fields_of (Complete file document) = (codes "module", file.now) ∷ (codes "document", document.now) ∷ []
+fields_of (Verify file document) = (codes "module", file.now) ∷ (codes "document", document.now) ∷ []
+fields_of (Stream file) = (codes "module", file.now) ∷ []
+fields_of (Drive file turns) = (codes "module", file.now) ∷ (codes "turns", turns.now) ∷ []
+fields_of (Trace file turns) = (codes "module", file.now) ∷ (codes "turns", turns.now) ∷ []
+fields_of (Run file rounds) = (codes "module", file.now) ∷ (codes "rounds", rounds.now) ∷ []
+fields_of (Races file document) = (codes "file", file.now) ∷ (codes "document", document.now) ∷ []
+fields_of (EventRaces document) = (codes "file", document.now) ∷ []
+fields_of (Explain file document) = (codes "file", file.now) ∷ (codes "document", document.now) ∷ []
+fields_of (ExplainEvents document) = (codes "file", document.now) ∷ []
+fields_of (Graph file document) = (codes "file", file.now) ∷ (codes "document", document.now) ∷ []
+fields_of (GraphEvents document) = (codes "file", document.now) ∷ []
+fields_of Help = []
+fields_of Version = []
+
+-- the words that a command of this name may have, and this one has not
+abbrev pub absent_of : Command → List Text
+absent_of (EventRaces document) = codes "document" ∷ []
+absent_of (ExplainEvents document) = codes "document" ∷ []
+absent_of (GraphEvents document) = codes "document" ∷ []
+absent_of command = []
+
+-- the values of a subcommand's words
+abbrev pub rows_in : ArgMatches → List Row
+rows_in words = rows_of (found_of words)
+
+-- the rows of a subcommand have these values
+abbrev pub HasFields : List Row → List (Text × Text) → Type 0
+HasFields rows fields = AllByRecursion (λ (field : Text × Text). first_of field.0 rows ≡ Some field.1) fields
+
+-- none of these words has a value among the rows
+abbrev pub LacksFields : List Row → List Text → Type 0
+LacksFields rows ids = AllByRecursion (λ id. first_of id rows ≡ None) ids
+
+-- one of these words has no value among the rows
+abbrev pub LacksField : List Row → List Text → Type 0
+LacksField rows [] = ⊥
+LacksField rows (id ∷ ids) = (first_of id rows ≡ None) ⊎ LacksField rows ids
+
+-- a subcommand of this name with these rows is this command
+abbrev pub IsNamed : Text → List Row → Command → Type 0
+IsNamed name rows command = (name ≡ name_of command) × HasFields rows (fields_of command) × LacksFields rows (absent_of command)
+
+-- the subcommand that was found, with the values of its words, is this command
+abbrev pub Means : Option (Text × List Row) → Command → Type 0
+Means found command =
+    (rows : List Row) × (found ≡ Some (name_of command, rows)) × HasFields rows (fields_of command) × LacksFields rows (absent_of command)
+
+-- the words are this command: the parse fails nowhere; `--`, which clap would take as the end of the options, is in none
+pub record IsCommand (words : List Text) (command : Command) : Type 0 where
+  pub plain : Contains words (codes "--") → ⊥
+  pub taken : fault_of wmlab_app words ≡ []
+  pub means : Means (subcommand_of wmlab_app words) command
+
+abbrev pub IsNoCommand : List Text → Type 0
+IsNoCommand words = (command : Command) → IsCommand words command → ⊥

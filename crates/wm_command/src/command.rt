@@ -1,0 +1,368 @@
+//! The command line.
+ghost use Rattle.std.specs.Prelude.{◌≡◌, ◌∷◌, [], false, Err, IfOk, IfSome, None, Some, fold, map};
+ghost use Rattle.clap.specs.Words.{app_of, first_of, kind_of, rule_of, subcommand_rows_of};
+ghost use Rattle.wm_command.specs.Commands.{AddsAs, HasFields, IsCommand, IsNamed, IsNoCommand, LacksField, Means, any_words_rule, checked_form, document_form, fault_of_kind, form_app, forms, log_form, module_form, optional_rule, plain_form, rows_in, started_form, with_form, wmlab_app, word_rule};
+ghost use Rattle.wm_command.specs.declared.command.Command.{Command};
+ghost use Rattle.wm_command.specs.declared.command.CommandFault.TheVariants.{OutOfMemory, Words};
+
+use clap::error::ErrorKind;
+use clap::{Arg, ArgAction, ArgMatches, Command as Parser, Error};
+use std::alloc::{AllocError, Global};
+
+/// What the program is to do.
+#[derive(Clone, Copy, Debug, PartialEq, Eq)]
+pub enum Command<'a> {
+    /// Judges the run of a document by the memory rules.
+    Rules { document: &'a str },
+    /// Checks the run of a document against a module.
+    Check { module: &'a str, document: &'a str },
+    /// Prints a document in version 2.
+    Migrate { document: &'a str },
+    /// Prints a document with the steps and the ends that its module gives it.
+    Complete { module: &'a str, document: &'a str },
+    /// Completes a document against its module, and checks it.
+    Verify { module: &'a str, document: &'a str },
+    /// Verifies each line of the input as a document against a module.
+    Stream { module: &'a str },
+    /// Plays a script over a module; the remaining words are what its threads start with.
+    Drive { module: &'a str, turns: &'a str },
+    /// Plays a script over a module, and shows each of its turns.
+    Trace { module: &'a str, turns: &'a str },
+    /// Makes this number of rounds of a module's threads; the remaining words are what these start with.
+    Run { module: &'a str, rounds: &'a str },
+    /// Checks a run against a module, and lists its data races by the instructions.
+    Races { module: &'a str, document: &'a str },
+    /// Judges a run by the memory rules, and lists its data races by the events.
+    EventRaces { document: &'a str },
+    /// Checks a run against a module, and says why the answer is what it is.
+    Explain { module: &'a str, document: &'a str },
+    /// Judges a run by the memory rules, and says why the answer is what it is.
+    ExplainEvents { document: &'a str },
+    /// Checks a run against a module, and draws it.
+    Graph { module: &'a str, document: &'a str },
+    /// Judges a run by the memory rules, and draws it.
+    GraphEvents { document: &'a str },
+    /// Prints how the program is used.
+    Help,
+    /// Prints the version.
+    Version,
+}
+
+/// Why the words are no command.
+#[derive(Clone, Copy, Debug, PartialEq, Eq)]
+pub enum CommandFault {
+    Words,
+    OutOfMemory,
+}
+
+impl From<AllocError> for CommandFault {
+    ghost from_gives = { λ _ fault. fault ≡ OutOfMemory };
+
+    fn from(_refused: AllocError) -> CommandFault {
+        CommandFault::OutOfMemory
+    }
+}
+
+impl From<Error> for CommandFault {
+    ghost from_gives = { λ error fault. fault ≡ fault_of_kind (kind_of error) };
+
+    fn from(error: Error) -> CommandFault {
+        match error.kind() {
+            ErrorKind::OutOfMemory => CommandFault::OutOfMemory,
+            _ => CommandFault::Words,
+        }
+    }
+}
+
+/// A word that has to stand.
+fn word<'a>(alloc: Global, name: &'a str) -> Arg<'a>
+    ensures rule { rule_of result ≡ word_rule name.now }
+    ensures own { result.global ≡ false }
+{
+    Arg::new(alloc, name).required(true).action(ArgAction::Set)
+}
+
+/// A word that may stand.
+fn optional_word<'a>(alloc: Global, name: &'a str) -> Arg<'a>
+    ensures rule { rule_of result ≡ optional_rule name.now }
+    ensures own { result.global ≡ false }
+{
+    Arg::new(alloc, name).action(ArgAction::Set)
+}
+
+/// Words of which any number may stand.
+fn any_words<'a>(alloc: Global, name: &'a str) -> Arg<'a>
+    ensures rule { rule_of result ≡ any_words_rule name.now }
+    ensures own { result.global ≡ false }
+{
+    Arg::new(alloc, name)
+        .num_args(0..)
+        .action(ArgAction::Append)
+}
+
+/// A command without words.
+fn plain_parser<'a>(alloc: Global, name: &'a str) -> Parser<'a>
+    ensures { AddsAs (form_app (plain_form name.now)) result }
+{
+    Parser::new(alloc, name)
+}
+
+/// A command of a document.
+fn document_parser<'a>(alloc: Global, name: &'a str) -> Result<Parser<'a>, AllocError>
+    ensures { IfOk result (AddsAs (form_app (document_form name.now))) }
+{
+    Parser::new(alloc, name).arg(word(alloc, "document"))
+}
+
+/// A command of a module.
+fn module_parser<'a>(alloc: Global, name: &'a str) -> Result<Parser<'a>, AllocError>
+    ensures { IfOk result (AddsAs (form_app (module_form name.now))) }
+{
+    Parser::new(alloc, name).arg(word(alloc, "module"))
+}
+
+/// A command of a module and a document.
+fn checked_parser<'a>(alloc: Global, name: &'a str) -> Result<Parser<'a>, AllocError>
+    ensures { IfOk result (AddsAs (form_app (checked_form name.now))) }
+{
+    Parser::new(alloc, name)
+        .arg(word(alloc, "module"))?
+        .arg(word(alloc, "document"))
+}
+
+/// A command of a document, or of a module and a document.
+fn log_parser<'a>(alloc: Global, name: &'a str) -> Result<Parser<'a>, AllocError>
+    ensures { IfOk result (AddsAs (form_app (log_form name.now))) }
+{
+    Parser::new(alloc, name)
+        .arg(word(alloc, "file"))?
+        .arg(optional_word(alloc, "document"))
+}
+
+/// A command of a module, a word `how`, and what threads start with.
+fn started_parser<'a>(alloc: Global, name: &'a str, how: &'a str) -> Result<Parser<'a>, AllocError>
+    ensures { IfOk result (AddsAs (form_app (started_form name.now how.now))) }
+{
+    Parser::new(alloc, name)
+        .arg(word(alloc, "module"))?
+        .arg(word(alloc, how))?
+        .arg(any_words(alloc, "start"))
+}
+
+/// Adds a command without words.
+fn with_plain<'a>(
+    alloc: Global,
+    parser: Parser<'a>,
+    name: &'a str,
+) -> Result<Parser<'a>, AllocError>
+    ensures { IfOk result (λ more. app_of more ≡ with_form (app_of parser.entry) (plain_form name.now)) }
+{
+    parser.subcommand(plain_parser(alloc, name))
+}
+
+/// Adds a command of a document.
+fn with_document<'a>(
+    alloc: Global,
+    parser: Parser<'a>,
+    name: &'a str,
+) -> Result<Parser<'a>, AllocError>
+    ensures { IfOk result (λ more. app_of more ≡ with_form (app_of parser.entry) (document_form name.now)) }
+{
+    parser.subcommand(document_parser(alloc, name)?)
+}
+
+/// Adds a command of a module.
+fn with_module<'a>(
+    alloc: Global,
+    parser: Parser<'a>,
+    name: &'a str,
+) -> Result<Parser<'a>, AllocError>
+    ensures { IfOk result (λ more. app_of more ≡ with_form (app_of parser.entry) (module_form name.now)) }
+{
+    parser.subcommand(module_parser(alloc, name)?)
+}
+
+/// Adds a command of a module and a document.
+fn with_checked<'a>(
+    alloc: Global,
+    parser: Parser<'a>,
+    name: &'a str,
+) -> Result<Parser<'a>, AllocError>
+    ensures { IfOk result (λ more. app_of more ≡ with_form (app_of parser.entry) (checked_form name.now)) }
+{
+    parser.subcommand(checked_parser(alloc, name)?)
+}
+
+/// Adds a command of a document, or of a module and a document.
+fn with_log<'a>(alloc: Global, parser: Parser<'a>, name: &'a str) -> Result<Parser<'a>, AllocError>
+    ensures { IfOk result (λ more. app_of more ≡ with_form (app_of parser.entry) (log_form name.now)) }
+{
+    parser.subcommand(log_parser(alloc, name)?)
+}
+
+/// Adds a command of a module, a word `how`, and what threads start with.
+fn with_started<'a>(
+    alloc: Global,
+    parser: Parser<'a>,
+    name: &'a str,
+    how: &'a str,
+) -> Result<Parser<'a>, AllocError>
+    ensures { IfOk result (λ more. app_of more ≡ with_form (app_of parser.entry) (started_form name.now how.now)) }
+{
+    parser.subcommand(started_parser(alloc, name, how)?)
+}
+
+/// Adds each command, in the order of the table.
+fn with_commands<'a>(alloc: Global, parser: Parser<'a>) -> Result<Parser<'a>, AllocError>
+    ensures { IfOk result (λ more. app_of more ≡ fold with_form (app_of parser.entry) forms) }
+{
+    let parser = with_document(alloc, parser, "rules")?;
+    let parser = with_checked(alloc, parser, "check")?;
+    let parser = with_document(alloc, parser, "migrate")?;
+    let parser = with_checked(alloc, parser, "complete")?;
+    let parser = with_checked(alloc, parser, "verify")?;
+    let parser = with_module(alloc, parser, "stream")?;
+    let parser = with_started(alloc, parser, "drive", "turns")?;
+    let parser = with_started(alloc, parser, "trace", "turns")?;
+    let parser = with_started(alloc, parser, "run", "rounds")?;
+    let parser = with_log(alloc, parser, "races")?;
+    let parser = with_log(alloc, parser, "explain")?;
+    let parser = with_log(alloc, parser, "graph")?;
+    let parser = with_plain(alloc, parser, "help")?;
+    with_plain(alloc, parser, "version")
+}
+
+/// The commands and their words.
+fn parser<'a>(alloc: Global) -> Result<Parser<'a>, AllocError>
+    ensures { IfOk result (λ parser. app_of parser ≡ wmlab_app) }
+{
+    let parser = Parser::new(alloc, "wmlab")
+        .disable_help_flag(true)
+        .disable_version_flag(true)
+        .no_binary_name(true)
+        .disable_help_subcommand(true)
+        .subcommand_required(true);
+    with_commands(alloc, parser)
+}
+
+/// The value of a required word.
+fn one_word<'a>(words: &ArgMatches<'a>, name: &str) -> Option<&'a str>
+    ensures some { IfSome result (λ value. first_of name.now (rows_in words.now) ≡ Some value.now) }
+    ensures none { result ≡ None → LacksField (rows_in words.now) (name.now ∷ []) }
+{
+    words.get_str(name)
+}
+
+/// The values of two required words.
+fn two_words<'a>(words: &ArgMatches<'a>, first: &str, second: &str) -> Option<(&'a str, &'a str)>
+    ensures some { IfSome result (λ both. HasFields (rows_in words.now) ((first.now, both.0.now) ∷ (second.now, both.1.now) ∷ [])) }
+    ensures none { result ≡ None → LacksField (rows_in words.now) (first.now ∷ second.now ∷ []) }
+{
+    let one = words.get_str(first)?;
+    let two = words.get_str(second)?;
+    Some((one, two))
+}
+
+/// The command of this name, with its words.
+fn command_of<'a>(name: &str, words: &ArgMatches<'a>) -> Option<Command<'a>>
+    ensures some { IfSome result (IsNamed name.now (rows_in words.now)) }
+    ensures none { result ≡ None → (command : Command) → IsNamed name.now (rows_in words.now) command → ⊥ }
+{
+    match name {
+        "rules" => {
+            let document = one_word(words, "document")?;
+            Some(Command::Rules { document })
+        }
+        "check" => {
+            let (module, document) = two_words(words, "module", "document")?;
+            Some(Command::Check { module, document })
+        }
+        "migrate" => {
+            let document = one_word(words, "document")?;
+            Some(Command::Migrate { document })
+        }
+        "complete" => {
+            let (module, document) = two_words(words, "module", "document")?;
+            Some(Command::Complete { module, document })
+        }
+        "verify" => {
+            let (module, document) = two_words(words, "module", "document")?;
+            Some(Command::Verify { module, document })
+        }
+        "stream" => {
+            let module = one_word(words, "module")?;
+            Some(Command::Stream { module })
+        }
+        "drive" => {
+            let (module, turns) = two_words(words, "module", "turns")?;
+            Some(Command::Drive { module, turns })
+        }
+        "trace" => {
+            let (module, turns) = two_words(words, "module", "turns")?;
+            Some(Command::Trace { module, turns })
+        }
+        "run" => {
+            let (module, rounds) = two_words(words, "module", "rounds")?;
+            Some(Command::Run { module, rounds })
+        }
+        "races" => {
+            let file = one_word(words, "file")?;
+            match one_word(words, "document") {
+                Some(document) => Some(Command::Races {
+                    module: file,
+                    document,
+                }),
+                None => Some(Command::EventRaces { document: file }),
+            }
+        }
+        "explain" => {
+            let file = one_word(words, "file")?;
+            match one_word(words, "document") {
+                Some(document) => Some(Command::Explain {
+                    module: file,
+                    document,
+                }),
+                None => Some(Command::ExplainEvents { document: file }),
+            }
+        }
+        "graph" => {
+            let file = one_word(words, "file")?;
+            match one_word(words, "document") {
+                Some(document) => Some(Command::Graph {
+                    module: file,
+                    document,
+                }),
+                None => Some(Command::GraphEvents { document: file }),
+            }
+        }
+        "help" => Some(Command::Help),
+        "version" => Some(Command::Version),
+        _ => None,
+    }
+}
+
+/// The command that was named, with its words.
+fn named<'a>(matches: &ArgMatches<'a>) -> Option<Command<'a>>
+    ensures some { IfSome result (Means (subcommand_rows_of matches.now)) }
+    ensures none { result ≡ None → (command : Command) → Means (subcommand_rows_of matches.now) command → ⊥ }
+{
+    let (name, words) = matches.subcommand()?;
+    command_of(name, words)
+}
+
+/// The command that `words`, those after the program's name, are by clap's model of the parse. A word other than `-`
+/// that begins with `-` is in none.
+pub fn read_command<'a>(alloc: Global, words: &'a [&'a str]) -> Result<Command<'a>, CommandFault>
+    ensures read { IfOk result (IsCommand (map (λ word. word.now) words.now)) }
+    ensures refused { result ≡ Err Words → IsNoCommand (map (λ word. word.now) words.now) }
+{
+    // clap takes `--` as the end of the options.
+    if words.contains(&"--") {
+        return Err(CommandFault::Words);
+    }
+    let matches = parser(alloc)?.try_get_matches_from(words)?;
+    match named(&matches) {
+        Some(command) => Ok(command),
+        None => Err(CommandFault::Words),
+    }
+}

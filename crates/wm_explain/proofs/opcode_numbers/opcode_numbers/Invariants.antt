@@ -1,8 +1,0 @@
-use Rattle.std.proofs.Common.{reverse}
-use Rattle.wm_explain.specs.Numbering.{HasNumbers}
-use Rattle.wm_explain.proofs.Unnumbered.{IsNumberedOn}
-use Rattle.wm_explain.proofs.opcode_numbers.opcode_numbers.Given as goal
-
--- the table has numbers of opcodes, and what is left, from the top of the stack on, has the numbers from the next on
-abbrev pub invariant-loop-number : goal.invariant-loop-number
-invariant-loop-number l = record { noted : HasNumbers l.blocks l.numbers.items; left : IsNumberedOn l.blocks l.number (reverse l.open_blocks.items) }

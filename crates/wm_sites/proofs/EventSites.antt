@@ -1,0 +1,99 @@
+-- The positions and the sites of a log's events, thread by thread.
+use Rattle.std.proofs.Common.{◌≡◌, ℕ, ◌+◌, ◌<◌, ◌≤◌, List, [], ◌∷◌, ◌++◌, length, get_or, map, Option, Some, None, option_map, Result, Ok, refl, sym, ap, subst, ◌∙◌, inl, inr, length-append, arith}
+use Rattle.std.proofs.lemmas.List.{length-map}
+use Rattle.std.specs.Prelude.{IfSome, slice_get, unwrap_or}
+use Rattle.std.proofs.lemmas.Option.{option_and_then_some, same_Some, slice_get-get_or, slice_get-map}
+use Rattle.wm_ast.specs.declared.module.Module.{Module}
+use Rattle.wm_event.specs.declared.event.Event.{Event}
+use Rattle.wm_event.specs.declared.event.EventKey.{EventKey}
+use Rattle.wm_event.specs.declared.log.ThreadLog.{ThreadLog}
+use Rattle.wm_event.specs.Event.{key_of}
+use Rattle.wm_event.specs.Log.{HasKeys, event_in}
+use Rattle.wm_event.proofs.WritesLemmas.{each_more}
+use Rattle.wm_machine.specs.declared.thread.CodePosition.{CodePosition}
+use Rattle.wm_races.specs.declared.site.Site.{Site}
+use Rattle.wm_races.specs.Report.{site_in}
+use Rattle.wm_sites.specs.Sites.{AreFollowed, AreLogPositions, ArePositionsOf, ArePositionsIn, AreSitesOf, AreThreadSites, IsSiteAt, IsSiteMade, IsSiteOf, IsSiteOrFirst, first_site, position_in}
+
+pub one_more : {X : Type 0} (n : ℕ) (xs new : List X) (x : X) → length xs ≡ n → new ≡ xs ++ x ∷ [] → length new ≡ n + 1
+one_more n xs new x count is = ap length is ∙ length-append xs (x ∷ []) ∙ ap (λ (k : ℕ). k + 1) count
+
+pub positions_more : (m : Module) (log : List ThreadLog) (table new : List (List CodePosition)) (n : ℕ) (t : ThreadLog) (positions : List CodePosition) → length table ≡ n → ArePositionsIn m log table
+    → slice_get log n ≡ Some t → ArePositionsOf m n t positions → new ≡ table ++ positions ∷ [] → (length new ≡ n + 1) × ArePositionsIn m log new
+positions_more m log table new n t positions count each is one more = (
+  one_more n table new positions count more,
+  subst (ArePositionsIn m log) (sym more)
+      (each_more (λ k found. (u : ThreadLog) → slice_get log k ≡ Some u → ArePositionsOf m k u found) table positions each
+      (λ u at.
+      let at_n : slice_get log n ≡ Some u = ap (slice_get log) (sym count) ∙ at in
+      subst (λ k. ArePositionsOf m k u positions) (sym count) (subst (λ v. ArePositionsOf m n v positions) (same_Some t u (sym is ∙ at_n)) one))),
+)
+
+-- the sites of the first threads
+abbrev pub AreSitesIn : Module → List (List CodePosition) → List ThreadLog → List (List Site) → Type 0
+AreSitesIn m table log sites = (k : ℕ) (own : List Site) → slice_get sites k ≡ Some own → (t : ThreadLog) → slice_get log k ≡ Some t → AreThreadSites m table t.events own
+
+pub sites_more : (m : Module) (table : List (List CodePosition)) (log : List ThreadLog) (sites new : List (List Site)) (n : ℕ) (t : ThreadLog) (own : List Site) → length sites ≡ n → AreSitesIn m table log sites
+    → slice_get log n ≡ Some t → AreThreadSites m table t.events own → new ≡ sites ++ own ∷ [] → (length new ≡ n + 1) × AreSitesIn m table log new
+sites_more m table log sites new n t own count each is one more = (
+  one_more n sites new own count more,
+  subst (AreSitesIn m table log) (sym more)
+      (each_more (λ k found. (u : ThreadLog) → slice_get log k ≡ Some u → AreThreadSites m table u.events found) sites own each
+      (λ u at.
+      let at_n : slice_get log n ≡ Some u = ap (slice_get log) (sym count) ∙ at in subst (λ (v : ThreadLog). AreThreadSites m table v.events own) (same_Some t u (sym is ∙ at_n)) one)),
+)
+
+pub thread_sites_more : (m : Module) (table : List (List CodePosition)) (events : List Event) (sites new : List Site) (n : ℕ) (e : Event) (site : Site) → length sites ≡ n → AreThreadSites m table events sites
+    → slice_get events n ≡ Some e → IsSiteAt m (position_in table (key_of e)) site → new ≡ sites ++ site ∷ [] → AreThreadSites m table events new
+thread_sites_more m table events sites new n e site count each is one more =
+    subst (AreThreadSites m table events) (sym more)
+    (each_more (λ k found. (f : Event) → slice_get events k ≡ Some f → IsSiteAt m (position_in table (key_of f)) found) sites site each
+    (λ f at.
+    let at_n : slice_get events n ≡ Some f = ap (slice_get events) (sym count) ∙ at in subst (λ (x : Event). IsSiteAt m (position_in table (key_of x)) site) (same_Some e f (sym is ∙ at_n)) one))
+
+pub position_sites_more : (m : Module) (positions : List CodePosition) (sites new : List Site) (n : ℕ) (p : CodePosition) (site : Site) → length sites ≡ n → AreSitesOf m positions sites → slice_get positions n ≡ Some p
+    → IsSiteOrFirst m p site → new ≡ sites ++ site ∷ [] → AreSitesOf m positions new
+position_sites_more m positions sites new n p site count each is one more =
+    subst (AreSitesOf m positions) (sym more)
+    (each_more (λ k found. (q : CodePosition) → slice_get positions k ≡ Some q → IsSiteOrFirst m q found) sites site each
+    (λ q at.
+    let at_n : slice_get positions n ≡ Some q = ap (slice_get positions) (sym count) ∙ at in subst (λ (x : CodePosition). IsSiteOrFirst m x site) (same_Some p q (sym is ∙ at_n)) one))
+
+first_at : (m : Module) (o : Option CodePosition) → IsSiteAt m o first_site
+first_at m None = refl
+first_at m (Some p) = inr refl
+
+-- the site that was found, or else the first
+pub site_or_first : (m : Module) (table : List (List CodePosition)) (key : EventKey) (found : Option Site) → IfSome found (IsSiteMade m table key) → IsSiteAt m (position_in table key) (unwrap_or found first_site)
+site_or_first m table key None h = first_at m (position_in table key)
+site_or_first m table key (Some site) h = subst (λ (o : Option CodePosition). IsSiteAt m o site) (sym h.1) (inl h.2)
+
+pub found_or_first : (m : Module) (p : CodePosition) (found : Option Site) → IfSome found (IsSiteOf m p) → IsSiteOrFirst m p (unwrap_or found first_site)
+found_or_first m p None h = inr refl
+found_or_first m p (Some site) h = inl h
+
+pub event_site : (m : Module) (table : List (List CodePosition)) (log : List ThreadLog) (sites : List (List Site)) → HasKeys log → AreSitesIn m table log sites → (key : EventKey) (e : Event) (site : Site)
+    → event_in log key ≡ Some e → site_in sites key ≡ Some site → IsSiteAt m (position_in table key) site
+event_site m table log sites keys each key e site at is =
+    option_and_then_some (λ (thread : ThreadLog). slice_get thread.events key.number) (slice_get log key.thread) e at λ t is_t at_e.
+    option_and_then_some (λ (own : List Site). slice_get own key.number) (slice_get sites key.thread) site is λ own is_own at_site.
+    subst (λ (k : EventKey). IsSiteAt m (position_in table k) site) same (each key.thread own is_own t is_t key.number site at_site e at_e)
+  where
+    same : key_of e ≡ key
+    same =
+        ap (λ (x : ℕ). record { thread = x; number = e.number }) (keys key e at).0 ∙ ap (λ (x : ℕ). record { thread = key.thread; number = x }) (keys key e at).1
+
+pub all_counted : {X : Type 0} (log items : List ThreadLog) (table : List X) (n : ℕ) → items ≡ log → length items ≤ n → n ≤ length items → length table ≡ n → length table ≡ length log
+all_counted log items table n is past within count = let same : length items ≡ length log = ap length is in omega (arith, same)
+
+-- the event whose key is asked for
+pub event_at : (events items : List Event) (n : ℕ) (d : Event) (key : EventKey) → items ≡ events → n < length items → key ≡ key_of (get_or items n d) → (e : Event) × (slice_get events n ≡ Some e) × (key ≡ key_of e)
+event_at events items n d key is within same =
+    (get_or items n d, subst (λ (xs : List Event). slice_get xs n ≡ Some (get_or items n d)) is (slice_get-get_or items n d within), same)
+
+-- answers without a refusal are where the threads make their events
+pub none_refused : {E : Type 0} (m : Module) (log : List ThreadLog) (answers : List (Result (List CodePosition) E)) (table : List (List CodePosition)) → map Ok table ≡ answers → AreFollowed m log answers → AreLogPositions m log table
+none_refused m log answers table all followed = record {
+  count = sym (length-map table Ok) ∙ ap length all ∙ followed.count;
+  each = λ k positions is. followed.each k positions (ap (λ xs. slice_get xs k) (sym all) ∙ slice_get-map Ok table k ∙ ap (option_map Ok) is);
+}

@@ -1,0 +1,25 @@
+use Rattle.std.proofs.Common.{◌≡◌, ◌∷◌, [], ◌++◌, List, length, refl, ap, ◌∙◌}
+use Rattle.std.proofs.lemmas.Option.{slice_get_read}
+use Rattle.std.specs.Prelude.{Some, slice_get}
+use Rattle.wm_sites.specs.Numbering.{begin_of}
+use Rattle.wm_sites.specs.declared.opcode_numbers.BlockPosition.{BlockPosition}
+use Rattle.wm_sites.proofs.Unnumbered.{numbering_begun, numbering_more}
+use Rattle.wm_sites.proofs.opcode_numbers.opcode_numbers.Goals as goal
+
+pub loop-number-init : goal.loop-number-init
+loop-number-init c =
+    let one = ap (λ (xs : List BlockPosition). xs ++ begin_of 0 ∷ []) c.new-open_blocks.ensures.items in
+    let begun = numbering_begun c.args.blocks.now c.in_ok-numbers.numbers.items c.push.new.self.items c.in_ok-numbers.ensures (c.in_ok-push.ensures.items ∙ one) in
+    record { noted = begun.0; left = begun.1 }
+
+pub loop-number-preserved : goal.loop-number-preserved
+loop-number-preserved c =
+    let here = c.in-Some.here in
+    let body = c.in-Some-get.block.now in
+    let found = c.in-Some-get.ensures.lookup in
+    let is : slice_get c.args.blocks.now here.block ≡ Some body = slice_get_read c.args.blocks.now (length c.args.blocks.now) here.block body refl found.3.0 found.1 in
+    let more =
+    numbering_more c.args.blocks.now c.loop-number.numbers.items c.note.new.table.items c.loop-number.number c.loop-number.open_blocks.items c.pop.new.self.items c.go_past.new.open_blocks.items here body
+    c.loop-number.invariant.noted c.loop-number.invariant.left c.in-Some.ensures.items is c.note.ensures c.in_ok-go_past.ensures
+    in
+    record { noted = more.0; left = more.1 }

@@ -1,0 +1,63 @@
+-- The number of a position in a function's code, in the order of the text.
+use Rattle.std.specs.Prelude.{◌≡◌, ℕ, ◌+◌, ◌⊎◌, List, [], ◌∷◌, ◌++◌, Option, Some, None, Vec, map, option_and_then, slice_get}
+use Rattle.std.specs.declared.alloc.Global.{Global}
+use Rattle.wm_ast.specs.declared.instr.Instr.{Instr}
+use Rattle.wm_valid.specs.Locations.{Part, parts, Opcodes}
+use Rattle.wm_sites.specs.declared.opcode_numbers.BlockPosition.{BlockPosition}
+use Rattle.wm_sites.specs.declared.opcode_numbers.OpcodeNumbers.{OpcodeNumbers}
+
+abbrev pub begin_of : ℕ → BlockPosition
+begin_of block = record { block = block; at = 0 }
+
+abbrev pub next_of : BlockPosition → BlockPosition
+next_of p = record { block = p.block; at = p.at + 1 }
+
+-- in these blocks and then the instructions from position p on to the end of its block, opcode k is at position q: the instruction there, or the
+-- `else` or `end` after the block
+pub data IsNumberedFrom (blocks : List (List Instr)) : BlockPosition → List Part → List Instr → BlockPosition → ℕ → Type 0 where
+  here : {p : BlockPosition} {rest : List Instr} → IsNumberedFrom blocks p [] rest p 0
+  behind : {p q : BlockPosition} {first : Instr} {rest : List Instr} {k : ℕ} → IsNumberedFrom blocks (next_of p) (parts first) rest q k → IsNumberedFrom blocks p [] (first ∷ rest) q (1 + k)
+  in_part : {p q : BlockPosition} {part : Part} {ps : List Part} {rest : List Instr} {k : ℕ} (body : List Instr) → slice_get blocks part.block ≡ Some body
+      → IsNumberedFrom blocks (begin_of part.block) [] body q k → IsNumberedFrom blocks p (part ∷ ps) rest q k
+  past_part : {p q : BlockPosition} {part : Part} {ps : List Part} {rest : List Instr} {j k : ℕ} (body : List Instr) → slice_get blocks part.block ≡ Some body
+      → Opcodes blocks [] body j → IsNumberedFrom blocks p ps rest q k → IsNumberedFrom blocks p (part ∷ ps) rest q (j + 1 + k)
+
+-- opcode k of the function with these blocks is at this position
+pub record IsNumbered (blocks : List (List Instr)) (q : BlockPosition) (k : ℕ) : Type 0 where
+  pub body : List Instr
+  pub is_body : slice_get blocks 0 ≡ Some body
+  pub numbered : IsNumberedFrom blocks (begin_of 0) [] body q k
+
+-- ---- a table of numbers
+
+-- the number that a table has at a position
+abbrev pub number_in : List (Vec (Option ℕ) Global) → BlockPosition → Option ℕ
+number_in table q = option_and_then (λ (places : Vec (Option ℕ) Global). option_and_then (λ (n : Option ℕ). n) (slice_get places.items q.at)) (slice_get table q.block)
+
+abbrev pub number_at : OpcodeNumbers → BlockPosition → Option ℕ
+number_at numbers q = number_in numbers.numbers.items q
+
+-- each number is that of an opcode at its position
+abbrev pub HasNumbers : List (List Instr) → List (Vec (Option ℕ) Global) → Type 0
+HasNumbers blocks table = (q : BlockPosition) (k : ℕ) → number_in table q ≡ Some k → IsNumbered blocks q k
+
+abbrev pub AreNumbers : List (List Instr) → OpcodeNumbers → Type 0
+AreNumbers blocks numbers = HasNumbers blocks numbers.numbers.items
+
+-- the table has its numbers, and at p maybe this one
+abbrev pub Notes : List (Vec (Option ℕ) Global) → List (Vec (Option ℕ) Global) → BlockPosition → ℕ → Type 0
+Notes old new p number = (q : BlockPosition) (k : ℕ) → number_in new q ≡ Some k → (number_in old q ≡ Some k) ⊎ ((q ≡ p) × (k ≡ number))
+
+-- ---- what is left to number
+
+-- where the blocks of an instruction begin
+abbrev pub begins_of : Instr → List BlockPosition
+begins_of i = map (λ (part : Part). begin_of part.block) (parts i)
+
+-- where an opcode's followers stand, up to the end of its block: in the blocks of an instruction first
+abbrev pub followers : Option Instr → BlockPosition → List BlockPosition
+followers None p = []
+followers (Some i) p = begins_of i ++ next_of p ∷ []
+
+abbrev pub behind_of : List Instr → BlockPosition → List BlockPosition
+behind_of body p = followers (slice_get body p.at) p

@@ -1,0 +1,223 @@
+//! The numbers and the byte offsets of a module's instructions.
+ghost use Rattle.std.specs.Prelude.{◌≡◌, IfOk, IfSome, Some, slice_get};
+ghost use Rattle.wm_sites.specs.Numbering.{number_at};
+ghost use Rattle.wm_sites.specs.Sites.{AreFunctionMaps, IsFunctionMap, IsOpcodeAt, IsSiteOf, PutsMap, in_32_bits};
+
+use crate::module_code::ModuleCode;
+use crate::opcode_numbers::{BlockPosition, OpcodeNumbers, opcode_numbers};
+use std::alloc::{AllocError, Global};
+use std::marker::Model;
+use wm_ast::Module;
+use wm_decode::MAX_MODULE_BYTES;
+use wm_machine::CodePosition;
+use wm_module_bytes::{ByteReader, Opcode, immediates_of, skip_immediates};
+use wm_races::Site;
+
+/// The number of the code section (Core 1.0, section 5.5.2).
+const CODE_SECTION: u8 = 10;
+
+/// Where the contents of the code section begin.
+fn code_section(bytes: &[u8]) -> Option<usize> {
+    let mut reader = ByteReader::at_sections(bytes);
+    for _ in 0..bytes.len() {
+        let section = reader.section()?;
+        if section.id == CODE_SECTION {
+            return Some(section.start);
+        }
+    }
+    None
+}
+
+/// Where the body of each function begins among the bytes of a module, after its size; as many as can be read.
+fn body_offsets(alloc: Global, bytes: &[u8]) -> Result<Vec<usize>, AllocError> {
+    let mut bodies = Vec::new(alloc);
+    let Some(start) = code_section(bytes) else {
+        return Ok(bodies);
+    };
+    let mut reader = ByteReader { bytes, at: start };
+    let count = reader.number().unwrap_or(0);
+    for _ in 0..count {
+        let Some(size) = reader.number() else { break };
+        bodies.push(reader.at)?;
+        reader.skip(size);
+    }
+    Ok(bodies)
+}
+
+/// Leaves out the declarations of a body's locals (Core 1.0, section 5.4.9).
+fn skip_locals(reader: &mut ByteReader) -> Option<()> {
+    let count = reader.number()?;
+    for _ in 0..count {
+        reader.skip_number()?;
+        reader.skip(1);
+    }
+    Some(())
+}
+
+/// Leaves out an instruction, without the blocks in it.
+fn skip_instruction(reader: &mut ByteReader) -> Option<()> {
+    let opcode = Opcode::read(reader)?;
+    let immediates = immediates_of(opcode)?;
+    skip_immediates(reader, immediates)
+}
+
+/// Where each of so many opcodes of a body begins among the bytes of its module; as many as can be read.
+fn opcode_offsets(
+    alloc: Global,
+    bytes: &[u8],
+    body: usize,
+    count: usize,
+) -> Result<Vec<usize>, AllocError> {
+    let mut offsets = Vec::new(alloc);
+    let mut reader = ByteReader { bytes, at: body };
+    if skip_locals(&mut reader).is_none() {
+        return Ok(offsets);
+    }
+    for _ in 0..count.min(MAX_MODULE_BYTES) {
+        offsets.push(reader.at)?;
+        if skip_instruction(&mut reader).is_none() {
+            break;
+        }
+    }
+    Ok(offsets)
+}
+
+/// The opcodes of a function.
+#[derive(Drop)]
+struct FunctionMap {
+    numbers: OpcodeNumbers,
+    /// By its number where an opcode begins among the bytes of the module.
+    offsets: Vec<usize>,
+}
+
+impl FunctionMap {
+    /// The number of an opcode and where it begins, if it is one of the function.
+    fn opcode(&self, position: BlockPosition) -> Option<(usize, usize)>
+        ensures { IfSome result (λ found. number_at self.now.numbers position ≡ Some found.0) }
+    {
+        let number = self.numbers.at(position)?;
+        let offset = self.offsets.get(number).copied()?;
+        Some((number, offset))
+    }
+}
+
+/// No function read yet.
+fn unread(alloc: Global, module: &Module) -> Result<Vec<Option<FunctionMap>>, AllocError>
+    ensures { IfOk result (λ maps. AreFunctionMaps «module».now maps.items) }
+{
+    let mut functions = Vec::new(alloc);
+    for _func in module.funcs.as_slice() {
+        functions.push(None)?;
+    }
+    Ok(functions)
+}
+
+/// Puts down what a function is read as.
+fn put(functions: &mut Vec<Option<FunctionMap>>, function: usize, read: Option<FunctionMap>)
+    ensures { PutsMap functions.old.items functions.new.items function read }
+{
+    if let Some(place) = functions.get_mut(function) {
+        *place = read;
+    }
+}
+
+/// A number, or the greatest of 32 bits.
+fn in_32_bits(number: usize) -> u32
+    ensures { result ≡ in_32_bits number }
+{
+    u32::try_from(number).unwrap_or(u32::MAX)
+}
+
+/// The instructions of a module by their positions. Each function is read when its first position is asked for. Contracts see
+/// it as the module.
+#[derive(Drop)]
+pub struct CodeMap<'m> {
+    alloc: Global,
+    module: &'m Module,
+    bytes: &'m [u8],
+    /// Where the body of each function begins among the bytes.
+    bodies: Vec<usize>,
+    functions: Vec<Option<FunctionMap>>,
+}
+
+impl<'m> Model for CodeMap<'m> {
+    ghost use Rattle.wm_ast.specs.declared.module.Module.{Module as Seen};
+    ghost use Rattle.wm_sites.specs.Sites.{AreFunctionMaps};
+
+    ghost Value = { Seen };
+
+    ghost view = { λ map. map.module.now };
+
+    ghost invariant = { λ map. AreFunctionMaps map.module.now map.functions.items };
+}
+
+impl<'m> CodeMap<'m> {
+    /// The map of a module.
+    ///
+    /// # Errors
+    ///
+    /// Only if an allocation fails.
+    pub fn new(alloc: Global, code: ModuleCode<'m>) -> Result<Self, AllocError>
+        ensures { IfOk result (λ map. map ≡ code.exit.module.now) }
+    {
+        let ModuleCode { module, bytes } = code;
+        let module = module.module();
+        let bodies = body_offsets(alloc, bytes)?;
+        let functions = unread(alloc, module)?;
+        Ok(CodeMap {
+            alloc,
+            module,
+            bytes,
+            bodies,
+            functions,
+        })
+    }
+
+    /// The opcodes of a function, if the module has it.
+    fn read(&self, function: usize) -> Result<Option<FunctionMap>, AllocError>
+        ensures { IfOk result (λ found. IfSome found (IsFunctionMap self.now function)) }
+    {
+        let (Some(code), Some(body)) = (self.module.funcs.get(function), self.bodies.get(function))
+        else {
+            return Ok(None);
+        };
+        let numbers = opcode_numbers(self.alloc, code.blocks.as_slice())?;
+        let offsets = opcode_offsets(self.alloc, self.bytes, *body, numbers.count)?;
+        Ok(Some(FunctionMap { numbers, offsets }))
+    }
+
+    /// The number of the opcode at a position, and where it begins.
+    fn opcode(&self, position: CodePosition) -> Option<(usize, usize)>
+        ensures { IfSome result (λ found. IsOpcodeAt self.now position found.0) }
+    {
+        let CodePosition { func, block, at } = position;
+        match self.functions.get(func) {
+            Some(Some(map)) => map.opcode(BlockPosition { block, at }),
+            _ => None,
+        }
+    }
+
+    /// The instruction at a position, with where it begins among the bytes of the module; None if the module doesn't have it.
+    ///
+    /// # Errors
+    ///
+    /// Only if an allocation fails.
+    pub fn site(&mut self, position: CodePosition) -> Result<Option<Site>, AllocError>
+        ensures site { IfOk result (λ found. IfSome found (IsSiteOf self.old position)) }
+        ensures same { self.new ≡ self.old }
+    {
+        let func = position.func;
+        if let Some(None) = self.functions.get(func) {
+            let read = self.read(func)?;
+            put(&mut self.functions, func, read);
+        }
+        let Some((instruction, offset)) = self.opcode(position) else {
+            return Ok(None);
+        };
+        Ok(Some(Site {
+            function: in_32_bits(func),
+            instruction: in_32_bits(instruction),
+            offset: in_32_bits(offset),
+        }))
+    }
+}

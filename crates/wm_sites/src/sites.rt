@@ -1,0 +1,164 @@
+//! The instructions that make the events of a log.
+ghost use Rattle.std.specs.Prelude.{◌≡◌, IfOk, IfSome, length};
+ghost use Rattle.wm_sites.specs.Sites.{AreEventSites, AreLogPositions, AreSitesOf, AreThreadSites, IsSiteMade, position_in};
+ghost use Rattle.wm_races.specs.Report.{HasSites};
+
+use crate::code_map::CodeMap;
+use crate::event_positions::{log_positions, positions_in_order};
+use crate::module_code::ModuleCode;
+use std::alloc::{AllocError, Global};
+use std::thread::Threads;
+use wm_event::{EventKey, Log, ThreadLog};
+use wm_list::List;
+use wm_machine::CodePosition;
+use wm_races::Site;
+use wm_valid::ValidModule;
+
+/// The instructions that make the events of a log.
+#[derive(Drop)]
+pub struct RunSites<'m> {
+    /// The instructions of the module.
+    pub map: CodeMap<'m>,
+    /// By thread where it makes its events, as many as it makes.
+    pub positions: Vec<List<CodePosition>>,
+}
+
+impl<'m> RunSites<'m> {
+    /// The instructions that make the events of a log. Its threads are followed at the same time if one of them is long.
+    ///
+    /// # Errors
+    ///
+    /// Only if an allocation fails.
+    pub fn of<R: AllocGlobal + Threads + Sync>(
+        rt: &R,
+        code: ModuleCode<'m>,
+        log: &Log,
+    ) -> Result<Self, AllocError>
+        ensures map { IfOk result (λ run. run.map ≡ code.exit.module.now) }
+        ensures positions { IfOk result (λ run. AreLogPositions code.exit.module.now log.now run.positions.items) }
+    {
+        let positions = log_positions(rt, code.module, log)?;
+        RunSites::new(rt.alloc(), code, positions)
+    }
+
+    /// The instructions of a module at these positions.
+    ///
+    /// # Errors
+    ///
+    /// Only if an allocation fails.
+    fn new(
+        alloc: Global,
+        code: ModuleCode<'m>,
+        positions: Vec<List<CodePosition>>,
+    ) -> Result<Self, AllocError>
+        ensures map { IfOk result (λ run. run.map ≡ code.exit.module.now) }
+        ensures positions { IfOk result (λ run. run.positions.items ≡ positions.items) }
+    {
+        let map = CodeMap::new(alloc, code)?;
+        Ok(RunSites { map, positions })
+    }
+
+    /// Where an event is made.
+    fn position(&self, key: EventKey) -> Option<CodePosition>
+        ensures { result ≡ position_in self.now.positions.items key }
+    {
+        let thread = self.positions.get(key.thread as usize)?;
+        thread.get(key.number as usize).copied()
+    }
+
+    /// The instruction that makes an event; None if its thread doesn't make it.
+    ///
+    /// # Errors
+    ///
+    /// Only if an allocation fails.
+    pub fn site(&mut self, key: EventKey) -> Result<Option<Site>, AllocError>
+        ensures site { IfOk result (λ found. IfSome found (IsSiteMade self.old.map self.old.positions.items key)) }
+        ensures same { self.new ≡ self.old }
+    {
+        match self.position(key) {
+            Some(position) => self.map.site(position),
+            None => Ok(None),
+        }
+    }
+}
+
+/// The first instruction of function 0.
+const FIRST_SITE: Site = Site {
+    function: 0,
+    instruction: 0,
+    offset: 0,
+};
+
+/// A site for each event of a thread; an event that the thread doesn't make gets the first instruction of function 0.
+fn thread_sites(
+    alloc: Global,
+    run: &mut RunSites,
+    thread: &ThreadLog,
+) -> Result<List<Site>, AllocError>
+    ensures count { IfOk result (λ sites. length sites ≡ length thread.now.events) }
+    ensures sites { IfOk result (AreThreadSites run.old.map run.old.positions.items thread.now.events) }
+    ensures same { run.new ≡ run.old }
+{
+    let mut sites = List::new(alloc);
+    for event in thread.events.as_slice() {
+        let site = run.site(event.key())?.unwrap_or(FIRST_SITE);
+        sites.push(site)?;
+    }
+    Ok(sites)
+}
+
+/// For each event of a log, by thread and number, the instruction of the module that makes it, if the log is that of runs
+/// of the module. `module_bytes` spell the module.
+///
+/// # Errors
+///
+/// Only if an allocation fails.
+pub fn event_sites(
+    alloc: Global,
+    module: &ValidModule,
+    module_bytes: &[u8],
+    log: &Log,
+) -> Result<Vec<List<Site>>, AllocError>
+    ensures has { IfOk result (λ sites. HasSites log.now sites.items) }
+    ensures sites { IfOk result (λ sites. AreEventSites «module».now log.now sites.items) }
+{
+    let code = ModuleCode {
+        module,
+        bytes: module_bytes,
+    };
+    let positions = positions_in_order(alloc, module, log)?;
+    let mut run = RunSites::new(alloc, code, positions)?;
+    let mut sites = Vec::new(alloc);
+    for thread in log.threads() {
+        sites.push(thread_sites(alloc, &mut run, thread)?)?;
+    }
+    Ok(sites)
+}
+
+/// For each of these positions, in their order, the instruction of the module there; a position that the module doesn't
+/// have gets the first instruction of function 0. `module_bytes` spell the module.
+///
+/// # Errors
+///
+/// Only if an allocation fails.
+pub fn position_sites(
+    alloc: Global,
+    module: &ValidModule,
+    module_bytes: &[u8],
+    positions: &[CodePosition],
+) -> Result<List<Site>, AllocError>
+    ensures count { IfOk result (λ sites. length sites ≡ length positions.now) }
+    ensures sites { IfOk result (AreSitesOf «module».now positions.now) }
+{
+    let code = ModuleCode {
+        module,
+        bytes: module_bytes,
+    };
+    let mut map = CodeMap::new(alloc, code)?;
+    let mut sites = List::new(alloc);
+    for position in positions {
+        let found = map.site(*position)?;
+        sites.push(found.unwrap_or(FIRST_SITE))?;
+    }
+    Ok(sites)
+}
