@@ -6,13 +6,9 @@ seconds_of_parts=()
 last_lines=$(mktemp)
 trap 'rm -f "$last_lines"' EXIT
 
-# Runs a part of this name, and adds the numbers of its last line. A part that ends otherwise, or that tried nothing,
-# has failed.
-part() {
-    local name=$1 start=$SECONDS status line
-    shift
-    "$@" | tee "$last_lines"
-    status=${PIPESTATUS[0]}
+# Adds the numbers of a part's last line. A part that ends otherwise, or that tried nothing, has failed.
+count_part() {
+    local name=$1 status=$2 line
     line=$(tail -n 1 "$last_lines")
     if [[ $line =~ ^([0-9]+)\ passed,\ ([0-9]+)\ failed$ ]]; then
         passed=$((passed + BASH_REMATCH[1]))
@@ -22,7 +18,40 @@ part() {
         echo "FAILED $name: it ended with status $status"
         failed=$((failed + 1))
     fi
+}
+
+# Runs a part of this name, and counts it.
+part() {
+    local name=$1 start=$SECONDS
+    shift
+    "$@" | tee "$last_lines"
+    count_part "$name" "${PIPESTATUS[0]}"
     seconds_of_parts+=("$name $((SECONDS - start)) s")
+}
+
+# Starts a part that takes one processor, beside the parts after it. `end_beside` waits for it, prints what it printed,
+# and counts it. There is one such part at a time.
+begin_beside() {
+    beside_name=$1
+    beside_lines=$(mktemp)
+    shift
+    (
+        start=$SECONDS
+        "$@" >"$beside_lines" 2>&1
+        status=$?
+        echo "$((SECONDS - start))" >"$beside_lines.seconds"
+        exit "$status"
+    ) &
+    beside=$!
+}
+
+end_beside() {
+    local status=0
+    wait "$beside" || status=$?
+    tee "$last_lines" <"$beside_lines"
+    count_part "$beside_name" "$status"
+    seconds_of_parts+=("$beside_name, beside others, $(cat "$beside_lines.seconds") s")
+    rm -f "$beside_lines" "$beside_lines.seconds"
 }
 
 # Runs a part if a tool is there, and else says that it is left out.

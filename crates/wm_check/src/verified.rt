@@ -7,7 +7,7 @@ use crate::verdict::{Breach, Certificate, Refusal, Verdict};
 use std::alloc::{AllocError, Global};
 use wm_event::{Candidate, Judgement, Log, ShapeFault, Witness};
 use wm_logfile::ReadingRoom;
-use wm_replay::{Completion, complete};
+use wm_replay::without_run;
 use wm_rules::judge_sequentially;
 use wm_valid::ValidModule;
 
@@ -20,9 +20,9 @@ fn verify_candidate(
 ) -> Result<Verdict, AllocError>
     ensures { IfOk result (VerifiesCandidate «module».now candidate.now) }
 {
-    match complete(alloc, module, candidate.log())? {
-        Completion::NoRun(answer) => Ok(Verdict::Broken(Breach::Replay(answer))),
-        Completion::Completed(_) => match judge_sequentially(alloc, candidate)? {
+    match without_run(alloc, module, candidate.log())? {
+        Some(answer) => Ok(Verdict::Broken(Breach::Replay(answer))),
+        None => match judge_sequentially(alloc, candidate)? {
             Judgement::Broken(fault) => Ok(Verdict::Broken(Breach::Rule(fault))),
             Judgement::Valid => {
                 let threads = candidate.log().threads();

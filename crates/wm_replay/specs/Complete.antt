@@ -1,5 +1,5 @@
 -- Logs with the steps and the ends of their runs.
-use Rattle.std.specs.Prelude.{◌≡◌, ℕ, ◌<◌, ◌≤◌, List, length, Result, Ok, Err, Some, slice_get}
+use Rattle.std.specs.Prelude.{◌≡◌, ℕ, ◌<◌, ◌≤◌, List, length, Option, None, Some, Result, Ok, Err, slice_get}
 use Rattle.wm_ast.specs.declared.module.Module.{Module}
 use Rattle.wm_event.specs.Limits.{max_steps}
 use Rattle.wm_event.specs.declared.log.End.{End}
@@ -8,6 +8,7 @@ use Rattle.wm_replay.specs.declared.answer.ReplayAnswer.{ReplayAnswer}
 use Rattle.wm_replay.specs.declared.answer.ReplayAnswer.TheVariants.{Same, StartRefused, Differs}
 use Rattle.wm_replay.specs.declared.completing.Completion.{Completion}
 use Rattle.wm_replay.specs.declared.completing.Completion.TheVariants.{Completed, NoRun}
+use Rattle.wm_replay.specs.declared.completing.LongestRun.{LongestRun}
 use Rattle.wm_replay.specs.Comparison.{IsOther}
 use Rattle.wm_replay.specs.Replay.{AreRuns, IsRun}
 
@@ -27,10 +28,19 @@ pub record IsLongestRun (m : Module) (k : ℕ) (t completed : ThreadLog) : Type 
   pub within : completed.steps ≤ max_steps
   pub longest : (n : ℕ) → completed.steps < n → n ≤ max_steps → ¬ MakesEvents m k t n
 
+-- no number of steps makes the events of thread k; a replay of 1,000,000 steps answers this
+abbrev pub MakesNoRun : Module → ℕ → ThreadLog → ReplayAnswer → Type 0
+MakesNoRun m k t answer = ((n : ℕ) → n ≤ max_steps → ¬ MakesEvents m k t n) × IsOther m k (ending t max_steps t.end) answer
+
+-- the longest run of thread k, or why no number of steps makes its events
+abbrev pub FindsLongestRun : Module → ℕ → ThreadLog → Result LongestRun ReplayAnswer → Type 0
+FindsLongestRun m k t (Ok run) = IsLongestRun m k t (ending t run.steps run.end)
+FindsLongestRun m k t (Err answer) = MakesNoRun m k t answer
+
 -- the log of thread k completed, or why no number of steps makes its events
 abbrev pub CompletesThread : Module → ℕ → ThreadLog → Result ThreadLog ReplayAnswer → Type 0
 CompletesThread m k t (Ok completed) = IsLongestRun m k t completed
-CompletesThread m k t (Err answer) = ((n : ℕ) → n ≤ max_steps → ¬ MakesEvents m k t n) × IsOther m k (ending t max_steps t.end) answer
+CompletesThread m k t (Err answer) = MakesNoRun m k t answer
 
 -- each thread of the log is completed
 pub record IsCompletion (m : Module) (log completed : List ThreadLog) : Type 0 where
@@ -54,3 +64,8 @@ IsWithoutRun m log (Differs k place) = IsFirstWithoutRun m log k (Differs k plac
 abbrev pub CompletesLog : Module → List ThreadLog → Completion → Type 0
 CompletesLog m log (Completed completed) = IsCompletion m log completed
 CompletesLog m log (NoRun answer) = IsWithoutRun m log answer
+
+-- the log has a completion, or a thread without a run
+abbrev pub HasCompletion : Module → List ThreadLog → Option ReplayAnswer → Type 0
+HasCompletion m log None = (completed : List ThreadLog) × IsCompletion m log completed
+HasCompletion m log (Some answer) = IsWithoutRun m log answer

@@ -1,6 +1,6 @@
 //! Logs with the steps and the ends of their runs.
 ghost use Rattle.std.specs.Prelude.{◌≡◌, IfOk};
-ghost use Rattle.wm_replay.specs.Complete.{CompletesLog, CompletesThread, ending};
+ghost use Rattle.wm_replay.specs.Complete.{CompletesLog, CompletesThread, FindsLongestRun, HasCompletion, ending};
 ghost use Rattle.wm_replay.specs.Following.{HasPlaces};
 
 use crate::answer::{Place, ReplayAnswer};
@@ -10,7 +10,14 @@ use wm_event::{End, Log, MAX_STEPS, Start, ThreadLog};
 use wm_list::{Growing, List, Text};
 use wm_valid::ValidModule;
 
-/// A log with the steps and the ends of its runs, or why there is none.
+/// The longest run of a thread that makes the events of its log and no others.
+#[derive(Clone, Copy)]
+pub(crate) struct LongestRun {
+    steps: u32,
+    end: End,
+}
+
+/// A log with the steps and the ends of its runs, or why it has none.
 #[derive(Drop)]
 pub enum Completion {
     /// The log, with each thread's steps and end from its longest run of at most [`MAX_STEPS`] steps.
@@ -29,35 +36,30 @@ fn copied<T: Copy>(alloc: Global, items: &[T]) -> Result<List<T>, AllocError>
     Ok(copy.into_list())
 }
 
-/// The thread's log with these steps and this end.
-fn with_end(
-    alloc: Global,
-    stated: &ThreadLog,
-    steps: u32,
-    end: End,
-) -> Result<ThreadLog, AllocError>
-    ensures { IfOk result (λ thread. thread ≡ ending stated.now steps end) }
+/// The log of a thread with the steps and the end of a run.
+fn with_end(alloc: Global, stated: &ThreadLog, run: LongestRun) -> Result<ThreadLog, AllocError>
+    ensures { IfOk result (λ thread. thread ≡ ending stated.now run.steps run.end) }
 {
     let name = Text::from_string(String::from_str(alloc, stated.start.name.as_str())?);
     let args = copied(alloc, stated.start.args.as_slice())?;
     let events = copied(alloc, stated.events.as_slice())?;
     Ok(ThreadLog {
         start: Start { name, args },
-        end,
-        steps,
+        end: run.end,
+        steps: run.steps,
         events,
     })
 }
 
-/// The log of a thread with the steps and the end of its longest run, or why there is none.
-fn complete_thread(
+/// The longest run of a thread that makes the events of its log, or why no run does.
+fn longest_run(
     alloc: Global,
     module: &ValidModule,
     stated: &ThreadLog,
     number: usize,
-) -> Result<Result<ThreadLog, ReplayAnswer>, AllocError>
+) -> Result<Result<LongestRun, ReplayAnswer>, AllocError>
     requires { HasPlaces number stated.now.events }
-    ensures { IfOk result (CompletesThread «module».now number stated.now) }
+    ensures { IfOk result (FindsLongestRun «module».now number stated.now) }
 {
     let followed = match follow(alloc, module, stated, number, MAX_STEPS) {
         Err(refused) => return Err(refused),
@@ -68,8 +70,27 @@ fn complete_thread(
         let place = Place::Event(followed.events);
         return Ok(Err(ReplayAnswer::Differs(number, place)));
     }
-    let completed = with_end(alloc, stated, followed.steps, end_of(&followed.thread))?;
-    Ok(Ok(completed))
+    Ok(Ok(LongestRun {
+        steps: followed.steps,
+        end: end_of(&followed.thread),
+    }))
+}
+
+/// The log of a thread with the steps and the end of its longest run, or why it has no run.
+fn complete_thread(
+    alloc: Global,
+    module: &ValidModule,
+    stated: &ThreadLog,
+    number: usize,
+) -> Result<Result<ThreadLog, ReplayAnswer>, AllocError>
+    requires { HasPlaces number stated.now.events }
+    ensures { IfOk result (CompletesThread «module».now number stated.now) }
+{
+    match longest_run(alloc, module, stated, number) {
+        Err(refused) => Err(refused),
+        Ok(Err(answer)) => Ok(Err(answer)),
+        Ok(Ok(run)) => Ok(Ok(with_end(alloc, stated, run)?)),
+    }
 }
 
 /// Completes a log: each thread gets the steps and the end of the longest of its runs that make just its events, on the
@@ -92,4 +113,26 @@ pub fn complete(alloc: Global, module: &ValidModule, log: &Log) -> Result<Comple
         }
     }
     Ok(Completion::Completed(Log::new(completed)))
+}
+
+/// Why [`complete`] has no completed log for a log, without making one: its `NoRun`, or None if it completes the log.
+///
+/// # Errors
+///
+/// Only if an allocation fails.
+pub fn without_run(
+    alloc: Global,
+    module: &ValidModule,
+    log: &Log,
+) -> Result<Option<ReplayAnswer>, AllocError>
+    ensures { IfOk result (HasCompletion «module».now log.now) }
+{
+    for (number, stated) in log.threads().iter().enumerate() {
+        match longest_run(alloc, module, stated, number) {
+            Err(refused) => return Err(refused),
+            Ok(Err(answer)) => return Ok(Some(answer)),
+            Ok(Ok(_)) => {}
+        }
+    }
+    Ok(None)
 }

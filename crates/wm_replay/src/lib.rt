@@ -11,4 +11,4 @@ mod parallel;
 pub use answer::{Place, ReplayAnswer};
 pub use by_log::{Followed, end_of, follow};
 pub use compare::replay;
-pub use completing::{Completion, complete};
+pub use completing::{Completion, complete, without_run};

@@ -1,13 +1,12 @@
-use Rattle.std.proofs.Common.{◌≡◌, ℕ, List, ap, length, subst, ◌∙◌}
+use Rattle.std.proofs.Common.{◌≡◌, ℕ, List, Option, None, ap, length, subst, ◌∙◌}
 use Rattle.wm_ast.specs.declared.module.Module.{Module}
 use Rattle.wm_event.specs.declared.log.ThreadLog.{ThreadLog}
 use Rattle.wm_event.specs.Faults.{Judges}
 use Rattle.wm_event.specs.LoggedRun.{LoggedRun, execution}
 use Rattle.wm_event.specs.Shape.{IsWellShaped, event_count}
 use Rattle.wm_logfile.specs.DocumentBytes.{IsDocumentOf}
-use Rattle.wm_replay.specs.declared.completing.Completion.{Completion}
-use Rattle.wm_replay.specs.declared.completing.Completion.TheVariants.{Completed}
-use Rattle.wm_replay.specs.Complete.{CompletesLog, IsCompletion}
+use Rattle.wm_replay.specs.declared.answer.ReplayAnswer.{ReplayAnswer}
+use Rattle.wm_replay.specs.Complete.{HasCompletion, IsCompletion}
 use Rattle.wm_valid.specs.Valid.{IsInit}
 use Rattle.wm_check.specs.declared.verdict.Breach.TheVariants.{Rule}
 use Rattle.wm_check.specs.declared.verdict.Verdict.{Verdict}
@@ -18,12 +17,13 @@ use Rattle.wm_check.proofs.SameEvents.{judged_completed}
 use Rattle.wm_check.proofs.verified.verify_candidate.Goals as goal
 
 -- a candidate that has a completion, with the verdict of the memory rules on its log
-judged : (m : Module) (run : LoggedRun) (log completed : List ThreadLog) (answer : Completion) (verdict : Verdict) → log ≡ run.log → CompletesLog m log answer
-    → answer ≡ Completed completed → JudgesRun run verdict → (mb db : List ℕ) → IsModuleOf mb m → IsDocumentOf db run.log run.witness → IsInit m run.initial
+judged : (m : Module) (run : LoggedRun) (log : List ThreadLog) (answer : Option ReplayAnswer) (verdict : Verdict) → log ≡ run.log → HasCompletion m log answer
+    → answer ≡ None → JudgesRun run verdict → (mb db : List ℕ) → IsModuleOf mb m → IsDocumentOf db run.log run.witness → IsInit m run.initial
     → IsWellShaped run → IsJudgedCompleted mb db verdict
-judged m run log completed answer verdict same completes is judges mb db modules document initial shape =
-    let of_log : IsCompletion m log completed = subst (CompletesLog m log) is completes in
-    let completion : IsCompletion m run.log completed = subst (λ (l : List ThreadLog). IsCompletion m l completed) same of_log in record {
+judged m run log answer verdict same completes is judges mb db modules document initial shape =
+    let of_log : HasCompletion m log None = subst (HasCompletion m log) is completes in
+    let completed : List ThreadLog = of_log.0 in
+    let completion : IsCompletion m run.log completed = subst (λ (l : List ThreadLog). IsCompletion m l completed) same of_log.1 in record {
       «module» = m;
       run = run;
       candidate = record {
@@ -37,11 +37,11 @@ judged m run log completed answer verdict same completes is judges mb db modules
 
 pub returns-in-Broken : goal.returns-in-Broken
 returns-in-Broken c =
-    judged c.args.module.now c.args.candidate.now c.log.result.now c.in-Completed.field-0 c.in_ok-answer.field-0 (Broken (Rule c.in-Broken.fault)) c.log.ensures.value c.in_ok-answer.ensures
-    c.in-Completed.is (subst (Judges (execution c.args.candidate.now)) c.in-Broken.is c.in_ok-fault-in-Completed.ensures.judged)
+    judged c.args.module.now c.args.candidate.now c.log.result.now c.in_ok-answer.field-0 (Broken (Rule c.in-Broken.fault)) c.log.ensures.value c.in_ok-answer.ensures
+    c.in-None.is (subst (Judges (execution c.args.candidate.now)) c.in-Broken.is c.in_ok-fault-in-None.ensures.judged)
 
-pub returns : goal.returns
-returns c =
+pub returns-in-Valid : goal.returns-in-Valid
+returns-in-Valid c =
     let threads : c.threads-threads.result.now ≡ c.args.candidate.now.log = c.threads-threads.ensures.value ∙ c.log-in-Valid.ensures.value in
-    judged c.args.module.now c.args.candidate.now c.log.result.now c.in-Completed.field-0 c.in_ok-answer.field-0 _ c.log.ensures.value c.in_ok-answer.ensures
-    c.in-Completed.is (subst (Judges (execution c.args.candidate.now)) c.in-Valid.is c.in_ok-fault-in-Completed.ensures.judged, (ap length threads, c.count_events.ensures ∙ ap event_count threads))
+    judged c.args.module.now c.args.candidate.now c.log.result.now c.in_ok-answer.field-0 _ c.log.ensures.value c.in_ok-answer.ensures
+    c.in-None.is (subst (Judges (execution c.args.candidate.now)) c.in-Valid.is c.in_ok-fault-in-None.ensures.judged, (ap length threads, c.count_events.ensures ∙ ap event_count threads))

@@ -1,10 +1,9 @@
-use Rattle.std.proofs.Common.{◌≡◌, ◌<◌, ◌≤◌, ◌∙◌, ap, refl, subst, sym}
-use Rattle.wm_machine.specs.Run.{end_of as config_end}
+use Rattle.std.proofs.Common.{◌<◌, ◌≤◌, refl, subst, sym}
 use Rattle.wm_machine.specs.State.{config_of}
 use Rattle.wm_replay.specs.Complete.{IsLongestRun, ending}
 use Rattle.wm_replay.specs.Following.{FollowsLog}
 use Rattle.wm_replay.proofs.Longest.{is_longest, no_steps, stop_at_differs}
-use Rattle.wm_replay.proofs.completing.complete_thread.Goals as goal
+use Rattle.wm_replay.proofs.completing.longest_run.Goals as goal
 
 pub returns-then-followed-len : goal.returns-then-followed-len
 returns-then-followed-len c =
@@ -28,6 +27,4 @@ returns c =
     let all = subst (λ n. n ≤ f.events) c.len.ensures c.if-followed-len.false in
     let followed = subst (FollowsLog m c.args.number t 1000000) c.in-Ok-Ok.field-0-is c.in-Ok-Ok.ensures.runs in
     let runs = followed.0 in
-    let same : c.in_ok-completed.completed ≡ ending t f.steps (config_end at) =
-    c.in_ok-completed.ensures ∙ ap (ending t f.steps) c.end_of.ensures in
-    subst (IsLongestRun m c.args.number t) (sym same) (is_longest m c.args.number t at f.steps f.events c.requires runs all)
+    subst (λ end. IsLongestRun m c.args.number t (ending t f.steps end)) (sym c.end_of.ensures) (is_longest m c.args.number t at f.steps f.events c.requires runs all)
