@@ -93,7 +93,7 @@ pub top_numbered : (blocks : List (List Instr)) (number : ℕ) (p : BlockPositio
 top_numbered blocks number p stack body is on =
     let same : number + 0 ≡ number = omega arith in subst (λ (n : ℕ). IsNumbered blocks p n) same (on p 0 (in_top body is here))
 
-no_part : {blocks : List (List Instr)} {q : BlockPosition} {k : ℕ} → IsLeft blocks [] q k → ⊥
+pub no_part : {blocks : List (List Instr)} {q : BlockPosition} {k : ℕ} → IsLeft blocks [] q k → ⊥
 no_part h = elim h [ ]
 
 pub first_on : (blocks : List (List Instr)) → IsNumberedOn blocks 0 (begin_of 0 ∷ [])
@@ -128,7 +128,7 @@ ended body p old past =
 -- ---- the table
 
 noted_more : (blocks : List (List Instr)) (old new : List (Vec (Option ℕ) Global)) (p : BlockPosition) (number : ℕ) → HasNumbers blocks old → IsNumbered blocks p number → Notes old new p number → HasNumbers blocks new
-noted_more blocks old new p number noted here_is notes q k is = either (notes q k is)
+noted_more blocks old new p number noted here_is notes q k is = either (notes.from q k is)
   where
     either : (number_in old q ≡ Some k) ⊎ ((q ≡ p) × (k ≡ number)) → IsNumbered blocks q k
     either (inl before) = noted q k before

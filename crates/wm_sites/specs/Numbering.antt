@@ -1,7 +1,8 @@
 -- The number of a position in a function's code, in the order of the text.
-use Rattle.std.specs.Prelude.{◌≡◌, ℕ, ◌+◌, ◌⊎◌, List, [], ◌∷◌, ◌++◌, Option, Some, None, Vec, map, option_and_then, slice_get}
+use Rattle.std.specs.Prelude.{◌≡◌, ℕ, ◌+◌, ◌<◌, ◌≤◌, ◌⊎◌, List, [], ◌∷◌, ◌++◌, length, Option, Some, None, Vec, map, option_and_then, slice_get}
 use Rattle.std.specs.declared.alloc.Global.{Global}
 use Rattle.wm_ast.specs.declared.instr.Instr.{Instr}
+use Rattle.wm_decode.specs.Bounds.{max_module_bytes}
 use Rattle.wm_valid.specs.Locations.{Part, parts, Opcodes}
 use Rattle.wm_sites.specs.declared.opcode_numbers.BlockPosition.{BlockPosition}
 use Rattle.wm_sites.specs.declared.opcode_numbers.OpcodeNumbers.{OpcodeNumbers}
@@ -41,12 +42,37 @@ number_at numbers q = number_in numbers.numbers.items q
 abbrev pub HasNumbers : List (List Instr) → List (Vec (Option ℕ) Global) → Type 0
 HasNumbers blocks table = (q : BlockPosition) (k : ℕ) → number_in table q ≡ Some k → IsNumbered blocks q k
 
-abbrev pub AreNumbers : List (List Instr) → OpcodeNumbers → Type 0
-AreNumbers blocks numbers = HasNumbers blocks numbers.numbers.items
+-- there is a number at a position
+abbrev pub IsNoted : List (Vec (Option ℕ) Global) → BlockPosition → Type 0
+IsNoted table q = (j : ℕ) × (number_in table q ≡ Some j)
 
--- the table has its numbers, and at p maybe this one
-abbrev pub Notes : List (Vec (Option ℕ) Global) → List (Vec (Option ℕ) Global) → BlockPosition → ℕ → Type 0
-Notes old new p number = (q : BlockPosition) (k : ℕ) → number_in new q ≡ Some k → (number_in old q ≡ Some k) ⊎ ((q ≡ p) × (k ≡ number))
+-- the numbers are those of opcodes at their positions, and each opcode of a number below 1,048,576 has one
+pub record AreNumbers (blocks : List (List Instr)) (numbers : OpcodeNumbers) : Type 0 where
+  pub right : HasNumbers blocks numbers.numbers.items
+  pub all : (q : BlockPosition) (k : ℕ) → IsNumbered blocks q k → k < max_module_bytes → IsNoted numbers.numbers.items q
+
+-- no place of a block has a number
+abbrev pub NoneIsNoted : List (Option ℕ) → Type 0
+NoneIsNoted places = (i k : ℕ) → slice_get places i ≡ Some (Some k) → ⊥
+
+-- no position has a number
+abbrev pub HasNoNumbers : List (Vec (Option ℕ) Global) → Type 0
+HasNoNumbers table = (q : BlockPosition) → number_in table q ≡ None
+
+-- the table has a place for this position
+abbrev pub HasPlace : List (Vec (Option ℕ) Global) → BlockPosition → Type 0
+HasPlace table q = (places : Vec (Option ℕ) Global) × (slice_get table q.block ≡ Some places) × (q.at < length places.items)
+
+-- it has one for each instruction of the blocks, and for the end of each block
+abbrev pub HasPlaces : List (List Instr) → List (Vec (Option ℕ) Global) → Type 0
+HasPlaces blocks table = (q : BlockPosition) (body : List Instr) → slice_get blocks q.block ≡ Some body → q.at ≤ length body → HasPlace table q
+
+-- the table has its numbers, and at p this one, if it has a place there
+pub record Notes (old new : List (Vec (Option ℕ) Global)) (p : BlockPosition) (number : ℕ) : Type 0 where
+  pub from : (q : BlockPosition) (k : ℕ) → number_in new q ≡ Some k → (number_in old q ≡ Some k) ⊎ ((q ≡ p) × (k ≡ number))
+  pub keeps : (q : BlockPosition) → IsNoted old q → IsNoted new q
+  pub notes : HasPlace old p → IsNoted new p
+  pub places : (q : BlockPosition) → HasPlace old q → HasPlace new q
 
 -- ---- what is left to number
 

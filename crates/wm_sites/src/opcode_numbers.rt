@@ -1,6 +1,6 @@
 //! The numbers of a function's opcodes in the order of the text.
-ghost use Rattle.std.specs.Prelude.{◌≡◌, ◌++◌, IfOk, None, reverse};
-ghost use Rattle.wm_sites.specs.Numbering.{AreNumbers, Notes, begins_of, behind_of, number_at, number_in};
+ghost use Rattle.std.specs.Prelude.{◌≡◌, ◌<◌, ◌++◌, IfOk, length, reverse};
+ghost use Rattle.wm_sites.specs.Numbering.{AreNumbers, HasNoNumbers, HasPlaces, NoneIsNoted, Notes, begins_of, behind_of, number_at};
 
 use std::alloc::{AllocError, Global};
 use wm_ast::{Block, Else, Instr};
@@ -65,13 +65,22 @@ fn go_past(
     Ok(())
 }
 
+/// A place for each instruction of a block and for its end, with no number yet.
+fn places_of(alloc: Global, block: &Block) -> Result<Vec<Option<usize>>, AllocError>
+    ensures none { IfOk result (λ places. NoneIsNoted places.items) }
+    ensures room { IfOk result (λ places. length block.now < length places.items) }
+{
+    vec![in alloc; None; block.len().saturating_add(1)]
+}
+
 /// A place for each opcode of the blocks, with no number yet.
 fn no_numbers(alloc: Global, blocks: &[Block]) -> Result<Vec<Vec<Option<usize>>>, AllocError>
-    ensures { IfOk result (λ table. (q : BlockPosition) → number_in table.items q ≡ None) }
+    ensures none { IfOk result (λ table. HasNoNumbers table.items) }
+    ensures places { IfOk result (λ table. HasPlaces blocks.now table.items) }
 {
     let mut table = Vec::new(alloc);
     for block in blocks {
-        table.push(vec![in alloc; None; block.len().saturating_add(1)]?)?;
+        table.push(places_of(alloc, block)?)?;
     }
     Ok(table)
 }
@@ -125,7 +134,10 @@ pub(crate) fn opcode_numbers(alloc: Global, blocks: &[Block]) -> Result<OpcodeNu
             });
         };
         let Some(block) = blocks.get(here.block) else {
-            break;
+            return Ok(OpcodeNumbers {
+                numbers,
+                count: number,
+            });
         };
         note(&mut numbers, here, number);
         go_past(&mut open_blocks, here, block)?;
