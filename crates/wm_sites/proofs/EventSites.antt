@@ -13,7 +13,7 @@ use Rattle.wm_event.proofs.WritesLemmas.{each_more}
 use Rattle.wm_machine.specs.declared.thread.CodePosition.{CodePosition}
 use Rattle.wm_races.specs.declared.site.Site.{Site}
 use Rattle.wm_races.specs.Report.{site_in}
-use Rattle.wm_sites.specs.Sites.{AreFollowed, AreLogPositions, ArePositionsOf, ArePositionsIn, AreSitesOf, AreThreadSites, IsSiteAt, IsSiteMade, IsSiteOf, IsSiteOrFirst, first_site, position_in}
+use Rattle.wm_sites.specs.Sites.{AreFollowed, AreLogPositions, ArePositionsOf, ArePositionsIn, AreSitesOf, AreThreadSites, IsMadeNowhere, IsNoOpcode, IsSiteAt, IsSiteMade, IsSiteOf, IsSiteOrFirst, first_site, position_in}
 
 pub one_more : {X : Type 0} (n : ℕ) (xs new : List X) (x : X) → length xs ≡ n → new ≡ xs ++ x ∷ [] → length new ≡ n + 1
 one_more n xs new x count is = ap length is ∙ length-append xs (x ∷ []) ∙ ap (λ (k : ℕ). k + 1) count
@@ -59,18 +59,18 @@ position_sites_more m positions sites new n p site count each is one more =
     (λ q at.
     let at_n : slice_get positions n ≡ Some q = ap (slice_get positions) (sym count) ∙ at in subst (λ (x : CodePosition). IsSiteOrFirst m x site) (same_Some p q (sym is ∙ at_n)) one))
 
-first_at : (m : Module) (o : Option CodePosition) → IsSiteAt m o first_site
-first_at m None = refl
-first_at m (Some p) = inr refl
+first_at : (m : Module) (o : Option CodePosition) → ((p : CodePosition) → o ≡ Some p → IsNoOpcode m p) → IsSiteAt m o first_site
+first_at m None nowhere = refl
+first_at m (Some p) nowhere = inr (refl, nowhere p refl)
 
 -- the site that was found, or else the first
-pub site_or_first : (m : Module) (table : List (List CodePosition)) (key : EventKey) (found : Option Site) → IfSome found (IsSiteMade m table key) → IsSiteAt m (position_in table key) (unwrap_or found first_site)
-site_or_first m table key None h = first_at m (position_in table key)
-site_or_first m table key (Some site) h = subst (λ (o : Option CodePosition). IsSiteAt m o site) (sym h.1) (inl h.2)
+pub site_or_first : (m : Module) (table : List (List CodePosition)) (key : EventKey) (found : Option Site) → IfSome found (IsSiteMade m table key) → (found ≡ None → IsMadeNowhere m table key) → IsSiteAt m (position_in table key) (unwrap_or found first_site)
+site_or_first m table key None h none = first_at m (position_in table key) (none refl)
+site_or_first m table key (Some site) h none = subst (λ (o : Option CodePosition). IsSiteAt m o site) (sym h.1) (inl h.2)
 
-pub found_or_first : (m : Module) (p : CodePosition) (found : Option Site) → IfSome found (IsSiteOf m p) → IsSiteOrFirst m p (unwrap_or found first_site)
-found_or_first m p None h = inr refl
-found_or_first m p (Some site) h = inl h
+pub found_or_first : (m : Module) (p : CodePosition) (found : Option Site) → IfSome found (IsSiteOf m p) → (found ≡ None → IsNoOpcode m p) → IsSiteOrFirst m p (unwrap_or found first_site)
+found_or_first m p None h none = inr (refl, none refl)
+found_or_first m p (Some site) h none = inl h
 
 pub event_site : (m : Module) (table : List (List CodePosition)) (log : List ThreadLog) (sites : List (List Site)) → HasKeys log → AreSitesIn m table log sites → (key : EventKey) (e : Event) (site : Site)
     → event_in log key ≡ Some e → site_in sites key ≡ Some site → IsSiteAt m (position_in table key) site

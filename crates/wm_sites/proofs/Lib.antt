@@ -4,3 +4,4 @@ pub mod EventSites
 pub mod NumberingLaws
 pub mod Noting
 pub mod AllNumbered
+pub mod FunctionMaps

@@ -91,9 +91,11 @@ module _ (table : Table) (p : BlockPosition) (number : ℕ) (row : Vec (Option �
   number_put within = record {
     from = from;
     keeps = keeps;
-    notes = λ _. (number,
-    noted_at new p (with_item row p.at (Some number)) number (set-get table p.block (with_item row p.at (Some number)) row is)
-        (set-get row.items p.at (Some number) _ (slice_get-get_or row.items p.at None within)));
+    notes = λ _. (
+      number,
+      noted_at new p (with_item row p.at (Some number)) number (set-get table p.block (with_item row p.at (Some number)) row is)
+          (set-get row.items p.at (Some number) _ (slice_get-get_or row.items p.at None within)),
+    );
     places = places;
   }
 

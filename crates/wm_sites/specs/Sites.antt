@@ -1,5 +1,6 @@
 -- Which instruction a site names.
-use Rattle.std.specs.Prelude.{◌≡◌, ◌⊎◌, ◌-◌, ◌^◌, ℕ, min, List, [], Option, Some, None, Result, Ok, Err, length, option_and_then, slice_get}
+use Rattle.std.specs.Option.{option_flatten}
+use Rattle.std.specs.Prelude.{◌≡◌, ◌⊎◌, ◌-◌, ◌^◌, ◌<◌, ℕ, min, List, [], Option, Some, None, Result, Ok, Err, length, option_and_then, slice_get}
 use Rattle.wm_ast.specs.declared.module.Func.{Func}
 use Rattle.wm_ast.specs.declared.module.Module.{Module}
 use Rattle.wm_event.specs.declared.event.Event.{Event}
@@ -7,6 +8,7 @@ use Rattle.wm_event.specs.declared.event.EventKey.{EventKey}
 use Rattle.wm_event.specs.declared.log.ThreadLog.{ThreadLog}
 use Rattle.wm_event.specs.Event.{key_of}
 use Rattle.wm_event.specs.Log.{event_in}
+use Rattle.wm_decode.specs.Bounds.{max_module_bytes}
 use Rattle.wm_machine.specs.declared.fault.StartFault.{StartFault}
 use Rattle.wm_machine.specs.declared.thread.CodePosition.{CodePosition}
 use Rattle.wm_machine.specs.Term.{Config}
@@ -17,7 +19,7 @@ use Rattle.wm_replay.specs.Positions.{ArePositions}
 use Rattle.wm_replay.specs.Replay.{start_of}
 use Rattle.wm_sites.specs.declared.code_map.FunctionMap.{FunctionMap}
 use Rattle.wm_sites.specs.declared.opcode_numbers.BlockPosition.{BlockPosition}
-use Rattle.wm_sites.specs.Numbering.{AreNumbers, IsNumbered}
+use Rattle.wm_sites.specs.Numbering.{AreNumbers, IsNumbered, number_at}
 
 -- ---- the opcode at a position
 
@@ -41,12 +43,16 @@ pub record IsSiteOf (m : Module) (p : CodePosition) (site : Site) : Type 0 where
   pub function : site.function ≡ in_32_bits p.func
   pub instruction : site.instruction ≡ in_32_bits number
 
+-- none of the first 1,048,576 opcodes of the position's function is there
+abbrev pub IsNoOpcode : Module → CodePosition → Type 0
+IsNoOpcode m p = (n : ℕ) → IsOpcodeAt m p n → n < max_module_bytes → ⊥
+
 -- the first instruction of function 0
 abbrev pub first_site : Site
 first_site = record { function = 0; instruction = 0; offset = 0 }
 
 abbrev pub IsSiteOrFirst : Module → CodePosition → Site → Type 0
-IsSiteOrFirst m p site = IsSiteOf m p site ⊎ (site ≡ first_site)
+IsSiteOrFirst m p site = IsSiteOf m p site ⊎ ((site ≡ first_site) × IsNoOpcode m p)
 
 -- a site for each position
 abbrev pub AreSitesOf : Module → List CodePosition → List Site → Type 0
@@ -58,12 +64,24 @@ AreSitesOf m positions sites = (i : ℕ) (site : Site) → slice_get sites i ≡
 abbrev pub IsFunctionMap : Module → ℕ → FunctionMap → Type 0
 IsFunctionMap m f map = (func : Func) × (slice_get m.funcs f ≡ Some func) × AreNumbers func.blocks map.numbers
 
-abbrev pub AreFunctionMaps : Module → List (Option FunctionMap) → Type 0
-AreFunctionMaps m maps = (f : ℕ) (map : FunctionMap) → slice_get maps f ≡ Some (Some map) → IsFunctionMap m f map
+-- there is a place for each function, and the maps are of these functions
+pub record AreFunctionMaps (m : Module) (maps : List (Option FunctionMap)) : Type 0 where
+  pub count : length maps ≡ length m.funcs
+  pub each : (f : ℕ) (map : FunctionMap) → slice_get maps f ≡ Some (Some map) → IsFunctionMap m f map
+
+-- if the module has function f, it was read
+abbrev pub IsRead : Module → List (Option FunctionMap) → ℕ → Type 0
+IsRead m maps f = (func : Func) → slice_get m.funcs f ≡ Some func → (map : FunctionMap) × (slice_get maps f ≡ Some (Some map))
+
+-- the number of the opcode at a position, if its function was read
+abbrev pub opcode_in : List (Option FunctionMap) → CodePosition → Option ℕ
+opcode_in maps p = option_and_then (λ (map : FunctionMap). number_at map.numbers (in_function p)) (option_flatten (slice_get maps p.func))
 
 -- what function f is read as is put down, and nothing else
-abbrev pub PutsMap : List (Option FunctionMap) → List (Option FunctionMap) → ℕ → Option FunctionMap → Type 0
-PutsMap old new f read = (g : ℕ) (map : Option FunctionMap) → slice_get new g ≡ Some map → (slice_get old g ≡ Some map) ⊎ ((g ≡ f) × (map ≡ read))
+pub record PutsMap (old new : List (Option FunctionMap)) (f : ℕ) (read : Option FunctionMap) : Type 0 where
+  pub from : (g : ℕ) (map : Option FunctionMap) → slice_get new g ≡ Some map → (slice_get old g ≡ Some map) ⊎ ((g ≡ f) × (map ≡ read))
+  pub count : length new ≡ length old
+  pub puts : f < length old → slice_get new f ≡ Some read
 
 -- ---- where the events of a log are made
 
@@ -102,6 +120,10 @@ IsSiteAt m (Some p) site = IsSiteOrFirst m p site
 -- the site is that of the position where the event is made
 abbrev pub IsSiteMade : Module → List (List CodePosition) → EventKey → Site → Type 0
 IsSiteMade m table key site = (p : CodePosition) × (position_in table key ≡ Some p) × IsSiteOf m p site
+
+-- no opcode is at the position where the event is made
+abbrev pub IsMadeNowhere : Module → List (List CodePosition) → EventKey → Type 0
+IsMadeNowhere m table key = (p : CodePosition) → position_in table key ≡ Some p → IsNoOpcode m p
 
 -- a site for each of a thread's events
 abbrev pub AreThreadSites : Module → List (List CodePosition) → List Event → List Site → Type 0

@@ -1,7 +1,7 @@
 //! The numbers and the byte offsets of a module's instructions.
-ghost use Rattle.std.specs.Prelude.{◌≡◌, IfOk, IfSome, Some, slice_get};
+ghost use Rattle.std.specs.Prelude.{◌≡◌, IfOk, IfSome, None, Some, slice_get};
 ghost use Rattle.wm_sites.specs.Numbering.{number_at};
-ghost use Rattle.wm_sites.specs.Sites.{AreFunctionMaps, IsFunctionMap, IsOpcodeAt, IsSiteOf, PutsMap, in_32_bits};
+ghost use Rattle.wm_sites.specs.Sites.{AreFunctionMaps, IsFunctionMap, IsNoOpcode, IsRead, IsSiteOf, PutsMap, in_32_bits, opcode_in};
 
 use crate::module_code::ModuleCode;
 use crate::opcode_numbers::{BlockPosition, OpcodeNumbers, opcode_numbers};
@@ -91,12 +91,13 @@ struct FunctionMap {
 }
 
 impl FunctionMap {
-    /// The number of an opcode and where it begins, if it is one of the function.
+    /// The number of an opcode and where it begins, or 0 if its bytes can't be read; None if it isn't an opcode of the function.
     fn opcode(&self, position: BlockPosition) -> Option<(usize, usize)>
-        ensures { IfSome result (λ found. number_at self.now.numbers position ≡ Some found.0) }
+        ensures some { IfSome result (λ found. number_at self.now.numbers position ≡ Some found.0) }
+        ensures none { result ≡ None → number_at self.now.numbers position ≡ None }
     {
         let number = self.numbers.at(position)?;
-        let offset = self.offsets.get(number).copied()?;
+        let offset = self.offsets.get(number).copied().unwrap_or(0);
         Some((number, offset))
     }
 }
@@ -128,15 +129,72 @@ fn in_32_bits(number: usize) -> u32
     u32::try_from(number).unwrap_or(u32::MAX)
 }
 
-/// The instructions of a module by their positions. Each function is read when its first position is asked for. Contracts see
-/// it as the module.
+/// Reads the functions of a module.
 #[derive(Drop)]
-pub struct CodeMap<'m> {
+struct FunctionReader<'m> {
     alloc: Global,
     module: &'m Module,
     bytes: &'m [u8],
     /// Where the body of each function begins among the bytes.
     bodies: Vec<usize>,
+}
+
+impl FunctionReader<'_> {
+    /// The opcodes of a function; None if the module doesn't have it.
+    fn read(&self, function: usize) -> Result<Option<FunctionMap>, AllocError>
+        ensures some { IfOk result (λ found. IfSome found (IsFunctionMap self.now.module.now function)) }
+        ensures none { IfOk result (λ found. found ≡ None → slice_get self.now.module.now.funcs function ≡ None) }
+    {
+        let Some(code) = self.module.funcs.get(function) else {
+            return Ok(None);
+        };
+        let numbers = opcode_numbers(self.alloc, code.blocks.as_slice())?;
+        let offsets = match self.bodies.get(function) {
+            Some(body) => opcode_offsets(self.alloc, self.bytes, *body, numbers.count)?,
+            None => Vec::new(self.alloc),
+        };
+        Ok(Some(FunctionMap { numbers, offsets }))
+    }
+}
+
+/// Reads a function, if it was not read before.
+fn read_once(
+    reader: &FunctionReader,
+    functions: &mut Vec<Option<FunctionMap>>,
+    function: usize,
+) -> Result<(), AllocError>
+    requires { AreFunctionMaps reader.now.module.now functions.old.items }
+    ensures maps { AreFunctionMaps reader.now.module.now functions.new.items }
+    ensures read { IfOk result (λ _. IsRead reader.now.module.now functions.new.items function) }
+{
+    match functions.get(function) {
+        Some(None) => {
+            let read = reader.read(function)?;
+            put(functions, function, read);
+            Ok(())
+        }
+        Some(Some(_map)) => Ok(()),
+        None => Ok(()),
+    }
+}
+
+/// The number of the opcode at a position, and where it begins.
+fn opcode_at(functions: &[Option<FunctionMap>], position: CodePosition) -> Option<(usize, usize)>
+    ensures some { IfSome result (λ found. opcode_in functions.now position ≡ Some found.0) }
+    ensures none { result ≡ None → opcode_in functions.now position ≡ None }
+{
+    let CodePosition { func, block, at } = position;
+    match functions.get(func) {
+        Some(Some(map)) => map.opcode(BlockPosition { block, at }),
+        _ => None,
+    }
+}
+
+/// The instructions of a module by their positions. Each function is read when its first position is asked for. Contracts see
+/// it as the module.
+#[derive(Drop)]
+pub struct CodeMap<'m> {
+    reader: FunctionReader<'m>,
     functions: Vec<Option<FunctionMap>>,
 }
 
@@ -146,9 +204,9 @@ impl<'m> Model for CodeMap<'m> {
 
     ghost Value = { Seen };
 
-    ghost view = { λ map. map.module.now };
+    ghost view = { λ map. map.reader.module.now };
 
-    ghost invariant = { λ map. AreFunctionMaps map.module.now map.functions.items };
+    ghost invariant = { λ map. AreFunctionMaps map.reader.module.now map.functions.items };
 }
 
 impl<'m> CodeMap<'m> {
@@ -165,57 +223,33 @@ impl<'m> CodeMap<'m> {
         let bodies = body_offsets(alloc, bytes)?;
         let functions = unread(alloc, module)?;
         Ok(CodeMap {
-            alloc,
-            module,
-            bytes,
-            bodies,
+            reader: FunctionReader {
+                alloc,
+                module,
+                bytes,
+                bodies,
+            },
             functions,
         })
     }
 
-    /// The opcodes of a function, if the module has it.
-    fn read(&self, function: usize) -> Result<Option<FunctionMap>, AllocError>
-        ensures { IfOk result (λ found. IfSome found (IsFunctionMap self.now function)) }
-    {
-        let (Some(code), Some(body)) = (self.module.funcs.get(function), self.bodies.get(function))
-        else {
-            return Ok(None);
-        };
-        let numbers = opcode_numbers(self.alloc, code.blocks.as_slice())?;
-        let offsets = opcode_offsets(self.alloc, self.bytes, *body, numbers.count)?;
-        Ok(Some(FunctionMap { numbers, offsets }))
-    }
-
-    /// The number of the opcode at a position, and where it begins.
-    fn opcode(&self, position: CodePosition) -> Option<(usize, usize)>
-        ensures { IfSome result (λ found. IsOpcodeAt self.now position found.0) }
-    {
-        let CodePosition { func, block, at } = position;
-        match self.functions.get(func) {
-            Some(Some(map)) => map.opcode(BlockPosition { block, at }),
-            _ => None,
-        }
-    }
-
-    /// The instruction at a position, with where it begins among the bytes of the module; None if the module doesn't have it.
+    /// The instruction at a position, with where it begins among the bytes of the module; None only if none of the first
+    /// 1,048,576 opcodes of a function of the module is there.
     ///
     /// # Errors
     ///
     /// Only if an allocation fails.
     pub fn site(&mut self, position: CodePosition) -> Result<Option<Site>, AllocError>
         ensures site { IfOk result (λ found. IfSome found (IsSiteOf self.old position)) }
+        ensures none { IfOk result (λ found. found ≡ None → IsNoOpcode self.old position) }
         ensures same { self.new ≡ self.old }
     {
-        let func = position.func;
-        if let Some(None) = self.functions.get(func) {
-            let read = self.read(func)?;
-            put(&mut self.functions, func, read);
-        }
-        let Some((instruction, offset)) = self.opcode(position) else {
+        read_once(&self.reader, &mut self.functions, position.func)?;
+        let Some((instruction, offset)) = opcode_at(self.functions.as_slice(), position) else {
             return Ok(None);
         };
         Ok(Some(Site {
-            function: in_32_bits(func),
+            function: in_32_bits(position.func),
             instruction: in_32_bits(instruction),
             offset: in_32_bits(offset),
         }))

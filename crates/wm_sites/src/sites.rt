@@ -1,6 +1,6 @@
 //! The instructions that make the events of a log.
-ghost use Rattle.std.specs.Prelude.{◌≡◌, IfOk, IfSome, length};
-ghost use Rattle.wm_sites.specs.Sites.{AreEventSites, AreLogPositions, AreSitesOf, AreThreadSites, IsSiteMade, position_in};
+ghost use Rattle.std.specs.Prelude.{◌≡◌, IfOk, IfSome, None, length};
+ghost use Rattle.wm_sites.specs.Sites.{AreEventSites, AreLogPositions, AreSitesOf, AreThreadSites, IsMadeNowhere, IsSiteMade, position_in};
 ghost use Rattle.wm_races.specs.Report.{HasSites};
 
 use crate::code_map::CodeMap;
@@ -66,13 +66,15 @@ impl<'m> RunSites<'m> {
         thread.get(key.number as usize).copied()
     }
 
-    /// The instruction that makes an event; None if its thread doesn't make it.
+    /// The instruction that makes an event; None only if its thread doesn't make it, or makes it where none of the first
+    /// 1,048,576 opcodes of a function is.
     ///
     /// # Errors
     ///
     /// Only if an allocation fails.
     pub fn site(&mut self, key: EventKey) -> Result<Option<Site>, AllocError>
         ensures site { IfOk result (λ found. IfSome found (IsSiteMade self.old.map self.old.positions.items key)) }
+        ensures none { IfOk result (λ found. found ≡ None → IsMadeNowhere self.old.map self.old.positions.items key) }
         ensures same { self.new ≡ self.old }
     {
         match self.position(key) {

@@ -20,10 +20,13 @@ loop-position-preserved c =
     let more = c.in_ok-push.ensures.ok ∙ ap (λ (site : Site). old ++ site ∷ []) c.unwrap_or.ensures in
     let sites =
     position_sites_more c.loop-position.map positions old new n p (unwrap_or found first_site) c.loop-position.invariant.count c.loop-position.invariant.sites
-    (slice_get-get_or positions n none c.loop-position-test.true) (found_or_first c.loop-position.map p found c.in_ok-found.ensures.site) more
+    (slice_get-get_or positions n none c.loop-position-test.true) (found_or_first c.loop-position.map p found c.in_ok-found.ensures.site c.in_ok-found.ensures.none) more
     in
     record {
       count = one_more n old new (unwrap_or found first_site) c.loop-position.invariant.count more;
       sites = subst (λ (m : Module). AreSitesOf m positions new) (sym c.in_ok-found.ensures.same) sites;
       same = c.in_ok-found.ensures.same ∙ c.loop-position.invariant.same;
     }
+
+pub returns-clause-sites : goal.returns-clause-sites
+returns-clause-sites c = subst (λ (m : Module). AreSitesOf m c.args.positions.now c.loop-position.sites) c.loop-position.invariant.same c.loop-position.invariant.sites

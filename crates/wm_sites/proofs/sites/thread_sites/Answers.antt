@@ -18,7 +18,7 @@ loop-event-preserved c =
     let found = c.in_ok-site.field-0 in
     let site = unwrap_or found first_site in
     let at = event_at events c.as_slice-event-items.result.now n _ c.key.result c.as_slice-event-items.ensures c.loop-event-test.true c.key.ensures in
-    let made = subst (λ (key : EventKey). IsSiteAt run.map (position_in table key) site) at.2 (site_or_first run.map table c.key.result found c.in_ok-site.ensures.site) in
+    let made = subst (λ (key : EventKey). IsSiteAt run.map (position_in table key) site) at.2 (site_or_first run.map table c.key.result found c.in_ok-site.ensures.site c.in_ok-site.ensures.none) in
     let more = c.in_ok-push.ensures.ok ∙ ap (λ (s : Site). old ++ s ∷ []) c.unwrap_or-site.ensures in
     let sites = thread_sites_more run.map table events old new n at.0 site c.loop-event.invariant.count c.loop-event.invariant.sites at.1 made more in
     record {
