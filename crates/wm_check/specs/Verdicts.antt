@@ -66,7 +66,7 @@ pub record IsInvalid (bytes : List ℕ) (fault : ValidFault) : Type 0 where
   pub breaks : Breaks «module» fault
   pub no_want : fault ≢ valid.OutOfMemory
 
--- the log and the witness are no candidate, and this is the first fault of their shape
+-- the log and the witness are not a candidate, and this is the first fault of their shape
 pub record IsMisshapen (module_bytes document_bytes : List ℕ) (fault : ShapeFault) : Type 0 where
   pub «module» : Module
   pub run : LoggedRun

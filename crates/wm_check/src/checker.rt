@@ -24,7 +24,7 @@ use wm_valid::{ValidFault, ValidModule, validate};
 #[derive(Debug, Drop)]
 pub enum Unread {
     Refused(Refusal),
-    /// Memory was refused.
+    /// An allocation failed.
     OutOfMemory,
 }
 
@@ -103,13 +103,13 @@ fn compare<R: AllocGlobal + Threads + Sync>(
 #[derive(Drop)]
 pub struct CheckedLog<'m> {
     pub verdict: Verdict,
-    /// The log with its witness over the module's initial memory; None where they are refused.
+    /// The log with its witness over the module's initial memory; None if they are refused.
     pub candidate: Option<Candidate<'m>>,
     /// The log with its witness and its fault, where their shape is refused.
     pub misshapen: Option<Misshapen>,
 }
 
-/// The refusal of a log with a witness that are no candidate; an allocation failure is no refusal.
+/// The refusal of a log with a witness that are not a candidate; an allocation failure is not a refusal.
 fn refuse_shape<'m>(misshapen: Misshapen) -> Result<CheckedLog<'m>, AllocError>
     ensures { IfOk result (RefusesShape misshapen) }
 {
@@ -152,7 +152,7 @@ fn compare_log<'m, R: AllocGlobal + Threads + Sync>(
 ///
 /// # Errors
 ///
-/// Only if memory was refused.
+/// Only if an allocation fails.
 pub fn check_log<'m, R: AllocGlobal + Threads + Sync>(
     rt: &R,
     module: &'m ValidModule,
@@ -203,7 +203,7 @@ fn verdict_of<R: AllocGlobal + Threads + Sync>(
 ///
 /// # Errors
 ///
-/// Only if memory was refused.
+/// Only if an allocation fails.
 pub fn check<R: AllocGlobal + Threads + Sync>(
     rt: &R,
     module_bytes: &[u8],

@@ -61,7 +61,7 @@ fn complete_over(
 ///
 /// # Errors
 ///
-/// Only if memory was refused.
+/// Only if an allocation fails.
 pub fn complete_document(
     alloc: Global,
     module_bytes: &[u8],

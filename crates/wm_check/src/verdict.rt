@@ -18,13 +18,13 @@ pub struct Certificate {
 /// Why a module or a log is refused. Each fault comes only if those before it don't. None of them is `OutOfMemory`.
 #[derive(Debug, Drop)]
 pub enum Refusal {
-    /// The bytes are no module within the limits.
+    /// The bytes are not a module within the limits.
     Decode(DecodeFault),
     /// The module isn't valid.
     Valid(ValidFault),
-    /// The bytes are no log with a witness within the limits.
+    /// The bytes are not a log with a witness within the limits.
     Document(DocFault),
-    /// The log and the witness are no candidate over the module's initial memory.
+    /// The log and the witness are not a candidate over the module's initial memory.
     Shape(ShapeFault),
 }
 

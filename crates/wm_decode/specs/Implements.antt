@@ -1,4 +1,4 @@
--- What a function returned, seen by view, is what reading gives, unless memory was refused.
+-- What a function returned, seen by view, is what reading gives, unless an allocation fails.
 use Rattle.std.specs.Prelude.{◌≡◌, ◌≤◌, ◌<◌, ◌+◌, ◌^◌, ℕ, Result, Ok, Err}
 use Rattle.wm_decode.specs.declared.fault.Limit.{Limit}
 use Rattle.wm_decode.specs.declared.fault.FaultKind.TheVariants as kind
@@ -20,12 +20,12 @@ Implements view (Err e) read = Fails e read
 abbrev pub fault_of : Stop → ItemFault
 fault_of s = WithLeft s.kind s.left
 
--- the same fault, but where memory was refused, with its stop changed
+-- the same fault, but if an allocation fails, with its stop changed
 abbrev pub map_fault : (Stop → Stop) → ItemFault → ItemFault
 map_fault f OutOfMemory = OutOfMemory
 map_fault f (WithLeft kind left) = fault_of (f (stop kind left))
 
--- what decoding answered is what reading gives, unless memory was refused
+-- what decoding answered is what reading gives, unless an allocation fails
 abbrev pub Decodes : {X : Type 0} → Result X DecodeFault → Result X Stop → Type 0
 Decodes (Ok x) read = read ≡ Ok x
 Decodes (Err decode.OutOfMemory) read = Unit {0}
@@ -56,7 +56,7 @@ abbrev pub IsWithin : ℕ → DecodeFault → Type 0
 IsWithin bytes (decode.At kind offset) = offset ≤ bytes
 IsWithin bytes decode.OutOfMemory = Unit {0}
 
--- this value is answered, unless memory was refused
+-- this value is answered, unless an allocation fails
 abbrev pub IsUnlessMemory : {X : Type 0} → Result X DecodeFault → X → Type 0
 IsUnlessMemory (Ok x) m = x ≡ m
 IsUnlessMemory (Err decode.OutOfMemory) m = Unit {0}

@@ -50,7 +50,7 @@ version = 0x01 ∷ 0x00 ∷ 0x00 ∷ 0x00 ∷ []
 abbrev pub header : List ℕ
 header = magic ++ version
 
--- the items of a section, none where it is absent
+-- the items of a section, none if it is absent
 abbrev pub items_of : {X : Type 0} → Option (List X) → List X
 items_of None = []
 items_of (Some xs) = xs
@@ -66,7 +66,7 @@ abbrev pub Agrees : Option ℕ → ℕ → Type 0
 Agrees None count = Unit {0}
 Agrees (Some n) count = count ≡ n
 
--- how many parameters the type of this index has, none where it isn't there
+-- how many parameters the type of this index has, none if it isn't there
 abbrev pub params_at : Option FuncType → ℕ
 params_at None = 0
 params_at (Some t) = length t.params

@@ -86,7 +86,7 @@ imports_at bounds bytes = do
     memory ← import_at bounds count.1
     if count.0 == 1 then Ok (Some memory.0, memory.1) else second_import_at memory.1
 
--- at most one memory, and none where one was imported
+-- at most one memory, and none if one was imported
 unfoldable pub memories_at : Bounds → Bool → List ℕ → Read (Option Limits)
 memories_at bounds imported bytes = do
   count ← u32_at bytes

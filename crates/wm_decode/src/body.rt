@@ -24,7 +24,7 @@ const ELSE: u8 = 0x05;
 /// The blocks of a function.
 type Blocks = Vec<Block>;
 
-/// Why a byte is no block type.
+/// Why a byte is not a block type.
 fn block_type_fault(byte: u8) -> FaultKind
     ensures { result ≡ block_type_fault byte }
 {
@@ -139,7 +139,7 @@ fn immediates(alloc: Global, opcode: Opcode, bytes: &[u8]) -> Result<(Instr, &[u
     }
 }
 
-/// Why a byte is no opcode.
+/// Why a byte is not an opcode.
 fn opcode_fault(code: u8) -> FaultKind
     ensures { result ≡ opcode_fault code }
 {

@@ -86,7 +86,7 @@ fn function(
     Ok((function, rest))
 }
 
-/// How many parameters the type of this index has; none where it isn't there.
+/// How many parameters the type of this index has; none if it isn't there.
 fn parameters(types: &[FuncType], type_index: u32) -> usize
     ensures { result ≡ params_of types.now type_index }
 {

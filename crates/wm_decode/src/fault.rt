@@ -82,7 +82,7 @@ pub enum FaultKind {
 pub enum DecodeFault {
     /// What is wrong, and the offset of the faulty item's first byte.
     At(FaultKind, usize),
-    /// Memory was refused.
+    /// An allocation failed.
     OutOfMemory,
 }
 
@@ -91,7 +91,7 @@ pub enum DecodeFault {
 pub(crate) enum ItemFault {
     /// What is wrong, and how many bytes are left from the faulty item's first byte on.
     WithLeft(FaultKind, usize),
-    /// Memory was refused.
+    /// An allocation failed.
     OutOfMemory,
 }
 

@@ -13,7 +13,7 @@ use crate::vectors::{name, owned_name};
 use std::alloc::Global;
 use wm_ast::{ImportName, Memory};
 
-/// Why a byte is no kind of an import that is read.
+/// Why a byte is not a kind of an import that is read.
 fn import_kind_fault(byte: u8) -> FaultKind
     ensures { result ≡ import_kind_fault byte }
 {

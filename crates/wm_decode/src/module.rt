@@ -75,7 +75,7 @@ fn header(bytes: &[u8]) -> Result<&[u8], ItemFault>
     Ok(rest)
 }
 
-/// The items of a section, none where it is absent.
+/// The items of a section, none if it is absent.
 fn items_or_none<T>(alloc: Global, found: Option<List<T>>) -> List<T>
     ensures { result ≡ items_of found }
 {
@@ -85,7 +85,7 @@ fn items_or_none<T>(alloc: Global, found: Option<List<T>>) -> List<T>
     }
 }
 
-/// The exports of a section, none where it is absent.
+/// The exports of a section, none if it is absent.
 fn exports_or_none(alloc: Global, found: Option<Exports>) -> Exports
     ensures { result ≡ items_of found }
 {
@@ -262,11 +262,11 @@ fn decode_whole(alloc: Global, bytes: &[u8]) -> Result<Module, DecodeFault>
 ///
 /// `At` gives the first fault from left to right, with the offset of the faulty item's first byte.
 /// It comes only where the bytes spell no module within the limits.
-/// `OutOfMemory` comes only where memory was refused.
+/// `OutOfMemory` comes only if an allocation fails.
 pub fn decode(alloc: Global, bytes: &[u8]) -> Result<Module, DecodeFault>
     // What is answered is spelled by the bytes, within the limits.
     ensures found { IfOk result (λ m. SpellsWithin bytes.now m) }
-    // What the bytes spell within the limits is answered, unless memory is refused.
+    // What the bytes spell within the limits is answered, unless an allocation fails.
     ensures only { (m : Module) → SpellsWithin bytes.now m → IsUnlessMemory result m }
     // Of bytes that spell a module, a limit is named only where they or the module are past it.
     ensures past { (m : Module) (limit : Limit) → spells bytes.now m → RefusedBy limit result → IsPast limit bytes.now m }

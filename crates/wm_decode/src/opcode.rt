@@ -192,7 +192,7 @@ fn other(code: u8) -> Option<Opcode>
     }
 }
 
-/// The meaning of a byte as an opcode that begins no block; None where it has none.
+/// The meaning of a byte as an opcode that begins no block; None if it has none.
 #[tactic(auto, unfolding(crate::specs::Opcodes::opcode_at))]
 pub(crate) fn opcode_of(code: u8) -> Option<Opcode>
     ensures { result ≡ opcode_at code }
@@ -299,7 +299,7 @@ fn last_update(code: u32) -> Option<AccessKind>
     }
 }
 
-/// The access that a code after the prefix `FE` means; None where it means none.
+/// The access that a code after the prefix `FE` means; None if it means none.
 #[tactic(auto, unfolding(crate::specs::Opcodes::atomic_at))]
 pub(crate) fn atomic_access(code: u32) -> Option<AccessKind>
     ensures { result ≡ atomic_at code }

@@ -31,7 +31,7 @@ impl Item for DataSegment {
     }
 }
 
-/// Why a byte is no flag of a data segment that is read.
+/// Why a byte is not a flag of a data segment that is read.
 fn segment_flag_fault(byte: u8) -> FaultKind
     ensures { result ≡ segment_flag_fault byte }
 {

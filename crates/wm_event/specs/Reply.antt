@@ -3,7 +3,7 @@ use Rattle.std.specs.Prelude.{ℕ, Bool, true, false, Option, Some, None, ⊤}
 use Rattle.wm_access.specs.AccessWidth.{Fits}
 use Rattle.wm_access.specs.declared.AccessWidth.{AccessWidth}
 
--- a read exactly where one is wanted, and it fits
+-- a read exactly if one is wanted, and it fits
 abbrev pub ReadAnswers : Bool → AccessWidth → Option ℕ → Type 0
 ReadAnswers true width None = ⊥
 ReadAnswers true width (Some v) = Fits width v

@@ -96,7 +96,7 @@ impl MixedAddresses {
 pub(crate) struct EventTables<'a> {
     pub alloc: Global,
     pub candidate: &'a Candidate<'a>,
-    /// The instructions that make the events; None where no module is given.
+    /// The instructions that make the events; None if no module is given.
     sites: Option<NamedSites<'a>>,
 }
 

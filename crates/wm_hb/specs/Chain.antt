@@ -35,6 +35,6 @@ pub record IsShortestChain (x : Execution) (a : EventId) (links : List Link) (b 
 abbrev pub AreChains : Execution → List FaultChain → Type 0
 AreChains x chains = All (λ chain. IsShortestChain x chain.from chain.links chain.to) chains
 
--- a shortest chain from one event to another; None where the first doesn't happen before the second
+-- a shortest chain from one event to another; None if the first doesn't happen before the second
 abbrev pub FindsChain : Execution → EventId → EventId → Option (List Link) → Type 0
 FindsChain x a b result = MatchOption result (HappensBefore x a b → ⊥) (λ links. IsShortestChain x a links b)

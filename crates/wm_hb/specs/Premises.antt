@@ -54,10 +54,10 @@ pub record Shows (x : Execution) (f : RuleFault) (list : List FaultChain) : Type
   pub chains : AreChains x list
   pub for_premises : map ends_of list ≡ premises f
 
--- a chain for each premise, None where they don't all hold
+-- a chain for each premise, None if they don't all hold
 abbrev pub FindsChains : Execution → List Premise → Option (List FaultChain) → Type 0
 FindsChains x list result = MatchOption result (Hold x list → ⊥) (λ chains. AreChains x chains × (map ends_of chains ≡ list))
 
--- chains that show a fault, None where it isn't the first fault
+-- chains that show a fault, None if it isn't the first fault
 abbrev pub FindsShown : Execution → RuleFault → Option (List FaultChain) → Type 0
 FindsShown x f result = MatchOption result (Judges x (Broken f) → ⊥) (Shows x f)

@@ -49,11 +49,11 @@ pub record IsHappensBefore (x : LoggedRun) (graph : List (List ℕ)) : Type 0 wh
 abbrev pub DecidesBefore : LoggedRun → ℕ → ℕ → Bool → Type 0
 DecidesBefore x from to b = (p r : EventKey) → StandsAt x from p → StandsAt x to r → IsTrue b ↔ HappensBefore (execution x) (At p) (At r)
 
--- the place of the event before this one in its thread, None where there is none
+-- the place of the event before this one in its thread, None if there is none
 abbrev pub FindsPrevious : LoggedRun → EventKey → Option ℕ → Type 0
 FindsPrevious x r result = MatchOption result ((p : EventKey) → IsNext x p r → ⊥) (λ m. (p : EventKey) × StandsAt x m p × IsNext x p r)
 
--- the place of the writer, None where it doesn't synchronize with the reader
+-- the place of the writer, None if it doesn't synchronize with the reader
 abbrev pub FindsWriter : LoggedRun → EventId → EventKey → Option ℕ → Type 0
 FindsWriter x writer reader result = MatchOption result
     ((p : EventKey) → writer ≡ At p → SynchronizesWith (execution x) p reader → ⊥)

@@ -104,7 +104,7 @@ abbrev pub BoundsThroughWriters : LoggedRun → List Row → EventKey → Option
 BoundsThroughWriters x table reader o =
     (a p : EventKey) → IsTable x a table → SynchronizesWith (execution x) p reader → BoundsThrough x a p (hop_links o)
 
--- the place of the event before this one in its thread; None where none is sequenced before it
+-- the place of the event before this one in its thread; None if none is sequenced before it
 abbrev pub FindsPrevious : LoggedRun → EventKey → Option ℕ → Type 0
 FindsPrevious x r result = MatchOption result
     ((p : EventKey) → SequencedBefore (execution x) p r → ⊥)

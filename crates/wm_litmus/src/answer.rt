@@ -69,7 +69,7 @@ impl Answer {
         Answer::of_line(verdict_status_of(verdict), line)
     }
 
-    /// The refusal of a document, such as `refused document BadShape at /2/0/1`; an allocation failure is no answer.
+    /// The refusal of a document, such as `refused document BadShape at /2/0/1`; an allocation failure is not an answer.
     pub fn refused_document(alloc: Global, fault: &DocFault) -> Result<Answer, AllocError>
         ensures { IfOk result (λ answer. (fault.now ≢ DocFault.OutOfMemory)
             × Prints 2 (document_line_text fault.now) answer) }
@@ -83,7 +83,7 @@ impl Answer {
         }
     }
 
-    /// The refusal of a log and a witness that are no candidate, such as `refused shape WriterCount at 0.1`; an
+    /// The refusal of a log and a witness that are not a candidate, such as `refused shape WriterCount at 0.1`; an
     /// allocation failure is no answer.
     pub fn refused_shape(alloc: Global, fault: ShapeFault) -> Result<Answer, AllocError>
         ensures { IfOk result (λ answer. (fault ≢ ShapeFault.OutOfMemory)
@@ -106,7 +106,7 @@ impl Answer {
         Answer::of_line(2, line)
     }
 
-    /// The refusal of a word; an allocation failure is no answer.
+    /// The refusal of a word; an allocation failure is not an answer.
     pub fn refused_word(alloc: Global, fault: WordFault) -> Result<Answer, AllocError>
         ensures { IfOk result (λ answer. (fault ≢ WordFault.OutOfMemory) × Prints 2 (word_line_text fault) answer) }
     {

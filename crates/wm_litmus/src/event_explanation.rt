@@ -44,7 +44,7 @@ fn explain_log<R: AllocGlobal + Threads + Sync>(
     }
 }
 
-/// The refusal of the bytes of a document, and its explanation; an allocation failure is no answer.
+/// The refusal of the bytes of a document, and its explanation; an allocation failure is not an answer.
 fn explain_fault(alloc: Global, fault: DocFault, bytes: &[u8]) -> Result<Answer, AllocError>
     ensures { IfOk result (ExplainsFault fault) }
 {
@@ -57,7 +57,7 @@ fn explain_fault(alloc: Global, fault: DocFault, bytes: &[u8]) -> Result<Answer,
 ///
 /// # Errors
 ///
-/// Only if memory was refused.
+/// Only if an allocation fails.
 pub(crate) fn explain_events_answer<R: AllocGlobal + Threads + Sync>(
     rt: &R,
     bytes: &[u8],
@@ -111,7 +111,7 @@ fn graph_log<R: AllocGlobal + Threads + Sync>(
 ///
 /// # Errors
 ///
-/// Only if memory was refused.
+/// Only if an allocation fails.
 pub(crate) fn graph_events_answer<R: AllocGlobal + Threads + Sync>(
     rt: &R,
     bytes: &[u8],

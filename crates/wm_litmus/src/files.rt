@@ -11,7 +11,7 @@ pub enum FileFault {
     /// It couldn't be opened, or a read of it failed.
     #[error("the device failed")]
     Device,
-    /// Memory was refused.
+    /// An allocation failed.
     #[error("out of memory")]
     OutOfMemory,
 }
@@ -36,7 +36,7 @@ pub trait Files {
     /// # Errors
     ///
     /// `Device` where the file couldn't be opened or a read of it failed, and then the count is higher than
-    /// before; `OutOfMemory` where memory was refused.
+    /// before; `OutOfMemory` if an allocation fails.
     fn read(&mut self, name: &str, limit: usize) -> Result<Vec<u8>, FileFault>
         requires { failures_of self.old + 1 < 2 ^ 64 }
         ensures bound { IfOk result (λ bytes. vec_len bytes ≤ limit) }

@@ -70,7 +70,7 @@ DOCUMENTATION
 ///
 /// # Errors
 ///
-/// Only if memory was refused.
+/// Only if an allocation fails.
 pub(crate) fn help_answer(alloc: Global) -> Result<Answer, AllocError>
     ensures { IfOk result (PrintsText help_text) }
 {
@@ -82,7 +82,7 @@ pub(crate) fn help_answer(alloc: Global) -> Result<Answer, AllocError>
 ///
 /// # Errors
 ///
-/// Only if memory was refused.
+/// Only if an allocation fails.
 pub(crate) fn version_answer(alloc: Global) -> Result<Answer, AllocError>
     ensures { IfOk result (PrintsText version_text) }
 {

@@ -12,7 +12,7 @@ const CHUNK: usize = 4096;
 ///
 /// # Errors
 ///
-/// `Device` at the first read that fails, an interrupted one too; `OutOfMemory` where memory was refused.
+/// `Device` at the first read that fails, an interrupted one too; `OutOfMemory` if an allocation fails.
 pub fn read_limited<R: Read>(
     alloc: Global,
     input: &mut R,

@@ -28,7 +28,7 @@ impl fmt::Display for JudgementLine<'_> {
 ///
 /// # Errors
 ///
-/// Only if memory was refused.
+/// Only if an allocation fails.
 pub fn rules_line(alloc: Global, judgement: &Judgement) -> Result<String, AllocError>
     ensures { IfOk result (λ line. string_bytes line ≡ judgement_text judgement.now) }
 {
@@ -103,7 +103,7 @@ impl fmt::Display for VerdictLine<'_> {
 ///
 /// # Errors
 ///
-/// Only if memory was refused.
+/// Only if an allocation fails.
 pub fn verdict_line(alloc: Global, verdict: &Verdict) -> Result<String, AllocError>
     ensures { IfOk result (λ line. string_bytes line ≡ verdict_text verdict.now) }
 {

@@ -39,7 +39,7 @@ fn separator(number: usize) -> &'static str
 ///
 /// # Errors
 ///
-/// Only if memory was refused.
+/// Only if an allocation fails.
 pub fn outcome(alloc: Global, run: &Run) -> Result<String, AllocError>
     ensures { IfOk result (λ text. string_bytes text ≡ outcome_text run.now.log) }
 {

@@ -21,7 +21,7 @@ pub(crate) struct Checked {
 ///
 /// # Errors
 ///
-/// Only if memory was refused.
+/// Only if an allocation fails.
 pub(crate) fn check_own<R: AllocGlobal + Threads + Sync>(
     rt: &R,
     module: &ValidModule,

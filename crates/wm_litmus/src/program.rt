@@ -46,7 +46,7 @@ enum Failure<'a> {
     UnreadInput,
     /// The answer was not written whole.
     Unwritten,
-    /// Memory was refused.
+    /// An allocation failed.
     OutOfMemory,
 }
 
@@ -405,7 +405,7 @@ fn report<E: Write>(err: &mut E, failure: Failure) -> u8
 ///
 /// # Errors
 ///
-/// Status 3, with one line on `err` and no answer: `out of memory` where memory was refused, `cannot read NAME`
+/// Status 3, with one line on `err` and no answer: `out of memory` if an allocation fails, `cannot read NAME`
 /// where `files` or a read of `input` failed, `cannot write` where a write to `out` failed, which has then gained a
 /// front of the answer at most. That a write to `err` failed changes no status.
 pub fn serve<R: AllocGlobal + Threads + Wait + Sync, F: Files, I: Read, O: Write, E: Write>(

@@ -216,7 +216,7 @@ fn races_of_log<R: AllocGlobal + Threads + Sync>(
 ///
 /// # Errors
 ///
-/// Only if memory was refused.
+/// Only if an allocation fails.
 pub(crate) fn races_answer<R: AllocGlobal + Threads + Sync>(
     rt: &R,
     module_bytes: &[u8],
@@ -276,7 +276,7 @@ fn races_of_run<R: AllocGlobal + Threads + Sync>(
 ///
 /// # Errors
 ///
-/// Only if memory was refused.
+/// Only if an allocation fails.
 pub(crate) fn event_races_answer<R: AllocGlobal + Threads + Sync>(
     rt: &R,
     bytes: &[u8],

@@ -57,7 +57,7 @@ fn make_rounds<R: AllocGlobal + Threads + Wait + Sync>(
 ///
 /// # Errors
 ///
-/// Only if memory was refused.
+/// Only if an allocation fails.
 pub(crate) fn rounds_answer<R: AllocGlobal + Threads + Wait + Sync>(
     rt: &R,
     module_bytes: &[u8],

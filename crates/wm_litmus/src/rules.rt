@@ -34,7 +34,7 @@ fn run_answer<R: AllocGlobal + Threads + Sync>(
 ///
 /// # Errors
 ///
-/// Only if memory was refused.
+/// Only if an allocation fails.
 pub(crate) fn rules_answer<R: AllocGlobal + Threads + Sync>(
     rt: &R,
     bytes: &[u8],

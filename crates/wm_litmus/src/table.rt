@@ -83,7 +83,7 @@ impl Table {
 ///
 /// # Errors
 ///
-/// Only if memory was refused.
+/// Only if an allocation fails.
 pub fn report(alloc: Global, runs: &[Run]) -> Result<String, AllocError>
     ensures { IfOk result (λ text. IsTableText (outcomes runs.now) (string_bytes text)) }
 {

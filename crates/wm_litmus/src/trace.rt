@@ -280,7 +280,7 @@ fn play(
 ///
 /// # Errors
 ///
-/// Only if memory was refused.
+/// Only if an allocation fails.
 pub(crate) fn trace_answer(
     alloc: Global,
     module_bytes: &[u8],

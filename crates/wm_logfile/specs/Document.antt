@@ -27,7 +27,7 @@ use Rattle.wm_logfile.specs.Words.{kind_word, order_word}
 abbrev pub list : List Data → Data
 list ds = array (items_of ds)
 
--- a whole number that is not negative
+-- an integer that is not negative
 abbrev pub count : ℕ → Data
 count n = number (unsigned n)
 

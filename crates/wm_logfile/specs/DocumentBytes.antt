@@ -31,7 +31,7 @@ SpellsOnePair = (d : Data) → (log : List ThreadLog) → (other : List ThreadLo
 abbrev pub IsReadAgain : List ThreadLog → Witness → List ℕ → Type 0
 IsReadAgain log witness text = length text ≤ max_document_bytes → IsWithinLimits log witness → IsDocumentOf text log witness
 
--- the text of the log with the witness is past the limit, unless memory was refused
+-- the text of the log with the witness is past the limit, unless an allocation fails
 abbrev pub IsWrittenTooLarge : List ThreadLog → Witness → DocFault → Type 0
 IsWrittenTooLarge log witness fault = fault ≢ OutOfMemory → max_document_bytes < length (compact_text (document_2 log witness))
 

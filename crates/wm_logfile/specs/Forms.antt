@@ -14,7 +14,7 @@ use Rattle.wm_logfile.specs.Reading.{list_at, u32_max}
 
 mutual
   pub data Form : Type 0 where
-    -- a whole number up to this one
+    -- an integer up to this one
     up_to : ℕ → Form
     -- one of these numbers
     one_of : List ℕ → Form

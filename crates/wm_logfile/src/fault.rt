@@ -30,7 +30,7 @@ pub enum DocFault {
     NumberRange(Path),
     /// There are more than [`crate::MAX_DOCUMENT_BYTES`] bytes or more than [`wm_event::MAX_THREADS`] threads.
     TooLarge,
-    /// Memory was refused.
+    /// An allocation failed.
     OutOfMemory,
     /// The witness doesn't fit the log: it has no list of writers for each event, or one with writers for a
     /// write. Only [`crate::migrate`] answers it, after all faults of reading.
@@ -76,7 +76,7 @@ pub(crate) enum ReadFault {
     Shape(Path),
     /// A number out of its range.
     Range(Path),
-    /// Memory was refused.
+    /// An allocation failed.
     Memory,
 }
 

@@ -26,7 +26,7 @@ pub(crate) fn list_of<'a>(value: &'a Value, path: &Path) -> Result<&'a [Value], 
     }
 }
 
-/// A whole number that is at most the limit.
+/// A integer that is at most the limit.
 pub(crate) fn number_of(value: &Value, limit: u64, path: &Path) -> Result<u64, ReadFault>
     ensures given { Gives (λ n. n) result (number_at limit (view value.now)) }
     ensures bound { IfOk result (λ n. n ≤ limit) }

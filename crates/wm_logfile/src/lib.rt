@@ -1,4 +1,4 @@
-//! The document of a log with a witness: JSON text (RFC 8259) of arrays, texts and whole numbers.
+//! The document of a log with a witness: JSON text (RFC 8259) of arrays, texts and integers.
 //!
 //! - document: `["wasm-litmus-log",2,THREADS,ORDER]`
 //! - thread: `[NAME,[ARG..],END,STEPS,[EVENT..]]`

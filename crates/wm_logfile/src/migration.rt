@@ -16,7 +16,7 @@ use wm_event::{Log, Witness};
 /// # Errors
 ///
 /// The first fault of [`read_document`]; where there is none, `Misplaced` where the witness doesn't fit the log;
-/// `OutOfMemory` where memory was refused.
+/// `OutOfMemory` if an allocation fails.
 pub fn migrate(alloc: Global, bytes: &[u8]) -> Result<String, DocFault>
     ensures migrated { IfOk result (λ s. IsMigrated bytes.now (string_bytes s)) }
     ensures misplaced { IfErr result (λ e. e ≡ DocFault.Misplaced → IsMisplaced bytes.now) }
@@ -31,7 +31,7 @@ pub fn migrate(alloc: Global, bytes: &[u8]) -> Result<String, DocFault>
 ///
 /// # Errors
 ///
-/// `Misplaced` where the witness doesn't fit the log; `OutOfMemory` where memory was refused.
+/// `Misplaced` where the witness doesn't fit the log; `OutOfMemory` if an allocation fails.
 fn rewrite(alloc: Global, log: Log, witness: Witness) -> Result<String, DocFault>
     ensures written { IfOk result (λ s. IsRewritten log witness (string_bytes s)) }
     ensures refused { IfErr result (IsRewriteFault log witness) }

@@ -25,7 +25,7 @@ use wm_list::List;
 pub(crate) enum TakeFault {
     /// The text is no document, or isn't seen to be one.
     Other,
-    /// Memory was refused.
+    /// An allocation failed.
     Memory,
 }
 
@@ -93,7 +93,7 @@ fn number_of_digits(bytes: &[u8]) -> Option<u64>
     Some(number)
 }
 
-/// The whole number of 64 bits that a numeral writes, where it has no sign.
+/// The integer of 64 bits that a numeral writes, where it has no sign.
 #[cold]
 #[inline(never)]
 fn scanned_natural(bytes: &[u8]) -> Option<u64>
@@ -105,7 +105,7 @@ fn scanned_natural(bytes: &[u8]) -> Option<u64>
     Numeral::scan(bytes).to_u64()
 }
 
-/// The whole number of 64 bits that a number's text writes, where it has no sign.
+/// The integer of 64 bits that a number's text writes, where it has no sign.
 fn natural_of(text: &str) -> Option<u64>
     ensures { IfSome result (λ n. number_of text.now ≡ Some (unsigned n)) }
 {
@@ -117,7 +117,7 @@ fn natural_of(text: &str) -> Option<u64>
     }
 }
 
-/// Takes a whole number that is at most the limit.
+/// Takes an integer that is at most the limit.
 #[tactic(auto, using(crate::proofs::Taking::number_taken))]
 pub(crate) fn take_number(reader: &mut Reader<'_>, limit: u64) -> Result<u64, TakeFault>
     ensures taken { IfOk result (λ n. Taken 0 (number_at limit) reader.old n reader.new) }

@@ -226,7 +226,7 @@ fn text_of(out: Writer) -> String
 ///
 /// # Errors
 ///
-/// Only where memory was refused.
+/// Only if an allocation fails.
 pub fn write_document(alloc: Global, log: &Log, witness: &Witness) -> Result<String, AllocError>
     requires { FitsLog log.now witness.now }
     ensures text { IfOk result (λ s. string_bytes s ≡ compact_text (document_2 log.now witness.now)) }

@@ -19,7 +19,7 @@ callable_of (Some f) None body = None
 callable_of (Some f) (Some ty) None = None
 callable_of (Some f) (Some ty) (Some body) = Some record { params = ty.params; locals = f.locals; body = body }
 
--- None where the function, its type or its body isn't there
+-- None if the function, its type or its body isn't there
 abbrev pub callable : Module → ℕ → Option Callable
 callable m func = callable_of (slice_get m.funcs func) (func_type m func) (block_in m.funcs func 0)
 

@@ -87,7 +87,7 @@ abbrev pub run_from : Module → ℕ → Result Config StartFault → List ℕ �
 run_from m thread (Err fault) reads n = None
 run_from m thread (Ok config) reads n = outcome_of (steps m thread config reads n)
 
--- the events and the end of a thread after exactly n steps. None where the start isn't good, a read is missing, left over
+-- the events and the end of a thread after exactly n steps. None if the start isn't good, a read is missing, left over
 -- or doesn't fit its width, or the thread ends or is stuck before step n
 abbrev pub run : Module → ℕ → List ℕ → List ℕ → List ℕ → ℕ → Option Outcome
 run m thread name args reads n = run_from m thread (started m name args) reads n

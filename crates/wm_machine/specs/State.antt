@@ -70,12 +70,12 @@ abbrev pub read_in : Option Reply → ℕ
 read_in None = 0
 read_in (Some reply) = value_or_zero reply.read
 
--- the value that a reply gives to its access, 0 where this reads none
+-- the value that a reply gives to its access, 0 if this reads none
 abbrev pub given_by : Option Reply → Option ℕ
 given_by None = None
 given_by (Some reply) = Some (value_or_zero reply.read)
 
--- a reply exactly where the next step is an access, with a read exactly where that reads
+-- a reply exactly if the next step is an access, with a read exactly if that reads
 abbrev pub RepliesTo : Need → Option Reply → Type 0
 RepliesTo need.Local None = ⊤
 RepliesTo need.Local (Some reply) = ⊥

@@ -29,7 +29,7 @@ pub enum Action {
 }
 
 impl Action {
-    /// The access of an action, None where it makes none.
+    /// The access of an action, None if it makes none.
     pub fn op(self) -> Option<Op>
         ensures { result ≡ op_of self }
     {

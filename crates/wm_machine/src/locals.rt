@@ -45,7 +45,7 @@ impl<'m> Locals<'m> {
         })
     }
 
-    /// These values, and then zeros of these types. Where memory is refused, they may be any.
+    /// These values, and then zeros of these types. If an allocation fails, they may be any.
     #[tactic(auto, using(crate::proofs::Held::values_split))]
     pub fn restart(&mut self, values: &[TypedValue], unset: &'m [ValType]) -> Result<(), AllocError>
         ensures { OnOk result (self.new ≡ values.now ++ map zero_of unset.now) }

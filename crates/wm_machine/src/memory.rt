@@ -55,7 +55,7 @@ fn low_operand(control_stack: &ControlStack, storage: Storage) -> Option<u64>
     Some(low_bytes(operand, storage.width()))
 }
 
-/// The request of a memory instruction, None where its operands aren't there.
+/// The request of a memory instruction, None if its operands aren't there.
 fn requested(control_stack: &ControlStack, kind: AccessKind) -> Option<Request>
     ensures asked { option_map (asked_by control_stack.now.operands) result ≡ asked kind control_stack.now.operands }
     ensures fits { IfSome result (λ r. KindFits r.kind (access_order kind) (access_width kind)) }
@@ -82,7 +82,7 @@ fn requested(control_stack: &ControlStack, kind: AccessKind) -> Option<Request>
     }
 }
 
-/// Why an access at an address traps, None where it doesn't.
+/// Why an access at an address traps, None if it doesn't.
 fn access_trap(module: &Module, kind: AccessKind, address: u64) -> Option<TrapKind>
     requires { address < 2 ^ 33 }
     ensures trap { result ≡ access_trap «module».now kind address }

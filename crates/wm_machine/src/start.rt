@@ -11,7 +11,7 @@ use std::alloc::{AllocError, Global};
 use wm_ast::{Export, ExportKind, Module, ValType};
 use wm_list::List;
 
-/// The function that an export names, None where it names something else.
+/// The function that an export names, None if it names something else.
 pub fn func_of(export: Export) -> Option<u32>
     ensures { result ≡ func_of export }
 {

@@ -137,7 +137,7 @@ impl<'m> Thread<'m> {
     ///
     /// In this order: `NoExport` where nothing is exported under this name, `NotFunction` where no function is, `ArgCount`
     /// where the function has another number of parameters, `ArgRange` where the argument of an i32 parameter is 2^32 or
-    /// more; `OutOfMemory` where memory was refused.
+    /// more; `OutOfMemory` if an allocation fails.
     pub fn start(
         alloc: Global,
         module: &'m ValidModule,
@@ -242,7 +242,7 @@ impl<'m> Thread<'m> {
     ///
     /// # Errors
     ///
-    /// `OutOfMemory` where memory was refused. For a thread that needs nothing there is a step: it is of a valid module.
+    /// `OutOfMemory` if an allocation fails. For a thread that needs nothing there is a step: it is of a valid module.
     pub fn step(&mut self) -> Result<Stepped, AdvanceFault>
         ensures local { result ≡ Ok Stepped.Local → next_config (step self.old.module 0 (config_of self.old)) ≡ Some (config_of self.new) }
         ensures needs_nothing { result ≡ Ok Stepped.Local → (read : ℕ) → need_of read self.old ≡ Need.Local }
@@ -261,12 +261,12 @@ impl<'m> Thread<'m> {
         }
     }
 
-    /// Makes one step of a thread that hasn't ended, with the reply to its access exactly where `next` says `Access`. The
-    /// reply has a value read exactly where the access reads, and it fits the width. An `Err` changes nothing.
+    /// Makes one step of a thread that hasn't ended, with the reply to its access exactly if `next` says `Access`. The
+    /// reply has a value read exactly if the access reads, and it fits the width. An `Err` changes nothing.
     ///
     /// # Errors
     ///
-    /// `OutOfMemory` where memory was refused. There is a step whatever the access reads: the thread is of a valid module.
+    /// `OutOfMemory` if an allocation fails. There is a step whatever the access reads: the thread is of a valid module.
     pub fn advance(&mut self, reply: Option<Reply>) -> Result<(), AdvanceFault>
         requires { RepliesTo (need_of 0 self.old) reply }
         ensures ok { OnOk result (next_config (step self.old.module (read_in reply) (config_of self.old)) ≡ Some (config_of self.new)) }
@@ -292,7 +292,7 @@ fn bits(value: Option<TypedValue>) -> Option<u64>
     }
 }
 
-/// The value that a reply gives to its access, 0 where this reads none.
+/// The value that a reply gives to its access, 0 if this reads none.
 fn given_by(reply: Option<Reply>) -> Option<u64>
     ensures { result ≡ given_by reply }
 {

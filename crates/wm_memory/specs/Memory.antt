@@ -55,7 +55,7 @@ pub record Fits (threads : ℕ) (init : List ℕ) (s : List Step) (m : State) : 
   pub buffers : (t : ℕ) (b : Buffered) → slice_get m.buffers t ≡ Some b → FitsThread s t b
   pub room : (t : ℕ) (e : Event) (a : ℕ) → In e (waiting s t) → covers e a ≡ true → HasCell m.cells a
 
--- n stores of t wait, none where there is no such thread
+-- n stores of t wait, none if there is no such thread
 abbrev pub IsPending : ℕ → State → ℕ → Type 0
 IsPending t m n = ((b : Buffered) → slice_get m.buffers t ≡ Some b → n ≡ length b.stores) × (length m.buffers ≤ t → n ≡ 0)
 
@@ -154,7 +154,7 @@ pub record Answered (threads : ℕ) (initial : List ℕ) (s : List Step) (t : �
 abbrev pub Answers : ℕ → Op → State → Reply → State → Type 0
 Answers t op m reply n = (threads : ℕ) (initial : List ℕ) (s : List Step) → Fits threads initial s m → Answered threads initial (ready s t op) t op reply n
 
--- whatever steps the memory fitted, a drain comes first exactly where these make it so
+-- whatever steps the memory fitted, a drain comes first exactly if these make it so
 abbrev pub DrainsFirst : ℕ → Op → State → Bool → Type 0
 DrainsFirst t op m first = (threads : ℕ) (initial : List ℕ) (s : List Step) → Fits threads initial s m → first ≡ drains_first s t op
 
@@ -170,7 +170,7 @@ Fitting t op m e ws n = (threads : ℕ) (initial : List ℕ) (s : List Step) →
 abbrev pub MakesAccess : {E : Type 0} → ℕ → Op → State → State → Result MadeAccess E → Type 0
 MakesAccess t op old new result = MatchResult result (λ made. Fitting t op old made.event made.writers new) (λ fault. new ≡ old)
 
--- NoThread exactly where there is no such thread, then OutOfBounds exactly where there is no such range
+-- NoThread exactly if there is no such thread, then OutOfBounds exactly if there is no such range
 abbrev pub FaultIs : {D : Type 0} → Result D MemFault → Type 0 → Type 0 → Type 0
 FaultIs (Ok d) none out = (none → ⊥) × (out → ⊥)
 FaultIs (Err NoThread) none out = none

@@ -101,13 +101,13 @@ impl<'a> ByteReader<'a> {
         Some(taken)
     }
 
-    /// A name (Core 1.0, section 5.2.4); None where it is cut off or not UTF-8.
+    /// A name (Core 1.0, section 5.2.4); None if it is cut off or not UTF-8.
     pub fn name(&mut self) -> Option<&'a str> {
         let size = self.number()?;
         str::from_utf8(self.take(size)?).ok()
     }
 
-    /// A section or a subsection (Core 1.0, section 5.5.2); None where it is cut off.
+    /// A section or a subsection (Core 1.0, section 5.5.2); None if it is cut off.
     pub fn section(&mut self) -> Option<Section<'a>> {
         let id = self.byte()?;
         let size = self.number()?;

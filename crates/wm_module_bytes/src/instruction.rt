@@ -89,7 +89,7 @@ fn after_plain(byte: u8) -> Option<Immediates> {
     }
 }
 
-/// What follows an opcode; None where it is not known.
+/// What follows an opcode; None if it is not known.
 pub fn immediates_of(opcode: Opcode) -> Option<Immediates> {
     match opcode.byte {
         0xFC => after_bulk(opcode.code),

@@ -21,7 +21,7 @@ target_of WrapI64 = W32
 target_of ExtendI32S = W64
 target_of ExtendI32U = W64
 
--- a number of w bits as a whole number
+-- a number of w bits as an integer
 abbrev pub view_of : Signedness → ℕ → ℕ → ℤ
 view_of Signed w u = signed_view w u
 view_of Unsigned w u = pos u

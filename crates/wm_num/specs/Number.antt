@@ -1,4 +1,4 @@
--- Operands as whole numbers, and what each is as a signed number and by its binary digits.
+-- Operands as integers, and what each is as a signed number and by its binary digits.
 use Rattle.std.specs.Prelude.{ℕ, zero, suc, ◌+◌, ◌-◌, ◌*◌, ◌/◌, ◌%◌, ◌^◌, ◌<◌, Bool, if◌then◌else◌, nat_lt, ℤ, pos, ◌-ℤ◌, unsigned_abs}
 use Rattle.std.specs.Int.{int_rem_euclid}
 use Rattle.wm_num.specs.declared.operator.Width.{Width}

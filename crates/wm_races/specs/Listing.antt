@@ -20,7 +20,7 @@ event_place run p = (execution run).place_of p.event
 abbrev pub write_place : LoggedRun → RacingPair → ℕ
 write_place run p = (execution run).place_of p.write
 
--- the event that is listed at the place, None where none is
+-- the event that is listed at the place, None if none is
 abbrev pub IsKeyAt : List EventKey → ℕ → Option EventKey → Type 0
 IsKeyAt order place result = MatchOption result (slice_get order place ≡ None) (λ key. slice_get order place ≡ Some key)
 
@@ -38,7 +38,7 @@ abbrev pub IsPairAt : LoggedRun → ℕ → ℕ → ℕ → RacingPair → Type 
 IsPairAt run place byte other p = IsRacingPair (execution run) p
     × (event_place run p ≡ place) × (first_common (execution run) p ≡ byte) × (write_place run p ≡ other)
 
--- that pair, or None where there is none
+-- that pair, or None if there is none
 abbrev pub FindsPair : LoggedRun → ℕ → ℕ → ℕ → Option RacingPair → Type 0
 FindsPair run place byte other result =
     MatchOption result ((p : RacingPair) → IsPairAt run place byte other p → ⊥) (IsPairAt run place byte other)

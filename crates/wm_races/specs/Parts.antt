@@ -60,6 +60,6 @@ pub record IsGroupOf (run : LoggedRun) (P : RacingPair → Type 0) (g : Group) :
   pub count : g.count ≡ length pairs
   pub placed : write_place run g.pair ≡ g.place
 
--- that group, or None where no racing pair is such
+-- that group, or None if no racing pair is such
 abbrev pub FindsGroup : LoggedRun → (RacingPair → Type 0) → Option Group → Type 0
 FindsGroup run P result = MatchOption result ((p : RacingPair) → IsRacingPair (execution run) p → P p → ⊥) (IsGroupOf run P)

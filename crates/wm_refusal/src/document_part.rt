@@ -65,7 +65,7 @@ fn inside(bytes: &[u8]) -> Option<&[u8]> {
     }
 }
 
-/// The item of a list with which these bytes begin, counted from 0; None where there is none.
+/// The item of a list with which these bytes begin, counted from 0; None if there is none.
 fn item(bytes: &[u8], index: u32) -> Option<&[u8]> {
     let mut rest = inside(bytes)?;
     for _ in 0..index {

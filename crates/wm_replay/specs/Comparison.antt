@@ -35,7 +35,7 @@ ComparesThread m k t (Some answer) = IsOther m k t answer × (¬ IsRun m k t)
 abbrev pub ComparesAt : Module → List ThreadLog → ℕ → Option ReplayAnswer → Type 0
 ComparesAt m log k answer = (t : ThreadLog) → slice_get log k ≡ Some t → ComparesThread m k t answer
 
--- and each of them, but where memory was refused
+-- and each of them, but if an allocation fails
 pub record ComparesEach {E : Type 0} (m : Module) (log : List ThreadLog) (answers : List (Result (Option ReplayAnswer) E)) : Type 0 where
   pub size : length answers ≡ length log
   pub each : (k : ℕ) (answer : Option ReplayAnswer) → slice_get answers k ≡ Some (Ok answer) → ComparesAt m log k answer

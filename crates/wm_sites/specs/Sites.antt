@@ -80,7 +80,7 @@ IsFollowedAt m log k positions = (t : ThreadLog) → slice_get log k ≡ Some t 
 abbrev pub ArePositionsIn : Module → List ThreadLog → List (List CodePosition) → Type 0
 ArePositionsIn m log table = (k : ℕ) (positions : List CodePosition) → slice_get table k ≡ Some positions → IsFollowedAt m log k positions
 
--- those of each thread of the log, but where memory was refused
+-- those of each thread of the log, but if an allocation fails
 pub record AreFollowed {E : Type 0} (m : Module) (log : List ThreadLog) (answers : List (Result (List CodePosition) E)) : Type 0 where
   pub count : length answers ≡ length log
   pub each : (k : ℕ) (positions : List CodePosition) → slice_get answers k ≡ Some (Ok positions) → IsFollowedAt m log k positions

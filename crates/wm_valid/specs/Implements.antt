@@ -104,7 +104,7 @@ IsIndexFault e = e ≡ Breaks Index
 abbrev pub StopsAt : InstrFault → ℕ → ℕ → Type 0
 StopsAt e first n = IsUntyped e × (n ≡ first)
 
--- the same of a block and of the opcode in front of it, which is at fault where there is no such block behind it
+-- the same of a block and of the opcode in front of it, which is at fault if there is no such block behind it
 abbrev pub LocatedNested : Context → Labels → ℕ → ℕ → ℕ → InstrFault → Type 0
 LocatedNested C labels block first n e = StopsAt e first n ⊎ LocatedBlock C labels block (number_of (first + 1)) n e
 
@@ -150,7 +150,7 @@ StopsInside C b labels result first next = (body : List Instr) × (slice_get C.b
 abbrev pub StopsBlock : Context → ℕ → Labels → Option ValType → ℕ → ℕ → InstrFault → Type 0
 StopsBlock C b labels result first next e = IfUntyped e (StopsInside C b labels result first next)
 
--- typing stops in a block that block n names, or at the opcode in front of it where there is no such block after block n
+-- typing stops in a block that block n names, or at the opcode in front of it if there is no such block after block n
 abbrev pub StopsAtOrInside : Context → ℕ → ℕ → Labels → Option ValType → ℕ → ℕ → Type 0
 StopsAtOrInside C n b labels result first next = ((IsBehind C n b → ⊥) × (next ≡ first)) ⊎ ((n < b) × StopsInside C b labels result (number_of (first + 1)) next)
 

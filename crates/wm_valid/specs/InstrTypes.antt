@@ -96,7 +96,7 @@ access_type (AtomicWrite s) = maps (access_operand (AtomicWrite s) ∷ I32 ∷ [
 access_type (Rmw op s) = maps (access_operand (Rmw op s) ∷ I32 ∷ []) (access_operand (Rmw op s) ∷ [])
 access_type (CmpXchg t) = maps (access_operand (CmpXchg t) ∷ access_operand (CmpXchg t) ∷ I32 ∷ []) (access_operand (CmpXchg t) ∷ [])
 
--- None where the instruction has no type here, or has blocks
+-- None if the instruction has no type here, or has blocks
 abbrev pub instr_type : Context → Labels → Instr → Option InstrType
 instr_type C labels Unreachable = Some (stack_polymorphic [])
 instr_type C labels Nop = Some (maps [] [])

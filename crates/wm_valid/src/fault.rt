@@ -44,7 +44,7 @@ pub enum Location {
 pub enum ValidFault {
     /// The module breaks this rule at this place.
     At(FaultKind, Location),
-    /// Memory was refused.
+    /// An allocation failed.
     OutOfMemory,
 }
 
@@ -61,7 +61,7 @@ impl From<AllocError> for ValidFault {
 pub(crate) enum InstrFault {
     /// It breaks this rule.
     Breaks(FaultKind),
-    /// Memory was refused.
+    /// An allocation failed.
     OutOfMemory,
 }
 

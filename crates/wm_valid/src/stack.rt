@@ -12,7 +12,7 @@ use std::alloc::{AllocFailed, Global};
 use std::marker::Model;
 use wm_ast::{BlockType, ValType};
 
-/// The type of an operand, or None where any type may stand.
+/// The type of an operand, or None if any type may stand.
 pub(crate) type Operand = Option<ValType>;
 
 /// The operands of a block, the last on top.

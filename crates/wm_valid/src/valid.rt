@@ -145,7 +145,7 @@ fn funcs(alloc: Global, module: &Module) -> Result<(), ValidFault>
 /// Checks a module and makes its memory's first bytes. It ends on every module, also on one whose blocks name one another
 /// in a circle: such a module has no typing.
 ///
-/// A refusal says which rule is broken and where, or that memory was refused; which of several faults is named is
+/// A refusal says which rule is broken and where, or that an allocation failed; which of several faults is named is
 /// open. At an instruction, its function has no typing, and the instruction breaks the rule; where this is that of types,
 /// it breaks no other, or the opcode is an `else` or an `end`, and the opcodes before it have a typing, but none with it.
 /// A function whose type isn't there and an export of what isn't there are `Index` in the module. The module is given up

@@ -12,7 +12,7 @@ pub enum WordFault {
     Rounds,
     /// What a thread starts with.
     Start,
-    /// Memory was refused.
+    /// An allocation failed.
     OutOfMemory,
 }
 

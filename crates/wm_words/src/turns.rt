@@ -23,7 +23,7 @@ fn read_drain(word: &str) -> Option<Turn>
 }
 
 /// The turn that a word spells: `N` a step of thread N, `dN` a drain of its oldest store, `dN/I` of the store with I older
-/// ones. None where it spells none.
+/// ones. None if it spells none.
 pub fn read_turn(word: &str) -> Option<Turn>
     ensures { result ≡ turn_of word.now }
 {

@@ -46,7 +46,7 @@ pub record AreWriters (run : LoggedRun) (f : RuleFault) (w : FaultWriters) : Typ
 abbrev pub IsFaultOf : LoggedRun → RuleFault → FaultWriters → Type 0
 IsFaultOf run f w = (IsOfOrder f.rule → ⊥) × AreWriters run f w
 
--- Only exactly where these chains show a forced fault; Other only for a fault of the order, or one that isn't the run's first fault
+-- Only exactly if these chains show a forced fault; Other only for a fault of the order, or one that isn't the run's first fault
 abbrev pub IsAnswer : LoggedRun → RuleFault → Writers → Type 0
 IsAnswer run f (Only w) = IsFaultOf run f w × IsForcedFault run f w.chains
 IsAnswer run f (Several w) = IsFaultOf run f w × (IsForcedFault run f w.chains → ⊥)

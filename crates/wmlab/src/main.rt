@@ -14,7 +14,7 @@ use std::sync::Wait;
 use std::thread::Threads;
 use wm_litmus::serve;
 
-/// The arguments after the program's name; none where one of them is no text, which no command is.
+/// The arguments after the program's name; none if one of them is no text, which no command is.
 fn arguments<R: Env + AllocGlobal>(rt: &R) -> Result<Vec<String>, AllocError> {
     match env::args(rt) {
         Ok(args) => args.skip(1).collect(rt.alloc()),
@@ -29,7 +29,7 @@ fn words_of<'a>(alloc: Global, texts: &'a [String]) -> Result<Vec<&'a str>, Allo
 }
 
 /// Answers the arguments over the system's files and these streams, and returns the exit status: 3, and
-/// `out of memory` on `err`, where memory was refused for them.
+/// `out of memory` on `err`, if an allocation fails for them.
 fn run<R: FileSystem + AllocGlobal + Threads + Wait + Sync, I: Read, O: Write, E: Write>(
     rt: &R,
     arguments: Result<Vec<String>, AllocError>,

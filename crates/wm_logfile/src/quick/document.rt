@@ -159,7 +159,7 @@ fn take_text_whole(
 ///
 /// # Errors
 ///
-/// `Memory` where memory was refused, and `Other` where the bytes spell nothing, or it wasn't seen what.
+/// `Memory` if an allocation fails, and `Other` where the bytes spell nothing, or it wasn't seen what.
 #[tactic(auto, using(crate::proofs::TakingDocuments::bytes_taken))]
 pub(crate) fn take_document(
     alloc: Global,
