@@ -12,7 +12,7 @@ use wm_run::{Run, RunFault, drive};
 use wm_valid::ValidModule;
 use wm_words::Script;
 
-/// The answer that a run is.
+/// The answer for a run.
 fn driven<R: AllocGlobal + Threads + Sync>(
     rt: &R,
     module: &ValidModule,

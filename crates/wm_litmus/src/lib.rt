@@ -18,7 +18,7 @@
 //! | a device failed | `cannot read NAME` or `cannot write`, on standard error | 3 |
 #![tactic(auto)]
 
-/// How many pages of zeros the memory of a run begins with under the command `rules`.
+/// The initial pages of zeros in the memory of a run under the command `rules`.
 pub const INITIAL_PAGES: usize = 16;
 
 mod answer;

@@ -24,7 +24,7 @@ impl fmt::Display for EndText {
     }
 }
 
-/// What stands before the end of a thread.
+/// The separator before the end of a thread.
 fn separator(number: usize) -> &'static str
     ensures { result.now ≡ separator_text number }
 {
@@ -35,7 +35,7 @@ fn separator(number: usize) -> &'static str
 }
 
 /// The outcome of a run: how each thread ended, in their order, with a space between them. A function's value prints in
-/// decimal, `-` where it has none; else `trap:` with the trap's name, or `cut`.
+/// decimal, `-` if it has none; otherwise `trap:` with the trap's name, or `cut`.
 ///
 /// # Errors
 ///

@@ -30,7 +30,7 @@ fn run_answer<R: AllocGlobal + Threads + Sync>(
     Answer::judged(rt.alloc(), &judgement)
 }
 
-/// The answer to the bytes of a document. Starts, ends and steps play no part in it.
+/// The answer to the bytes of a document. Starts, ends and steps are ignored.
 ///
 /// # Errors
 ///
