@@ -1,4 +1,4 @@
--- Chains of happens-before whose links say which edges they are.
+-- Chains of happens-before whose links state which edges they are.
 use Rattle.std.specs.Prelude.{◌≡◌, ◌+◌, ◌<◌, ◌≤◌, List, [], ◌∷◌, All, IsSome, MatchOption, Option, length}
 use Rattle.wm_event.specs.declared.event.EventKey.{EventKey}
 use Rattle.wm_event.specs.declared.event.EventId.{EventId}
@@ -20,7 +20,7 @@ IsEdge x Sequenced (At a) b = SequencedBefore x a b
 IsEdge x Synchronizes Init b = ⊥
 IsEdge x Synchronizes (At a) b = SynchronizesWith x a b
 
--- from a by each of these links in turn to b; without a link b is a
+-- from a through each of these links, in order, to b; without a link b is a
 abbrev pub Leads : Execution → EventId → List Link → EventId → Type 0
 Leads x a [] b = a ≡ b
 Leads x a (l ∷ ls) b = IsEdge x l.kind a l.event × Leads x (At l.event) ls b

@@ -1,4 +1,4 @@
--- What a look at the events between a read and its writer tells. It is true if one of them may matter.
+-- The result of a check of the events between a read and its writer. It is true if one of them may matter.
 use Rattle.std.specs.Prelude.{ℕ, ◌+◌, ◌<◌, ◌≤◌, Bool, IsTrue, Option}
 use Rattle.wm_access.specs.AccessWidth.{bytes_of}
 use Rattle.wm_event.specs.declared.event.Event.{Event}
@@ -20,7 +20,7 @@ IsTrueIfOverlapped run e place b = IfListedAt run.witness.order place (λ v. (k 
 abbrev pub IsTrueIfBetweenAt : LoggedRun → Event → EventId → ℕ → Bool → Type 0
 IsTrueIfBetweenAt run e w place b = IfListedAt run.witness.order place (λ v. (k : ℕ) → k < bytes_of e.width → WritesBetween run e k w v → IsTrue b)
 
--- true if the event at a place from first on, and before last, does
+-- true if this holds for the event at a place from first up to but not including last
 abbrev pub IsTrueIfNear : LoggedRun → Event → EventId → ℕ → ℕ → Bool → Type 0
 IsTrueIfNear run e w first last b = (place : ℕ) → first ≤ place → place < last → IsTrueIfBetweenAt run e w place b
 
