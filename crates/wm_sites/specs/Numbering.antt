@@ -1,4 +1,4 @@
--- The number of a position in a function's code, in the order of the text.
+-- The number of a position in a function's code, in code order.
 use Rattle.std.specs.Prelude.{◌≡◌, ℕ, ◌+◌, ◌⊎◌, List, [], ◌∷◌, ◌++◌, Option, Some, None, Vec, map, option_and_then, slice_get}
 use Rattle.std.specs.declared.alloc.Global.{Global}
 use Rattle.wm_ast.specs.declared.instr.Instr.{Instr}
@@ -44,17 +44,17 @@ HasNumbers blocks table = (q : BlockPosition) (k : ℕ) → number_in table q �
 abbrev pub AreNumbers : List (List Instr) → OpcodeNumbers → Type 0
 AreNumbers blocks numbers = HasNumbers blocks numbers.numbers.items
 
--- the table has its numbers, and at p maybe this one
+-- the table has its numbers, and possibly this one at p
 abbrev pub Notes : List (Vec (Option ℕ) Global) → List (Vec (Option ℕ) Global) → BlockPosition → ℕ → Type 0
 Notes old new p number = (q : BlockPosition) (k : ℕ) → number_in new q ≡ Some k → (number_in old q ≡ Some k) ⊎ ((q ≡ p) × (k ≡ number))
 
 -- ---- what is left to number
 
--- where the blocks of an instruction begin
+-- the starts of an instruction's blocks
 abbrev pub begins_of : Instr → List BlockPosition
 begins_of i = map (λ (part : Part). begin_of part.block) (parts i)
 
--- where an opcode's followers stand, up to the end of its block: in the blocks of an instruction first
+-- the positions after an opcode, up to the end of its block: in the blocks of an instruction first
 abbrev pub followers : Option Instr → BlockPosition → List BlockPosition
 followers None p = []
 followers (Some i) p = begins_of i ++ next_of p ∷ []
