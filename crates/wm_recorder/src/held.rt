@@ -41,7 +41,7 @@ impl<N: Over> Held<N> {
         recorder
     }
 
-    /// Makes one access, as [`Recorder::step_access`] does.
+    /// One access, as [`Recorder::step_access`] makes it.
     pub fn access(&mut self, thread: u32, op: Op) -> Result<Reply, AccessFault>
         ensures answers { IfOk result (λ reply. ReadAnswers (kind_finds op.kind) op.width reply.read) }
         ensures made { IsAccessOver N.initial N.threads thread op self.old.recorder result self.new.recorder }
@@ -53,7 +53,7 @@ impl<N: Over> Held<N> {
         answer
     }
 
-    /// Makes one drain of a thread's oldest store, as [`Recorder::step_drain`] does.
+    /// One drain of a thread's oldest store, as [`Recorder::step_drain`] makes it.
     pub fn drain(&mut self, thread: u32) -> Result<bool, AllocError>
         ensures { IfOk result (λ drained.
             IsDrainOver N.initial N.threads (Drain thread) thread 0 self.old.recorder drained self.new.recorder) }
@@ -65,7 +65,7 @@ impl<N: Over> Held<N> {
         answer
     }
 
-    /// Makes one drain of the store at `index`, as [`Recorder::step_drain_at`] does.
+    /// One drain of the store at `index`, as [`Recorder::step_drain_at`] makes it.
     pub fn drain_at(&mut self, thread: u32, index: u32) -> Result<bool, AllocError>
         ensures { IfOk result (λ drained. IsDrainAtOver N.initial N.threads thread index self.old.recorder drained self.new.recorder) }
     {
