@@ -5,7 +5,7 @@ use crate::picture::Picture;
 use std::alloc::{AllocError, Global};
 use wm_event::{Candidate, EventId, EventKey};
 
-/// The most events of which all are shown.
+/// Up to this number of events, all are shown.
 const MAX_SHOWN: usize = 60;
 
 /// The events of a picture that are shown: all if there are at most 60. Otherwise, the events that the verdict marks

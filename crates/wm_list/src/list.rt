@@ -67,7 +67,7 @@ impl<T> List<T> {
         self.entries.as_slice()
     }
 
-    /// The item at `index`, counted from 0; None at the length and past it.
+    /// The item at `index`, counted from 0; None if `index` is not below the length.
     pub fn get(&self, index: usize) -> Option<&T>
         ensures { option_copied result ≡ slice_get self.now index }
     {

@@ -78,7 +78,8 @@ pub(crate) fn help_answer(alloc: Global) -> Result<Answer, AllocError>
     Ok(Answer { text, status: 0 })
 }
 
-/// The answer to `version`: the versions of the program, of the log format, and of the logic that checks its proofs.
+/// The answer to `version`: the versions of the program, of the log format, and of the logic in which its proofs are
+/// checked.
 ///
 /// # Errors
 ///
