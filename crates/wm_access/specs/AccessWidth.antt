@@ -9,6 +9,6 @@ bytes_of Two = 2
 bytes_of Four = 4
 bytes_of Eight = 8
 
--- a value of so many bytes
+-- a value of this number of bytes
 abbrev pub Fits : AccessWidth → ℕ → Type 0
 Fits width v = v < 2 ^ (8 * bytes_of width)

@@ -1,4 +1,4 @@
-//! What every access to memory has: how many bytes it takes, and how it is ordered; and the size of a page.
+//! What every access to memory has: its width in bytes and its order; and the size of a page.
 #![tactic(auto)]
 
 ghost use Rattle.std.specs.Prelude.{◌≡◌};
@@ -15,15 +15,15 @@ pub enum AccessWidth {
     Eight,
 }
 
-/// How an access is ordered among those of other threads (threads proposal, "Memory model"):
-/// a plain one is unordered, an atomic one is sequentially consistent.
+/// How an access is ordered among the accesses of other threads (threads proposal, "Memory model"): a plain one is
+/// unordered, an atomic one is sequentially consistent.
 #[derive(Clone, Copy, Debug, PartialEq, Eq)]
 pub enum MemoryOrder {
     Unordered,
     SeqCst,
 }
 
-/// How an atomic read-modify-write makes the value written from the one read and its operand.
+/// How an atomic read-modify-write computes the value written from the value read and its operand.
 #[derive(Clone, Copy, Debug, PartialEq, Eq)]
 pub enum RmwOperator {
     Add,

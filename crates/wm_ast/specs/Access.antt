@@ -1,4 +1,4 @@
--- What an access takes and gives.
+-- The widths, operands and orders of accesses.
 use Rattle.wm_access.specs.declared.AccessWidth.{AccessWidth}
 use Rattle.wm_access.specs.declared.AccessWidth.TheVariants.{One, Two, Four, Eight}
 use Rattle.wm_access.specs.declared.MemoryOrder.{MemoryOrder}

@@ -43,7 +43,7 @@ impl Storage {
     }
 }
 
-/// The type of an operand of which fewer bytes are in memory than it has.
+/// The type of an operand that memory holds in fewer bytes than the operand has.
 #[derive(Clone, Copy, Debug, PartialEq, Eq)]
 pub enum Narrow {
     I32As8,
@@ -75,7 +75,7 @@ impl Narrow {
 pub enum AccessKind {
     /// A plain load; bytes that aren't in memory are 0.
     Read(Storage),
-    /// A plain load that extends the sign of what is in memory.
+    /// A plain load that sign-extends the bytes in memory.
     ReadSigned(Narrow),
     /// A plain store of the low bytes.
     Write(Storage),

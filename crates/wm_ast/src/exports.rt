@@ -39,7 +39,7 @@ impl Model for Exports {
 }
 
 impl Exports {
-    /// No export.
+    /// The empty map.
     pub fn new(alloc: Global) -> Self
         ensures { result ≡ [] }
     {
@@ -62,7 +62,7 @@ impl Exports {
         self.by_name.len()
     }
 
-    /// The export at `position` in the order of the file, counted from 0; None at the length and past it.
+    /// The export at `position` in the order of the file, counted from 0; None if `position` is not below the length.
     pub fn at(&self, position: usize) -> Option<Export>
         ensures { result ≡ option_map (λ e. e.1) (slice_get self.now position) }
     {
@@ -70,7 +70,8 @@ impl Exports {
         Some(*export)
     }
 
-    /// The name of the export at `position` in the order of the file, counted from 0; None at the length and past it.
+    /// The name of the export at `position` in the order of the file, counted from 0; None if `position` is not below
+    /// the length.
     pub fn name_at(&self, position: usize) -> Option<&str>
         ensures { option_copied result ≡ option_map (λ e. e.0) (slice_get self.now position) }
     {
@@ -78,7 +79,7 @@ impl Exports {
         Some(name.as_str())
     }
 
-    /// Adds an export under a new name after the others. Nothing is changed where memory is refused.
+    /// Appends an export under a new name. Nothing is changed if an allocation fails.
     pub fn push(&mut self, name: String, export: Export) -> Result<(), AllocError>
         requires { export_at (string_bytes name) self.old ≡ None }
         ensures ok { OnOk result (self.new ≡ self.old ++ (string_bytes name, export) ∷ []) }

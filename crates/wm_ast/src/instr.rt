@@ -15,10 +15,10 @@ pub enum Else {
     Absent,
 }
 
-/// What stands beside a memory instruction (Core 1.0, section 2.4.4).
+/// The immediates of a memory instruction (Core 1.0, section 2.4.4).
 #[derive(Clone, Copy, Debug, PartialEq, Eq)]
 pub struct MemArg {
-    /// The exponent: the address is said to be a multiple of 2 to this power.
+    /// The alignment hint, as an exponent of 2.
     pub alignment: u32,
     /// What is added to the address, in bytes.
     pub offset: u32,
@@ -43,7 +43,7 @@ pub enum Instr {
     },
     Br(u32),
     BrIf(u32),
-    /// The labels of the indices from 0 on, and the one of all other indices.
+    /// The labels for the indices from 0 on, and the default label.
     BrTable(List<u32>, u32),
     Return,
     Call(u32),

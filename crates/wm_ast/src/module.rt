@@ -47,7 +47,7 @@ pub struct Memory {
     pub import: Option<ImportName>,
 }
 
-/// Bytes that are in memory at first (Core 1.0, section 2.5.8).
+/// Bytes of the initial memory (Core 1.0, section 2.5.8).
 #[derive(Drop)]
 pub struct DataSegment {
     /// The address of the first byte.
@@ -72,21 +72,21 @@ impl Module {
     ghost use Rattle.wm_ast.specs.Exports.{export_at};
     ghost use Rattle.wm_ast.specs.Module.{block_in, func_type, pages_of};
 
-    /// Block `number` of function `func`, both counted from 0; None where there is none. The body is block 0.
+    /// Block `number` of function `func`, both counted from 0; None if there is no such block. The body is block 0.
     pub fn block(&self, func: usize, number: usize) -> Option<&Block>
         ensures { option_copied result ≡ block_in self.now.funcs func number }
     {
         self.funcs.get(func)?.blocks.get(number)
     }
 
-    /// The type of function `func`, counted from 0; None where the function or its type isn't there.
+    /// The type of function `func`, counted from 0; None if there is no such function or type.
     pub fn func_type(&self, func: usize) -> Option<&FuncType>
         ensures { option_copied result ≡ func_type self.now func }
     {
         self.types.get(self.funcs.get(func)?.type_index as usize)
     }
 
-    /// How many pages of memory there are at first, 0 without a memory.
+    /// The initial number of pages, 0 without a memory.
     pub fn pages(&self) -> u32
         ensures { result ≡ pages_of self.now.memory }
     {
@@ -96,7 +96,7 @@ impl Module {
         }
     }
 
-    /// The export of this name, None where there is none.
+    /// The export of this name; None if nothing is exported under it.
     pub fn export(&self, name: &str) -> Option<Export>
         ensures { result ≡ export_at name.now self.now.exports }
     {

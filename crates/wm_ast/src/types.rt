@@ -25,7 +25,7 @@ impl ValType {
     }
 }
 
-/// The type of a block's result, None where it has none (Core 1.0, section 2.3.2).
+/// The type of a block's result, None if it has none (Core 1.0, section 2.3.2).
 pub type BlockType = Option<ValType>;
 
 /// The type of a function: its parameters, and its result if it has one (Core 1.0, section 2.3.3).
@@ -35,8 +35,8 @@ pub struct FuncType {
     pub result: Option<ValType>,
 }
 
-/// How many pages of 65,536 bytes a shared memory has at first and at most
-/// (Core 1.0, section 2.3.4; a shared memory has a maximum by the threads proposal).
+/// The initial and the maximal number of pages, of 65,536 bytes each, of a shared memory (Core 1.0, section 2.3.4; a
+/// shared memory has a maximum by the threads proposal).
 #[derive(Clone, Copy, Debug, PartialEq, Eq)]
 pub struct Limits {
     pub minimum: u32,

@@ -1,4 +1,4 @@
--- Of bytes whose run is allowed no other verdict is said.
+-- Bytes whose run is allowed have no other verdict.
 use Rattle.std.proofs.Common.{◌≡◌, ℕ, ◌+◌, ◌<◌, ◌≤◌, length, inl, inr, List, [], Option, None, Some, refl, sym, ap, subst, ◌∙◌, arith}
 use Rattle.std.specs.Prelude.{◌≢◌}
 use Rattle.std.proofs.lemmas.Option.{none-some, same_Some}
@@ -91,7 +91,7 @@ no_rule_fault x f SequentialConsistency valid (v, _, (e, is, reads, breaks)) =
 
 -- ---- bytes spell one run
 
--- what two crates say of all bytes and all values
+-- the laws of two crates, for all bytes and all values
 pub record AreSpelledOnce : Type 0 where
   pub modules : (bytes : List ℕ) (m n : Module) → spells bytes m → spells bytes n → m ≡ n
   pub pairs : (d : Data) → (log : List ThreadLog) → (other : List ThreadLog) → (v : Witness) → (w : Witness) → IsLog log → IsLog other → IsDocument d log v → IsDocument d other w → (log ≡ other) × (v ≡ w)

@@ -1,4 +1,4 @@
--- What is said of a log and its completion is what a check says of the completed document.
+-- The verdict on a log and its completion is a check's verdict on the completed document.
 use Rattle.std.proofs.Common.{◌≡◌, ℕ, List, sym, subst}
 use Rattle.wm_ast.specs.declared.module.Module.{Module}
 use Rattle.wm_event.specs.declared.log.ThreadLog.{ThreadLog}

@@ -87,7 +87,7 @@ rule_again Coherence = refl
 rule_again NoTearing = refl
 rule_again SequentialConsistency = refl
 
--- two faults of one rule, read, byte and case, whose other writes stand at one place
+-- two faults of one rule, read, byte and case, whose other writes are at one place
 record AreAlike (run : LoggedRun) (f g : RuleFault) : Type 0 where
   rule : f.rule ≡ g.rule
   event : f.event ≡ g.event
@@ -142,7 +142,7 @@ key_same : (p q : EventKey) → At p ≡ At q → p ≡ q
 unfolding key_or
 key_same p q same = ap (key_or p) same
 
--- what stands directly before an event of a thread, or is read at a byte
+-- the event directly before an event of a thread, or the writer that is read at a byte
 order_writer : (run : LoggedRun) (f g : RuleFault) (p q : EventKey) → AreAlike run f g → BreaksOrder (execution run) f.event p f.byte f.case → BreaksOrder (execution run) g.event q g.byte g.case → p ≡ q
 order_writer run f g p q are (in_thread c k before next) (in_thread d l earlier other) =
     let number : p.number ≡ q.number = omega (arith, next, other, ap (λ (key : EventKey). key.number) are.event) in

@@ -28,7 +28,7 @@ same_steps m k t c d first second (inl longer) other = absurd (not_longer m k t 
 same_steps m k t c d first second (inr below) (inl longer) = absurd (not_longer m k t d c second first longer)
 same_steps m k t c d first second (inr below) (inr above) = omega (arith, below, above)
 
--- a run of so many steps has one end
+-- a run of this number of steps has one end
 same_end : (m : Module) (k : ℕ) (t : ThreadLog) (n o : ℕ) (end other : End) → n ≡ o → IsRun m k (ending t n end) → IsRun m k (ending t o other) → end ≡ other
 same_end m k t n o end other same first second =
     let is_run = subst (λ i. IsRun m k (ending t i end)) same first in

@@ -36,7 +36,7 @@ same_event_of (t ∷ log) (c ∷ completed) count same (suc thread) number = sam
 same_event : (m : Module) (log completed : List ThreadLog) → IsCompletion m log completed → (key : EventKey) → event_in completed key ≡ event_in log key
 same_event m log completed is key = same_event_of log completed is.count (have_same_events m log completed is) key.thread key.number
 
--- so many events, and those of these threads
+-- this number of events, and those of these threads
 abbrev events_from : ℕ → List ThreadLog → ℕ
 events_from count log = fold (λ (n : ℕ) (t : ThreadLog). n + length t.events) count log
 
@@ -61,7 +61,7 @@ same_execution m run completed is =
       initial = run.initial;
     }) (λ i key. sym (same_event m run.log completed is key) i)
 
--- what the memory rules say of the log is what they say of the completed one
+-- the memory rules judge the log as they judge the completed one
 pub judged_completed : (m : Module) (run : LoggedRun) (completed : List ThreadLog) (verdict : Verdict) → IsCompletion m run.log completed → JudgesRun run verdict
     → JudgesRun (with_log run completed) verdict
 judged_completed m run completed (Allowed certificate) is judged = (

@@ -157,7 +157,7 @@ same_start m log k f (replay.Differs l q) also first second =
     absurd (no_start f start.0 (sym first.other.1 ∙ ap (start_of m) thread ∙ start.1))
 
 module _ (once : AreSpelledOnce) (mb db : List ℕ) where
-  -- what both answers say is of one log
+  -- both answers are about one log
   replays_both : (a b : ReplayAnswer) → (first : IsNoRun mb db a) → (second : IsNoRun mb db b) → Replays second.«module» second.run.log a
   replays_both a b first second =
       let same = one_run once mb db first.«module» second.«module» first.run second.run first.candidate.is_run second.candidate.is_run in

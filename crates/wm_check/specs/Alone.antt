@@ -14,13 +14,13 @@ use Rattle.wm_replay.specs.Replay.{AreRuns}
 use Rattle.wm_check.specs.Run.{IsCandidateOf, IsModuleOf}
 use Rattle.wm_check.specs.Verdicts.{Says}
 
--- the bytes spell the module and a candidate, whose threads are their runs, and which is a valid execution
+-- the bytes spell the module and a candidate whose threads are their runs and which is a valid execution
 pub record IsPermitted (module_bytes document_bytes : List ℕ) («module» : Module) (run : LoggedRun) : Type 0 where
   pub candidate : IsCandidateOf module_bytes document_bytes «module» run
   pub threads_are_runs : AreRuns «module» run.log
   pub execution_is_valid : IsValid (execution run)
 
--- the certificate says how many threads and events the run has
+-- the certificate states how many threads and events the run has
 abbrev pub Counts : LoggedRun → Certificate → Type 0
 Counts run certificate = (certificate.threads ≡ length run.log) × (certificate.events ≡ event_count run.log)
 
@@ -30,13 +30,14 @@ Allows run (Allowed certificate) = Counts run certificate
 Allows run (Refused reason) = ⊥
 Allows run (Broken reason) = ⊥
 
--- whatever is said of such bytes, it is that they are allowed
+-- the only verdict on such bytes is that they are allowed
 abbrev pub AllowedAlone : Type 0
 AllowedAlone =
     (module_bytes document_bytes : List ℕ) («module» : Module) (run : LoggedRun) (verdict : Verdict) → IsPermitted module_bytes document_bytes «module» run
     → Says module_bytes document_bytes verdict → Allows run verdict
 
--- of bytes that spell a module and of a document past the limit of bytes it is that this is too large
+-- for bytes that spell a module, and a document over the limit of bytes, the only verdict is that the document is too
+-- large
 abbrev pub TooLargeAlone : Type 0
 TooLargeAlone =
     (module_bytes document_bytes : List ℕ) («module» : Module) (verdict : Verdict) → IsModuleOf module_bytes «module» → max_document_bytes < length document_bytes

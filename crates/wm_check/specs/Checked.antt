@@ -1,4 +1,4 @@
--- The refusal of a log and a witness that are no candidate.
+-- The refusal of a log and a witness that are not a candidate.
 use Rattle.std.specs.Prelude.{◌≡◌, ◌≢◌, None, Some}
 use Rattle.wm_event.specs.declared.misshapen.Misshapen.{Misshapen}
 use Rattle.wm_event.specs.declared.shape_fault.ShapeFault.TheVariants.{OutOfMemory}

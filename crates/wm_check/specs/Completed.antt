@@ -1,4 +1,4 @@
--- What it means that a document is completed.
+-- What it means for a document to be completed.
 use Rattle.std.specs.Prelude.{◌≡◌, ◌≢◌, ℕ, List, string_bytes}
 use Rattle.serde_json.specs.Written.{compact_text}
 use Rattle.wm_ast.specs.declared.module.Module.{Module}
@@ -16,7 +16,8 @@ use Rattle.wm_check.specs.declared.completed.CompletedDocument.TheVariants.{Text
 use Rattle.wm_check.specs.Run.{IsCandidateOf, IsModuleOf}
 use Rattle.wm_check.specs.Verdicts.{IsRefusedFor}
 
--- the bytes are a candidate, and the text is that of version 2 for its log with the steps and the ends of its runs, and its own witness
+-- the bytes are a candidate, and the text is in version 2, for its log with the steps and the ends of its runs, and its
+-- own witness
 pub record IsCompletedTo (module_bytes document_bytes text : List ℕ) : Type 0 where
   pub «module» : Module
   pub run : LoggedRun
@@ -37,13 +38,13 @@ CompletesDocument module_bytes document_bytes (Text text) = IsCompletedTo module
 CompletesDocument module_bytes document_bytes (Refused refusal) = IsRefusedFor module_bytes document_bytes refusal
 CompletesDocument module_bytes document_bytes (NoRun answer) = HasNoRun module_bytes document_bytes answer
 
--- what the answer says of all bytes that spell the module, and the log with the witness
+-- what the answer states for all bytes that spell the module, and the log with the witness
 abbrev pub CompletesOver : Module → List ThreadLog → Witness → CompletedDocument → Type 0
 CompletesOver «module» log witness answer =
     (module_bytes document_bytes : List ℕ) → IsModuleOf module_bytes «module» → IsDocumentOf document_bytes log witness
     → CompletesDocument module_bytes document_bytes answer
 
--- the same of a candidate over the module's initial memory
+-- the same for a candidate over the module's initial memory
 abbrev pub CompletesLog : Module → LoggedRun → CompletedDocument → Type 0
 CompletesLog «module» run answer =
     (module_bytes document_bytes : List ℕ) → IsModuleOf module_bytes «module» → IsDocumentOf document_bytes run.log run.witness → IsInit «module» run.initial

@@ -1,4 +1,4 @@
--- What the parts of a check find.
+-- The results of the parts of a check.
 use Rattle.std.specs.Prelude.{◌≡◌, ℕ, List, Option, Some, None, length, ⊤}
 use Rattle.wm_ast.specs.declared.module.Module.{Module}
 use Rattle.wm_event.specs.declared.log.ThreadLog.{ThreadLog}
@@ -20,7 +20,7 @@ use Rattle.wm_valid.specs.Valid.{IsInit}
 use Rattle.wm_check.specs.Run.{IsCandidateOf, IsModuleOf}
 use Rattle.wm_check.specs.Verdicts.{IsInvalid, IsNoModule, Says}
 
--- why the bytes of a module give none
+-- why the bytes of a module give no module
 abbrev pub IsModuleRefusal : List ℕ → Refusal → Type 0
 IsModuleRefusal bytes (refusal.Decode fault) = IsNoModule bytes fault
 IsModuleRefusal bytes (refusal.Valid fault) = IsInvalid bytes fault
@@ -42,18 +42,18 @@ abbrev pub IsUnreadDocument : List ℕ → Unread → Type 0
 IsUnreadDocument bytes (Refused r) = IsDocumentRefusal bytes r
 IsUnreadDocument bytes OutOfMemory = Unit {0}
 
--- what the verdict says of all bytes that spell the module, and the log with the witness
+-- what the verdict states for all bytes that spell the module, and the log with the witness
 abbrev pub ComparesOver : Module → List ThreadLog → Witness → Verdict → Type 0
 ComparesOver «module» log witness verdict =
     (module_bytes document_bytes : List ℕ) → IsModuleOf module_bytes «module» → IsDocumentOf document_bytes log witness → Says module_bytes document_bytes verdict
 
--- the same of a candidate over the module's initial memory
+-- the same for a candidate over the module's initial memory
 abbrev pub ComparesLog : Module → LoggedRun → Verdict → Type 0
 ComparesLog «module» run verdict =
     (module_bytes document_bytes : List ℕ) → IsModuleOf module_bytes «module» → IsDocumentOf document_bytes run.log run.witness → IsInit «module» run.initial
     → IsWellShaped run → Says module_bytes document_bytes verdict
 
--- what the verdict says of these bytes of a document and all bytes that spell the module
+-- what the verdict states for these bytes of a document and all bytes that spell the module
 abbrev pub SaysOver : Module → List ℕ → Verdict → Type 0
 SaysOver «module» document_bytes verdict =
     (module_bytes : List ℕ) → IsModuleOf module_bytes «module» → Says module_bytes document_bytes verdict
@@ -70,7 +70,7 @@ abbrev pub IsRecordedOver : Module → List ℕ → LoggedRun → Type 0
 IsRecordedOver «module» document_bytes run =
     (module_bytes : List ℕ) → IsModuleOf module_bytes «module» → IsCandidateOf module_bytes document_bytes «module» run
 
--- the verdict is no refusal
+-- the verdict is not a refusal
 abbrev pub IsJudged : Verdict → Type 0
 IsJudged (verdict.Refused refusal) = ⊥
 IsJudged (verdict.Allowed certificate) = Unit {0}
@@ -87,13 +87,13 @@ IsCertified run (verdict.Allowed certificate) = IsCertifiedBy run certificate
 IsCertified run (verdict.Refused refusal) = ⊤
 IsCertified run (verdict.Broken breach) = ⊤
 
--- there is a candidate just where the verdict is no refusal
+-- there is a candidate exactly if the verdict is not a refusal
 abbrev pub HasCandidate : {X : Type 0} → Verdict → Option X → Type 0
 HasCandidate (verdict.Refused refusal) candidate = candidate ≡ None
 HasCandidate {X} (verdict.Allowed certificate) candidate = (run : X) × (candidate ≡ Some run)
 HasCandidate {X} (verdict.Broken breach) candidate = (run : X) × (candidate ≡ Some run)
 
--- the log and the witness of a refused shape are kept with its fault, and just of such a shape
+-- the log and the witness of a refused shape are kept with its fault, and only those of such a shape
 abbrev pub KeepsMisshapen : (List ThreadLog → Witness → Type 0) → Verdict → Option Misshapen → Type 0
 KeepsMisshapen P (verdict.Refused (refusal.Decode fault)) kept = kept ≡ None
 KeepsMisshapen P (verdict.Refused (refusal.Valid fault)) kept = kept ≡ None

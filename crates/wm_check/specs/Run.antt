@@ -1,4 +1,4 @@
--- What the bytes of a module and of a document stand for.
+-- What the bytes of a module and of a document spell.
 use Rattle.std.specs.Prelude.{ℕ, List}
 use Rattle.wm_ast.specs.declared.module.Module.{Module}
 use Rattle.wm_decode.specs.Module.{SpellsWithin}

@@ -20,7 +20,7 @@ status_of (Allowed certificate) = allows
 status_of (Refused reason) = refuses
 status_of (Broken reason) = breaks
 
--- what of the bytes is refused
+-- which part of the bytes is refused
 pub data Part : Type 0 where
   module_bytes : Part
   module_rules : Part
@@ -33,7 +33,7 @@ part_of (Valid fault) = module_rules
 part_of (Document fault) = document_bytes
 part_of (Shape fault) = document_shape
 
--- the thread whose log isn't its run, None where a memory rule is broken
+-- the thread whose log isn't its run; None if a memory rule is broken
 abbrev pub thread_of : Breach → Option ℕ
 thread_of (Replay Same) = None
 thread_of (Replay (StartRefused thread fault)) = Some thread

@@ -1,4 +1,4 @@
--- What each verdict says of the bytes.
+-- The meaning of each verdict.
 use Rattle.std.specs.Prelude.{◌≡◌, ◌≢◌, ℕ, List, length, Result, Ok, Err}
 use Rattle.wm_ast.specs.declared.module.Module.{Module}
 use Rattle.wm_decode.specs.declared.fault.DecodeFault.{DecodeFault}
@@ -36,8 +36,8 @@ use Rattle.wm_check.specs.Run.{IsCandidateOf, IsModuleOf, IsRunOf}
 
 -- ---- allowed
 
--- The bytes spell a valid module, and a log with a witness. Each thread's events and end are those that the module gives it on the values
--- that it read, and the memory rules permit the events.
+-- The bytes spell a valid module, and a log with a witness. Each thread's events and end are the ones that the module
+-- gives it on the values that it read, and the memory rules permit the events.
 pub record IsAllowed (module_bytes document_bytes : List ℕ) (certificate : Certificate) : Type 0 where
   pub «module» : Module
   pub run : LoggedRun
@@ -49,8 +49,8 @@ pub record IsAllowed (module_bytes document_bytes : List ℕ) (certificate : Cer
 
 -- ---- refused
 
--- No module is spelled. The fault is what reading from left to right stops at, at its offset; of bytes that spell a module past the limits, a
--- limit is named only where they or the module are past it.
+-- The bytes spell no module. The fault is what reading from left to right stops at, at its offset; for bytes that spell
+-- a module over the limits, a limit is named only if they or the module are over it.
 pub record IsNoModule (bytes : List ℕ) (fault : DecodeFault) : Type 0 where
   pub no_module : («module» : Module) → ¬ SpellsWithin bytes «module»
   pub limits : Decodes {X = Module} (Err fault) (whole_at bytes)
@@ -58,7 +58,7 @@ pub record IsNoModule (bytes : List ℕ) (fault : DecodeFault) : Type 0 where
   pub past : («module» : Module) (limit : Limit) → spells bytes «module» → RefusedBy {X = Module} limit (Err fault) → IsPast limit bytes «module»
   pub no_want : fault ≢ decode.OutOfMemory
 
--- the module that is spelled isn't valid, and breaks a rule as the fault says
+-- the spelled module isn't valid, and breaks a rule as the fault states
 pub record IsInvalid (bytes : List ℕ) (fault : ValidFault) : Type 0 where
   pub «module» : Module
   pub spelled : SpellsWithin bytes «module»
@@ -66,7 +66,7 @@ pub record IsInvalid (bytes : List ℕ) (fault : ValidFault) : Type 0 where
   pub breaks : Breaks «module» fault
   pub no_want : fault ≢ valid.OutOfMemory
 
--- the log and the witness are no candidate, and this is the first fault of their shape
+-- the log and the witness are not a candidate, and this is the first fault of their shape
 pub record IsMisshapen (module_bytes document_bytes : List ℕ) (fault : ShapeFault) : Type 0 where
   pub «module» : Module
   pub run : LoggedRun
@@ -123,7 +123,7 @@ IfBroken (Ok (Refused refusal)) P = Unit {0}
 IfBroken (Ok (Broken breach)) P = P breach
 IfBroken (Err e) P = Unit {0}
 
--- what the verdict says
+-- the meaning of the verdict
 abbrev pub Says : List ℕ → List ℕ → Verdict → Type 0
 Says module_bytes document_bytes (Allowed certificate) = IsAllowed module_bytes document_bytes certificate
 Says module_bytes document_bytes (Refused refusal) = IsRefusedFor module_bytes document_bytes refusal

@@ -1,4 +1,4 @@
--- What is said of a log with the steps and the ends that its module gives it.
+-- What is stated for a log with the steps and the ends that its module gives it.
 use Rattle.std.specs.Prelude.{ℕ, List}
 use Rattle.wm_ast.specs.declared.module.Module.{Module}
 use Rattle.wm_event.specs.declared.log.ThreadLog.{ThreadLog}
@@ -30,7 +30,8 @@ JudgesRun run (Refused refusal) = ⊥
 JudgesRun run (Broken (Replay answer)) = ⊥
 JudgesRun run (Broken (Rule fault)) = Judges (execution run) (judgement.Broken fault)
 
--- the bytes are a candidate, and the verdict is that of the memory rules on its log with the steps and the ends of its runs
+-- the bytes are a candidate, and the verdict is the one of the memory rules on its log with the steps and the ends of
+-- its runs
 pub record IsJudgedCompleted (module_bytes document_bytes : List ℕ) (verdict : Verdict) : Type 0 where
   pub «module» : Module
   pub run : LoggedRun
@@ -39,30 +40,30 @@ pub record IsJudgedCompleted (module_bytes document_bytes : List ℕ) (verdict :
   pub completion : IsCompletion «module» run.log completed
   pub judged : JudgesRun (with_log run completed) verdict
 
--- what the verdict says of the completed log; that of the replay, that there is none
+-- what the verdict states for the completed log; the replay's verdict states that there is no such log
 abbrev pub Verifies : List ℕ → List ℕ → Verdict → Type 0
 Verifies module_bytes document_bytes (Allowed certificate) = IsJudgedCompleted module_bytes document_bytes (Allowed certificate)
 Verifies module_bytes document_bytes (Refused refusal) = IsRefusedFor module_bytes document_bytes refusal
 Verifies module_bytes document_bytes (Broken (Replay answer)) = HasNoRun module_bytes document_bytes answer
 Verifies module_bytes document_bytes (Broken (Rule fault)) = IsJudgedCompleted module_bytes document_bytes (Broken (Rule fault))
 
--- the same of these bytes of a document and all bytes that spell the module
+-- the same for these bytes of a document and all bytes that spell the module
 abbrev pub VerifiesOver : Module → List ℕ → Verdict → Type 0
 VerifiesOver «module» document_bytes verdict =
     (module_bytes : List ℕ) → IsModuleOf module_bytes «module» → Verifies module_bytes document_bytes verdict
 
--- of all bytes that spell the module, and the log with the witness
+-- for all bytes that spell the module, and the log with the witness
 abbrev pub VerifiesPair : Module → List ThreadLog → Witness → Verdict → Type 0
 VerifiesPair «module» log witness verdict =
     (module_bytes document_bytes : List ℕ) → IsModuleOf module_bytes «module» → IsDocumentOf document_bytes log witness → Verifies module_bytes document_bytes verdict
 
--- of a candidate over the module's initial memory
+-- for a candidate over the module's initial memory
 abbrev pub VerifiesCandidate : Module → LoggedRun → Verdict → Type 0
 VerifiesCandidate «module» run verdict =
     (module_bytes document_bytes : List ℕ) → IsModuleOf module_bytes «module» → IsDocumentOf document_bytes run.log run.witness → IsInit «module» run.initial
     → IsWellShaped run → Verifies module_bytes document_bytes verdict
 
--- what is said of a log and its completion is what a check says of the completed document, where this can be read
+-- the verdict on a log and its completion is a check's verdict on the completed document, if this can be read
 abbrev pub VerifiesAsCheck : Type 0
 VerifiesAsCheck =
     (module_bytes document_bytes text : List ℕ) (verdict : Verdict) (to : IsCompletedTo module_bytes document_bytes text) → IsDocumentOf text to.completed to.run.witness

@@ -24,11 +24,11 @@ use wm_valid::{ValidFault, ValidModule, validate};
 #[derive(Debug, Drop)]
 pub enum Unread {
     Refused(Refusal),
-    /// Memory was refused.
+    /// An allocation failed.
     OutOfMemory,
 }
 
-/// The module that the bytes spell, where it is valid.
+/// The module that the bytes spell, if it is valid.
 pub fn read_module(alloc: Global, bytes: &[u8]) -> Result<ValidModule, Unread>
     ensures read { IfOk result (IsModuleOf bytes.now) }
     ensures refused { IfErr result (IsUnreadModule bytes.now) }
@@ -99,17 +99,17 @@ fn compare<R: AllocGlobal + Threads + Sync>(
     }
 }
 
-/// A verdict on a document, with the candidate that it speaks of.
+/// A verdict on a document, with the candidate that it is about.
 #[derive(Drop)]
 pub struct CheckedLog<'m> {
     pub verdict: Verdict,
-    /// The log with its witness over the module's initial memory; None where they are refused.
+    /// The log with its witness over the module's initial memory; None if they are refused.
     pub candidate: Option<Candidate<'m>>,
-    /// The log with its witness and its fault, where their shape is refused.
+    /// The log with its witness and its fault, if their shape is refused.
     pub misshapen: Option<Misshapen>,
 }
 
-/// The refusal of a log with a witness that are no candidate; an allocation failure is no refusal.
+/// The refusal of a log with a witness that are not a candidate; an allocation failure is not a refusal.
 fn refuse_shape<'m>(misshapen: Misshapen) -> Result<CheckedLog<'m>, AllocError>
     ensures { IfOk result (RefusesShape misshapen) }
 {
@@ -147,12 +147,12 @@ fn compare_log<'m, R: AllocGlobal + Threads + Sync>(
     }
 }
 
-/// Checks the bytes of a log against a valid module, as [`check`] does, and keeps the candidate, or the log and the witness
-/// whose shape is refused.
+/// Checks the bytes of a log against a valid module, as [`check`] does, and keeps the candidate, or the log and the
+/// witness if their shape is refused.
 ///
 /// # Errors
 ///
-/// Only if memory was refused.
+/// Only if an allocation fails.
 pub fn check_log<'m, R: AllocGlobal + Threads + Sync>(
     rt: &R,
     module: &'m ValidModule,
@@ -177,7 +177,7 @@ pub fn check_log<'m, R: AllocGlobal + Threads + Sync>(
     }
 }
 
-/// The verdict on the bytes, where both can be read.
+/// The verdict on the bytes, if both can be read.
 fn verdict_of<R: AllocGlobal + Threads + Sync>(
     rt: &R,
     module_bytes: &[u8],
@@ -194,16 +194,16 @@ fn verdict_of<R: AllocGlobal + Threads + Sync>(
     Ok(checked.verdict)
 }
 
-/// Checks the bytes of a log against the bytes of a module, whoever made them: in the order decode, valid, document,
+/// Checks the bytes of a log against the bytes of a module, whoever made them, in the order decode, valid, document,
 /// shape, replay, rule.
 ///
-/// `Allowed` says that the bytes spell a valid module and a log with a witness, that each thread's events and end are
-/// those that the module gives it on the values that it read, and that the memory rules permit the events under that
-/// witness. A thread that is cut is a prefix of a run. Nothing is said of other witnesses.
+/// `Allowed` means that the bytes spell a valid module and a log with a witness, that each thread's events and end are
+/// the ones that the module gives it on the values that it read, and that the memory rules permit the events under that
+/// witness. A thread that is cut is a prefix of a run. It means nothing for other witnesses.
 ///
 /// # Errors
 ///
-/// Only if memory was refused.
+/// Only if an allocation fails.
 pub fn check<R: AllocGlobal + Threads + Sync>(
     rt: &R,
     module_bytes: &[u8],

@@ -10,10 +10,10 @@ use wm_logfile::{ReadingRoom, write_document};
 use wm_replay::{Completion, ReplayAnswer, complete};
 use wm_valid::ValidModule;
 
-/// A document with the steps and the ends of its threads' runs, or why there is none.
+/// A document with the steps and the ends of its threads' runs, or why there is no such document.
 #[derive(Drop)]
 pub enum CompletedDocument {
-    /// Its text, in version 2.
+    /// The document's text, in version 2.
     Text(String),
     /// The module or the document is refused, as by [`check`](crate::check).
     Refused(Refusal),
@@ -54,14 +54,14 @@ fn complete_over(
     }
 }
 
-/// Completes the bytes of a log against the bytes of a module: each thread gets the steps and the end of the longest of
-/// its runs that make just its events, of at most 1,000,000 steps, as [`complete`] has it; the steps and the ends that
-/// the document states play no part, and all else of it stays as it is. Its parts are refused in the order decode,
-/// valid, document, shape, as by [`check`](crate::check). The memory rules play no part.
+/// Completes the bytes of a log against the bytes of a module: each thread gets the steps and the end of its longest
+/// run that makes exactly its events, of at most 1,000,000 steps, as [`complete`] does. The steps and the ends in the
+/// document are ignored, and everything else stays as it is. Its parts are refused in the order decode, valid,
+/// document, shape, as by [`check`](crate::check). The memory rules aren't checked.
 ///
 /// # Errors
 ///
-/// Only if memory was refused.
+/// Only if an allocation fails.
 pub fn complete_document(
     alloc: Global,
     module_bytes: &[u8],

@@ -1,4 +1,4 @@
-//! What is said of a run that is allowed, of a document that is too large, and of a completed one.
+//! Laws about a run that is allowed, a document that is too large, and a completed document.
 ghost use Rattle.wm_check.specs.Alone.{AllowedAlone, TooLargeAlone};
 ghost use Rattle.wm_check.specs.SameVerdict.{OneExactVerdict, OnePart, OneStatus, OneThread};
 ghost use Rattle.wm_check.specs.Verified.{VerifiesAsCheck};
@@ -6,9 +6,9 @@ ghost use Rattle.wm_check.specs.Verified.{VerifiesAsCheck};
 use wm_decode::spelled_once;
 use wm_logfile::one_pair;
 
-/// Of bytes that spell a module and a log with a witness, where each thread's log is its run and the memory rules permit
-/// the events, a check answers nothing but `Allowed` with its numbers of threads and events, and an allocation failure. Of
-/// those of a module, and a document past its limit of bytes, it answers nothing but that the document is too large, and an
+/// If bytes spell a module and a log with a witness, each thread's log is its run, and the memory rules permit the
+/// events, then a check answers only `Allowed` with the numbers of threads and events, or an allocation failure. For
+/// the bytes of a module and a document over its limit of bytes, it answers only that the document is too large, or an
 /// allocation failure.
 pub fn one_verdict()
     ensures allowed { AllowedAlone }
@@ -18,8 +18,8 @@ pub fn one_verdict()
     one_pair();
 }
 
-/// A verdict is a function of the bytes, but for which rule an invalid module breaks first and where, and for the place where
-/// a thread differs from its log. Of any two verdicts on the same bytes:
+/// A verdict is a function of the bytes, except for which rule an invalid module breaks first and where, and for the
+/// place where a thread differs from its log. For any two verdicts on the same bytes:
 ///
 /// - both are `Allowed`, or both `Refused`, or both `Broken`;
 /// - if one is `Allowed`, or refuses the module's bytes, the document's bytes or a shape, or names a refused start or a rule,
@@ -36,8 +36,8 @@ pub fn same_verdict()
     one_pair();
 }
 
-/// What [`verify`](crate::verify) says of bytes is what [`check`](crate::check) says of the document that
-/// [`complete_document`](crate::complete_document) makes of them, if this can be read as the completed log.
+/// For any bytes, [`verify`](crate::verify) gives the verdict that [`check`](crate::check) gives on the document that
+/// [`complete_document`](crate::complete_document) makes of them, if that document can be read as the completed log.
 pub fn verify_is_check_of_completed()
     ensures { VerifiesAsCheck }
 {

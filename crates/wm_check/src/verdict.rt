@@ -1,4 +1,4 @@
-//! What a check answers.
+//! The answers of a check.
 
 use wm_decode::DecodeFault;
 use wm_event::{RuleFault, ShapeFault};
@@ -6,7 +6,7 @@ use wm_logfile::DocFault;
 use wm_replay::ReplayAnswer;
 use wm_valid::ValidFault;
 
-/// How large an allowed run is.
+/// The size of an allowed run.
 #[derive(Clone, Copy, Debug, PartialEq, Eq)]
 pub struct Certificate {
     /// How many threads its log has.
@@ -15,20 +15,20 @@ pub struct Certificate {
     pub events: usize,
 }
 
-/// Why a module or a log is refused. Each fault comes only if those before it don't. None of them is `OutOfMemory`.
+/// Why a module or a log is refused. A fault comes only if none of those above it does. None of them is `OutOfMemory`.
 #[derive(Debug, Drop)]
 pub enum Refusal {
-    /// The bytes are no module within the limits.
+    /// The bytes are not a module within the limits.
     Decode(DecodeFault),
     /// The module isn't valid.
     Valid(ValidFault),
-    /// The bytes are no log with a witness within the limits.
+    /// The bytes are not a log with a witness within the limits.
     Document(DocFault),
-    /// The log and the witness are no candidate over the module's initial memory.
+    /// The log and the witness are not a candidate over the module's initial memory.
     Shape(ShapeFault),
 }
 
-/// Where a run is none of the module's, or none that the memory rules permit.
+/// Why a run isn't a run of the module, or isn't permitted by the memory rules.
 #[derive(Clone, Copy, Debug, PartialEq, Eq)]
 pub enum Breach {
     /// The first thread whose log isn't its run. The answer isn't `Same`.

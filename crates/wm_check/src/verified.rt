@@ -1,4 +1,4 @@
-//! The verdict on a log with the steps and the ends that its module gives it.
+//! The verdict on a log that is completed with the steps and the ends that its module gives it.
 ghost use Rattle.std.specs.Prelude.{IfOk};
 ghost use Rattle.wm_check.specs.Verified.{Verifies, VerifiesCandidate, VerifiesOver, VerifiesPair};
 
@@ -11,8 +11,8 @@ use wm_replay::without_run;
 use wm_rules::judge_sequentially;
 use wm_valid::ValidModule;
 
-/// The verdict on a candidate, completed. Its events are those of the completed log, and the memory rules look at nothing
-/// else.
+/// The verdict on a candidate, completed. It has the same events as the completed log, and the memory rules look at
+/// nothing else.
 fn verify_candidate(
     alloc: Global,
     module: &ValidModule,
@@ -51,8 +51,9 @@ fn verify_pair(
     }
 }
 
-/// Completes the bytes of a log against a valid module, as [`complete_document`](crate::complete_document) does, and checks
-/// the completed log. It starts no thread, so that many logs can be verified at the same time, each in room of its own.
+/// Completes the bytes of a log against a valid module, as [`complete_document`](crate::complete_document) does, and
+/// checks the completed log. It starts no thread, so many logs can be verified at the same time, each with its own
+/// room.
 ///
 /// # Errors
 ///
@@ -72,9 +73,9 @@ pub fn verify_log(
     }
 }
 
-/// Completes the bytes of a log against the bytes of a module, as [`complete_document`](crate::complete_document) does, and
-/// checks the completed log: the verdict is that of [`check`](crate::check) on the document that is printed, and `broken`
-/// with the answer of the replay where there is none.
+/// Completes the bytes of a log against the bytes of a module, as [`complete_document`](crate::complete_document) does,
+/// and checks the completed log: the verdict is the one that [`check`](crate::check) gives on the completed document,
+/// or `broken` with the replay's answer if the log can't be completed.
 ///
 /// # Errors
 ///

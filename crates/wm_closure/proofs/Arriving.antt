@@ -1,4 +1,4 @@
--- What the rows say once the nodes from one on have lowered those of their sources.
+-- What the rows state once all nodes from one on have lowered the rows of their sources.
 use Rattle.std.proofs.Common.{◌≡◌, ◌≢◌, ℕ, ◌+◌, ◌*◌, ◌<◌, ◌≤◌, List, [], ◌∷◌, length, arith, sym, subst, ⊎_elim}
 use Rattle.std.specs.Prelude.{slice_index}
 use Rattle.std.proofs.lemmas.Bool.{cases_eq}

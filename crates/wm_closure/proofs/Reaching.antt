@@ -1,4 +1,4 @@
--- What an arrival says of a later node of its lane.
+-- What an arrival means for a later node of its lane.
 use Rattle.std.proofs.Common.{◌≡◌, ◌≢◌, ℕ, ◌+◌, ◌*◌, ◌<◌, ◌≤◌, List, length, get_or, arith, refl, sym, subst, inr, ⊎_elim, ◌∙◌, ◌↔◌}
 use Rattle.std.specs.Prelude.{slice_index}
 use Rattle.std.proofs.lemmas.Bool.{cases_eq}

@@ -10,7 +10,7 @@ row_before width a b l =
     let p : (a + 1) * width ≤ b * width = mul-le-mul_right width next in
     omega (arith, p)
 
--- an entry of another row is before this row or behind it
+-- an entry of another row is before this row or after it
 pub row_apart : (width a b lane : ℕ) → a ≢ b → lane < width → (a * width + lane < b * width) ⊎ (b * width + width ≤ a * width + lane)
 row_apart width a b lane d inside = ⊎_elim
     (λ (l : a < b). let p : a * width + width ≤ b * width = row_before width a b l in inl (omega (arith, p, inside)))
@@ -19,7 +19,7 @@ row_apart width a b lane d inside = ⊎_elim
     let p : b * width + width ≤ a * width = row_before width b a less in inr (omega (arith, p)))
     (cases_lt a b)
 
--- entries of two rows stand at two places
+-- entries of two rows are at two places
 pub places_apart : (width a b l m : ℕ) → a ≢ b → l < width → m < width → a * width + l ≢ b * width + m
 places_apart width a b l m d li mi e = ⊎_elim
     (λ (p : a * width + l < b * width). omega (arith, p, e))

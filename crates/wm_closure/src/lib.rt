@@ -1,4 +1,4 @@
-//! What reaches what in a graph whose nodes stand in order, from the last node to the first.
+//! Reachability in a graph whose nodes come after their sources, computed from the last node to the first.
 #![tactic(auto)]
 
 ghost use Rattle.std.specs.Prelude.{◌≡◌, ◌<◌, ◌≤◌, ◌+◌, ◌*◌, ◌↔◌, ℕ, length, slice_index, EachIndex, IfOk, All, IsTrue};
@@ -8,7 +8,8 @@ use std::alloc::{AllocError, Global};
 use std::marker::Model;
 use wm_list::List;
 
-/// For each node a row with an entry for each lane: the node itself at its own lane, and the number of nodes at the others.
+/// For each node a row with an entry for each lane: the node itself at its own lane, and the number of nodes at the
+/// others.
 fn start_rows(alloc: Global, lanes: &[usize], width: usize) -> Result<Vec<usize>, AllocError>
     requires { EachIndex lanes.now (λ k. slice_index lanes.now k < width) }
     ensures size { IfOk result (λ rows. length rows.items ≡ length lanes.now * width) }
@@ -22,7 +23,7 @@ fn start_rows(alloc: Global, lanes: &[usize], width: usize) -> Result<Vec<usize>
     Ok(rows)
 }
 
-/// Lowers the row of a source to that of a node after it.
+/// Lowers the row of a source to the row of a node after it.
 fn lower_row(rows: &mut [usize], width: usize, source: usize, node: usize)
     requires before { source < node }
     requires inside { node * width + width ≤ length rows.old }
@@ -38,7 +39,7 @@ fn lower_row(rows: &mut [usize], width: usize, source: usize, node: usize)
     }
 }
 
-/// Lowers the row of each source of a node to that of the node: what the node reaches, its sources reach.
+/// Lowers the row of each source of a node to the node's row: what the node reaches, its sources reach.
 fn lower_sources(rows: &mut [usize], width: usize, sources: &[usize], node: usize)
     requires before { EachIndex sources.now (λ k. slice_index sources.now k < node) }
     requires inside { node * width + width ≤ length rows.old }
@@ -50,8 +51,8 @@ fn lower_sources(rows: &mut [usize], width: usize, sources: &[usize], node: usiz
     }
 }
 
-/// For each node and each lane the first node of the lane that is reached from there, or is it. Edges lead forward, so the
-/// row of a node is whole once all later nodes have lowered those of their sources.
+/// For each node and each lane, the first node of the lane that is the node or is reached from it. Edges lead forward,
+/// so the row of a node is complete once all later nodes have lowered the rows of their sources.
 fn arrivals(
     alloc: Global,
     graph: &[List<usize>],
@@ -71,7 +72,7 @@ fn arrivals(
     Ok(rows)
 }
 
-/// What reaches what in a graph. It reads as the graph: for each node its sources.
+/// Reachability in a graph. Contracts see it as the graph: for each node its sources.
 #[derive(Drop)]
 pub struct Closure {
     graph: Vec<List<usize>>,
@@ -92,8 +93,9 @@ impl Model for Closure {
 }
 
 impl Closure {
-    /// The closure of a graph whose nodes stand after their sources, and whose nodes each have one of `width` lanes, in which
-    /// each node reaches the later ones. It takes `width` steps for each edge. An error comes only where memory was refused.
+    /// The closure of a graph whose nodes come after their sources, and whose nodes each have one of `width` lanes, in
+    /// which each node reaches the later ones. It takes `width` steps for each edge. The only error is an allocation
+    /// failure.
     pub fn of(
         alloc: Global,
         graph: Vec<List<usize>>,
@@ -113,7 +115,7 @@ impl Closure {
         })
     }
 
-    /// Whether there is a chain of edges from one node to the other; false for numbers that are no nodes.
+    /// Whether there is a chain of edges from one node to the other; false for numbers that are not nodes.
     pub fn reaches(&self, from: usize, to: usize) -> bool
         ensures { IsTrue result ↔ Reaches self.now from to }
     {

@@ -32,7 +32,7 @@ entered_is m r name words is named rows =
     (sym (ap (option_map (λ (p : Bor Text × Bor ArgMatches). p.0.now)) is) ∙ named ∙ first_parts _ _ _)
     (sym (ap (option_map (λ (p : Bor Text × Bor ArgMatches). rows_of (found_of p.1.now))) is) ∙ rows)
 
--- the value of a word, and that there is none
+-- the value of a word, or that it has none
 pub value_is : (f : Found) (id : Text) (o : Option (Bor Text)) (v : Bor Text) → o ≡ Some v → option_map (λ (s : Bor Text). s.now) o ≡ first_value f id → first_of id (rows_of f) ≡ Some v.now
 value_is f id o v is got = sym (first_value-rows f id) ∙ sym got ∙ ap (option_map (λ (s : Bor Text). s.now)) is
 

@@ -1,4 +1,4 @@
--- What clap's model says of some words.
+-- The meaning of some words in clap's model.
 use Rattle.std.proofs.Common.{◌≡◌, List, [], ◌∷◌, Option, None, Some, option_map, codes, refl}
 use Rattle.clap.specs.Words.{Row, Text, fault_of, first_of, subcommand_of}
 use Rattle.clap.proofs.OnLiterals.{clap_on_literals}

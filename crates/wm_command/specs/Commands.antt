@@ -19,7 +19,7 @@ fault_of_kind _ = Words
 
 -- ---- the table of the commands
 
--- a command's name, the words that it requires, in their order, the words that may follow these, and those of which any number may
+-- a command's name, its required words in order, the optional words after these, and the word that may be repeated
 pub record Form : Type 0 where
   pub name : Text
   pub required : List Text
@@ -42,7 +42,7 @@ checked_form name = record { name = name; required = codes "module" ∷ codes "d
 abbrev pub log_form : Text → Form
 log_form name = record { name = name; required = codes "file" ∷ []; optional = codes "document" ∷ []; repeated = [] }
 
--- a module, how its threads run, and what they start with
+-- a module, how its threads run, and their starts
 abbrev pub started_form : Text → Text → Form
 started_form name how = record { name = name; required = codes "module" ∷ how ∷ []; optional = []; repeated = codes "start" ∷ [] }
 
@@ -70,7 +70,7 @@ forms =
 abbrev pub word_rule : Text → Rule
 word_rule id = record (new_rule id) { required = true; action = Some Set }
 
--- a word that may be missing
+-- an optional word
 abbrev pub optional_rule : Text → Rule
 optional_rule id = record (new_rule id) { action = Some Set }
 
@@ -88,8 +88,8 @@ with_form app form = with_subcommand app (form_app form).top
 abbrev pub AddsAs : App → Parser → Type 0
 AddsAs added parser = (old more : Parser) → AddsSubcommand old parser more → app_of more ≡ with_subcommand (app_of old) added.top
 
--- the program before it has commands: one of them is required, no name of the program precedes it, and there is neither a help flag nor a
--- version flag
+-- the program without commands: a command is required, no program name comes before it, and there is neither a help
+-- flag nor a version flag
 abbrev pub empty_app : App
 empty_app = let a = new_app (codes "wmlab") in
     record a { top = record a.top { disable_help_flag = true; disable_version_flag = true; no_binary_name = true; disable_help_subcommand = true; subcommand_required = true } }
@@ -118,7 +118,7 @@ name_of (GraphEvents document) = codes "graph"
 name_of Help = codes "help"
 name_of Version = codes "version"
 
--- the name and the value of each word but those that may be repeated
+-- the name and the value of each word, except for those that may be repeated
 abbrev pub fields_of : Command → List (Text × Text)
 fields_of (Rules document) = (codes "document", document.now) ∷ []
 fields_of (Check file document) = (codes "module", file.now) ∷ (codes "document", document.now) ∷ []
@@ -138,7 +138,7 @@ fields_of (GraphEvents document) = (codes "file", document.now) ∷ []
 fields_of Help = []
 fields_of Version = []
 
--- the words that a command of this name may have, and this one has not
+-- the words that a command of this name may have and this one doesn't have
 abbrev pub absent_of : Command → List Text
 absent_of (EventRaces document) = codes "document" ∷ []
 absent_of (ExplainEvents document) = codes "document" ∷ []
@@ -171,7 +171,8 @@ abbrev pub Means : Option (Text × List Row) → Command → Type 0
 Means found command =
     (rows : List Row) × (found ≡ Some (name_of command, rows)) × HasFields rows (fields_of command) × LacksFields rows (absent_of command)
 
--- the words are this command: the parse fails nowhere; `--`, which clap would take as the end of the options, is in none
+-- the words are this command: the parse doesn't fail; `--`, which clap would take as the end of the options, is in no
+-- command
 pub record IsCommand (words : List Text) (command : Command) : Type 0 where
   pub plain : Contains words (codes "--") → ⊥
   pub taken : fault_of wmlab_app words ≡ []

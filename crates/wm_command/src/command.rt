@@ -9,7 +9,7 @@ use clap::error::ErrorKind;
 use clap::{Arg, ArgAction, ArgMatches, Command as Parser, Error};
 use std::alloc::{AllocError, Global};
 
-/// What the program is to do.
+/// A command of the program.
 #[derive(Clone, Copy, Debug, PartialEq, Eq)]
 pub enum Command<'a> {
     /// Judges the run of a document by the memory rules.
@@ -24,19 +24,19 @@ pub enum Command<'a> {
     Verify { module: &'a str, document: &'a str },
     /// Verifies each line of the input as a document against a module.
     Stream { module: &'a str },
-    /// Plays a script over a module; the remaining words are what its threads start with.
+    /// Plays a script over a module; the remaining words are the starts of its threads.
     Drive { module: &'a str, turns: &'a str },
     /// Plays a script over a module, and shows each of its turns.
     Trace { module: &'a str, turns: &'a str },
-    /// Makes this number of rounds of a module's threads; the remaining words are what these start with.
+    /// Makes this number of rounds of a module's threads; the remaining words are the starts of the threads.
     Run { module: &'a str, rounds: &'a str },
-    /// Checks a run against a module, and lists its data races by the instructions.
+    /// Checks a run against a module, and lists its data races by instructions.
     Races { module: &'a str, document: &'a str },
-    /// Judges a run by the memory rules, and lists its data races by the events.
+    /// Judges a run by the memory rules, and lists its data races by events.
     EventRaces { document: &'a str },
-    /// Checks a run against a module, and says why the answer is what it is.
+    /// Checks a run against a module, and explains the answer.
     Explain { module: &'a str, document: &'a str },
-    /// Judges a run by the memory rules, and says why the answer is what it is.
+    /// Judges a run by the memory rules, and explains the answer.
     ExplainEvents { document: &'a str },
     /// Checks a run against a module, and draws it.
     Graph { module: &'a str, document: &'a str },
@@ -48,7 +48,7 @@ pub enum Command<'a> {
     Version,
 }
 
-/// Why the words are no command.
+/// Why the words are not a command.
 #[derive(Clone, Copy, Debug, PartialEq, Eq)]
 pub enum CommandFault {
     Words,
@@ -74,7 +74,7 @@ impl From<Error> for CommandFault {
     }
 }
 
-/// A word that has to stand.
+/// A required word.
 fn word<'a>(alloc: Global, name: &'a str) -> Arg<'a>
     ensures rule { rule_of result ≡ word_rule name.now }
     ensures own { result.global ≡ false }
@@ -82,7 +82,7 @@ fn word<'a>(alloc: Global, name: &'a str) -> Arg<'a>
     Arg::new(alloc, name).required(true).action(ArgAction::Set)
 }
 
-/// A word that may stand.
+/// An optional word.
 fn optional_word<'a>(alloc: Global, name: &'a str) -> Arg<'a>
     ensures rule { rule_of result ≡ optional_rule name.now }
     ensures own { result.global ≡ false }
@@ -90,7 +90,7 @@ fn optional_word<'a>(alloc: Global, name: &'a str) -> Arg<'a>
     Arg::new(alloc, name).action(ArgAction::Set)
 }
 
-/// Words of which any number may stand.
+/// Any number of words.
 fn any_words<'a>(alloc: Global, name: &'a str) -> Arg<'a>
     ensures rule { rule_of result ≡ any_words_rule name.now }
     ensures own { result.global ≡ false }
@@ -100,28 +100,28 @@ fn any_words<'a>(alloc: Global, name: &'a str) -> Arg<'a>
         .action(ArgAction::Append)
 }
 
-/// A command without words.
+/// A command without further words.
 fn plain_parser<'a>(alloc: Global, name: &'a str) -> Parser<'a>
     ensures { AddsAs (form_app (plain_form name.now)) result }
 {
     Parser::new(alloc, name)
 }
 
-/// A command of a document.
+/// A command with a document.
 fn document_parser<'a>(alloc: Global, name: &'a str) -> Result<Parser<'a>, AllocError>
     ensures { IfOk result (AddsAs (form_app (document_form name.now))) }
 {
     Parser::new(alloc, name).arg(word(alloc, "document"))
 }
 
-/// A command of a module.
+/// A command with a module.
 fn module_parser<'a>(alloc: Global, name: &'a str) -> Result<Parser<'a>, AllocError>
     ensures { IfOk result (AddsAs (form_app (module_form name.now))) }
 {
     Parser::new(alloc, name).arg(word(alloc, "module"))
 }
 
-/// A command of a module and a document.
+/// A command with a module and a document.
 fn checked_parser<'a>(alloc: Global, name: &'a str) -> Result<Parser<'a>, AllocError>
     ensures { IfOk result (AddsAs (form_app (checked_form name.now))) }
 {
@@ -130,7 +130,7 @@ fn checked_parser<'a>(alloc: Global, name: &'a str) -> Result<Parser<'a>, AllocE
         .arg(word(alloc, "document"))
 }
 
-/// A command of a document, or of a module and a document.
+/// A command with a document, or with a module and a document.
 fn log_parser<'a>(alloc: Global, name: &'a str) -> Result<Parser<'a>, AllocError>
     ensures { IfOk result (AddsAs (form_app (log_form name.now))) }
 {
@@ -139,7 +139,7 @@ fn log_parser<'a>(alloc: Global, name: &'a str) -> Result<Parser<'a>, AllocError
         .arg(optional_word(alloc, "document"))
 }
 
-/// A command of a module, a word `how`, and what threads start with.
+/// A command with a module, a word `how`, and starts of threads.
 fn started_parser<'a>(alloc: Global, name: &'a str, how: &'a str) -> Result<Parser<'a>, AllocError>
     ensures { IfOk result (AddsAs (form_app (started_form name.now how.now))) }
 {
@@ -149,7 +149,7 @@ fn started_parser<'a>(alloc: Global, name: &'a str, how: &'a str) -> Result<Pars
         .arg(any_words(alloc, "start"))
 }
 
-/// Adds a command without words.
+/// Adds a command without further words.
 fn with_plain<'a>(
     alloc: Global,
     parser: Parser<'a>,
@@ -160,7 +160,7 @@ fn with_plain<'a>(
     parser.subcommand(plain_parser(alloc, name))
 }
 
-/// Adds a command of a document.
+/// Adds a command with a document.
 fn with_document<'a>(
     alloc: Global,
     parser: Parser<'a>,
@@ -171,7 +171,7 @@ fn with_document<'a>(
     parser.subcommand(document_parser(alloc, name)?)
 }
 
-/// Adds a command of a module.
+/// Adds a command with a module.
 fn with_module<'a>(
     alloc: Global,
     parser: Parser<'a>,
@@ -182,7 +182,7 @@ fn with_module<'a>(
     parser.subcommand(module_parser(alloc, name)?)
 }
 
-/// Adds a command of a module and a document.
+/// Adds a command with a module and a document.
 fn with_checked<'a>(
     alloc: Global,
     parser: Parser<'a>,
@@ -193,14 +193,14 @@ fn with_checked<'a>(
     parser.subcommand(checked_parser(alloc, name)?)
 }
 
-/// Adds a command of a document, or of a module and a document.
+/// Adds a command with a document, or with a module and a document.
 fn with_log<'a>(alloc: Global, parser: Parser<'a>, name: &'a str) -> Result<Parser<'a>, AllocError>
     ensures { IfOk result (λ more. app_of more ≡ with_form (app_of parser.entry) (log_form name.now)) }
 {
     parser.subcommand(log_parser(alloc, name)?)
 }
 
-/// Adds a command of a module, a word `how`, and what threads start with.
+/// Adds a command with a module, a word `how`, and starts of threads.
 fn with_started<'a>(
     alloc: Global,
     parser: Parser<'a>,
@@ -350,8 +350,8 @@ fn named<'a>(matches: &ArgMatches<'a>) -> Option<Command<'a>>
     command_of(name, words)
 }
 
-/// The command that `words`, those after the program's name, are by clap's model of the parse. A word other than `-`
-/// that begins with `-` is in none.
+/// The command that `words`, those after the program's name, are by clap's model of the parse. No command has a word
+/// other than `-` that begins with `-`.
 pub fn read_command<'a>(alloc: Global, words: &'a [&'a str]) -> Result<Command<'a>, CommandFault>
     ensures read { IfOk result (IsCommand (map (λ word. word.now) words.now)) }
     ensures refused { result ≡ Err Words → IsNoCommand (map (λ word. word.now) words.now) }

@@ -1,4 +1,4 @@
-//! The command line: which words are which command, by clap's own model of the parse.
+//! The command line: which command the words are, by clap's own model of the parse.
 #![tactic(auto)]
 
 mod command;

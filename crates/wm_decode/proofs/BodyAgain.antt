@@ -76,11 +76,11 @@ pub data IsCloser : ℕ → Type 0 where
   ends : IsCloser 0x0B
   at_else : IsCloser 0x05
 
--- what is read behind an instruction
+-- what is read after an instruction
 abbrev pub after : One → Result Body Stop → Result Body Stop
 after one more = more >>= λ more. Ok (record { instrs = one.instr ∷ more.instrs; nested = one.nested ++ more.nested; closer = more.closer; rest = more.rest })
 
--- an opcode is none of the bytes that begin or close a block
+-- an opcode is not one of the bytes that start or close a block
 other_than : (code c : ℕ) (op : Opcode) → opcode_at code ≡ Some op → opcode_at c ≡ None → eqb code c ≡ false
 other_than code c op e n = ne_eqb code c (λ h. let k : opcode_at code ≡ None = ap opcode_at h ∙ n in absurd (cc (e, k)))
 

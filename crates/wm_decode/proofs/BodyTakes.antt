@@ -183,7 +183,7 @@ numbered Number read op bytes make i rest takes spell e =
     let t = takes q.0.0 q.0.1 q.1 in
     subst (λ (k : Instr). OperandsTook op bytes k rest) is.0 (record { text = t.0; parts = t.1 ∙ ap (λ (l : List ℕ). t.0 ++ l) is.1; spelled = spell t.0 q.0.0 t.2 })
 
--- what stands behind an access
+-- what comes after an access
 record AccessTook (kind : AccessKind) (bytes : List ℕ) (i : Instr) (rest : List ℕ) : Type 0 where
   pub first : List ℕ
   pub second : List ℕ

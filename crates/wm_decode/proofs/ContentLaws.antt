@@ -316,7 +316,7 @@ kind_again kind.Func rest = refl
 kind_again kind.Memory rest = refl
 kind_again kind.Global rest = refl
 
--- an export whose name is none of the earlier ones
+-- an export whose name differs from all earlier ones
 record NewExport (earlier : List (List ℕ × Export)) (text : List ℕ) (e : List ℕ × Export) : Type 0 where
   spelled : ExportEntry text e
   new : export_at e.0 earlier ≡ None

@@ -14,7 +14,7 @@ use Rattle.wm_decode.proofs.Steps.{bound, met, pair_is, fits_behind, bind_same}
 use Rattle.wm_decode.proofs.Lawful.{byte_vector_takes}
 use Rattle.wm_decode.proofs.SoFar.{tail_of, front_is}
 
--- what stands behind something with its size
+-- what comes after a value with its size
 filled_rest : {X : Type 0} (item_at : List ℕ → Result (X × List ℕ) Stop) (content : List ℕ × List ℕ) (x : X) (rest : List ℕ) → filled_at item_at content ≡ Ok (x, rest) → content.1 ≡ rest
 unfolding filled_at
 filled_rest {X} item_at content x rest e =
@@ -44,7 +44,7 @@ customs_same (suc f) (suc g) (x ∷ bytes) fits a b =
     let le : length y.1 ≤ length bytes = omega (arith, ap length t.1, length-append t.0 y.1) in
     customs_same f g y.1 (fits_behind bytes t.0 y.1 fits.1 t.1) (omega arith) (omega arith)))
 
--- one custom section, and those behind it
+-- one custom section, and those after it
 pub customs_cons : (bytes : List ℕ) → IsBytes bytes → customs_in (0 ∷ bytes) ≡ (sized_at custom_at bytes >>= λ y. customs_in y.1)
 unfolding customs_at
 customs_cons bytes fits = bind_same (sized_at custom_at bytes) (λ y. customs_at (length bytes) y.1) (λ y. customs_in y.1) (λ y e.

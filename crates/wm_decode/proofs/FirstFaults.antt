@@ -50,7 +50,7 @@ no_section : Meets (header ++ 0x0E ∷ []) BadNumber 8
 unfolding whole_at module_at declared_at front_at header_at one_at customs_at section_at
 no_section = (1, refl, omega arith, refl)
 
--- a section of one type that ends before it, with another section behind
+-- a section of one type that ends before it, with another section after it
 short_types : Meets (header ++ 0x01 ∷ 0x01 ∷ 0x01 ∷ 0x03 ∷ 0x01 ∷ 0x00 ∷ []) SectionSize 11
 unfolding whole_at module_at declared_at front_at header_at one_at customs_at section_at sized_at own_bytes_at filled_at unsigned_at vector_at items_at func_type_at
 short_types = (3, refl, omega arith, refl)

@@ -39,7 +39,7 @@ module _ (w : Limit) where
   same : {A : Type 0} (r : Result A Stop) → Kept r r
   same r x e = inl e
 
-  -- a step, by how what stands before it went
+  -- a step, by the result of the step before it
   led : {A B : Type 0} (r : Result A Stop) (f : A → Result B Stop) (x : A) (y : B) → (r ≡ Ok x) ⊎ Other r → ((f x ≡ Ok y) ⊎ Other (f x)) → ((r >>= f) ≡ Ok y) ⊎ Other (r >>= f)
   led r f x y (inl e) d = subst (λ (q : Result _ Stop). ((q >>= f) ≡ Ok y) ⊎ Other (q >>= f)) (sym e) d
   led r f x y (inr o) d = inr (o.0, o.1, ap (λ (q : Result _ Stop). q >>= f) o.2, o.3)
@@ -95,7 +95,7 @@ module _ (w : Limit) where
   more_kept h zero s bytes = same (Ok (s, bytes))
   more_kept h (suc n) s bytes = bind _ _ _ _ (h s bytes) (λ x. more_kept h n x.0 x.1)
 
-  -- blocks of which more or fewer may stand in one another
+  -- blocks that may nest more or less deeply
   abbrev Reads : Reader → Reader → Type 0
   Reads read wide = (depth_left room2 : ℕ) → Agree limit.Nesting depth_left room2 → (at : ℕ) (bytes : List ℕ) → Kept (read depth_left at bytes) (wide room2 at bytes)
 
@@ -153,7 +153,7 @@ module _ (w : Limit) where
   locals_kept most most2 agree bytes = next _ _ _ (λ entries.
       more_kept (λ earlier rest. lead _ _ _ (entry_kept (most - length earlier) (most2 - length earlier) (less limit.Locals most most2 (length earlier) agree) rest)) entries.0 [] entries.1)
 
-  -- what stands in sections, and the module
+  -- the contents of sections, and the module
   module _ (b c : Bounds) (pages : Agree limit.Pages b.pages c.pages) (functions : Agree limit.Functions b.functions c.functions) (locals : Agree limit.Locals b.locals c.locals) (nesting : Agree limit.Nesting b.nesting c.nesting) where
     limits_kept : (bytes : List ℕ) → Kept (limits_at b bytes) (limits_at c bytes)
     unfolding limits_at

@@ -54,7 +54,7 @@ byte_vector_again text found rest s = own_bytes_again ended text found rest s
 module _ {X : Type 0} (Item : List ℕ → X → Type 0) (item_at : List ℕ → Result (X × List ℕ) Stop)
     (item_takes : (bytes : List ℕ) (x : X) (rest : List ℕ) → IsBytes bytes → item_at bytes ≡ Ok (x, rest) → (text : List ℕ) × (bytes ≡ text ++ rest) × Item text x)
     (whole_again : (text : List ℕ) (x : X) → Item text x → item_at text ≡ Ok (x, [])) where
-  -- what fills these bytes, behind which are others
+  -- a value that takes up these bytes, before others
   filled_takes : (content after : List ℕ) (x : X) (rest : List ℕ) → IsBytes content → filled_at item_at (content, after) ≡ Ok (x, rest) → Item content x × (after ≡ rest)
   unfolding filled_at
   filled_takes content after x rest fits e =

@@ -1,4 +1,4 @@
--- What is left where reading stops is no more than was there, and so is what is left behind a value.
+-- The bytes left when reading stops are no more than there were, and so are the bytes after a value.
 use Rattle.std.proofs.Common.{◌≡◌, ℕ, zero, suc, ◌+◌, ◌-◌, ◌/◌, ◌^◌, ◌<◌, ◌≤◌, Bool, true, false, cond, ltb, eqb, List, [], ◌∷◌, ◌++◌, length, take, drop, Option, Some, None, Result, Ok, Err, refl, subst, arith, length-append, length-take, length-drop}
 use Rattle.std.specs.Prelude.{is_some, IfErr}
 use Rattle.std.proofs.lemmas.Bool.{le-ltb}
@@ -30,7 +30,7 @@ use Rattle.wm_decode.specs.ReadingInstructions.{value_type_at, block_type_at, ac
 use Rattle.wm_decode.specs.ReadingParts.{byte_at, end_at, result_at, func_type_at, limits_at, import_at, second_import_at, imports_at, memories_at, indices_at, no_items_at, initial_at, mutability_at, global_at, export_kind_at, export_entry_at, export_step, exports_at, local_entry_at, local_step, locals_at, function_at, sized_function_at, more_functions_at, code_at, segment_at, agrees, segments_at}
 use Rattle.wm_decode.specs.ReadingModule.{custom_at}
 
--- what is behind a value, and what is left where reading stops, is at most this long
+-- the bytes after a value, and the bytes left when reading stops, are at most this long
 abbrev pub Within : {A : Type 0} → (A → List ℕ) → ℕ → Result A Stop → Type 0
 Within rest n (Ok x) = length (rest x) ≤ n
 Within rest n (Err s) = s.left ≤ n
@@ -60,7 +60,8 @@ at : {A : Type 0} (rest : A → List ℕ) (n : ℕ) (r : Result A Stop) → With
 at rest n (Ok x) h = h
 at rest n (Err s) h = omega arith
 
--- the common cases: a reading, and another that may stop at its first byte; a reading, and another of what is behind
+-- the common cases: a reading, and another that may stop at its first byte; a reading, and another of the bytes after
+-- it
 pub go : {X Y : Type 0} (n : ℕ) (r : Result (X × List ℕ) Stop) (f : X × List ℕ → Result (Y × List ℕ) Stop) → Within rest_of n r → ((x : X × List ℕ) → length x.1 ≤ n → Within rest_of n (f x)) → Within rest_of n (r >>= f)
 go n r f h k = step rest_of rest_of n r f h k
 
@@ -207,7 +208,7 @@ opened_follows : (depth_left : ℕ) → Follows (opened_at depth_left)
 unfolding opened_at
 opened_follows depth_left bytes = test rest_of (length bytes + 1) (eqb depth_left 0) _ _ (omega arith) (follows block_type_at block_type_short bytes)
 
--- the byte that closes a block, and what is behind
+-- the byte that closes a block, and the bytes after it
 abbrev closing : Body → List ℕ
 closing b = b.closer ∷ b.rest
 

@@ -135,7 +135,7 @@ module _ (bounds : Bounds) where
     pub element_section : Section NoItems 9 element_text elements
     pub declared_is : (let k : Declared = record { types = front.types; indices = front.indices; memory = memory_of front.imported (option_flatten defined); globals = items_of globals; exports = items_of exports } in k) ≡ d
 
-  -- the steps of reading these sections, one behind the other
+  -- the steps of reading these sections, one after the other
   elements_from : Front → Option (Option Limits) → Option (List Global) → Option (List (List ℕ × Export)) → List ℕ → Result (Declared × List ℕ) Stop
   elements_from f l gs es bytes = section_at no_items_at 9 bytes >>= λ el.
       answered (let k : Declared = record { types = f.types; indices = f.indices; memory = memory_of f.imported (option_flatten l); globals = items_of gs; exports = items_of es } in k) el.1
@@ -253,7 +253,7 @@ module _ (bounds : Bounds) where
       let e5 = section_again NoItems no_items_at no_items_lawful 9 s5 rest (begins_else 9 after_declared rest starts refl) (begins_else 0 after_declared rest starts refl) in
       rw (e1, e2, e3, e4, e5) refl
 
-  -- the steps of reading what stands behind
+  -- the steps of reading what comes after
   finish : Declared → Option ℕ → Option (List Func) → Option (List DataSegment) → List ℕ → Result Module Stop
   finish d count funcs segments rest = agreed_module d count funcs segments rest
 

@@ -9,7 +9,7 @@ pub bound : {A B : Type 0} (r : Result A Stop) (f : A → Result B Stop) (y : B)
 bound (Ok x) f y e = (x, refl, e)
 bound (Err s) f y e = absurd cc
 
--- the same step behind the same first one
+-- the same step after the same first one
 pub bind_same : {A B : Type 0} (o : Result A Stop) (f g : A → Result B Stop) → ((x : A) → o ≡ Ok x → f x ≡ g x) → (o >>= f) ≡ (o >>= g)
 bind_same (Ok x) f g h = h x refl
 bind_same (Err e) f g h = refl

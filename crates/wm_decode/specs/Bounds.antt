@@ -1,7 +1,7 @@
 -- The limits of a module.
 use Rattle.std.specs.Prelude.{ℕ}
 
--- The most initial pages, functions, parameters and locals of a function, and blocks in one another.
+-- The most initial pages, functions, and parameters and locals of a function, and the maximal nesting depth of blocks.
 pub record Bounds : Type 0 where
   pub pages : ℕ
   pub functions : ℕ
@@ -12,6 +12,6 @@ pub record Bounds : Type 0 where
 abbrev pub profile : Bounds
 profile = record { pages = 16; functions = 1000; locals = 1000; nesting = 64 }
 
--- bytes of a module
+-- the most bytes of a module
 abbrev pub max_module_bytes : ℕ
 max_module_bytes = 1048576

@@ -1,11 +1,11 @@
--- What is wrong with a byte that can't stand in its place.
+-- What is wrong with a byte that isn't allowed at its place.
 use Rattle.std.specs.Prelude.{ℕ, List, [], ◌∷◌, Bool, true, false, nat_lt, if◌then◌else◌}
 use Rattle.wm_decode.specs.declared.fault.Feature.{Feature}
 use Rattle.wm_decode.specs.declared.fault.Feature.TheVariants as feature
 use Rattle.wm_decode.specs.declared.fault.FaultKind.{FaultKind}
 use Rattle.wm_decode.specs.declared.fault.FaultKind.TheVariants.{BadNumber, SectionOrder, UnknownOpcode, Unsupported}
 
--- the codes from the first to the last, which belong to a part of WebAssembly that is left out
+-- the codes from the first to the last, which belong to an unsupported part of WebAssembly
 pub record LeftOut : Type 0 where
   pub first : ℕ
   pub last : ℕ
@@ -20,7 +20,7 @@ code first feature = codes first first feature
 abbrev pub is_among : ℕ → LeftOut → Bool
 is_among n r = if nat_lt n r.first then false else (if nat_lt r.last n then false else true)
 
--- the part that a code belongs to is left out; of other codes this is wrong
+-- the part that a code belongs to is unsupported; for other codes, this is wrong
 abbrev pub left_out_or : FaultKind → ℕ → List LeftOut → FaultKind
 left_out_or other n [] = other
 left_out_or other n (r ∷ rs) = if is_among n r then Unsupported r.feature else left_out_or other n rs
@@ -28,7 +28,8 @@ left_out_or other n (r ∷ rs) = if is_among n r then Unsupported r.feature else
 abbrev pub value_type_fault : ℕ → FaultKind
 value_type_fault byte = left_out_or BadNumber byte (codes 0x7C 0x7D feature.Floats ∷ code 0x7B feature.Simd ∷ codes 0x6F 0x70 feature.References ∷ [])
 
--- the bytes from 0x40 to 0x7F are those of value types; with any other the index of a type begins, of a block with several values
+-- the bytes from 0x40 to 0x7F are those of value types; any other byte begins a type index, for a block with several
+-- values
 abbrev pub block_type_fault : ℕ → FaultKind
 block_type_fault byte = if nat_lt byte 0x40 then Unsupported feature.MultiValue else (if nat_lt byte 0x80 then value_type_fault byte else Unsupported feature.MultiValue)
 
@@ -44,7 +45,7 @@ export_kind_fault byte = left_out_or BadNumber byte (code 0x01 feature.Table ∷
 abbrev pub segment_flag_fault : ℕ → FaultKind
 segment_flag_fault byte = left_out_or BadNumber byte (code 0x01 feature.PassiveData ∷ code 0x02 feature.DataMemoryIndex ∷ [])
 
--- a section that is known is here too late
+-- a known section comes too late
 abbrev pub section_fault : ℕ → FaultKind
 section_fault id = if nat_lt id 0x0E then left_out_or SectionOrder id (code 0x08 feature.Start ∷ code 0x0D feature.Reserved ∷ []) else BadNumber
 

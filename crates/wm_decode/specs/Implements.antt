@@ -1,4 +1,4 @@
--- What a function returned, seen by view, is what reading gives, unless memory was refused.
+-- What a function returned, under view, is what reading gives, unless an allocation fails.
 use Rattle.std.specs.Prelude.{◌≡◌, ◌≤◌, ◌<◌, ◌+◌, ◌^◌, ℕ, Result, Ok, Err}
 use Rattle.wm_decode.specs.declared.fault.Limit.{Limit}
 use Rattle.wm_decode.specs.declared.fault.FaultKind.TheVariants as kind
@@ -20,33 +20,33 @@ Implements view (Err e) read = Fails e read
 abbrev pub fault_of : Stop → ItemFault
 fault_of s = WithLeft s.kind s.left
 
--- the same fault, but where memory was refused, with its stop changed
+-- the same fault with its stop changed, unless an allocation fails
 abbrev pub map_fault : (Stop → Stop) → ItemFault → ItemFault
 map_fault f OutOfMemory = OutOfMemory
 map_fault f (WithLeft kind left) = fault_of (f (stop kind left))
 
--- what decoding answered is what reading gives, unless memory was refused
+-- the result of decoding is what reading gives, unless an allocation fails
 abbrev pub Decodes : {X : Type 0} → Result X DecodeFault → Result X Stop → Type 0
 Decodes (Ok x) read = read ≡ Ok x
 Decodes (Err decode.OutOfMemory) read = Unit {0}
 Decodes (Err (decode.At kind offset)) read = (left : ℕ) × (read ≡ Err (stop kind left))
 
--- the fault that decoding answered is the one at which reading stops, of so many bytes, and at its offset
+-- the fault of decoding is the one at which reading stops, in this number of bytes, and at its offset
 abbrev pub IsFaultOf : {X : Type 0} → ℕ → Result X Stop → DecodeFault → Type 0
 IsFaultOf bytes read decode.OutOfMemory = Unit {0}
 IsFaultOf bytes read (decode.At kind offset) = (left : ℕ) × (read ≡ Err (stop kind left)) × (left ≤ bytes) × (offset ≡ offset_in bytes kind left)
 
--- there are so many bytes, and no more are left from the faulty item on
+-- the number of bytes left from the faulty item on is at most this number
 abbrev pub LeftWithin : ℕ → ItemFault → Type 0
 LeftWithin bytes OutOfMemory = Unit {0}
 LeftWithin bytes (WithLeft kind left) = left ≤ bytes
 
--- so many bytes can be added to those that are left
+-- this number of bytes can be added to those left
 abbrev pub HasRoom : ℕ → ItemFault → Type 0
 HasRoom after OutOfMemory = Unit {0}
 HasRoom after (WithLeft kind left) = left + after < 2 ^ 64
 
--- the same fault for the caller, in so many bytes
+-- the same fault for the caller, in this number of bytes
 abbrev pub in_module : ℕ → ItemFault → DecodeFault
 in_module bytes OutOfMemory = decode.OutOfMemory
 in_module bytes (WithLeft kind left) = decode.At kind (offset_in bytes kind left)
@@ -56,7 +56,7 @@ abbrev pub IsWithin : ℕ → DecodeFault → Type 0
 IsWithin bytes (decode.At kind offset) = offset ≤ bytes
 IsWithin bytes decode.OutOfMemory = Unit {0}
 
--- this value is answered, unless memory was refused
+-- this value is the result, unless an allocation fails
 abbrev pub IsUnlessMemory : {X : Type 0} → Result X DecodeFault → X → Type 0
 IsUnlessMemory (Ok x) m = x ≡ m
 IsUnlessMemory (Err decode.OutOfMemory) m = Unit {0}

@@ -52,13 +52,13 @@ pub data Immediates : Opcode → List ℕ → Instr → Type 0 where
       U32 text code → atomic_at code ≡ Some kind → U32 first alignment → U32 second offset →
       Immediates opcode.Atomic (text ++ (first ++ second)) (access_instr kind alignment offset)
 
--- The bytes spell an instruction that has no block of its own.
+-- The bytes spell an instruction without blocks.
 pub data Plain : List ℕ → Instr → Type 0 where
   plain_instr : {code : ℕ} {op : Opcode} {text : List ℕ} {i : Instr} → opcode_at code ≡ Some op → Immediates op text i → Plain (code ∷ text) i
 
--- `Spells depth_left next text instrs nested`: the bytes spell the instructions, and nested are the blocks that begin among them, in the order
--- in which they begin; the first of these has the number next, and each other the number after the last. They nest at most depth_left deep.
--- An `if` has two blocks. An absent else part is an empty one.
+-- `Spells depth_left next text instrs nested`: the bytes spell the instructions, and `nested` are the blocks that begin
+-- among them, in the order in which they begin; the first of these has the number `next`, and each other one the number
+-- after the last. They nest at most depth_left deep. An `if` has two blocks. An absent else part is an empty one.
 pub data Spells : ℕ → ℕ → List ℕ → List Instr → List (List Instr) → Type 0 where
   none : {depth_left next : ℕ} → Spells depth_left next [] [] []
   plain : {depth_left next : ℕ} {text rest : List ℕ} {i : Instr} {is : List Instr} {bs : List (List Instr)} →

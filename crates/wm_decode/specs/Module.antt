@@ -50,23 +50,23 @@ version = 0x01 ∷ 0x00 ∷ 0x00 ∷ 0x00 ∷ []
 abbrev pub header : List ℕ
 header = magic ++ version
 
--- the items of a section, none where it is absent
+-- the items of a section; none if it is absent
 abbrev pub items_of : {X : Type 0} → Option (List X) → List X
 items_of None = []
 items_of (Some xs) = xs
 
--- the one memory, imported or not
+-- the only memory, imported or not
 abbrev pub memory_of : Option Memory → Option Limits → Option Memory
 memory_of (Some m) defined = Some m
 memory_of None None = None
 memory_of None (Some l) = Some (record { limits = l; import = None })
 
--- a count that was given before, if it was
+-- a declared count, if there is one
 abbrev pub Agrees : Option ℕ → ℕ → Type 0
 Agrees None count = Unit {0}
 Agrees (Some n) count = count ≡ n
 
--- how many parameters the type of this index has, none where it isn't there
+-- how many parameters the type of this index has; 0 if there is no such type
 abbrev pub params_at : Option FuncType → ℕ
 params_at None = 0
 params_at (Some t) = length t.params
@@ -151,7 +151,7 @@ pub record SpellsWithin (bytes : List ℕ) (m : Module) : Type 0 where
   pub within : Within profile m
   pub short : length bytes ≤ max_module_bytes
 
--- The bytes or the module they spell are past this limit.
+-- The bytes or the module they spell are over this limit.
 abbrev pub IsPast : Limit → List ℕ → Module → Type 0
 IsPast limit.ModuleBytes bytes m = max_module_bytes < length bytes
 IsPast limit.Pages bytes m = (x : Memory) × (m.memory ≡ Some x) × (profile.pages < x.limits.minimum)

@@ -68,7 +68,7 @@ other_opcodes =
     (0x41, I32Const) ∷ (0x42, I64Const) ∷
     (0xA7, NoImmediates (instr.Convert WrapI64)) ∷ (0xAC, NoImmediates (instr.Convert ExtendI32S)) ∷ (0xAD, NoImmediates (instr.Convert ExtendI32U)) ∷ (0xFE, Atomic) ∷ []
 
--- the meaning of a byte as an opcode that begins no block
+-- the meaning of a byte as an opcode that starts no block
 unfoldable pub opcode_at : ℕ → Option Opcode
 opcode_at code =
     if nat_lt code 0x28 then lookup code control_opcodes else (

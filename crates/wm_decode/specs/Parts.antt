@@ -1,4 +1,4 @@
--- The bytes of types, and of what is in sections (Core 1.0, sections 5.3 and 5.5; threads proposal, "Limits").
+-- The bytes of types, and of the contents of sections (Core 1.0, sections 5.3 and 5.5; threads proposal, "Limits").
 use Rattle.std.specs.Prelude.{◌≡◌, ℕ, zero, suc, ◌-◌, ◌^◌, List, [], ◌∷◌, ◌++◌, Some, None, option_to_list, length}
 use Rattle.wm_ast.specs.Exports.{export_at}
 use Rattle.wm_ast.specs.declared.types.ValType.{ValType}
@@ -83,7 +83,7 @@ pub record ExportEntry (text : List ℕ) (e : List ℕ × Export) : Type 0 where
   pub name : Name first e.0
   pub index : U32 second e.1.index
 
--- The bytes spell exports, each of whose names is none of an earlier one.
+-- The bytes spell exports, each with a name that differs from all earlier ones.
 pub data Exports : List (List ℕ × Export) → List ℕ → List (List ℕ × Export) → Type 0 where
   no_export : {earlier : List (List ℕ × Export)} → Exports earlier [] []
   export : {earlier es : List (List ℕ × Export)} {e : List ℕ × Export} {text rest : List ℕ} →
@@ -137,7 +137,7 @@ pub record FunctionVector (depth_left : ℕ) (indices : List ℕ) (text : List �
   pub counted : U32 count (length fs)
   pub each : Functions depth_left indices items fs
 
--- The bytes spell a data segment: where it begins, and its bytes.
+-- The bytes spell a data segment: its offset and its bytes.
 pub record Segment (text : List ℕ) (d : DataSegment) : Type 0 where
   pub first : List ℕ
   pub second : List ℕ

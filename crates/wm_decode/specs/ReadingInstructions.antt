@@ -30,19 +30,19 @@ block_type_at (b ∷ bytes) =
     if b == 0x40 then Ok (None, bytes) else (if b == 0x7F then Ok (Some I32, bytes) else (if b == 0x7E then Ok (Some I64, bytes) else
     Err (stop (block_type_fault b) (length (b ∷ bytes)))))
 
--- what follows an access
+-- the immediates of an access
 unfoldable pub access_at : AccessKind → List ℕ → InstrAt
 access_at kind bytes = do
   alignment ← u32_at bytes
   offset ← u32_at alignment.1
   Ok (access_instr kind alignment.0 offset.0, offset.1)
 
--- the access that a code means, after the code; other is how reading stops where it means none
+-- the access that a code means, after the code; `other` is how reading stops if it means none
 abbrev pub access_of : Stop → Option AccessKind → List ℕ → InstrAt
 access_of other None bytes = Err other
 access_of other (Some kind) bytes = access_at kind bytes
 
--- an atomic access after its prefix, at which its code is faulted
+-- an atomic access after its prefix; a fault of its code is at the prefix
 unfoldable pub atomic_access_at : List ℕ → InstrAt
 atomic_access_at bytes = do
   code ← map_stop (moved (length bytes + 1)) (u32_at bytes)
@@ -52,7 +52,7 @@ abbrev pub zero_at : List ℕ → InstrAt
 zero_at [] = Err ended
 zero_at (b ∷ bytes) = if b == 0x00 then Ok (instr.MemorySize, bytes) else Err (stop BadNumber (length (b ∷ bytes)))
 
--- the rest of an instruction, after its opcode
+-- the immediates of an instruction, after its opcode
 unfoldable pub immediates_at : Opcode → List ℕ → InstrAt
 immediates_at (opcode.NoImmediates i) bytes = Ok (i, bytes)
 immediates_at (opcode.Indexed kind) bytes = u32_at bytes >>= λ n. Ok (indexed_instr kind n.0, n.1)
@@ -63,12 +63,12 @@ immediates_at opcode.I32Const bytes = signed_at (2 ^ 32 - 1) bytes >>= λ n. Ok 
 immediates_at opcode.I64Const bytes = signed_at (2 ^ 64 - 1) bytes >>= λ n. Ok (instr.I64Const n.0, n.1)
 immediates_at opcode.Atomic bytes = atomic_access_at bytes
 
--- the rest of the instruction that an opcode means; other is how reading stops where it means none
+-- the immediates of the instruction that an opcode means; `other` is how reading stops if it means none
 abbrev pub operands_of : Stop → Option Opcode → List ℕ → InstrAt
 operands_of other None bytes = Err other
 operands_of other (Some op) bytes = immediates_at op bytes
 
--- an instruction with no block of its own, after its first byte, which is faulted if no such instruction begins with it
+-- an instruction without blocks, after its first byte; if no such instruction begins with that byte, the fault is there
 unfoldable pub plain_at : ℕ → List ℕ → InstrAt
 plain_at code bytes = operands_of (stop (opcode_fault code) (length bytes + 1)) (opcode_at code) bytes
 
@@ -94,11 +94,11 @@ closed_with read depth_left next bytes = do
   body ← read depth_left next bytes
   if body.closer == 0x0B then Ok body else Err (stop (UnknownOpcode body.closer) (length body.rest + 1))
 
--- the type of a block that may still nest; else its opcode is faulted
+-- the type of a block that may still nest; otherwise the fault is at its opcode
 unfoldable pub opened_at : ℕ → List ℕ → Result (Option ValType × List ℕ) Stop
 opened_at depth_left bytes = if depth_left == 0 then Err (past Nesting (length bytes + 1)) else block_type_at bytes
 
--- a block or a loop after its opcode, whose instructions are read by read
+-- a block or a loop after its opcode, whose instructions are read by `read`
 unfoldable pub framed_with : Reader → ℕ → ℕ → (Option ValType → ℕ → Instr) → List ℕ → Result One Stop
 framed_with read depth_left next make bytes = do
   ty ← opened_at depth_left bytes
@@ -137,7 +137,7 @@ instrs_at (suc fuel) depth_left next (op ∷ bytes) =
     instrs_at fuel depth_left (next + length one.nested) one.rest >>= λ more.
     Ok (record { instrs = one.instr ∷ more.instrs; nested = one.nested ++ more.nested; closer = more.closer; rest = more.rest })))
 
--- there are as many turns as there are bytes
+-- as many iterations as there are bytes
 abbrev pub instrs_in : Reader
 instrs_in depth_left next bytes = instrs_at (length bytes) depth_left next bytes
 

@@ -26,7 +26,7 @@ customs_at fuel [] = Ok []
 customs_at zero (b ∷ bytes) = Err ended
 customs_at (suc fuel) (b ∷ bytes) = if b == 0 then (sized_at custom_at bytes >>= λ x. customs_at fuel x.1) else Ok (b ∷ bytes)
 
--- there are fewer than there are bytes
+-- there are fewer of them than bytes
 abbrev pub customs_in : List ℕ → Result (List ℕ) Stop
 customs_in bytes = customs_at (length bytes) bytes
 
@@ -35,7 +35,7 @@ unfoldable pub section_at : {X : Type 0} → (List ℕ → Read X) → ℕ → L
 section_at content_at id [] = Ok (None, [])
 section_at content_at id (b ∷ bytes) = if b == id then (sized_at content_at bytes >>= λ x. customs_in x.1 >>= λ rest. Ok (Some x.0, rest)) else Ok (None, b ∷ bytes)
 
--- the bytes after this one; another byte stops reading so
+-- the bytes after this byte; with another byte, reading stops this way
 unfoldable pub one_at : Stop → ℕ → List ℕ → Result (List ℕ) Stop
 one_at other wanted [] = Err ended
 one_at other wanted (b ∷ bytes) = if b == wanted then Ok bytes else Err other
@@ -60,7 +60,7 @@ front_at bounds bytes = do
   indices ← section_at (indices_at bounds) 3 imported.1
   Ok (record { types = items_of types.0; imported = option_flatten imported.0; indices = items_of indices.0 }, indices.1)
 
--- the sections up to that of elements
+-- the sections up to the element section
 unfoldable pub declared_at : Bounds → List ℕ → Read Declared
 declared_at bounds bytes = do
   front ← front_at bounds bytes
@@ -71,7 +71,7 @@ declared_at bounds bytes = do
   elements ← section_at no_items_at 9 exports.1
   Ok (record { types = front.0.types; indices = front.0.indices; memory = memory_of front.0.imported (option_flatten defined.0); globals = items_of globals.0; exports = items_of exports.0 }, elements.1)
 
--- the module of what is in the sections, where nothing is after them and the counts agree
+-- the module with these contents of sections, if nothing comes after them and the counts agree
 abbrev pub agreed_module : Declared → Option ℕ → Option (List Func) → Option (List DataSegment) → List ℕ → Result Module Stop
 agreed_module declared count funcs segments (id ∷ rest) = Err (stop (section_fault id) (length (id ∷ rest)))
 agreed_module declared count funcs segments [] =
@@ -88,6 +88,6 @@ module_at bounds bytes = do
   segments ← section_at (segments_at count.0) 11 code.1
   agreed_module declared.0 count.0 code.0 segments.0 segments.1
 
--- a module of no more bytes than are allowed
+-- a module that isn't over the limit of bytes
 unfoldable pub whole_at : List ℕ → Result Module Stop
 whole_at bytes = if nat_lt max_module_bytes (length bytes) then Err (past limit.ModuleBytes (length bytes - max_module_bytes)) else module_at profile bytes

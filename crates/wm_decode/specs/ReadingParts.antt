@@ -1,4 +1,4 @@
--- Reading types, and what is in sections.
+-- Reading types, and the contents of sections.
 use Rattle.std.specs.Prelude.{ℕ, ◌-◌, ◌^◌, List, [], ◌∷◌, ◌++◌, length, Bool, true, Option, Some, None, is_some, Result, Ok, Err, nat_lt, ◌==◌, if◌then◌else◌}
 use Rattle.wm_ast.specs.Exports.{export_at}
 use Rattle.wm_ast.specs.declared.types.ValType.{ValType}
@@ -32,7 +32,7 @@ use Rattle.wm_decode.specs.Module.{params_of}
 abbrev pub Read : Type 0 → Type 0
 Read X = Result (X × List ℕ) Stop
 
--- this byte; wrong says what is wrong with another
+-- this byte; `wrong` gives the fault of another byte
 abbrev pub byte_at : (ℕ → FaultKind) → ℕ → List ℕ → Result (List ℕ) Stop
 byte_at wrong code [] = Err ended
 byte_at wrong code (b ∷ bytes) = if b == code then Ok bytes else Err (stop (wrong b) (length (b ∷ bytes)))
@@ -70,7 +70,7 @@ import_at bounds bytes = do
   limits ← limits_at bounds rest
   Ok (record { limits = limits.0; import = Some (record { «module» = from.0; name = name.0 }) }, limits.1)
 
--- another import, after the one memory: reading stops at its kind, or before
+-- another import, after the memory: reading stops at its kind, or before
 unfoldable pub second_import_at : List ℕ → Read (Option Memory)
 second_import_at bytes = do
   from ← name_at bytes
@@ -86,7 +86,7 @@ imports_at bounds bytes = do
     memory ← import_at bounds count.1
     if count.0 == 1 then Ok (Some memory.0, memory.1) else second_import_at memory.1
 
--- at most one memory, and none where one was imported
+-- at most one memory, and none if one was imported
 unfoldable pub memories_at : Bounds → Bool → List ℕ → Read (Option Limits)
 memories_at bounds imported bytes = do
   count ← u32_at bytes
@@ -132,7 +132,7 @@ export_kind_at (b ∷ bytes) =
     if b == 0x00 then Ok (kind.Func, bytes) else (if b == 0x02 then Ok (kind.Memory, bytes) else (if b == 0x03 then Ok (kind.Global, bytes) else
     Err (stop (export_kind_fault b) (length (b ∷ bytes)))))
 
--- an export whose name is none of the earlier ones
+-- an export whose name differs from all earlier ones
 unfoldable pub export_entry_at : List (List ℕ × Export) → List ℕ → Read (List ℕ × Export)
 export_entry_at earlier bytes = do
   name ← name_at bytes
@@ -163,14 +163,14 @@ locals_at most bytes = do
   entries ← u32_at bytes
   more_at (local_step most) entries.0 [] entries.1
 
--- a function with at most most locals, in its own bytes
+-- a function with at most `most` locals, from exactly its own bytes
 unfoldable pub function_at : Bounds → ℕ → ℕ → List ℕ → Read Func
 function_at bounds most index bytes = do
   locals ← locals_at most bytes
   blocks ← blocks_at bounds.nesting locals.1
   Ok (record { type_index = index; locals = locals.0; blocks = blocks.0 }, blocks.1)
 
--- a function of the type of this index, with its size, at which it is faulted as a whole
+-- a function of the type of this index, with its size; a fault of the whole function is at the size
 unfoldable pub sized_function_at : Bounds → List FuncType → ℕ → List ℕ → Read Func
 sized_function_at bounds types index bytes = do
   content ← own_bytes_at (stop fault.SectionSize (length bytes)) bytes
@@ -196,7 +196,7 @@ segment_at bytes = do
   content ← byte_vector_at offset.1
   Ok (record { offset = offset.0; bytes = content.0 }, content.1)
 
--- a count that was given before, if it was
+-- a declared count, if there is one
 abbrev pub agrees : Option ℕ → ℕ → Bool
 agrees None count = true
 agrees (Some n) count = count == n

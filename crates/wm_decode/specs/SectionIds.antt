@@ -1,4 +1,4 @@
--- The byte that each section begins with (Core 1.0, section 5.5.2; the count of data segments has 12).
+-- The byte at the start of each section (Core 1.0, section 5.5.2; the data count section has 12).
 use Rattle.std.specs.Prelude.{ℕ}
 use Rattle.wm_decode.specs.declared.section.SectionId.{SectionId}
 use Rattle.wm_decode.specs.declared.section.SectionId.TheVariants.{Custom, Types, Imports, Functions, Tables, Memories, Globals, Exports, Elements, Code, Data, DataCount}

@@ -1,10 +1,10 @@
--- Why reading ends without a value.
+-- Why reading stops without a value.
 use Rattle.std.specs.Prelude.{ℕ, ◌+◌, ◌-◌, Result, Ok, Err}
 use Rattle.wm_decode.specs.declared.fault.Limit.{Limit}
 use Rattle.wm_decode.specs.declared.fault.FaultKind.{FaultKind}
 use Rattle.wm_decode.specs.declared.fault.FaultKind.TheVariants as kind
 
--- what is wrong, and how many bytes are left from the faulty item's first byte on
+-- what is wrong, and how many bytes are left, counted from the faulty item's first byte
 pub record Stop : Type 0 where
   pub kind : FaultKind
   pub left : ℕ
@@ -16,7 +16,7 @@ stop kind left = record { kind = kind; left = left }
 abbrev pub ended : Stop
 ended = stop kind.Truncated 0
 
--- this limit is passed
+-- the module is over this limit
 abbrev pub past : Limit → ℕ → Stop
 past limit left = stop (kind.Limit limit) left
 
@@ -25,11 +25,11 @@ abbrev pub inner_kind : FaultKind → FaultKind
 inner_kind kind.Truncated = kind.SectionSize
 inner_kind k = k
 
--- a stop in a section or body, after which this many bytes follow
+-- a stop in a section or body that has this number of bytes after it
 abbrev pub before : ℕ → Stop → Stop
 before after s = stop (inner_kind s.kind) (s.left + after)
 
--- a stop in an item that is faulted as a whole, from whose first byte on this many bytes are left
+-- a stop in an item with the fault at its first byte, with this number of bytes left from there on
 abbrev pub moved : ℕ → Stop → Stop
 moved left s = stop s.kind left
 
@@ -38,7 +38,7 @@ abbrev pub map_stop : {A : Type 0} → (Stop → Stop) → Result A Stop → Res
 map_stop f (Ok x) = Ok x
 map_stop f (Err s) = Err (f s)
 
--- where the faulty item begins in this many bytes; bytes that end too early are faulted at their end
+-- the offset of the faulty item in this number of bytes; if bytes end too early, the fault is at their end
 abbrev pub offset_in : ℕ → FaultKind → ℕ → ℕ
 offset_in bytes kind.Truncated left = bytes
 offset_in bytes k left = bytes - left

@@ -1,4 +1,4 @@
--- Vectors, names, and what has its size before it (Core 1.0, sections 5.1.3, 5.2.4 and 5.5.2).
+-- Vectors, names, and values with their size before them (Core 1.0, sections 5.1.3, 5.2.4 and 5.5.2).
 use Rattle.std.specs.Prelude.{◌≡◌, ℕ, List, [], ◌∷◌, ◌++◌, length}
 use Rattle.std.specs.Str.{IsUtf8}
 use Rattle.wm_decode.specs.Numbers.{U32}
@@ -8,7 +8,7 @@ pub data Each {X : Type 0} (Item : List ℕ → X → Type 0) : List ℕ → Lis
   no_more : Each Item [] []
   one_more : {text rest : List ℕ} {x : X} {xs : List X} → Item text x → Each Item rest xs → Each Item (text ++ rest) (x ∷ xs)
 
--- The bytes spell how many items there are, and the items.
+-- The bytes spell the number of items, and the items.
 pub record Vector {X : Type 0} (Item : List ℕ → X → Type 0) (text : List ℕ) (xs : List X) : Type 0 where
   pub count : List ℕ
   pub items : List ℕ
@@ -16,7 +16,7 @@ pub record Vector {X : Type 0} (Item : List ℕ → X → Type 0) (text : List �
   pub counted : U32 count (length xs)
   pub each : Each Item items xs
 
--- The bytes spell how many bytes there are, and these bytes.
+-- The bytes spell the number of bytes, and these bytes.
 pub record ByteVector (text : List ℕ) (bytes : List ℕ) : Type 0 where
   pub count : List ℕ
   pub parts : text ≡ count ++ bytes
@@ -27,7 +27,7 @@ pub record Name (text : List ℕ) (name : List ℕ) : Type 0 where
   pub spelled : ByteVector text name
   pub utf8 : IsUtf8 name
 
--- The bytes spell how many bytes follow, and these spell x.
+-- The bytes spell the number of bytes after them, and these bytes spell x.
 pub record Sized {X : Type 0} (Item : List ℕ → X → Type 0) (text : List ℕ) (x : X) : Type 0 where
   pub size : List ℕ
   pub content : List ℕ

@@ -24,7 +24,7 @@ const ELSE: u8 = 0x05;
 /// The blocks of a function.
 type Blocks = Vec<Block>;
 
-/// Why a byte is no block type.
+/// Why a byte is not a block type.
 fn block_type_fault(byte: u8) -> FaultKind
     ensures { result ≡ block_type_fault byte }
 {
@@ -66,7 +66,7 @@ impl Indexed {
     }
 }
 
-/// Reads what follows an access (Core 1.0, section 5.4.4).
+/// Reads the immediates of an access (Core 1.0, section 5.4.4).
 #[tactic(auto, unfolding(crate::specs::ReadingInstructions::access_at))]
 fn access(kind: AccessKind, bytes: &[u8]) -> Result<(Instr, &[u8]), ItemFault>
     ensures { Implements (λ x. (x.0, x.1.now)) result (access_at kind bytes.now) }
@@ -76,7 +76,7 @@ fn access(kind: AccessKind, bytes: &[u8]) -> Result<(Instr, &[u8]), ItemFault>
     Ok((Instr::Access(kind, MemArg { alignment, offset }), rest))
 }
 
-/// Why a code after the prefix `FE` is none of an access.
+/// Why a code after the prefix `FE` is not the code of an access.
 fn atomic_fault(code: u32) -> FaultKind
     ensures { result ≡ atomic_fault code }
 {
@@ -89,7 +89,7 @@ fn atomic_fault(code: u32) -> FaultKind
     }
 }
 
-/// Reads the rest of an atomic access, after its prefix, at which its code is faulted.
+/// Reads the rest of an atomic access after its prefix. A fault of its code is at the prefix.
 #[tactic(auto, unfolding(crate::specs::ReadingInstructions::atomic_access_at))]
 fn atomic(bytes: &[u8]) -> Result<(Instr, &[u8]), ItemFault>
     ensures { Implements (λ x. (x.0, x.1.now)) result (atomic_access_at bytes.now) }
@@ -105,7 +105,7 @@ fn atomic(bytes: &[u8]) -> Result<(Instr, &[u8]), ItemFault>
     }
 }
 
-/// Reads the rest of an instruction that has no block of its own.
+/// Reads the immediates of an instruction without blocks.
 #[tactic(auto, unfolding(crate::specs::ReadingInstructions::immediates_at))]
 fn immediates(alloc: Global, opcode: Opcode, bytes: &[u8]) -> Result<(Instr, &[u8]), ItemFault>
     ensures { Implements (λ x. (x.0, x.1.now)) result (immediates_at opcode bytes.now) }
@@ -139,7 +139,7 @@ fn immediates(alloc: Global, opcode: Opcode, bytes: &[u8]) -> Result<(Instr, &[u
     }
 }
 
-/// Why a byte is no opcode.
+/// Why a byte is not an opcode.
 fn opcode_fault(code: u8) -> FaultKind
     ensures { result ≡ opcode_fault code }
 {
@@ -158,7 +158,7 @@ fn opcode_fault(code: u8) -> FaultKind
     FaultKind::Unsupported(feature)
 }
 
-/// Reads an instruction that has no block of its own, after its first byte, at which it is faulted.
+/// Reads an instruction without blocks after its first byte. A fault of the opcode is at that byte.
 #[tactic(auto, unfolding(crate::specs::ReadingInstructions::plain_at))]
 fn plain(alloc: Global, code: u8, bytes: &[u8]) -> Result<(Instr, &[u8]), ItemFault>
     ensures { Implements (λ x. (x.0, x.1.now)) result (plain_at code bytes.now) }
@@ -231,7 +231,7 @@ fn closed<'a>(
     ))
 }
 
-/// Reads the type of a block after its opcode; the opcode is faulted if the block would nest too deep.
+/// Reads the type of a block after its opcode. If the block would nest too deep, the fault is at the opcode.
 #[tactic(auto, unfolding(crate::specs::ReadingInstructions::opened_at))]
 fn block_header(depth_left: u32, bytes: &[u8]) -> Result<(BlockType, &[u8]), ItemFault>
     ensures read { Implements (λ x. (x.0, x.1.now)) result (opened_at depth_left bytes.now) }

@@ -12,5 +12,5 @@ pub const MAX_FUNCTIONS: u32 = 1_000;
 /// The most parameters and locals of a function.
 pub const MAX_LOCALS: usize = 1_000;
 
-/// How deep blocks nest at most in a function's body, which isn't counted itself.
+/// The maximal nesting depth of blocks in a function's body; the body itself isn't counted.
 pub const MAX_NESTING: u32 = 64;

@@ -46,7 +46,7 @@ fn local_entry(
     Ok((count, ty, rest))
 }
 
-/// Reads this number of entries of locals, of which there are at most `most` in all.
+/// Reads this number of entries of locals, with at most `most` locals in all.
 fn more_locals(
     alloc: Global,
     most: usize,
@@ -65,7 +65,7 @@ fn more_locals(
     Ok((found, rest))
 }
 
-/// Reads a function of the type of this index, with at most `most` locals, in its own bytes.
+/// Reads a function of the type of this index, with at most `most` locals, from exactly its own bytes.
 #[tactic(auto, unfolding(crate::specs::ReadingParts::function_at, crate::specs::ReadingParts::locals_at))]
 fn function(
     alloc: Global,
@@ -86,7 +86,7 @@ fn function(
     Ok((function, rest))
 }
 
-/// How many parameters the type of this index has; none where it isn't there.
+/// How many parameters the type of this index has; 0 if there is no such type.
 fn parameters(types: &[FuncType], type_index: u32) -> usize
     ensures { result ≡ params_of types.now type_index }
 {
@@ -96,7 +96,7 @@ fn parameters(types: &[FuncType], type_index: u32) -> usize
     }
 }
 
-/// Splits off as many bytes as are said before them, all of which stand in the section.
+/// Splits off the number of bytes that the size before them states, all of which have to be in the section.
 #[tactic(auto, unfolding(crate::specs::ReadingVectors::own_bytes_at))]
 fn own_bytes(bytes: &[u8]) -> Result<(&[u8], &[u8]), ItemFault>
     ensures { Implements (λ x. (x.0.now, x.1.now)) result (own_bytes_at (stop SectionSize (length bytes.now)) bytes.now) }
@@ -173,7 +173,7 @@ fn function_vector<'a>(
     functions(alloc, types, indices, rest)
 }
 
-/// The functions of a module, with what is before them.
+/// The functions of a module, with the sections before them.
 #[derive(Drop)]
 pub(crate) struct Code<'c> {
     pub(crate) types: &'c [FuncType],

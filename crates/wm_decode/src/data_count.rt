@@ -1,4 +1,4 @@
-//! The section of the number of data segments, which is before the code.
+//! The data count section: the number of data segments, before the code.
 ghost use Rattle.std.specs.Prelude.{◌≡◌};
 ghost use Rattle.wm_decode.specs.ReadingVectors.{u32_at};
 ghost use Rattle.wm_decode.specs.ReadingParts.{agrees};
@@ -22,7 +22,7 @@ impl Content for DataCount {
     }
 }
 
-/// Whether a count is the one that was given before, if one was.
+/// Whether a count is the declared one, if one was declared.
 pub(crate) fn is_agreed(declared: Option<u32>, count: usize) -> bool
     ensures { result ≡ agrees declared count }
 {

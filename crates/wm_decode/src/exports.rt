@@ -27,7 +27,7 @@ fn export_kind(bytes: &[u8]) -> Result<(ExportKind, &[u8]), ItemFault>
     }
 }
 
-/// Reads an export whose name is none of the earlier ones.
+/// Reads an export whose name differs from all earlier ones.
 #[tactic(auto, unfolding(crate::specs::ReadingParts::export_entry_at))]
 fn export_entry<'a>(
     earlier: &Exports,

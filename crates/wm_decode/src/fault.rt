@@ -33,7 +33,7 @@ pub enum Feature {
     ConstExpression,
 }
 
-/// What there is too much of.
+/// A quantity that is over its limit.
 #[derive(Clone, Copy, Debug, PartialEq, Eq)]
 pub enum Limit {
     /// More than 1,048,576 bytes.
@@ -44,36 +44,36 @@ pub enum Limit {
     Functions,
     /// More than 1,000 parameters and locals in a function.
     Locals,
-    /// More than 64 blocks inside one another in a function's body.
+    /// More than 64 nested blocks in a function's body.
     Nesting,
 }
 
 /// What is wrong with the bytes.
 #[derive(Clone, Copy, Debug, PartialEq, Eq)]
 pub enum FaultKind {
-    /// The first four bytes aren't those of a binary module.
+    /// The first four bytes aren't the magic number of a binary module.
     Magic,
-    /// The next four bytes aren't those of version 1.
+    /// The next four bytes aren't the number of version 1.
     Version,
     /// The bytes end too early.
     Truncated,
-    /// A number is too long or too large, or a byte isn't one of those allowed in its place.
+    /// A number is too long or too large, or a byte isn't one of those allowed at its place.
     BadNumber,
     /// A name isn't UTF-8.
     BadName,
-    /// A section comes twice, or after one that it has to precede.
+    /// A section occurs twice, or after one that it has to precede.
     SectionOrder,
-    /// An item runs past its section or body, or bytes are left over there.
+    /// An item runs past its section or body, or bytes are left over in it.
     SectionSize,
     /// Two counts that must agree don't.
     CountMismatch,
     /// No instruction has this opcode.
     UnknownOpcode(u8),
-    /// The module uses a part of WebAssembly that is left out.
+    /// The module uses a part of WebAssembly that isn't supported.
     Unsupported(Feature),
-    /// The module passes a limit.
+    /// The module is over a limit.
     Limit(Limit),
-    /// Two exports have one name.
+    /// Two exports have the same name.
     DuplicateExport,
 }
 
@@ -82,16 +82,16 @@ pub enum FaultKind {
 pub enum DecodeFault {
     /// What is wrong, and the offset of the faulty item's first byte.
     At(FaultKind, usize),
-    /// Memory was refused.
+    /// An allocation failed.
     OutOfMemory,
 }
 
 /// Why a part could not be read.
 #[derive(Clone, Copy, Debug, PartialEq, Eq)]
 pub(crate) enum ItemFault {
-    /// What is wrong, and how many bytes are left from the faulty item's first byte on.
+    /// What is wrong, and how many bytes are left, counted from the faulty item's first byte.
     WithLeft(FaultKind, usize),
-    /// Memory was refused.
+    /// An allocation failed.
     OutOfMemory,
 }
 
@@ -111,7 +111,7 @@ impl<T: Drop> From<AllocFailed<T>> for ItemFault {
     }
 }
 
-/// What is wrong where a part ends in a section or body: what runs past the end there has the wrong size.
+/// What is wrong if a part ends within a section or body: what runs past the end there has the wrong size.
 fn inner_kind(kind: FaultKind) -> FaultKind
     ensures { result ≡ inner_kind kind }
 {
@@ -125,7 +125,7 @@ impl ItemFault {
     ghost use Rattle.wm_decode.specs.Stop.{before, moved};
     ghost use Rattle.wm_decode.specs.Implements.{HasRoom, IsWithin, in_module, map_fault};
 
-    /// The fault at a byte from which `left` bytes are left.
+    /// The fault at a byte with `left` bytes left, including it.
     pub(crate) fn at(self, left: usize) -> ItemFault
         ensures { result ≡ map_fault (moved left) self }
     {
@@ -135,7 +135,7 @@ impl ItemFault {
         }
     }
 
-    /// The fault as the bytes around a section or body see it, of which `after` follow it.
+    /// The fault seen from outside a section or body that has `after` bytes after it.
     pub(crate) fn before(self, after: usize) -> ItemFault
         ensures { HasRoom after self → result ≡ map_fault (before after) self }
     {
@@ -148,7 +148,7 @@ impl ItemFault {
         }
     }
 
-    /// The fault with its offset in `bytes` bytes: bytes that end too early are faulted at their end.
+    /// The fault with its offset in `bytes` bytes: if bytes end too early, the fault is at their end.
     pub(crate) fn in_module(self, bytes: usize) -> DecodeFault
         ensures same { result ≡ in_module bytes self }
         ensures within { IsWithin bytes result }

@@ -1,4 +1,4 @@
-//! The section of imports (Core 1.0, section 5.5.5): at most the one memory.
+//! The section of imports (Core 1.0, section 5.5.5): at most one, which is the memory.
 ghost use Rattle.std.specs.Prelude.{◌≡◌};
 ghost use Rattle.wm_decode.specs.Faults.{import_kind_fault};
 ghost use Rattle.wm_decode.specs.Bounds.{profile};
@@ -13,7 +13,7 @@ use crate::vectors::{name, owned_name};
 use std::alloc::Global;
 use wm_ast::{ImportName, Memory};
 
-/// Why a byte is no kind of an import that is read.
+/// Why a byte is not a supported kind of import.
 fn import_kind_fault(byte: u8) -> FaultKind
     ensures { result ≡ import_kind_fault byte }
 {

@@ -11,7 +11,7 @@ use crate::types::limits;
 use std::alloc::Global;
 use wm_ast::Limits;
 
-/// At most one memory, and none where one was imported.
+/// At most one memory, and none if one was imported.
 #[derive(Drop)]
 pub(crate) struct Memories {
     pub(crate) imported: bool,
@@ -31,7 +31,7 @@ impl Content for Memories {
     }
 }
 
-/// Reads at most one memory, and none where one was imported.
+/// Reads at most one memory, and none if one was imported.
 #[tactic(auto, unfolding(crate::specs::ReadingParts::memories_at))]
 fn at_most_one_memory(imported: bool, bytes: &[u8]) -> Result<(Option<Limits>, &[u8]), ItemFault>
     ensures { Implements (λ x. (x.0, x.1.now)) result (memories_at profile imported bytes.now) }

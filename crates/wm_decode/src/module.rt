@@ -27,7 +27,7 @@ use std::alloc::Global;
 use wm_ast::{DataSegment, Exports, Func, FuncType, Global as GlobalEntry, Limits, Memory, Module};
 use wm_list::List;
 
-/// The bytes after this byte. Another byte is that fault, from which so many bytes are left.
+/// The bytes after the wanted byte. Another byte is the fault `other` with `left` bytes left.
 #[tactic(auto, unfolding(crate::specs::ReadingModule::one_at))]
 fn expect(wanted: u8, other: FaultKind, left: usize, bytes: &[u8]) -> Result<&[u8], ItemFault>
     ensures { Implements (λ x. x.now) result (one_at (stop other left) wanted bytes.now) }
@@ -75,7 +75,7 @@ fn header(bytes: &[u8]) -> Result<&[u8], ItemFault>
     Ok(rest)
 }
 
-/// The items of a section, none where it is absent.
+/// The items of a section; none if it is absent.
 fn items_or_none<T>(alloc: Global, found: Option<List<T>>) -> List<T>
     ensures { result ≡ items_of found }
 {
@@ -85,7 +85,7 @@ fn items_or_none<T>(alloc: Global, found: Option<List<T>>) -> List<T>
     }
 }
 
-/// The exports of a section, none where it is absent.
+/// The exports of a section; none if it is absent.
 fn exports_or_none(alloc: Global, found: Option<Exports>) -> Exports
     ensures { result ≡ items_of found }
 {
@@ -111,7 +111,7 @@ fn one_memory(imported: Option<Memory>, defined: Option<Limits>) -> Option<Memor
     }
 }
 
-/// What is in the sections of types, imports and functions.
+/// The contents of the sections of types, imports and functions.
 #[derive(Drop)]
 struct Front {
     types: List<FuncType>,
@@ -119,7 +119,7 @@ struct Front {
     indices: List<u32>,
 }
 
-/// What is in the sections up to that of elements.
+/// The contents of the sections up to the element section.
 #[derive(Drop)]
 struct Declared {
     types: List<FuncType>,
@@ -147,7 +147,7 @@ fn read_front(alloc: Global, bytes: &[u8]) -> Result<(Front, &[u8]), ItemFault>
     Ok((front, rest))
 }
 
-/// Reads the sections up to that of elements.
+/// Reads the sections up to the element section.
 #[tactic(auto, unfolding(crate::specs::ReadingModule::declared_at))]
 fn read_declared(alloc: Global, bytes: &[u8]) -> Result<(Declared, &[u8]), ItemFault>
     ensures { Implements (λ x. (x.0, x.1.now)) result (declared_at profile bytes.now) }
@@ -176,7 +176,7 @@ fn read_declared(alloc: Global, bytes: &[u8]) -> Result<(Declared, &[u8]), ItemF
     Ok((declared, rest))
 }
 
-/// Why a section can't stand here.
+/// Why a section can't come here.
 fn section_fault(id: u8) -> FaultKind
     ensures { result ≡ section_fault id }
 {
@@ -188,7 +188,7 @@ fn section_fault(id: u8) -> FaultKind
     }
 }
 
-/// The module of what is in the sections, unless something is after them or the counts differ.
+/// The module with these contents of sections, unless something comes after them or the counts differ.
 fn agreed_module(
     alloc: Global,
     declared: Declared,
@@ -240,7 +240,7 @@ pub(crate) fn read_module(alloc: Global, bytes: &[u8]) -> Result<Module, ItemFau
     agreed_module(alloc, declared, count, funcs, segments, rest)
 }
 
-/// Reads a module of no more bytes than are allowed.
+/// Reads a module that isn't over the limit of bytes.
 #[tactic(auto, unfolding(crate::specs::ReadingModule::whole_at))]
 fn decode_whole(alloc: Global, bytes: &[u8]) -> Result<Module, DecodeFault>
     ensures read { Decodes result (whole_at bytes.now) }
@@ -260,28 +260,27 @@ fn decode_whole(alloc: Global, bytes: &[u8]) -> Result<Module, DecodeFault>
 ///
 /// # Errors
 ///
-/// `At` gives the first fault from left to right, with the offset of the faulty item's first byte.
-/// It comes only where the bytes spell no module within the limits.
-/// `OutOfMemory` comes only where memory was refused.
+/// `At` gives the first fault from left to right, with the offset of the faulty item's first byte. It comes only if the
+/// bytes spell no module within the limits. `OutOfMemory` comes only if an allocation fails.
 pub fn decode(alloc: Global, bytes: &[u8]) -> Result<Module, DecodeFault>
-    // What is answered is spelled by the bytes, within the limits.
+    // The bytes spell the module that is returned, within the limits.
     ensures found { IfOk result (λ m. SpellsWithin bytes.now m) }
-    // What the bytes spell within the limits is answered, unless memory is refused.
+    // A module that the bytes spell within the limits is returned, unless an allocation fails.
     ensures only { (m : Module) → SpellsWithin bytes.now m → IsUnlessMemory result m }
-    // Of bytes that spell a module, a limit is named only where they or the module are past it.
+    // For bytes that spell a module, a limit is named only if they or the module are over it.
     ensures past { (m : Module) (limit : Limit) → spells bytes.now m → RefusedBy limit result → IsPast limit bytes.now m }
-    // Of any bytes, a module is answered only where reading from left to right gives it, and a fault, as that of a limit,
-    // is named only where reading stops at it.
+    // For any bytes, a module is returned only if reading from left to right gives it, and a fault, including a limit,
+    // is named only if reading stops at it.
     ensures limits { Decodes result (whole_at bytes.now) }
-    // Of any bytes, the offset is that of the item at which reading stops.
+    // For any bytes, the offset is that of the item at which reading stops.
     ensures fault { IfErr result (IsFaultOf (length bytes.now) (whole_at bytes.now)) }
-    // The offset lies in the bytes, or at their end.
+    // The offset is in the bytes or at their end.
     ensures offset { IfErr result (IsWithin (length bytes.now)) }
 {
     decode_whole(alloc, bytes)
 }
 
-/// A text spells at most one module, whatever its size.
+/// Bytes spell at most one module, whatever its size.
 pub fn spelled_once()
     ensures { (bytes : List ℕ) (m n : Module) → spells bytes m → spells bytes n → m ≡ n }
 {}

@@ -6,7 +6,7 @@ ghost use Rattle.wm_decode.specs.Reading.{Gives, unsigned_at, signed_at};
 
 use crate::fault::{FaultKind, ItemFault};
 
-/// Reads a number from 0 to `most`, or says what is wrong with it.
+/// Reads an unsigned integer of at most `most`, or reports what is wrong with it.
 #[tactic(auto, using(crate::proofs::Most::seventh, crate::proofs::Most::seven_more), unfolding(crate::specs::Reading::unsigned_at))]
 fn unsigned(most: u64, bytes: &[u8]) -> Result<(u64, &[u8]), FaultKind>
     requires { IsMost most }
@@ -32,7 +32,7 @@ fn unsigned(most: u64, bytes: &[u8]) -> Result<(u64, &[u8]), FaultKind>
     }
 }
 
-/// Reads a number with a sign, as its two's complement, or says what is wrong with it.
+/// Reads a signed integer, as its two's complement, or reports what is wrong with it.
 #[tactic(auto, using(crate::proofs::Most::seventh, crate::proofs::Most::seven_more), unfolding(crate::specs::Reading::signed_at))]
 fn signed(most: u64, bytes: &[u8]) -> Result<(u64, &[u8]), FaultKind>
     requires { IsMost most }
@@ -64,7 +64,7 @@ fn signed(most: u64, bytes: &[u8]) -> Result<(u64, &[u8]), FaultKind>
     }
 }
 
-/// Reads a number of 32 binary digits.
+/// Reads an unsigned 32-bit integer.
 pub(crate) fn unsigned_32(bytes: &[u8]) -> Result<(u32, &[u8]), ItemFault>
     ensures { Implements (λ x. (x.0, x.1.now)) result (unsigned_at (2 ^ 32 - 1) bytes.now) }
 {
@@ -74,7 +74,7 @@ pub(crate) fn unsigned_32(bytes: &[u8]) -> Result<(u32, &[u8]), ItemFault>
     }
 }
 
-/// Reads a number of 32 binary digits with a sign, as its two's complement.
+/// Reads a signed 32-bit integer, as its two's complement.
 pub(crate) fn signed_32(bytes: &[u8]) -> Result<(u32, &[u8]), ItemFault>
     ensures { Implements (λ x. (x.0, x.1.now)) result (signed_at (2 ^ 32 - 1) bytes.now) }
 {
@@ -84,7 +84,7 @@ pub(crate) fn signed_32(bytes: &[u8]) -> Result<(u32, &[u8]), ItemFault>
     }
 }
 
-/// Reads a number of 64 binary digits with a sign, as its two's complement.
+/// Reads a signed 64-bit integer, as its two's complement.
 pub(crate) fn signed_64(bytes: &[u8]) -> Result<(u64, &[u8]), ItemFault>
     ensures { Implements (λ x. (x.0, x.1.now)) result (signed_at (2 ^ 64 - 1) bytes.now) }
 {

@@ -19,7 +19,7 @@ pub(crate) enum Indexed {
     GlobalSet,
 }
 
-/// An opcode, by what follows it.
+/// An opcode, by its immediates.
 #[derive(Drop)]
 pub(crate) enum Opcode {
     /// Nothing.
@@ -32,11 +32,11 @@ pub(crate) enum Opcode {
     Access(AccessKind),
     /// A byte 0.
     MemorySize,
-    /// A signed number of 32 binary digits.
+    /// A signed 32-bit integer.
     I32Const,
-    /// A signed number of 64 binary digits.
+    /// A signed 64-bit integer.
     I64Const,
-    /// The code of an atomic access, and what follows an access.
+    /// The code of an atomic access, and the immediates of an access.
     Atomic,
 }
 
@@ -192,7 +192,7 @@ fn other(code: u8) -> Option<Opcode>
     }
 }
 
-/// The meaning of a byte as an opcode that begins no block; None where it has none.
+/// The meaning of a byte as an opcode that starts no block; None if it has none.
 #[tactic(auto, unfolding(crate::specs::Opcodes::opcode_at))]
 pub(crate) fn opcode_of(code: u8) -> Option<Opcode>
     ensures { result ≡ opcode_at code }
@@ -299,7 +299,7 @@ fn last_update(code: u32) -> Option<AccessKind>
     }
 }
 
-/// The access that a code after the prefix `FE` means; None where it means none.
+/// The access that a code after the prefix `FE` means; None if it means nothing.
 #[tactic(auto, unfolding(crate::specs::Opcodes::atomic_at))]
 pub(crate) fn atomic_access(code: u32) -> Option<AccessKind>
     ensures { result ≡ atomic_at code }

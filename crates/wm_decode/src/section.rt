@@ -10,8 +10,8 @@ use crate::vectors::{byte_vector, owned_name};
 use std::alloc::Global;
 use wm_list::Text;
 
-/// Which section it is (Core 1.0, section 5.5.2). The custom sections apart, each is at most once, in this order but
-/// that the count of data segments is before the code.
+/// The id of a section (Core 1.0, section 5.5.2). Except for custom sections, each occurs at most once, in this order,
+/// except that the data count comes before the code.
 #[derive(Clone, Copy, Debug, PartialEq, Eq)]
 pub(crate) enum SectionId {
     Custom,
@@ -31,7 +31,7 @@ pub(crate) enum SectionId {
 impl SectionId {
     ghost use Rattle.wm_decode.specs.SectionIds.{id_byte};
 
-    /// The byte that it is written as.
+    /// The byte that encodes it.
     fn byte(self) -> u8
         ensures { result ≡ id_byte self }
     {
@@ -52,7 +52,7 @@ impl SectionId {
     }
 }
 
-/// What is in a section, with what has to be known to read it.
+/// The contents of a section, with what has to be known to read it.
 pub(crate) trait Content {
     ghost use Rattle.std.specs.Prelude.{List, ℕ, Result};
     ghost use Rattle.wm_decode.specs.Stop.{Stop};
@@ -68,7 +68,7 @@ pub(crate) trait Content {
         ensures left { IfErr result (LeftWithin (length bytes.now)) };
 }
 
-/// Reads a size, and a value that takes this number of bytes.
+/// Reads a size, and a value that takes exactly this number of bytes.
 #[tactic(auto, unfolding(crate::specs::ReadingVectors::sized_at, crate::specs::ReadingVectors::filled_at))]
 fn sized<'a, C: Content>(
     alloc: Global,
@@ -128,7 +128,7 @@ pub(crate) fn customs(alloc: Global, bytes: &[u8]) -> Result<&[u8], ItemFault>
     Ok(rest)
 }
 
-/// Reads the section of this id and skips the custom sections after it, if it is here.
+/// Reads the section of this id, if it is here, and skips the custom sections after it.
 #[tactic(auto, unfolding(crate::specs::ReadingModule::section_at))]
 pub(crate) fn section<'a, C: Content>(
     alloc: Global,

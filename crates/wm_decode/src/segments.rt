@@ -31,7 +31,7 @@ impl Item for DataSegment {
     }
 }
 
-/// Why a byte is no flag of a data segment that is read.
+/// Why a byte is not a supported flag of a data segment.
 fn segment_flag_fault(byte: u8) -> FaultKind
     ensures { result ≡ segment_flag_fault byte }
 {
@@ -42,7 +42,7 @@ fn segment_flag_fault(byte: u8) -> FaultKind
     }
 }
 
-/// Data segments, of which there are as many as were declared, if they were.
+/// Data segments, as many as were declared, if a number was declared.
 #[derive(Drop)]
 pub(crate) struct Segments {
     pub(crate) declared: Option<u32>,
@@ -62,7 +62,7 @@ impl Content for Segments {
     }
 }
 
-/// Reads as many data segments as were declared, if they were.
+/// Reads as many data segments as were declared, if a number was declared.
 #[tactic(auto, unfolding(crate::specs::ReadingParts::segments_at))]
 fn segment_vector(
     alloc: Global,

@@ -13,7 +13,7 @@ use crate::vectors::{Item, vector};
 use std::alloc::Global;
 use wm_ast::{FuncType, Limits, ValType};
 
-/// Why a byte is no value type.
+/// Why a byte is not a value type.
 pub(crate) fn value_type_fault(byte: u8) -> FaultKind
     ensures { result ≡ value_type_fault byte }
 {

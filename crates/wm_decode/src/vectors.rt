@@ -9,7 +9,7 @@ use std::alloc::Global;
 use std::str::from_utf8;
 use wm_list::{List, Text};
 
-/// What is in a vector.
+/// The items of a vector.
 pub(crate) trait Item: Drop {
     ghost use Rattle.std.specs.Prelude.{List, ℕ, Result};
     ghost use Rattle.wm_decode.specs.Stop.{Stop};
@@ -59,7 +59,7 @@ pub(crate) fn vector<T: Item>(alloc: Global, bytes: &[u8]) -> Result<(List<T>, &
     items(alloc, count, rest)
 }
 
-/// Reads a vector of bytes. Missing ones are faulted where the first of them would stand.
+/// Reads a vector of bytes. If bytes are missing, the fault is at the first missing one.
 #[tactic(auto, unfolding(crate::specs::ReadingVectors::own_bytes_at))]
 pub(crate) fn byte_vector(bytes: &[u8]) -> Result<(&[u8], &[u8]), ItemFault>
     ensures { Implements (λ x. (x.0.now, x.1.now)) result (byte_vector_at bytes.now) }
@@ -72,7 +72,7 @@ pub(crate) fn byte_vector(bytes: &[u8]) -> Result<(&[u8], &[u8]), ItemFault>
     Ok(rest.split_at(count))
 }
 
-/// Reads a name. It is faulted at its length.
+/// Reads a name. A fault of the name is at its length.
 #[tactic(auto, unfolding(crate::specs::ReadingVectors::name_at))]
 pub(crate) fn name(bytes: &[u8]) -> Result<(&str, &[u8]), ItemFault>
     ensures { Implements (λ x. (x.0.now, x.1.now)) result (name_at bytes.now) }

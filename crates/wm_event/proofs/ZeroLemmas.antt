@@ -1,4 +1,4 @@
--- Bytes with zeros behind them.
+-- Bytes followed by zeros.
 use Rattle.std.proofs.Common.{◌≡◌, ◌<◌, ◌≤◌, ◌-◌, ◌++◌, ℕ, List, [], All, None, Some, ap, ◌∙◌, length, get_or, replicate, arith}
 use Rattle.std.specs.List.{slice_get}
 use Rattle.std.proofs.Math.ListN.{get_or-append}

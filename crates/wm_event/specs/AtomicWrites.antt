@@ -19,19 +19,19 @@ use Rattle.wm_event.specs.Writes.{IsOfEachThread, is_at, listed_from}
 abbrev pub begins_atomic : List ThreadLog → AccessWidth → ℕ → EventKey → Bool
 begins_atomic log width a key = option_map_or (λ e. (is_atomic e && (writes e && (bytes_of e.width == bytes_of width))) && (e.address == a)) (event_in log key) false
 
--- the atomic writes of one width in the order, by the address where they begin
+-- the atomic writes of one width in the order, by their first address
 pub record IsWidthIndex (log : List ThreadLog) (width : AccessWidth) (order : List EventKey) (s : WidthIndex) : Type 0 where
   pub rises : IsNonDecreasingBy (λ (b : ByteWrite). b.address) s.entries.items
   pub each : (a : ℕ) → filter (is_at a) s.entries.items ≡ listed_from (begins_atomic log width a) a 0 order
 
--- those of each width
+-- the atomic writes of each width
 pub record AreAtomicWrites (log : List ThreadLog) (order : List EventKey) (w : AtomicWrites) : Type 0 where
   pub one : IsWidthIndex log One order w.one
   pub two : IsWidthIndex log Two order w.two
   pub four : IsWidthIndex log Four order w.four
   pub eight : IsWidthIndex log Eight order w.eight
 
--- those of each thread alone
+-- the atomic writes of each thread alone
 abbrev pub AreThreadAtomicWrites : List ThreadLog → List AtomicWrites → Type 0
 AreThreadAtomicWrites log ws = IsOfEachThread (AreAtomicWrites log) log ws
 

@@ -1,4 +1,4 @@
--- What it means that a witness fits a log.
+-- What it means for a witness to fit a log.
 use Rattle.std.specs.Prelude.{◌≡◌, List, [], All}
 use Rattle.wm_event.specs.declared.event.Event.{Event}
 use Rattle.wm_event.specs.declared.event.EventKind.TheVariants.{Write}

@@ -1,6 +1,6 @@
--- The bytes that a memory begins with.
+-- The initial bytes of a memory.
 use Rattle.std.specs.Prelude.{ℕ, List, ◌++◌, ◌-◌, length, replicate}
 
--- these bytes, and zeros after them, so many in all
+-- these bytes, then zeros, up to this length
 abbrev pub with_zeros : List ℕ → ℕ → List ℕ
 with_zeros bytes len = bytes ++ replicate (len - length bytes) 0

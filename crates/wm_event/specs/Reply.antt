@@ -1,9 +1,9 @@
--- What a reply brings.
+-- The contents of a reply.
 use Rattle.std.specs.Prelude.{ℕ, Bool, true, false, Option, Some, None, ⊤}
 use Rattle.wm_access.specs.AccessWidth.{Fits}
 use Rattle.wm_access.specs.declared.AccessWidth.{AccessWidth}
 
--- a read exactly where one is wanted, and it fits
+-- a value read exactly if one is wanted, and it fits the width
 abbrev pub ReadAnswers : Bool → AccessWidth → Option ℕ → Type 0
 ReadAnswers true width None = ⊥
 ReadAnswers true width (Some v) = Fits width v

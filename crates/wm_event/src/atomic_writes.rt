@@ -12,7 +12,7 @@ use crate::writes::{ByteWrite, block};
 use std::alloc::{AllocError, Global};
 use wm_access::AccessWidth;
 
-/// The atomic writes of one width in an order, by the address where they begin.
+/// The atomic writes of one width in an order, by their first address.
 #[derive(Drop)]
 pub struct WidthIndex {
     entries: Vec<ByteWrite>,
@@ -82,7 +82,7 @@ impl WidthIndex {
         Ok(WidthIndex { entries })
     }
 
-    /// Those that begin at an address, in the order.
+    /// The writes that begin at an address, in the order.
     fn at(&self, address: u64) -> &[ByteWrite]
         requires { IsNonDecreasingBy (λ (b : ByteWrite). b.address) self.now.entries.items }
         ensures { result.now ≡ filter (is_at address) self.now.entries.items }
@@ -104,7 +104,7 @@ impl AtomicWrites {
         })
     }
 
-    /// Those of a range, in the order.
+    /// The atomic writes of a range, in the order.
     pub fn of_range(&self, range: Range) -> &[ByteWrite]
         requires one { IsNonDecreasingBy (λ (b : ByteWrite). b.address) self.now.one.entries.items }
         requires two { IsNonDecreasingBy (λ (b : ByteWrite). b.address) self.now.two.entries.items }

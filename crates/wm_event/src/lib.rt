@@ -1,4 +1,4 @@
-//! Events, logs with their witnesses, candidates, and what it means that a run is allowed.
+//! Events, logs with their witnesses, candidates, and what it means for a run to be allowed.
 #![tactic(auto)]
 
 /// The most threads of a log.

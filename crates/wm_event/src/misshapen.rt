@@ -4,7 +4,7 @@ use crate::log::Log;
 use crate::shape_fault::ShapeFault;
 use crate::witness::Witness;
 
-/// A log and a witness that are no candidate, with the first fault of their shape.
+/// A log and a witness that are not a candidate, with the first fault of their shape.
 #[derive(Drop)]
 pub struct Misshapen {
     pub log: Log,

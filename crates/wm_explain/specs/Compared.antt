@@ -1,4 +1,4 @@
--- A thread's log beside its run.
+-- A thread's log compared with its run.
 use Rattle.std.specs.Prelude.{◌≡◌, ℕ, List, Option, Some, None, slice_get}
 use Rattle.wm_ast.specs.declared.module.Module.{Module}
 use Rattle.wm_event.specs.Limits.{max_steps}
@@ -12,12 +12,12 @@ use Rattle.wm_explain.specs.declared.compared.Next.{Next}
 use Rattle.wm_explain.specs.declared.compared.Next.TheVariants as next
 use Rattle.wm_explain.specs.declared.compared.Compared.{Compared}
 
--- the log's event, if it has one more
+-- the log's next event, if it has one
 abbrev pub next_by_log : Option Event → Next
 next_by_log None = next.NoEvent
 next_by_log (Some event) = next.Event event
 
--- the module's access, or why there is none
+-- the module's next access, or why there is none
 abbrev pub next_by_module : Need → Next
 next_by_module need.Local = next.Limit
 next_by_module (need.Access op) = next.Access op

@@ -1,4 +1,4 @@
--- What a sentence says of the byte where a memory rule is broken.
+-- What a sentence states about the byte where a memory rule is broken.
 use Rattle.std.specs.Prelude.{◌≡◌, ◌+◌, ◌<◌, ℕ, Some}
 use Rattle.wm_event.specs.Byte.{byte_of}
 use Rattle.wm_event.specs.Execution.{Execution, byte_by}
@@ -10,11 +10,11 @@ use Rattle.wm_explain.specs.declared.rule.RuleSentence.{RuleSentence}
 abbrev pub IsAddressOf : Execution → RuleFault → ℕ → Type 0
 IsAddressOf x f address = (e : Event) → x.event_of f.event ≡ Some e → address ≡ e.address + f.byte
 
--- what the read has there
+-- the value that the read has there
 abbrev pub IsReadAt : Execution → RuleFault → ℕ → Type 0
 IsReadAt x f read = (e : Event) → x.event_of f.event ≡ Some e → f.byte < 8 → read ≡ byte_of e.read f.byte
 
--- the byte's address, what the read has there, and what the writer leaves there
+-- the byte's address, the value that the read has there, and the value that the writer leaves there
 pub record IsSaidOf (x : Execution) (f : RuleFault) (said : RuleSentence) : Type 0 where
   pub fault : said.fault ≡ f
   pub address : IsAddressOf x f said.address

@@ -28,7 +28,7 @@ fn add_events(text: &mut String, tables: &mut EventTables) -> Result<(), AllocEr
     tables.add(text, ids.as_slice())
 }
 
-/// What an allowed run rests on: its threads, and its events in their order with who wrote what was read.
+/// What an allowed run rests on: its threads, and its events in their order with the writers of what was read.
 ///
 /// # Errors
 ///
@@ -50,8 +50,8 @@ pub(crate) fn allowed_reason(mut tables: EventTables) -> Result<String, AllocErr
     Ok(text)
 }
 
-/// What is said of events that the memory rules allow where no module is given: that, and the events in their order with
-/// who wrote what was read.
+/// The explanation of events that the memory rules allow if no module is given: that they do, and the events in their
+/// order with the writers of what was read.
 ///
 /// # Errors
 ///

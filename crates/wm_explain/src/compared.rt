@@ -1,4 +1,4 @@
-//! A thread's log beside its run.
+//! A thread's log compared with its run.
 ghost use Rattle.std.specs.Prelude.{◌≡◌, ℕ, IfOk, IfSome, slice_get};
 ghost use Rattle.wm_explain.specs.Compared.{IsCompared, next_by_log, next_by_module};
 ghost use Rattle.wm_machine.specs.State.{need_of};
@@ -17,11 +17,11 @@ use wm_valid::ValidModule;
 pub(crate) enum Next {
     /// This event of the log.
     Event(Event),
-    /// No event: the log has no further one.
+    /// No event: the log has no further event.
     NoEvent,
     /// This access of the module.
     Access(OpFields),
-    /// No access: the thread has ended so.
+    /// No access: the thread has ended this way.
     Ended(End),
     /// No access yet: it has made [`MAX_STEPS`] steps.
     Limit,
@@ -32,13 +32,13 @@ pub(crate) enum Next {
 pub(crate) struct Compared {
     /// How many steps it makes.
     pub steps: u32,
-    /// How many events it makes. They are the log's first ones.
+    /// How many events it makes. They are the first ones of the log.
     pub events: usize,
     /// What the log has next.
     pub logged: Next,
     /// What the module has next.
     pub made: Next,
-    /// Where in its code the thread is then.
+    /// The position of the thread in its code then.
     pub position: CodePosition,
 }
 
@@ -52,7 +52,7 @@ fn log_next(stated: &[Event], events: usize) -> Next
     }
 }
 
-/// What the module has next of a thread.
+/// What the module does next in a thread.
 fn module_next(thread: &Thread) -> Next
     ensures { (read : ℕ) → result ≡ next_by_module (need_of read thread.now) }
 {

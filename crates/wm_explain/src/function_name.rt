@@ -12,7 +12,7 @@ use wm_sites::ModuleCode;
 pub(crate) enum FunctionName<'m> {
     /// By an export.
     Exported(&'m str),
-    /// By the section `name`.
+    /// By the custom section `name`.
     Named(&'m str),
     /// By its index, since it has no name.
     Index(usize),
@@ -53,7 +53,7 @@ fn exported_function(module: &Module, name: &str) -> Option<usize> {
     }
 }
 
-/// By its index the first export of each function that has one.
+/// The first export of each function that has one, by its index.
 fn export_names(alloc: Global, module: &Module) -> Result<Vec<Option<&str>>, AllocError> {
     let mut names = vec![in alloc; None; module.funcs.len()]?;
     for position in 0..module.exports.len() {
@@ -96,8 +96,8 @@ impl<'m> FunctionNames<'m> {
         })
     }
 
-    /// The name of a function in a thread that starts with the export `start`: that export, else the first one, else its
-    /// name in the section `name`, else its index.
+    /// The name of a function in a thread that starts with the export `start`: that export, else the function's first
+    /// export, else its name in the section `name`, else its index.
     pub(crate) fn name<'a>(&'a self, start: &'a str, function: usize) -> FunctionName<'a> {
         if exported_function(self.module, start) == Some(function) {
             return FunctionName::Exported(start);

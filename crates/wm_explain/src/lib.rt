@@ -1,4 +1,4 @@
-//! Why a check answers what it answers, in sentences and tables.
+//! Why a check gives its answer, in sentences and tables.
 #![tactic(auto)]
 
 mod allowed;

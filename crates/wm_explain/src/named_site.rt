@@ -75,7 +75,7 @@ impl<'a> NamedSites<'a> {
     }
 }
 
-/// The places of a thread's events.
+/// The places of a thread's events in the module.
 fn thread_places(
     alloc: Global,
     sites: &mut NamedSites,
@@ -92,9 +92,8 @@ fn thread_places(
     Ok(places)
 }
 
-/// For each event of a log, by thread and number, the instruction that makes it, as
-/// `at 0x2e, instruction 2 of "a"`. The string of an event that its thread doesn't make is empty. `module_bytes` spell the
-/// module.
+/// For each event of a log, by thread and number, the instruction that makes it, as `at 0x2e, instruction 2 of "a"`.
+/// The string is empty if the thread doesn't make the event. `module_bytes` spell the module.
 ///
 /// # Errors
 ///

@@ -1,4 +1,4 @@
-//! Where a thread is in the text of its module.
+//! The position of a thread in the code of its module.
 
 use crate::function_name::FunctionNames;
 use std::alloc::{AllocError, Global};
@@ -25,8 +25,8 @@ impl fmt::Display for InstrHere<'_> {
     }
 }
 
-/// Where a thread is that starts with the export `start`: the instruction, its place in the module's bytes, its number and its
-/// function.
+/// The position of a thread that starts with the export `start`: the instruction, its offset in the module's bytes, its
+/// number and its function.
 ///
 /// # Errors
 ///

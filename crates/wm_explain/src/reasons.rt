@@ -1,4 +1,4 @@
-//! Why a verdict says what it says.
+//! The reasons for a verdict.
 
 use crate::allowed::{allowed_reason, permitted_reason};
 use crate::replay::replay_reason;
@@ -32,7 +32,8 @@ pub fn explain_refusal(
     }
 }
 
-/// Why a log and its witness are not a candidate over an initial memory of so many bytes. Each line ends with a newline.
+/// Why a log and its witness are not a candidate over an initial memory of `memory_bytes` bytes. Each line ends with a
+/// newline.
 ///
 /// # Errors
 ///
@@ -45,9 +46,10 @@ pub fn explain_shape(
     shape_reason(alloc, misshapen, memory_bytes)
 }
 
-/// Why a check gave its verdict on a candidate over the initial memory of a module, in sentences and a table. `module_bytes`
-/// spell the module: events are shown with the places in them of the instructions that make them. Each line ends with a
-/// newline. The text is empty for a refusal: that has no candidate, and [`explain_refusal`] has its reason.
+/// Why a check gave its verdict on a candidate over the initial memory of a module, in sentences and a table.
+/// `module_bytes` spell the module: events are shown with the byte offsets of the instructions that make them. Each
+/// line ends with a newline. The text is empty for a refusal, which has no candidate: [`explain_refusal`] has its
+/// reason.
 ///
 /// # Errors
 ///
@@ -73,8 +75,8 @@ pub fn explain_run<R: AllocGlobal + Threads + Sync>(
     }
 }
 
-/// Why the memory rules allow the events of a candidate or don't, in sentences and a table. Each line ends with a newline.
-/// Nothing is said of a module: the events have no places in its code.
+/// Why the memory rules allow the events of a candidate, or don't, in sentences and a table. Each line ends with a
+/// newline. No module is involved, so the events have no places in code.
 ///
 /// # Errors
 ///

@@ -1,11 +1,11 @@
-//! Whether a broken rule is the witness's: if other writers, or another order, could mend the fault.
+//! Whether a broken rule depends on the witness: whether other writers, or another order, could mend the fault.
 
 use std::alloc::{AllocError, Global};
 use std::fmt;
 use wm_event::{Candidate, EventKey, Rule, RuleFault};
 use wm_writers::{ByteFit, FaultWriters, Writers, writers_that_fit};
 
-/// How many events that fit a byte are named.
+/// How many of the events that fit a byte are named.
 const MAX_NAMED: usize = 8;
 
 /// A byte of a read, with the events that left the value that was read there, as it prints.
@@ -53,7 +53,7 @@ fn add_fits(text: &mut String, writers: &FaultWriters) -> Result<(), AllocError>
     Ok(())
 }
 
-/// What is said of a fault that depends on the order.
+/// The remark on a fault that depends on the order.
 fn order_remedy(fault: &RuleFault) -> &'static str {
     match (fault.rule, fault.case) {
         (Rule::Order, 1) => "With another order of the events, the same accesses may be allowed.\n",
@@ -63,7 +63,7 @@ fn order_remedy(fault: &RuleFault) -> &'static str {
     }
 }
 
-/// Adds of what a fault depends: on the order, or on the writers alone; and of these whether others fit.
+/// Adds what a fault depends on: on the order, or only on the writers; and for the writers whether others fit.
 ///
 /// # Errors
 ///

@@ -24,7 +24,7 @@ struct LoggedThread<'a> {
     log: &'a ThreadLog,
 }
 
-/// That the first events of a log are the module's, by their number.
+/// States that this number of first events of a log are the module's.
 #[derive(Clone, Copy)]
 struct MatchPhrase(usize);
 
@@ -38,7 +38,7 @@ impl fmt::Display for MatchPhrase {
     }
 }
 
-/// Adds what the log and the module have where they differ.
+/// Adds what the log and the module have at the point where they differ.
 fn add_difference(text: &mut String, compared: &Compared) -> Result<(), AllocError> {
     let steps = Count(u64::from(compared.steps), "step");
     let events = Count(compared.events as u64, "event");
@@ -76,7 +76,7 @@ fn add_ends(
     }
 }
 
-/// Adds how the log's steps compare with those of a run that ended.
+/// Adds how the number of the log's steps compares with that of a run that ended.
 fn add_length(
     text: &mut String,
     thread: LoggedThread,
@@ -134,7 +134,7 @@ fn add_unended(
     }
 }
 
-/// Adds where a thread differs from its log.
+/// Adds the place where a thread differs from its log.
 fn add_place(
     text: &mut String,
     thread: LoggedThread,
@@ -156,7 +156,7 @@ fn add_place(
     }
 }
 
-/// Adds where in its code the thread is.
+/// Adds the thread's position in its code.
 fn add_position(
     alloc: Global,
     text: &mut String,
@@ -175,7 +175,7 @@ fn add_position(
     }
 }
 
-/// What a fault of V1 at a read of the thread says about the thread's run.
+/// What a fault of V1 at a read of the thread suggests about the thread's run.
 fn hint(compared: &Compared, fault: &RuleFault) -> &'static str {
     if fault.case != 3 {
         return "That is about who wrote a byte, so it can't be the cause: a thread's run depends only on the values that it reads.";
@@ -193,8 +193,8 @@ fn hint(compared: &Compared, fault: &RuleFault) -> &'static str {
     }
 }
 
-/// Adds that the memory rules don't allow the events either, since a wrong value that was read often shows later as another
-/// step.
+/// Adds that the memory rules don't allow the events either, since a wrong value that was read often shows up later as
+/// a different step.
 fn add_fault(
     text: &mut String,
     thread: LoggedThread,
@@ -243,7 +243,7 @@ fn thread_reason(
     Ok(text)
 }
 
-/// Runs the thread of this number by its log; None if there is none, or if it doesn't start.
+/// Runs the thread of this number by its log; None if there is no such thread, or if it doesn't start.
 fn compare_thread(
     alloc: Global,
     module: &ValidModule,
@@ -257,7 +257,7 @@ fn compare_thread(
     compare(alloc, module, &threads[number], number)
 }
 
-/// Why the log of the thread of this number isn't its run, and what the memory rules say of the events.
+/// Why the log of the thread of this number isn't its run, and whether the memory rules allow the events.
 fn differing_reason<R: AllocGlobal + Threads + Sync>(
     rt: &R,
     code: ModuleCode,
@@ -284,8 +284,8 @@ fn differing_reason<R: AllocGlobal + Threads + Sync>(
     Ok(text)
 }
 
-/// Why a thread's log isn't its run: what the log has and what the module does there, and at which instruction; too few or
-/// too many steps; and what the memory rules say.
+/// Why a thread's log isn't its run: what the log has and what the module does at that point, and at which instruction;
+/// too few or too many steps; and whether the memory rules allow the events.
 ///
 /// # Errors
 ///
@@ -308,8 +308,8 @@ pub(crate) fn replay_reason<R: AllocGlobal + Threads + Sync>(
     }
 }
 
-/// What the module does where a thread differs from its log, as `plain read of 4 bytes at address 4`. The string is empty if
-/// no thread that starts differs.
+/// What the module does where a thread differs from its log, as `plain read of 4 bytes at address 4`. The string is
+/// empty if no thread that starts differs.
 ///
 /// # Errors
 ///

@@ -61,7 +61,7 @@ struct MixedAddresses {
 }
 
 impl MixedAddresses {
-    /// Those of these events.
+    /// The mixed addresses of these events.
     fn of(alloc: Global, candidate: &Candidate, ids: &[EventId]) -> Result<Self, AllocError> {
         let mut sorted = Vec::new(alloc);
         for id in ids {
@@ -79,7 +79,7 @@ impl MixedAddresses {
         Ok(MixedAddresses { sorted })
     }
 
-    /// How the values of an event are shown: in hex too where it meets one of the addresses.
+    /// How the values of an event are shown: in hex too if it accesses one of the addresses.
     fn form_of(&self, event: &Event) -> ValueForm {
         for byte in 0..event.width.bytes() {
             let address = u64::from(event.address).saturating_add(u64::from(byte));
@@ -96,7 +96,7 @@ impl MixedAddresses {
 pub(crate) struct EventTables<'a> {
     pub alloc: Global,
     pub candidate: &'a Candidate<'a>,
-    /// The instructions that make the events; None where no module is given.
+    /// The instructions that make the events; None if no module is given.
     sites: Option<NamedSites<'a>>,
 }
 
@@ -136,7 +136,7 @@ impl<'a> EventTables<'a> {
         }
     }
 
-    /// Adds the row of an event that is there.
+    /// Adds the row of an event that exists.
     fn add_row(
         &mut self,
         text: &mut String,

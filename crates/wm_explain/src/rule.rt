@@ -11,7 +11,7 @@ use wm_event::{Candidate, Event, EventId, Rule, RuleFault, byte_of};
 use wm_hb::{FaultChain, Link, LinkKind, fault_chains};
 use wm_list::List;
 
-/// A fault with what is said of its byte.
+/// A fault with what the sentence needs to know about its byte.
 #[derive(Clone, Copy)]
 struct RuleSentence {
     fault: RuleFault,
@@ -19,7 +19,7 @@ struct RuleSentence {
     address: u64,
     /// The byte that was read.
     read: u8,
-    /// The byte that the writer leaves there, where it writes there.
+    /// The byte that the writer leaves there, if it writes there.
     written: Option<u8>,
 }
 
@@ -56,7 +56,7 @@ fn address_in(event: &Event, byte: u8) -> u64
     u64::from(event.address) + u64::from(byte)
 }
 
-/// The address of the byte at fault, and the byte that was read there; 0 if its event isn't there.
+/// The address of the byte at fault, and the byte that was read there; 0 if its event doesn't exist.
 fn byte_at_fault(candidate: &Candidate, fault: &RuleFault) -> (u64, u8)
     ensures address { IsAddressOf (execution candidate.now) fault.now result.0 }
     ensures read { IsReadAt (execution candidate.now) fault.now result.1 }
@@ -73,7 +73,7 @@ fn byte_at_fault(candidate: &Candidate, fault: &RuleFault) -> (u64, u8)
 }
 
 impl RuleSentence {
-    /// What is said of a fault of a candidate.
+    /// The sentence for a fault of a candidate.
     fn of(candidate: &Candidate, fault: &RuleFault) -> RuleSentence
         ensures { IsSaidOf (execution candidate.now) fault.now result }
     {
@@ -213,7 +213,7 @@ impl fmt::Display for RuleSentence {
     }
 }
 
-/// A rule by what it asks.
+/// A rule by what it requires.
 #[derive(Clone, Copy)]
 struct RuleName(Rule);
 
@@ -266,7 +266,7 @@ impl fmt::Display for LinkSentence {
     }
 }
 
-/// Adds why one event happens before another.
+/// Adds the reason why one event happens before another.
 fn add_chain(text: &mut String, chain: &FaultChain) -> Result<(), AllocError> {
     writeln!(text, "Why {} happens before {}:", chain.from, chain.to)?;
     let mut last = chain.from;
@@ -317,8 +317,8 @@ pub(crate) fn add_fault_events(
     tables.add(text, ids.as_slice())
 }
 
-/// Why a run breaks a memory rule: the rule, the fault in a sentence, its events, for each happens-before that it rests on
-/// a shortest chain, and whether other writers or another order could mend it.
+/// Why a run breaks a memory rule: the rule, the fault in a sentence, its events, a shortest chain for each
+/// happens-before that it rests on, and whether other writers or another order could mend it.
 ///
 /// # Errors
 ///

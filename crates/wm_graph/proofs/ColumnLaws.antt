@@ -16,6 +16,6 @@ taken_one f done x all i so_far here =
     ap (λ xs. xs ++ drop (i + 1) all) (map-append f done (x ∷ [])) ∙ append_assoc (map f done) (f x ∷ []) (drop (i + 1) all)
     ∙ ap (λ xs. map f done ++ xs) (sym next) ∙ so_far
 
--- what stands for an event where there is none
+-- a stand-in for a missing event
 abbrev pub blank : Event
 blank = record { thread = 0; number = 0; kind = Read; order = Unordered; address = 0; width = One; read = 0; written = 0 }

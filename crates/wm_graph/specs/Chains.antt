@@ -9,7 +9,8 @@ use Rattle.wm_event.specs.declared.rule.Judgement.TheVariants as judgement
 use Rattle.wm_hb.specs.Premises.{Shows}
 use Rattle.wm_hb.specs.declared.fault_chain.FaultChain.{FaultChain}
 
--- if the verdict names the first fault of the run, the chains are one for each of its premises, in their order; with another verdict they are empty
+-- if the verdict names the first fault of the run, there is one chain for each of its premises, in their order; with
+-- another verdict there are no chains
 abbrev pub HasChains : LoggedRun → Verdict → List FaultChain → Type 0
 HasChains x (Allowed certificate) chains = chains ≡ []
 HasChains x (Refused refusal) chains = chains ≡ []

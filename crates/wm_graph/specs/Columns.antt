@@ -13,7 +13,7 @@ use Rattle.wm_replay.specs.declared.answer.ReplayAnswer.TheVariants.{Differs}
 use Rattle.wm_replay.specs.declared.answer.Place.TheVariants as place
 use Rattle.wm_graph.specs.declared.columns.Node.{Node}
 
--- the events that have a node in a column, from above
+-- the events that have a node in a column, from the top
 abbrev pub events_of : Column → List Event
 events_of column = map (λ node. node.event) column.nodes
 
@@ -21,7 +21,8 @@ events_of column = map (λ node. node.event) column.nodes
 abbrev pub AreColumnsOf : List ThreadLog → List Column → Type 0
 AreColumnsOf log columns = map events_of columns ≡ map (λ thread. thread.events) log
 
--- the events that a verdict speaks of, which are drawn in another colour: those of a fault, or the one at which a thread differs from its log
+-- the events that a verdict names, which are drawn in another colour: those of a fault, or the one at which a thread
+-- differs from its log
 abbrev pub IsMarked : Verdict → EventId → Type 0
 IsMarked (Allowed certificate) id = ⊥
 IsMarked (Refused refusal) id = ⊥
@@ -29,6 +30,6 @@ IsMarked (Broken (Rule fault)) id = (id ≡ At fault.event) ⊎ ((id ≡ fault.w
 IsMarked (Broken (Replay answer)) Init = ⊥
 IsMarked (Broken (Replay answer)) (At key) = answer ≡ Differs key.thread (place.Event key.number)
 
--- a node is drawn so just where its event is
+-- a node is marked exactly if its event is
 abbrev pub IsMarkedBy : Verdict → Node → Type 0
 IsMarkedBy verdict node = IsTrue node.is_marked ↔ IsMarked verdict (At (key_of node.event))

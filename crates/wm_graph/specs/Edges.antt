@@ -68,7 +68,7 @@ IsRight x edge = States x edge.kind edge.from edge.to
 
 -- ---- no edge is missing
 
--- among these edges is one from a to b whose kind is so
+-- these edges include one from a to b whose kind has this property
 abbrev pub HasEdge : List Edge → (EdgeKind → Type 0) → EventId → EventKey → Type 0
 HasEdge edges P a b = (kind : EdgeKind) × P kind × Contains edges record { from = a; to = b; kind = kind }
 
@@ -85,15 +85,15 @@ HasSequenced edges b = (a : EventKey) → IsNext (At a) b → HasEdge edges (λ 
 abbrev pub HasReads : LoggedRun → List Edge → EventKey → Type 0
 HasReads x edges b = (k : ℕ) (w : EventId) → ReadsFrom (execution x) b k w → HasEdge edges (ReadsByte k) w b
 
--- the edges to an event are there
+-- all edges to an event are included
 abbrev pub HasEdgesTo : LoggedRun → List Edge → Event → Type 0
 HasEdgesTo x edges event = HasSequenced edges (key_of event) × HasReads x edges (key_of event)
 
--- the edges to the events of a thread are there
+-- all edges to the events of a thread are included
 abbrev pub HasEdgesOf : LoggedRun → List Edge → ThreadLog → Type 0
 HasEdgesOf x edges thread = All (HasEdgesTo x edges) thread.events
 
--- the edges to all events of the log are there
+-- all edges to all events of the log are included
 abbrev pub AreComplete : LoggedRun → List Edge → Type 0
 AreComplete x edges = All (HasEdgesOf x edges) x.log
 

@@ -8,7 +8,8 @@ use wm_event::{Event, EventId, Log, ThreadLog};
 use wm_list::List;
 use wm_replay::{Place, ReplayAnswer};
 
-/// Whether a verdict speaks of an event: one of a fault of a memory rule, or the one at which a thread differs from its log.
+/// Whether a verdict names an event: an event of a fault of a memory rule, or the event at which a thread differs from
+/// its log.
 pub(crate) fn is_marked(verdict: &Verdict, id: EventId) -> bool
     ensures { IsTrue result ↔ IsMarked verdict.now id }
 {

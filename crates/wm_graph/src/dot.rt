@@ -15,7 +15,7 @@ use wm_check::{Breach, Verdict};
 use wm_event::{Candidate, EventId};
 use wm_replay::{Place, ReplayAnswer};
 
-/// Adds the node of an event; that of an atomic one has two borders.
+/// Adds the node of an event; the node of an atomic event has two borders.
 fn add_node(
     text: &mut String,
     node: &Node,
@@ -43,7 +43,7 @@ fn add_node(
     )
 }
 
-/// Adds the events of a thread that are shown, and between them how many are left out.
+/// Adds the events of a thread that are shown, with the number of events left out between them.
 fn add_nodes(
     text: &mut String,
     column: &Column,
@@ -69,7 +69,7 @@ fn add_nodes(
     Ok(())
 }
 
-/// Adds an edge in the place of events that are left out, after the last one that is shown.
+/// Adds an edge that replaces the events left out after the last one that is shown.
 fn add_gap(
     text: &mut String,
     last: Option<EventId>,
@@ -96,7 +96,7 @@ fn differing_thread(verdict: &Verdict) -> Option<usize> {
     }
 }
 
-/// Adds what the module does after the log's last event that it makes.
+/// Adds what the module does after the last event of the log that it makes.
 fn add_module_does(
     text: &mut String,
     number: usize,
@@ -124,7 +124,8 @@ fn add_module_does(
     }
 }
 
-/// Adds the column of a thread, under the name of its function. That of a thread that differs from its log is red.
+/// Adds the column of a thread, under the name of its function. The column of a thread that differs from its log is
+/// red.
 fn add_column(
     text: &mut String,
     number: usize,
@@ -184,7 +185,7 @@ fn add_init(text: &mut String, picture: &Picture, shown: &Shown) -> Result<(), A
     Ok(())
 }
 
-/// What is drawn beside a picture's data.
+/// What is drawn in addition to a picture's data.
 #[derive(Clone, Copy)]
 struct Drawing<'a> {
     caption: Caption<'a>,
@@ -235,15 +236,17 @@ fn print(alloc: Global, picture: &Picture, drawing: Drawing) -> Result<String, A
     Ok(text)
 }
 
-/// The execution that a candidate is, as text for Graphviz, where `verdict` is what a check gave on it. A column for each
-/// thread with the name of its function; a node for Init and for each event, with its place in the order and, if `caption`
-/// has it, in the module; edges for sequenced-before (`sb`), reads-from (`rf`, with the bytes if a read has several
-/// writers), synchronizes-with (`sw`), and for the order if it goes against one of these. In red are the events of a fault
-/// and the chains of happens-before that it rests on; with them what else it needs: the order of its writes, and that one
-/// overwrites the other (`co`) after the read took its byte (`fr`). If a thread differs from its log, that thread is red,
-/// with what the module does instead. A read from Init says so in its label; it has an edge only where it is the fault.
+/// The execution of a candidate as text for Graphviz; `verdict` is a check's verdict on it. It has a column for each
+/// thread with the name of its function; a node for Init and for each event, with its place in the order and, if
+/// `caption` has it, in the module; edges for sequenced-before (`sb`), reads-from (`rf`, with the bytes if a read has
+/// several writers), synchronizes-with (`sw`), and for the order if it contradicts one of these. The events of a fault
+/// and the chains of happens-before that it rests on are red, with what else it needs: the order of its writes, and
+/// that one overwrites the other (`co`) after the read took its byte (`fr`). If a thread differs from its log, that
+/// thread is red, with what the module does instead. The label of a read from Init states that; the read has an edge
+/// only if it is the fault.
 ///
-/// Of more than 60 events the fault's are shown with their neighbours, or without a fault the first 60 of the order.
+/// If there are more than 60 events, those of the fault are shown with their neighbours, or without a fault the first
+/// 60 of the order.
 ///
 /// # Errors
 ///

@@ -25,8 +25,8 @@ pub(crate) struct DrawnEdge {
     pub kind: DrawnKind,
 }
 
-/// Whether an edge is drawn. Of the reads from Init only that of a fault is; the labels of the others say it. Nor is it
-/// drawn that Init is before an event in the order.
+/// Whether an edge is drawn. Of the reads from Init, only the one of a fault is; the labels of the others state it. An
+/// edge of the order from Init isn't drawn either.
 fn is_drawn(edge: &Edge, verdict: &Verdict) -> bool {
     match (edge.from, edge.kind) {
         (EventId::Init, EdgeKind::ReadsFrom(_)) => match verdict {
@@ -49,7 +49,7 @@ fn add_shown(drawn: &mut Vec<DrawnEdge>, shown: &Shown, edge: DrawnEdge) -> Resu
     Ok(())
 }
 
-/// Adds those of these edges that are drawn.
+/// Adds the edges, among these, that are drawn.
 fn add_edges(
     drawn: &mut Vec<DrawnEdge>,
     shown: &Shown,

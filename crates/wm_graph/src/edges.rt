@@ -32,7 +32,7 @@ pub(crate) enum EdgeKind {
     Sequenced,
     /// The second event reads bytes that the first one wrote.
     ReadsFrom(ReadsFrom),
-    /// The order lists the first event before the second: against another edge, or as a fault needs it.
+    /// The order lists the first event before the second: contrary to another edge, or because a fault needs it.
     Order,
     /// The second event overwrites a byte of the first one, later in the order.
     Coherence,
@@ -48,7 +48,7 @@ pub(crate) struct Edge {
     pub kind: EdgeKind,
 }
 
-/// Adds an edge, and one of the order if that lists the edge's second event before its first.
+/// Adds an edge, and an edge of the order if the order lists the edge's second event before its first.
 #[tactic(auto, using(crate::proofs::EdgeLaws::keeps_after, crate::proofs::EdgeLaws::keeps_pushed))]
 fn add_edge(edges: &mut List<Edge>, candidate: &Candidate, edge: Edge) -> Result<(), AllocError>
     requires edges { All (IsRight candidate.now) edges.old }
@@ -106,7 +106,7 @@ fn read_edge(candidate: &Candidate, run: &WriterRun, reader: EventKey) -> Edge
     }
 }
 
-/// The edge to an event from the one before it in its thread; None to the first one.
+/// The edge to an event from the one before it in its thread; None for the first one.
 fn sequenced_edge(event: &Event) -> Option<Edge>
     ensures right { (x : LoggedRun) → IfSome result (IsRight x) }
     ensures next { (a : EventKey) → IsNext (At a) (key_of event.now) → result ≡ Some (sequenced a (key_of event.now)) }
@@ -122,7 +122,7 @@ fn sequenced_edge(event: &Event) -> Option<Edge>
     })
 }
 
-/// Adds the edges to a read from the writers of its bytes, which are these.
+/// Adds the edges to a read from these writers of its bytes.
 fn add_runs(
     edges: &mut List<Edge>,
     candidate: &Candidate,

@@ -1,4 +1,4 @@
-//! The edges that a fault needs beside its chains: the other write in the order, and what it overwrites.
+//! The edges that a fault needs in addition to its chains: the other write in the order, and what it overwrites.
 ghost use Rattle.std.specs.Prelude.{All, IfOk, IsTrue};
 ghost use Rattle.wm_event.specs.Execution.{ReadsFrom};
 ghost use Rattle.wm_event.specs.LoggedRun.{execution};
@@ -9,7 +9,7 @@ use std::alloc::{AllocError, Global};
 use wm_event::{Candidate, EventId, EventKey, Rule, RuleFault};
 use wm_list::List;
 
-/// Whether the order is seen to list an event before another one. Init is before all.
+/// Whether the order is found to list an event before another one. Init is before all others.
 fn precedes(candidate: &Candidate, first: EventId, second: EventKey) -> bool
     ensures { IsTrue result → Precedes candidate.now first second }
 {
@@ -25,7 +25,7 @@ fn precedes(candidate: &Candidate, first: EventId, second: EventKey) -> bool
     }
 }
 
-/// Whether an event is seen to overwrite the byte at an address that another one wrote.
+/// Whether an event is found to overwrite the byte at an address that another event wrote.
 fn overwrites(candidate: &Candidate, first: EventId, second: EventKey, address: u64) -> bool
     ensures { IsTrue result → Overwrites candidate.now first second }
 {
@@ -40,7 +40,7 @@ fn address_of(candidate: &Candidate, key: EventKey, byte: u8) -> Option<u64> {
     Some(u64::from(event.address).saturating_add(u64::from(byte)))
 }
 
-/// Adds an edge of the order, if it is so.
+/// Adds an edge of the order, if the order lists the events this way.
 fn add_order(
     edges: &mut List<Edge>,
     candidate: &Candidate,
@@ -60,7 +60,7 @@ fn add_order(
     Ok(())
 }
 
-/// Adds where the other write is in the order: after the writer, or before it, and before the read.
+/// Adds the place of the other write in the order: after the writer, or before it, and before the read.
 fn add_order_of_writes(
     edges: &mut List<Edge>,
     candidate: &Candidate,
@@ -92,7 +92,7 @@ fn is_writer(candidate: &Candidate, reader: EventKey, byte: u8, writer: EventId)
     }
 }
 
-/// Adds that a fault's read takes its byte from before another write, which overwrites it.
+/// Adds that a fault's read takes its byte from a write before another write, which overwrites it.
 fn add_from_read(
     edges: &mut List<Edge>,
     candidate: &Candidate,
@@ -113,7 +113,7 @@ fn add_from_read(
     Ok(())
 }
 
-/// Adds that the other write overwrites the byte at fault, and that the read takes it from before.
+/// Adds that the other write overwrites the byte at fault, and that the read takes the byte from before.
 fn add_overwritten(
     edges: &mut List<Edge>,
     candidate: &Candidate,
@@ -137,8 +137,8 @@ fn add_overwritten(
     add_from_read(edges, candidate, fault, other)
 }
 
-/// The edges that a fault with another write needs beside its chains. The order's are of V4 and V5; what is overwritten, of
-/// V3 and V5.
+/// The edges that a fault with another write needs in addition to its chains: the edges of the order for V4 and V5, and
+/// what is overwritten for V3 and V5.
 ///
 /// # Errors
 ///

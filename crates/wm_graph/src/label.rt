@@ -22,8 +22,8 @@ impl fmt::Display for NodeName {
     }
 }
 
-/// A text inside of the quotes of a label: quotes, backslashes and the sign of entities are escaped, and a space is in
-/// the place of a control character.
+/// A string within the quotes of a label: quotes, backslashes and ampersands are escaped, and a control character is
+/// replaced by a space.
 #[derive(Clone, Copy)]
 pub(crate) struct LabelText<'a>(pub &'a str);
 
@@ -42,7 +42,7 @@ impl fmt::Display for LabelText<'_> {
     }
 }
 
-/// How much of what an event read is of the initial memory.
+/// How much of what an event read comes from the initial memory.
 #[derive(Clone, Copy, PartialEq, Eq)]
 pub(crate) enum InitialShare {
     Nothing,
@@ -79,8 +79,8 @@ impl fmt::Display for InitialShare {
     }
 }
 
-/// An event as people of the field write it: its place in the order, `R`, `W` or `U`, `sc` if it is atomic, its bytes and
-/// its values.
+/// An event in the field's notation: its place in the order, `R`, `W` or `U`, `sc` if it is atomic, its bytes and its
+/// values.
 #[derive(Clone, Copy)]
 pub(crate) struct NodeLabel<'a> {
     pub event: &'a Event,
@@ -111,7 +111,7 @@ impl fmt::Display for NodeLabel<'_> {
     }
 }
 
-/// Where an event is made, on a line of its own; nothing if that is not known.
+/// The place in the module where an event is made, on a separate line; nothing if it is not known.
 #[derive(Clone, Copy)]
 pub(crate) struct PlaceLabel<'a>(pub &'a str);
 

@@ -1,4 +1,4 @@
-//! An execution as a picture: its data, and its text in the language of Graphviz.
+//! An execution as a picture: its data, and its text for Graphviz.
 #![tactic(auto)]
 
 mod caption;

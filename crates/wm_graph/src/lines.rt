@@ -1,4 +1,4 @@
-//! The lines of a picture: the edges from one node to another are one line.
+//! The lines of a picture: all edges from one node to another share one line.
 
 use crate::drawn::{DrawnEdge, DrawnKind};
 use crate::edges::{EdgeKind, ReadsFrom};
@@ -8,7 +8,7 @@ use std::fmt;
 use wm_event::{EventId, EventKey};
 use wm_hb::LinkKind;
 
-/// Which bytes are read from a writer, if these aren't all.
+/// Which bytes are read from a writer, if not all of them.
 #[derive(Clone, Copy)]
 struct BytesLabel(ReadsFrom);
 
@@ -30,7 +30,7 @@ impl fmt::Display for BytesLabel {
     }
 }
 
-/// What the edges of a line state, apart from the bytes that are read.
+/// The relations that the edges of a line state, apart from the bytes that are read.
 #[derive(Clone, Copy)]
 struct Relations {
     sequenced: bool,
@@ -40,12 +40,12 @@ struct Relations {
     coherence: bool,
     from_read: bool,
     order: bool,
-    /// Whether it is of a chain that the fault rests on.
+    /// Whether the line belongs to a chain that the fault rests on.
     in_chain: bool,
 }
 
 impl Relations {
-    /// Those of no edge.
+    /// Without relations.
     fn none() -> Relations {
         Relations {
             sequenced: false,
@@ -59,7 +59,7 @@ impl Relations {
         }
     }
 
-    /// Adds that of an edge.
+    /// Adds the relation of an edge.
     fn add_edge(&mut self, kind: EdgeKind) {
         match kind {
             EdgeKind::Sequenced => self.sequenced = true,
@@ -73,7 +73,7 @@ impl Relations {
         }
     }
 
-    /// Adds that of a link of a chain.
+    /// Adds the relation of a link of a chain.
     fn add_link(&mut self, kind: LinkKind) {
         self.in_chain = true;
         match kind {
@@ -83,7 +83,7 @@ impl Relations {
         }
     }
 
-    /// Adds that of what is drawn.
+    /// Adds the relation of something drawn.
     fn add(&mut self, kind: DrawnKind) {
         match kind {
             DrawnKind::Edge(kind) => self.add_edge(kind),
@@ -103,7 +103,7 @@ impl Relations {
         ]
     }
 
-    /// The attributes of a line but for its label.
+    /// The attributes of a line, without its label.
     fn style(self) -> &'static str {
         if self.in_chain {
             return ", color=\"red\", fontcolor=\"red\", penwidth=2";
@@ -137,7 +137,7 @@ struct Line<'a> {
 }
 
 impl Line<'_> {
-    /// Whether an edge is of the line.
+    /// Whether an edge belongs to the line.
     fn has(&self, edge: &DrawnEdge) -> bool {
         edge.from == self.from && edge.to == self.to
     }
@@ -153,7 +153,7 @@ impl Line<'_> {
         relations
     }
 
-    /// Writes the reads of the line; the answer is whether there are any.
+    /// Writes the reads of the line, and returns whether there are any.
     fn write_reads<W: fmt::Write>(&self, f: &mut fmt::Formatter<W>) -> Result<bool, fmt::Error> {
         let mut is_begun = false;
         for edge in self.edges {

@@ -14,16 +14,16 @@ use wm_event::{Candidate, EventId};
 use wm_hb::{FaultChain, fault_chains};
 use wm_list::List;
 
-/// The picture of an execution: a column of nodes for each thread, a node for Init, the edges to the events, and what the
-/// fault of a memory rule needs beside them.
+/// The picture of an execution: a column of nodes for each thread, a node for Init, the edges to the events, and what
+/// the fault of a memory rule needs in addition.
 #[derive(Drop)]
 pub(crate) struct Picture {
-    /// Whether the verdict speaks of Init.
+    /// Whether the verdict names Init.
     pub is_init_marked: bool,
     pub columns: List<Column>,
     /// The edges to the events, thread by thread.
     pub edges: List<Edge>,
-    /// For each happens-before that the fault rests on, a shortest chain.
+    /// A shortest chain for each happens-before that the fault rests on.
     pub chains: List<FaultChain>,
     /// The other edges that the fault needs.
     pub fault_edges: List<Edge>,
@@ -47,7 +47,7 @@ fn chains_of(
     }
 }
 
-/// The edges that the fault of a verdict needs beside its chains.
+/// The edges that the fault of a verdict needs in addition to its chains.
 fn fault_edges_of(
     alloc: Global,
     verdict: &Verdict,

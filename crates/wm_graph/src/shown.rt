@@ -5,22 +5,22 @@ use crate::picture::Picture;
 use std::alloc::{AllocError, Global};
 use wm_event::{Candidate, EventId, EventKey};
 
-/// How many events are shown without a choice.
+/// Up to this number of events, all are shown.
 const MAX_SHOWN: usize = 60;
 
-/// The events of a picture that are shown: all of at most 60. Of more, those that the verdict marks and those of the
-/// fault's chains, with their neighbours: the events before and after them in their threads, and the writers that they read
-/// from. If the verdict marks none, the first 60 of the order.
+/// The events of a picture that are shown: all if there are at most 60. Otherwise, the events that the verdict marks
+/// and those of the fault's chains, with their neighbours: the events before and after them in their threads, and the
+/// writers that they read from. If the verdict marks no event, the first 60 of the order.
 #[derive(Drop)]
 pub(crate) struct Shown {
-    /// By thread and number whether the event is shown.
+    /// Whether an event is shown, by thread and number.
     events: Vec<Vec<bool>>,
     /// How many events there are.
     pub total: usize,
 }
 
 impl Shown {
-    /// No event of a picture.
+    /// No event of a picture is shown.
     fn none(alloc: Global, picture: &Picture) -> Result<Shown, AllocError> {
         let mut events = Vec::new(alloc);
         let mut total = 0usize;

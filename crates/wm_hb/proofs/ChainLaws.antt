@@ -69,7 +69,7 @@ pub never_init : (x : LoggedRun) (between : List EventId) (a : EventId) → Chai
 never_init x [] a h = no_edge x a h
 never_init x (id ∷ ids) a h = never_init x ids id h.1
 
--- what isn't reached, or is the first event, doesn't come behind it
+-- an event that isn't reached, or is the first event, doesn't come after it
 pub unreached : (x : LoggedRun) (a b : EventKey) (table : List Row) (n : ℕ) (row : Row) → KeepsOrder (execution x) → IsTable x a table → StandsAt x n b → slice_get table n ≡ Some row
     → ((row.reach ≡ Never) ⊎ (row.reach ≡ First)) → HappensBefore (execution x) (At a) (At b) → ⊥
 unreached x a b table n row agrees is at get never h = ⊎_elim
@@ -102,7 +102,7 @@ is_first (By hop) d other e = absurd (other hop refl)
 pub first_at : (x : LoggedRun) (a b : EventKey) (table : List Row) (n : ℕ) (row : Row) → IsTable x a table → StandsAt x n b → slice_get table n ≡ Some row → row.reach ≡ First → a ≡ b
 first_at x a b table n row is at get e = subst (IsReach x table a b) e (is n b row at get).reach
 
--- no chain of happens-before has fewer edges than the row says
+-- no chain of happens-before has fewer edges than the row states
 pub none_shorter : (x : LoggedRun) (a b : EventKey) (table : List Row) (n : ℕ) (row : Row) (hop : Hop) → IsTable x a table → StandsAt x n b → slice_get table n ≡ Some row → row.reach ≡ By hop
     → (between : List EventId) → Chain (execution x) (At a) between (At b) → hop.links ≤ length between + 1
 none_shorter x a b table n row hop is at get e between h =

@@ -1,4 +1,4 @@
--- What a fault of each rule says, and the first one at a byte.
+-- The meaning of a fault of each rule, and the first one at a byte.
 use Rattle.std.proofs.Common.{◌≡◌, ◌≢◌, ℕ, ◌+◌, ◌≤◌, [], ◌∷◌, Option, None, Some, arith, refl, sym, ap, subst, ◌∙◌, IsSome}
 use Rattle.std.proofs.lemmas.Option.{same_Some}
 use Rattle.wm_event.specs.declared.event.Event.{Event}
@@ -46,7 +46,7 @@ third_case x r e k w b other written differs = record {
     none_before c (not_written is none) = absurd (cc)
     none_before c (other_value is d h g) = (omega arith, λ _. tt)
 
--- what is said of a read, its byte and its writer there is said of the same read and byte
+-- what holds of a read, its byte and its writer there also holds of the same read and byte
 pub read_moves : (x : Execution) (Q : EventKey → Event → ℕ → EventId → Type 0) (r s : EventKey) (e d : Event) (k j : ℕ) (w v : EventId)
     → s ≡ r → j ≡ k → x.event_of r ≡ Some e → x.event_of s ≡ Some d → ReadsFrom x r k w → ReadsFrom x s j v → Q s d j v → Q r e k w
 read_moves x Q r s e d k j w v sr jk there there' reads reads' q =
@@ -54,7 +54,7 @@ read_moves x Q r s e d k j w v sr jk there there' reads reads' q =
     let vw : v ≡ w = same_Some v w (sym reads' ∙ (rw (sr, jk) reads)) in
     subst (λ r. Q r e k w) sr (subst (λ e. Q s e k w) de (subst (λ k. Q s d k w) jk (subst (λ w. Q s d j w) vw q)))
 
--- what a fault of V1 under a byte says
+-- the meaning of a fault of V1 at a byte
 pub value_fault_says : (x : Execution) (e : Event) (k : ℕ) (w : EventId) → x.event_of (key_of e) ≡ Some e → ReadsFrom x (key_of e) k w
     → (f : RuleFault) → Under (rank x) (Breaks x) (1 ∷ e.thread ∷ e.number ∷ k ∷ []) f → BreaksWrittenValues x (key_of e) e k w f.case
 value_fault_says x e k w there reads f u =

@@ -69,7 +69,7 @@ module _ (x : Execution) where
   rule_of f NoTearing some = omega arith
   rule_of f SequentialConsistency some = omega arith
 
-  -- a first fault that has premises isn't behind a broken edge
+  -- a first fault that has premises doesn't come after a broken edge
   pub order-kept : (f : RuleFault) (edge : Edge) → (length (premises f) ≡ 0 → ⊥) → IsFirstBroken x edge → Judges x (Broken f) → ⊥
   order-kept f edge some broken first =
       let later = first.first (fault_of edge) broken.holds.0 in

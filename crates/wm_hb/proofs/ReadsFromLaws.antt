@@ -51,7 +51,7 @@ pub record HasRunsTo (writers : List EventId) (runs : List WriterRun) (first n :
   pub come : ComeFromWriters writers runs
   pub before : (k : ℕ) → k < first → IsNamed runs k
 
--- the byte behind has the same writer
+-- the next byte has the same writer
 pub runs_on : (writers : List EventId) (runs : List WriterRun) (first n : ℕ) → HasRunsTo writers runs first n → slice_get writers (n + 1) ≡ slice_get writers n → HasRunsTo writers runs first (n + 1)
 runs_on writers runs first n so_far next = record {
   order = (let o = so_far.order in omega (arith, o));
@@ -63,7 +63,7 @@ runs_on writers runs first n so_far next = record {
   before = so_far.before;
 }
 
--- it has another one, or there is none
+-- it has another writer, or there is no next byte
 pub runs_next : (writers : List EventId) (runs : List WriterRun) (run : WriterRun) → HasRunsTo writers runs run.first run.last → slice_get writers run.last ≡ Some run.writer
     → HasRunsTo writers (runs ++ run ∷ []) (run.last + 1) (run.last + 1)
 runs_next writers runs run so_far is = record {

@@ -1,4 +1,4 @@
--- What the rows of a table say.
+-- What the rows of a table state.
 use Rattle.std.proofs.Common.{◌≡◌, ℕ, zero, suc, ◌+◌, ◌<◌, ◌≤◌, List, [], ◌∷◌, ◌++◌, length, get_or, slice_get, Option, None, Some, IfSome, false, true, refl, sym, ap, ◌∙◌, subst, arith, ◌⊎◌, ⊎_elim, inl, inr}
 use Rattle.std.proofs.lemmas.Bool.{cases_lt}
 use Rattle.std.proofs.lemmas.Grind.{common_steps}
@@ -26,7 +26,7 @@ use Rattle.wm_hb.specs.declared.table.Row.{Row}
 pub place_is : (x : LoggedRun) → ListsEachOnce x.log x.witness.order → (n : ℕ) (key : EventKey) → StandsAt x n key → place (execution x) (At key) ≡ 1 + n
 place_is x order n key at = ap (λ k. 1 + k) (position_listed x.log x.witness.order order n key at)
 
--- an event that is sequenced before another stands at a lower place
+-- an event that is sequenced before another is at a lower place
 pub sequenced_below : (x : LoggedRun) → ListsEachOnce x.log x.witness.order → KeepsOrder (execution x) → (m n : ℕ) (p b : EventKey) → StandsAt x m p → StandsAt x n b → SequencedBefore (execution x) p b → m < n
 sequenced_below x order agrees m n p b at_p at_b s =
     let below = agrees (At p) (At b) ([], inl s) in
@@ -34,7 +34,7 @@ sequenced_below x order agrees m n p b at_p at_b s =
     let f = place_is x order n b at_b in
     omega (arith, below, e, f)
 
--- a writer stands at a lower place than the read that it synchronizes with
+-- a writer is at a lower place than the read that it synchronizes with
 pub synchronized_below : (x : LoggedRun) → ListsEachOnce x.log x.witness.order → KeepsOrder (execution x) → (m n : ℕ) (p b : EventKey) → StandsAt x m p → StandsAt x n b → SynchronizesWith (execution x) p b → m < n
 synchronized_below x order agrees m n p b at_p at_b s =
     let below = agrees (At p) (At b) ([], inr s) in
@@ -42,11 +42,11 @@ synchronized_below x order agrees m n p b at_p at_b s =
     let f = place_is x order n b at_b in
     omega (arith, below, e, f)
 
--- the event at a place is reached by so many links
+-- the event at a place is reached by this number of links
 pub reached_at : (table : List Row) (n : ℕ) (blank : Row) (reach : Reach) → n < length table → (get_or table n blank).reach ≡ reach → (d : ℕ) → links_of reach ≡ Some d → IsReachedAt table n d
 reached_at table n blank reach inside e d is = (get_or table n blank, slice_get-get_or table n blank inside, ap links_of e ∙ is)
 
--- no chain to the event at a place has fewer links than its row says
+-- no chain to the event at a place has fewer links than its row states
 pub bounds_at : (x : LoggedRun) (table : List Row) (a p : EventKey) (n : ℕ) (blank : Row) (reach : Reach) → n < length table → (get_or table n blank).reach ≡ reach → IsTable x a table → StandsAt x n p → BoundsChains x a p (links_of reach)
 bounds_at x table a p n blank reach inside e is at =
     subst (λ r. BoundsChains x a p (links_of r)) e (is n p (get_or table n blank) at (slice_get-get_or table n blank inside)).least

@@ -49,7 +49,7 @@ module _ (x : Execution) where
   Is_there t j = IsSome (x.event_of (record { thread = t; number = j }))
 
 module _ (x : Execution) (earlier : HasEarlier x) (none : Finds x (2 ∷ []) None) where
-  -- an event stands before the next of its thread
+  -- an event comes before the next event of its thread
   next_after : (t i : ℕ) → IsSome (x.event_of (record { thread = t; number = i + 1 })) → place x (At (record { thread = t; number = i })) < place x (At (record { thread = t; number = i + 1 }))
   next_after t i there =
       let p : EventKey = record { thread = t; number = i } in

@@ -1,4 +1,4 @@
--- Chains of happens-before whose links say which edges they are.
+-- Chains of happens-before whose links state which edges they are.
 use Rattle.std.specs.Prelude.{◌≡◌, ◌+◌, ◌<◌, ◌≤◌, List, [], ◌∷◌, All, IsSome, MatchOption, Option, length}
 use Rattle.wm_event.specs.declared.event.EventKey.{EventKey}
 use Rattle.wm_event.specs.declared.event.EventId.{EventId}
@@ -20,7 +20,7 @@ IsEdge x Sequenced (At a) b = SequencedBefore x a b
 IsEdge x Synchronizes Init b = ⊥
 IsEdge x Synchronizes (At a) b = SynchronizesWith x a b
 
--- from a by each of these links in turn to b; without a link b is a
+-- from a through each of these links, in order, to b; without a link b is a
 abbrev pub Leads : Execution → EventId → List Link → EventId → Type 0
 Leads x a [] b = a ≡ b
 Leads x a (l ∷ ls) b = IsEdge x l.kind a l.event × Leads x (At l.event) ls b
@@ -35,6 +35,6 @@ pub record IsShortestChain (x : Execution) (a : EventId) (links : List Link) (b 
 abbrev pub AreChains : Execution → List FaultChain → Type 0
 AreChains x chains = All (λ chain. IsShortestChain x chain.from chain.links chain.to) chains
 
--- a shortest chain from one event to another; None where the first doesn't happen before the second
+-- a shortest chain from one event to another; None if the first doesn't happen before the second
 abbrev pub FindsChain : Execution → EventId → EventId → Option (List Link) → Type 0
 FindsChain x a b result = MatchOption result (HappensBefore x a b → ⊥) (λ links. IsShortestChain x a links b)

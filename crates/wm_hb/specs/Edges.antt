@@ -11,6 +11,6 @@ use Rattle.wm_hb.specs.declared.ordered.Edge.{Edge}
 abbrev pub fault_of : Edge → RuleFault
 fault_of e = record { rule = Order; case = e.case; event = e.event; byte = e.byte; writer = e.writer; other = None }
 
--- of all faults of the second rule it is the first
+-- it is the first of all faults of the second rule
 abbrev pub IsFirstBroken : Execution → Edge → Type 0
 IsFirstBroken x e = IsFirst (rank x) (Under (rank x) (Breaks x) (2 ∷ [])) (fault_of e)

@@ -3,7 +3,7 @@ use Rattle.std.specs.Prelude.{◌≡◌, ℕ, ◌≤◌, List, Some, slice_get}
 use Rattle.wm_event.specs.declared.event.EventId.{EventId}
 use Rattle.wm_hb.specs.declared.reads_from.WriterRun.{WriterRun}
 
--- byte k is one of the run
+-- byte k is in this run
 abbrev pub NamesByte : WriterRun → ℕ → Type 0
 NamesByte run k = (run.first ≤ k) × (k ≤ run.last)
 

@@ -9,7 +9,7 @@ use Rattle.wm_event.specs.HappensBefore.{HappensBefore, SequencedBefore, Synchro
 use Rattle.wm_event.specs.Rules.{KeepsOrder}
 use Rattle.wm_closure.specs.Graph.{IsAmong, sources_of}
 
--- r is the next of p's thread, or p synchronizes with r
+-- r is the next event of p's thread, or p synchronizes with r
 abbrev pub IsStep : LoggedRun → EventKey → EventKey → Type 0
 IsStep x p r = (SequencedBefore (execution x) p r × (p.number + 1 ≡ r.number)) ⊎ SynchronizesWith (execution x) p r
 
@@ -33,7 +33,7 @@ AreThreads x threads = threads ≡ map (λ key. key.thread) x.witness.order
 abbrev pub IsNext : LoggedRun → EventKey → EventKey → Type 0
 IsNext x p r = SequencedBefore (execution x) p r × (p.number + 1 ≡ r.number)
 
--- r is the next of p's thread, or p synchronizes with r and one of the first n bytes of r has writer p
+-- r is the next event of p's thread, or p synchronizes with r and one of the first n bytes of r has writer p
 abbrev pub IsStepWithin : LoggedRun → ℕ → EventKey → EventKey → Type 0
 IsStepWithin x n p r = IsNext x p r ⊎ (SynchronizesWith (execution x) p r × ((k : ℕ) × (k < n) × ReadsFrom (execution x) r k (At p)))
 
@@ -49,11 +49,11 @@ pub record IsHappensBefore (x : LoggedRun) (graph : List (List ℕ)) : Type 0 wh
 abbrev pub DecidesBefore : LoggedRun → ℕ → ℕ → Bool → Type 0
 DecidesBefore x from to b = (p r : EventKey) → StandsAt x from p → StandsAt x to r → IsTrue b ↔ HappensBefore (execution x) (At p) (At r)
 
--- the place of the event before this one in its thread, None where there is none
+-- the place of the event before this one in its thread; None if it is the first
 abbrev pub FindsPrevious : LoggedRun → EventKey → Option ℕ → Type 0
 FindsPrevious x r result = MatchOption result ((p : EventKey) → IsNext x p r → ⊥) (λ m. (p : EventKey) × StandsAt x m p × IsNext x p r)
 
--- the place of the writer, None where it doesn't synchronize with the reader
+-- the place of the writer; None if it doesn't synchronize with the reader
 abbrev pub FindsWriter : LoggedRun → EventId → EventKey → Option ℕ → Type 0
 FindsWriter x writer reader result = MatchOption result
     ((p : EventKey) → writer ≡ At p → SynchronizesWith (execution x) p reader → ⊥)

@@ -32,15 +32,15 @@ abbrev pub hop_links : Option Hop → Option ℕ
 hop_links None = None
 hop_links (Some hop) = Some hop.links
 
--- every chain from a to b has at least so many links
+-- every chain from a to b has at least this number of links
 abbrev pub BoundsChains : LoggedRun → EventKey → EventKey → Option ℕ → Type 0
 BoundsChains x a b o = (links : List Link) → Leads (execution x) (At a) links (At b) → IsWithin o (length links)
 
--- every chain from a to c and one link more have at least so many links
+-- every chain from a to c, with one more link, has at least this number of links
 abbrev pub BoundsThrough : LoggedRun → EventKey → EventKey → Option ℕ → Type 0
 BoundsThrough x a c o = (links : List Link) → Leads (execution x) (At a) links (At c) → IsWithin o (length links + 1)
 
--- the row at this place says that its event is reached by so many links
+-- the row at this place states that its event is reached by this number of links
 abbrev pub IsReachedAt : List Row → ℕ → ℕ → Type 0
 IsReachedAt table place d = (row : Row) × (slice_get table place ≡ Some row) × (links_of row.reach ≡ Some d)
 
@@ -63,18 +63,18 @@ IsReach x table a b Never = Unit {0}
 IsReach x table a b First = a ≡ b
 IsReach x table a b (By hop) = IsHop x table b hop
 
--- the best last link of those from earlier events of b's thread
+-- the best last link from earlier events of b's thread
 pub record IsBestOfThread (x : LoggedRun) (table : List Row) (a b : EventKey) (earlier : Option Hop) : Type 0 where
   pub hop : IfSome earlier (λ hop. IsHop x table b hop × (hop.kind ≡ Sequenced))
   pub least : (c : EventKey) → SequencedBefore (execution x) c b → BoundsThrough x a c (hop_links earlier)
 
--- what a row says of its event b: how it is reached by the fewest links
+-- what a row states about its event b: how it is reached by the fewest links
 pub record IsRow (x : LoggedRun) (table : List Row) (a b : EventKey) (row : Row) : Type 0 where
   pub earlier : IsBestOfThread x table a b row.earlier
   pub reach : IsReach x table a b row.reach
   pub least : BoundsChains x a b (links_of row.reach)
 
--- each row says how the event of its place is reached
+-- each row states how the event of its place is reached
 abbrev pub IsTable : LoggedRun → EventKey → List Row → Type 0
 IsTable x a table = (n : ℕ) (b : EventKey) (row : Row) → StandsAt x n b → slice_get table n ≡ Some row → IsRow x table a b row
 
@@ -104,7 +104,7 @@ abbrev pub BoundsThroughWriters : LoggedRun → List Row → EventKey → Option
 BoundsThroughWriters x table reader o =
     (a p : EventKey) → IsTable x a table → SynchronizesWith (execution x) p reader → BoundsThrough x a p (hop_links o)
 
--- the place of the event before this one in its thread; None where none is sequenced before it
+-- the place of the event before this one in its thread; None if no event is sequenced before it
 abbrev pub FindsPrevious : LoggedRun → EventKey → Option ℕ → Type 0
 FindsPrevious x r result = MatchOption result
     ((p : EventKey) → SequencedBefore (execution x) p r → ⊥)

@@ -1,4 +1,4 @@
-//! What happens before what in a candidate whose order agrees with it.
+//! Happens-before of a candidate whose order agrees with it.
 ghost use Rattle.std.specs.Prelude.{◌≡◌, ◌↔◌, IsTrue, IfOk, MatchOption, Some, None, slice_get};
 ghost use Rattle.wm_event.specs.declared.event.EventId.TheVariants.{Init, At};
 ghost use Rattle.wm_event.specs.declared.event.EventKey.{EventKey};
@@ -14,7 +14,7 @@ use std::marker::Model;
 use wm_closure::Closure;
 use wm_event::{Candidate, EventId, EventKey};
 
-/// What happens before what in a candidate whose order agrees with it.
+/// Happens-before of a candidate whose order agrees with it.
 #[derive(Drop)]
 pub struct HappensBefore<'c, 'i> {
     candidate: &'c Candidate<'i>,
@@ -33,7 +33,7 @@ impl<'c, 'i> Model for HappensBefore<'c, 'i> {
 }
 
 impl<'c, 'i> HappensBefore<'c, 'i> {
-    /// Happens-before of an ordered candidate. An error comes only where memory was refused.
+    /// Happens-before of an ordered candidate. The only error is an allocation failure.
     pub fn of(alloc: Global, ordered: &Ordered<'c, 'i>) -> Result<Self, AllocError>
         ensures { IfOk result (λ h. h ≡ ordered.now) }
     {
@@ -45,7 +45,7 @@ impl<'c, 'i> HappensBefore<'c, 'i> {
         Ok(HappensBefore { candidate, closure })
     }
 
-    /// The candidate, whose order agrees with what happens before what.
+    /// The candidate, whose order agrees with happens-before.
     pub fn candidate(&self) -> &'c Candidate<'i>
         ensures value { result.now ≡ self.now }
         ensures agrees { KeepsOrder (execution self.now) }
@@ -77,9 +77,9 @@ impl<'c, 'i> HappensBefore<'c, 'i> {
         self.closure.reaches(start, end)
     }
 
-    /// Whether one event happens before another: whether a finite chain of edges leads from one to the other, where an edge
-    /// is Init to each event, an event to a later one of its thread, or an atomic write to an atomic read of equal range that
-    /// reads a byte from it. False for an id that isn't there.
+    /// Whether one event happens before another: whether a finite chain of edges leads from one to the other. An edge
+    /// leads from Init to each event, from an event to a later one of its thread, or from an atomic write to an atomic
+    /// read of equal range that reads a byte from it. False if there is no such event.
     pub fn before(&self, from: EventId, to: EventId) -> bool
         ensures { IsTrue result ↔ IsBefore (execution self.now) from to }
     {

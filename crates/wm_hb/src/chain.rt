@@ -12,7 +12,7 @@ use std::alloc::{AllocError, Global};
 use wm_event::{Candidate, EventId, EventKey};
 use wm_list::List;
 
-/// Which edge of happens-before a link of a chain is.
+/// Which edge of happens-before a link is.
 #[derive(Clone, Copy, Debug, PartialEq, Eq)]
 pub enum LinkKind {
     /// From Init to an event.
@@ -83,7 +83,7 @@ fn chain_between(
 }
 
 /// A shortest chain of edges of happens-before from one event to another, in a candidate whose order agrees with
-/// happens-before; None where the first doesn't happen before the second.
+/// happens-before; None if the first doesn't happen before the second.
 ///
 /// # Errors
 ///

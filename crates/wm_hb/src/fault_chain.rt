@@ -19,7 +19,7 @@ pub struct FaultChain {
     pub links: List<Link>,
 }
 
-/// A shortest chain for each premise; None where one doesn't hold.
+/// A shortest chain for each premise; None if one doesn't hold.
 fn chains_in(
     alloc: Global,
     ordered: &Ordered,
@@ -38,8 +38,8 @@ fn chains_in(
     Ok(Some(chains))
 }
 
-/// For each happens-before that a fault of a memory rule rests on a shortest chain of its edges, the premises of the fault
-/// in their order; None where it isn't the first fault of the run.
+/// A shortest chain of edges for each happens-before that a fault of a memory rule rests on, in the order of the
+/// fault's premises; None if it isn't the first fault of the run.
 ///
 /// # Errors
 ///

@@ -11,7 +11,7 @@ ghost use Rattle.wm_hb.specs.Scan.{Finds, IsEventOf};
 use crate::writers::synchronizes;
 use wm_event::{Candidate, Event, EventId, EventKey, Rule, RuleFault};
 
-/// Whether an event stands before another in the order. Init stands before all others.
+/// Whether an event comes before another in the order. Init comes before all others.
 pub fn stands_before(candidate: &Candidate, first: EventId, second: EventId) -> bool
     requires first { IsThere candidate.now.log first }
     requires second { IsThere candidate.now.log second }

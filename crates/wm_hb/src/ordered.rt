@@ -1,4 +1,4 @@
-//! Candidates whose order agrees with what happens before what.
+//! Candidates whose order agrees with happens-before.
 ghost use Rattle.std.specs.Prelude.{◌≡◌, ◌<◌, [], ◌∷◌, length};
 ghost use Rattle.wm_event.specs.LoggedRun.{execution};
 ghost use Rattle.wm_hb.specs.Scan.{Finds};
@@ -35,13 +35,14 @@ fn first_fault(candidate: &Candidate) -> Option<RuleFault>
     None
 }
 
-/// A candidate whose order agrees with what happens before what.
+/// A candidate whose order agrees with happens-before.
 #[derive(Drop)]
 pub struct Ordered<'c, 'i> {
     candidate: &'c Candidate<'i>,
 }
 
-/// An edge of happens-before that the order doesn't agree with: its later end, and its earlier end as the writer.
+/// An edge of happens-before that the order doesn't agree with: its later end as the event, its earlier end as the
+/// writer.
 #[derive(Clone, Copy, Debug, PartialEq, Eq)]
 pub struct Edge {
     pub case: u8,
@@ -66,7 +67,7 @@ impl<'c, 'i> Ordered<'c, 'i> {
     ghost use Rattle.wm_event.specs.Rules.{KeepsOrder};
     ghost use Rattle.wm_hb.specs.Edges.{IsFirstBroken};
 
-    /// The candidate, where its order agrees with each edge; else the first edge that it doesn't agree with.
+    /// The candidate, if its order agrees with each edge; otherwise the first edge that it doesn't agree with.
     pub fn of(candidate: &'c Candidate<'i>) -> Result<Self, Edge>
         ensures value { IfOk result (λ o. o ≡ candidate.now) }
         ensures agrees { OnOk result (KeepsOrder (execution candidate.now)) }

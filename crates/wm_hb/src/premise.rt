@@ -6,7 +6,7 @@ use std::alloc::{AllocError, Global};
 use wm_event::{EventId, Rule, RuleFault};
 use wm_list::List;
 
-/// That one event happens before another.
+/// A premise: one event happens before another.
 #[derive(Clone, Copy, Debug, PartialEq, Eq)]
 pub struct Premise {
     pub from: EventId,
@@ -70,7 +70,7 @@ fn sequential_premises(alloc: Global, fault: &RuleFault) -> Result<List<Premise>
     Ok(premises)
 }
 
-/// The pairs of events of which a fault of a memory rule says that the first happens before the second.
+/// The pairs of events that a fault of a memory rule rests on: the first one of each happens before the second.
 pub(crate) fn premises_of(alloc: Global, fault: &RuleFault) -> Result<List<Premise>, AllocError>
     ensures { IfOk result (λ list. list ≡ premises fault.now) }
 {

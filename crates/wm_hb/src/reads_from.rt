@@ -1,4 +1,4 @@
-//! Who wrote the bytes of a read, by runs of bytes with one writer.
+//! The writers of the bytes of a read, by runs of bytes with one writer.
 ghost use Rattle.std.specs.Prelude.{◌≡◌, ◌+◌, false, IfOk, slice_get};
 ghost use Rattle.wm_event.specs.Witness.{writers_in};
 ghost use Rattle.wm_hb.specs.ReadsFrom.{AreFromWriters};
@@ -7,7 +7,7 @@ use std::alloc::{AllocError, Global};
 use wm_event::{Candidate, EventId, EventKey};
 use wm_list::List;
 
-/// Bytes of a read, next to one another, that one writer wrote.
+/// Adjacent bytes of a read that one writer wrote.
 #[derive(Clone, Copy, Debug, PartialEq, Eq)]
 pub struct WriterRun {
     pub writer: EventId,
@@ -17,7 +17,7 @@ pub struct WriterRun {
     pub last: usize,
 }
 
-/// Whether the next byte has another writer, or there is none.
+/// Whether there is no next byte, or it has another writer.
 fn is_last(writers: &[EventId], byte: usize) -> bool
     ensures { result ≡ false → slice_get writers.now (byte + 1) ≡ slice_get writers.now byte }
 {
@@ -27,8 +27,8 @@ fn is_last(writers: &[EventId], byte: usize) -> bool
     }
 }
 
-/// The bytes of a read by their writers: a run for neighbouring bytes that one writer wrote, in the order of their
-/// addresses. There is none for an event that reads nothing.
+/// The bytes of a read by their writers: a run for adjacent bytes that one writer wrote, in the order of their
+/// addresses. An event that reads nothing has no runs.
 ///
 /// # Errors
 ///

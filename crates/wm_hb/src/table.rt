@@ -12,7 +12,7 @@ use crate::writers::synchronizes;
 use std::alloc::{AllocError, Global};
 use wm_event::{Candidate, EventId, EventKey};
 
-/// The last link to an event of a chain with the fewest links.
+/// The last link of a chain with the fewest links to an event.
 #[derive(Clone, Copy)]
 pub(crate) struct Hop {
     /// How many links the chain has.
@@ -33,7 +33,7 @@ pub(crate) enum Reach {
     By(Hop),
 }
 
-/// What is known of the event at a place.
+/// What is known about the event at a place.
 #[derive(Clone, Copy)]
 pub(crate) struct Row {
     pub reach: Reach,
@@ -41,7 +41,7 @@ pub(crate) struct Row {
     pub earlier: Option<Hop>,
 }
 
-/// Of two last links to an event the one with the fewer links.
+/// Of two last links to an event, the one whose chain has fewer links.
 fn shorter(first: Option<Hop>, second: Option<Hop>) -> Option<Hop>
     ensures one { (result ≡ first) ⊎ (result ≡ second) }
     ensures least { (n : ℕ) → IsWithin (hop_links first) n ⊎ IsWithin (hop_links second) n → IsWithin (hop_links result) n }
@@ -59,7 +59,7 @@ fn shorter(first: Option<Hop>, second: Option<Hop>) -> Option<Hop>
     }
 }
 
-/// The last link from the event at a place, where that is reached.
+/// The last link from the event at a place, if that event is reached.
 fn hop_from(table: &[Row], kind: LinkKind, previous: usize) -> Option<Hop>
     requires there { previous < length table.now }
     requires small { IsSmall table.now }
@@ -110,7 +110,7 @@ fn from_thread(candidate: &Candidate, table: &[Row], key: EventKey) -> Option<Ho
     )
 }
 
-/// The last link from the writer of a byte of a read, where it synchronizes with the read.
+/// The last link from the writer of a byte of a read, if it synchronizes with the read.
 fn from_writer(
     candidate: &Candidate,
     table: &[Row],
@@ -151,7 +151,7 @@ fn best(candidate: &Candidate, table: &[Row], key: EventKey, earlier: Option<Hop
     best
 }
 
-/// How the event after those of the table is reached.
+/// How the event after the last one of the table is reached.
 fn row_of(candidate: &Candidate, table: &[Row], from: EventKey, key: EventKey) -> Row
     requires agrees { KeepsOrder (execution candidate.now) }
     requires stands { StandsAt candidate.now (length table.now) key }
@@ -173,7 +173,7 @@ fn row_of(candidate: &Candidate, table: &[Row], from: EventKey, key: EventKey) -
     Row { reach, earlier }
 }
 
-/// How each event is reached from one of them, by its place in the order.
+/// How each event is reached from `from`, by its place in the order.
 pub(crate) fn table(
     alloc: Global,
     candidate: &Candidate,

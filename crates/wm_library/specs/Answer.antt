@@ -1,11 +1,11 @@
--- What a call from C answers.
+-- The answer to a call from C.
 use Rattle.std.specs.Prelude.{◌≡◌, ℕ, List, ◌++◌, drop, length, string_bytes, take}
 use Rattle.wm_check.specs.declared.verdict.Verdict.{Verdict}
 use Rattle.wm_check.specs.Verified.{Verifies}
 use Rattle.wm_litmus.specs.Lines.{verdict_status, verdict_text}
 use Rattle.wm_library.specs.declared.answer.Answer.{Answer}
 
--- the line and the status are those of the verdict on the completed log
+-- the line and the status are given by the verdict on the completed log
 pub record IsAnswerOf (module_bytes document_bytes : List ℕ) (answer : Answer) : Type 0 where
   pub verdict : Verdict
   pub verifies : Verifies module_bytes document_bytes verdict

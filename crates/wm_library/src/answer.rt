@@ -7,7 +7,7 @@ use std::alloc::{AllocError, Global};
 use wm_check::{Verdict, verify};
 use wm_litmus::verdict_line;
 
-/// A verdict as the program says it.
+/// A verdict as the program prints it.
 #[derive(Drop)]
 pub(crate) struct Answer {
     /// Its line, without a newline.
@@ -47,7 +47,7 @@ pub(crate) fn answer_to(
     })
 }
 
-/// Writes a text over the first bytes of a room, as far as it fits.
+/// Writes as much of a text as fits over the first bytes of a room.
 pub(crate) fn write_front(room: &mut [u8], text: &[u8])
     ensures { room.new ≡ take (length room.old) text.now ++ drop (length text.now) room.old }
 {

@@ -1,13 +1,13 @@
-//! What C calls.
+//! The function that C calls.
 ghost use Rattle.std.specs.Prelude.{◌≡◌, ◌≤◌, ◌<◌};
 ghost use Rattle.wm_library.specs.Answer.{WritesAnswer};
 
 use crate::answer::{answer_to, write_front};
 use std::alloc::Global;
 
-/// Completes a log against its module and checks it, as the command `verify` does. The line of the verdict is written into
-/// `room`, as far as it fits, without a newline, and its length into `size`. Returns the status of the program: 0 allowed,
-/// 1 broken, 2 refused; or 3 if an allocation fails, and then `room` and `size` are as they were.
+/// Completes a log against its module and checks it, as the command `verify` does. The line of the verdict, without a
+/// newline, is written into `room` as far as it fits, and its length into `size`. Returns the status of the program: 0
+/// allowed, 1 broken, 2 refused; or 3 if an allocation fails, and then `room` and `size` are unchanged.
 #[unsafe(no_mangle)]
 pub extern "C" fn wmlab_answer(
     alloc: Global,

@@ -1,13 +1,13 @@
-//! A list whose room contracts see, so that an item that goes into room taken before can't be refused.
+//! A vector whose capacity contracts see, so that a push into reserved capacity can't fail.
 ghost use Rattle.std.specs.Prelude.{◌≡◌, ◌+◌, ◌<◌, ◌≤◌, ◌++◌, ◌∷◌, [], length, IfOk, OnOk};
 
 use crate::List;
 use std::alloc::{AllocError, Global};
 use std::marker::Model;
 
-/// A vector that contracts see as its items and how many it has room for.
+/// A vector that contracts see as its items and its capacity.
 ///
-/// Its room is taken first, by `with_capacity` or `reserve`. What then goes into that room takes no memory.
+/// Capacity is reserved first, by `with_capacity` or `reserve`. What then goes into it doesn't allocate.
 #[derive(Drop)]
 pub struct Growing<T> {
     entries: Vec<T>,
@@ -23,7 +23,7 @@ impl<T> Model for Growing<T> {
 }
 
 impl<T> Growing<T> {
-    /// The list with no item and no room.
+    /// The empty vector without capacity.
     pub fn new(alloc: Global) -> Self
         ensures { result.items ≡ [] }
     {
@@ -32,7 +32,7 @@ impl<T> Growing<T> {
         }
     }
 
-    /// The list with no item and room for so many.
+    /// The empty vector with capacity for `count` items.
     pub fn with_capacity(alloc: Global, count: usize) -> Result<Self, AllocError>
         ensures { IfOk result (λ list. list ≡ record { items = []; capacity = count }) }
     {
@@ -63,7 +63,7 @@ impl<T> Growing<T> {
         self.entries.as_slice()
     }
 
-    /// Makes room for so many items more. Where memory is refused, the items are as before.
+    /// Reserves capacity for `more` further items. If an allocation fails, the items are as before.
     pub fn reserve(&mut self, more: usize) -> Result<(), AllocError>
         ensures items { self.new.items ≡ self.old.items }
         ensures room { OnOk result (length self.new.items + more ≤ self.new.capacity) }
@@ -71,7 +71,7 @@ impl<T> Growing<T> {
         self.entries.reserve(more)
     }
 
-    /// Puts an item into room taken before, after the others. It takes no memory.
+    /// Appends an item within the reserved capacity. It doesn't allocate.
     pub fn push_reserved(&mut self, item: T)
     where
         T: Drop,
@@ -82,7 +82,7 @@ impl<T> Growing<T> {
         self.entries.push_reserved(item);
     }
 
-    /// Copies items into room taken before, after the others. It takes no memory.
+    /// Appends copies of items within the reserved capacity. It doesn't allocate.
     pub fn extend_within(&mut self, items: &[T])
     where
         T: Copy,

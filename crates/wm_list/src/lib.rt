@@ -1,5 +1,5 @@
-//! A list and a text that contracts see as lists, for types that contracts compare as a whole, and a list whose room is
-//! taken before its items come.
+//! A list and a string that contracts see as lists, for types that contracts compare as a whole, and a vector whose
+//! capacity is reserved up front.
 #![tactic(auto)]
 
 mod growing;

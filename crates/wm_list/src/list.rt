@@ -6,8 +6,8 @@ use std::marker::Model;
 
 /// A vector that contracts see as the list of its items.
 ///
-/// Two lists are equal in a contract exactly where they have equal items; the capacity isn't seen.
-/// It is made from a `Vec` and gives it back without taking memory.
+/// Two lists are equal in a contract exactly if they have equal items; the capacity isn't seen. It is made from a `Vec`
+/// and gives it back without allocating.
 #[derive(Drop)]
 pub struct List<T> {
     entries: Vec<T>,
@@ -22,7 +22,7 @@ impl<T> Model for List<T> {
 }
 
 impl<T> List<T> {
-    /// The list with no item.
+    /// The empty list.
     pub fn new(alloc: Global) -> Self
         ensures { result ≡ [] }
     {
@@ -31,7 +31,7 @@ impl<T> List<T> {
         }
     }
 
-    /// The list of the items of `entries`, which is moved into it.
+    /// The list of the items of `entries`, which is moved in.
     pub fn from_vec(entries: Vec<T>) -> Self
         ensures { result ≡ entries.items }
     {
@@ -53,7 +53,7 @@ impl<T> List<T> {
         self.entries.len()
     }
 
-    /// Whether there is no item.
+    /// Whether the list is empty.
     pub fn is_empty(&self) -> bool
         ensures { IsTrue result ↔ (length self.now ≡ 0) }
     {
@@ -67,14 +67,14 @@ impl<T> List<T> {
         self.entries.as_slice()
     }
 
-    /// The item at `index`, counted from 0; None at the length and past it.
+    /// The item at `index`, counted from 0; None if `index` is not below the length.
     pub fn get(&self, index: usize) -> Option<&T>
         ensures { option_copied result ≡ slice_get self.now index }
     {
         self.entries.get(index)
     }
 
-    /// Puts an item after the others. The list is unchanged where memory is refused.
+    /// Appends an item. The list is unchanged if an allocation fails.
     pub fn push(&mut self, item: T) -> Result<(), AllocFailed<T>>
         ensures ok { OnOk result (self.new ≡ self.old ++ item ∷ []) }
         ensures err { OnErr result (self.new ≡ self.old) }
@@ -83,7 +83,7 @@ impl<T> List<T> {
         self.entries.push(item)
     }
 
-    /// Puts an item in the place of another.
+    /// Replaces the item at `index`.
     pub fn set(&mut self, index: usize, item: T)
     where
         T: Drop,

@@ -5,7 +5,7 @@ use std::marker::Model;
 
 /// A string that contracts see as the list of its UTF-8 bytes.
 ///
-/// It is made from a `String` and gives it back without taking memory.
+/// It is made from a `String` and gives it back without allocating.
 #[derive(Drop)]
 pub struct Text {
     characters: String,
@@ -20,7 +20,7 @@ impl Model for Text {
 }
 
 impl Text {
-    /// The text of a string, which is moved into it.
+    /// The text of a string, which is moved in.
     pub fn from_string(characters: String) -> Self
         ensures { result ≡ string_bytes characters }
     {

@@ -36,7 +36,7 @@ module _ (bytes : List ℕ) (status : ℕ) (text : List ℕ) where
   answers_fault OutOfMemory memory place none s t = absurd (memory refl)
   answers_fault Misplaced memory place none s t = misplaced (place refl) s t
 
--- what a verdict on bytes says, by each of its parts
+-- the meaning of a verdict on bytes, by each of its parts
 pub says : (module_bytes document_bytes : List ℕ) (v : Verdict) → IfAllowed {E = AllocError} (Ok v) (IsAllowed module_bytes document_bytes)
     → IfRefused {E = AllocError} (Ok v) (IsRefusedFor module_bytes document_bytes) → IfBroken {E = AllocError} (Ok v) (IsBrokenBy module_bytes document_bytes) → Says module_bytes document_bytes v
 says mb db (Allowed certificate) is_allowed is_refused is_broken = is_allowed

@@ -1,4 +1,4 @@
--- What is said of a run and of a document alone.
+-- The explanation of a run, and of a document alone.
 use Rattle.std.proofs.Common.{◌≡◌, ℕ, List, ◌++◌, refl, sym, subst, string_bytes, ◌∙◌, ap}
 use Rattle.wm_event.specs.declared.log.ThreadLog.{ThreadLog}
 use Rattle.wm_event.specs.declared.witness.Witness.{Witness}

@@ -1,4 +1,4 @@
--- What is said of a verdict answers the bytes that it is on.
+-- An explanation of a verdict answers the bytes that the verdict is on.
 use Rattle.std.proofs.Common.{◌≡◌, ◌∙◌, ℕ, List, Option, Some, None, sym, string_bytes}
 use Rattle.std.proofs.lemmas.Option.{none-some}
 use Rattle.wm_check.specs.declared.verdict.Refusal.{Refusal}

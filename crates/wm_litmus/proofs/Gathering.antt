@@ -13,7 +13,7 @@ use Rattle.wm_litmus.specs.Counts.{Counts}
 use Rattle.wm_litmus.specs.Outcomes.{outcome_text}
 use Rattle.wm_litmus.specs.Rounds.{CountsRound, IsAllowedRound, outcomes}
 
--- so many rounds were made, each is allowed, and their outcomes are counted
+-- this number of rounds were made, each is allowed, and their outcomes are counted
 pub record HasMade («module» : Module) (plan : Plan) (number : ℕ) (counts : BTreeMap (String Global) ℕ) : Type 0 where
   pub runs : List Record
   pub many : length runs ≡ number

@@ -15,7 +15,7 @@ use Rattle.wm_run.specs.Own.{OwnRunsAreAllowed, OwnRunsAreWithinLimits}
 use Rattle.wm_run.specs.Run.{Record, over}
 use Rattle.wm_litmus.specs.Own.{IsMadeOf, IsOwnVerdict, run_text}
 
--- what the crates below say of all runs and all bytes
+-- the laws of the crates below, for all runs and all bytes
 pub record OwnLaws : Type 0 where
   pub allowed : OwnRunsAreAllowed
   pub limits : OwnRunsAreWithinLimits

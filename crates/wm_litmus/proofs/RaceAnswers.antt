@@ -33,7 +33,7 @@ one_not_zero status one none = absurd (omega (arith, one, none))
 pub two_not_zero : (status : ℕ) → status ≡ 2 → status ≡ 0 → ⊥
 two_not_zero status two none = absurd (omega (arith, two, none))
 
--- what is said of a candidate that is there, and of an allowed one
+-- the answer for a candidate that exists, and for an allowed one
 pub said_of_some : (o : Option LoggedRun) (run : LoggedRun) (P : LoggedRun → Type 0) → o ≡ Some run → IfSome o P → P run
 said_of_some o run P is said = subst (λ (x : Option LoggedRun). IfSome x P) is said
 

@@ -38,7 +38,7 @@ pub lists_some : {X : Type 0} (line : X → List ℕ) (threads events : ℕ) (ra
 lists_some line threads events [] text some is = absurd (some refl)
 lists_some line threads events (race ∷ races) text some is = record { status_is = refl; text_is = is }
 
--- how many are left out of so many
+-- how many of this number are left out
 pub left_out : {X : Type 0} (shown races : List X) → shown ≡ take 1000 races → length races - length shown ≡ length races - 1000
 left_out shown races is =
     let few : length shown ≡ min 1000 (length races) = ap length is ∙ length-take 1000 races in

@@ -1,4 +1,4 @@
--- What the command `drive` answers.
+-- The answers of the command `drive`.
 use Rattle.std.specs.Prelude.{◌≡◌, ◌≢◌, ℕ, List, Option, ◌++◌, codes, string_bytes}
 use Rattle.wm_ast.specs.declared.module.Module.{Module}
 use Rattle.wm_check.specs.declared.verdict.Refusal.{Refusal}
@@ -42,7 +42,7 @@ pub record IsDriven (module_bytes : List ℕ) (run : Record) (answer : Answer) :
   pub own : IsOwnVerdict run verdict
   pub prints : PrintsRun (outcome_text run.log) verdict (run_text run) answer
 
--- the same of whichever bytes spell the module
+-- the same, whichever bytes spell the module
 abbrev pub IsDrivenOver : Module → Record → Answer → Type 0
 IsDrivenOver «module» run answer = (module_bytes : List ℕ) → IsMadeOf module_bytes «module» run → IsDriven module_bytes run answer
 
@@ -61,8 +61,9 @@ abbrev pub DrivesOver : Module → Script → Answer → Type 0
 DrivesOver «module» script answer =
     (module_bytes : List ℕ) → IsModuleOf module_bytes «module» → AnswersDrive module_bytes script.plan script.turns answer.status (string_bytes answer.text)
 
--- the status and the text that answer the words of a script over the module of a file, whose bytes may be known: those of the
--- script that a word of turns and the words of the starts spell, or a refusal of the first of them that spells nothing
+-- the status and the text that answer the words of a script over the module of a file, whose bytes may be known: the
+-- answer to the script that a word of turns and the words of the starts spell, or a refusal of the first word that
+-- spells nothing
 pub data IsScriptAnswer (Answers : List ℕ → Plan → List Turn → ℕ → List ℕ → Type 0) (known : Option (List ℕ)) (turns : List ℕ) (starts : List (List ℕ)) (status : ℕ) (text : List ℕ) : Type 0 where
   played : (script : Script) (module_bytes : List ℕ) → IsScriptOf turns starts script → IsReadOf known max_module_bytes module_bytes
       → Answers module_bytes script.plan script.turns status text → IsScriptAnswer Answers known turns starts status text

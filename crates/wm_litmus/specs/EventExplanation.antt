@@ -1,4 +1,4 @@
--- What the commands `explain` and `graph` answer to a document alone.
+-- The answers of the commands `explain` and `graph` to a document alone.
 use Rattle.std.specs.Prelude.{◌≡◌, ◌≢◌, ℕ, List, ◌++◌, string_bytes}
 use Rattle.wm_event.specs.declared.log.ThreadLog.{ThreadLog}
 use Rattle.wm_event.specs.declared.rule.Judgement.{Judgement}
@@ -21,21 +21,21 @@ pub record GainsReasons (old : Answer) (reasons : List ℕ) (new : Answer) : Typ
 
 -- ---- the command `explain`
 
--- an answer prints the refusal of a document, and sentences of which nothing more is said
+-- an answer prints the refusal of a document, and sentences that aren't specified
 pub record ExplainsFault (fault : DocFault) (answer : Answer) : Type 0 where
   pub answered : fault ≢ OutOfMemory
   pub status_is : answer.status ≡ 2
   pub reasons : List ℕ
   pub text_is : string_bytes answer.text ≡ ended (document_line_text fault) ++ reasons
 
--- the status and the text that answer a run: those of `rules`, and sentences of which nothing more is said
+-- the status and the text that answer a run: those of `rules`, and sentences that aren't specified
 pub record ExplainsRun (run : LoggedRun) (status : ℕ) (text : List ℕ) : Type 0 where
   pub line : List ℕ
   pub reasons : List ℕ
   pub judged : AnswersRun run status line
   pub text_is : text ≡ line ++ reasons
 
--- the status and the text that answer a document: those of `rules`, and sentences of which nothing more is said
+-- the status and the text that answer a document: those of `rules`, and sentences that aren't specified
 pub record AnswersEventExplain (bytes : List ℕ) (status : ℕ) (text : List ℕ) : Type 0 where
   pub line : List ℕ
   pub reasons : List ℕ
@@ -44,8 +44,8 @@ pub record AnswersEventExplain (bytes : List ℕ) (status : ℕ) (text : List �
 
 -- ---- the command `graph`
 
--- the status and the text that answer a run: the status of its judgement with a picture, of which nothing more is said; of a misshapen one the
--- answer of `rules`
+-- the status and the text that answer a run: the status of its judgement with a picture that isn't specified; for a
+-- misshapen run the answer of `rules`
 pub data GraphsRun (run : LoggedRun) (status : ℕ) (text : List ℕ) : Type 0 where
   pictured : (judgement : Judgement) → IsWellShaped run → Judges (execution run) judgement
       → status ≡ judgement_status judgement → GraphsRun run status text

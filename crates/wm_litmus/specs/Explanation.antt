@@ -1,4 +1,4 @@
--- What the commands `explain` and `graph` answer.
+-- The answers of the commands `explain` and `graph`.
 use Rattle.std.specs.Prelude.{◌≡◌, ℕ, List, ◌++◌, string_bytes}
 use Rattle.wm_ast.specs.declared.module.Module.{Module}
 use Rattle.wm_check.specs.declared.verdict.Refusal.{Refusal}
@@ -18,11 +18,11 @@ pub record PrintsReasons (verdict : Verdict) (reasons : List ℕ) (answer : Answ
   pub status_is : answer.status ≡ verdict_status verdict
   pub text_is : string_bytes answer.text ≡ ended (verdict_text verdict) ++ reasons
 
--- an answer prints the line of the verdict, and sentences of which nothing more is said
+-- an answer prints the line of the verdict, and sentences that aren't specified
 abbrev pub Explains : Verdict → Answer → Type 0
 Explains verdict answer = (reasons : List ℕ) × PrintsReasons verdict reasons answer
 
--- the status and the text that answer a module and a document: those of `check`, and sentences of which nothing more is said
+-- the status and the text that answer a module and a document: those of `check`, and sentences that aren't specified
 pub record AnswersExplain (module_bytes document_bytes : List ℕ) (status : ℕ) (text : List ℕ) : Type 0 where
   pub verdict : Verdict
   pub says : Says module_bytes document_bytes verdict
@@ -37,14 +37,14 @@ ExplainsOver «module» document_bytes answer =
 
 -- ---- the command `graph`
 
--- an answer has the status of the verdict with a picture, of which nothing more is said; or it prints the line of a refusal
+-- an answer has the status of the verdict with a picture that isn't specified; or it prints the line of a refusal
 abbrev pub Shows : Verdict → Answer → Type 0
 Shows (Allowed certificate) answer = answer.status ≡ 0
 Shows (Refused refusal) answer = Prints 2 (refusal_text refusal) answer
 Shows (Broken breach) answer = answer.status ≡ 1
 
--- the status and the text that answer a module and a document: the status of `check` with a picture, of which nothing more is said, where
--- there is a candidate; else the line of the refusal
+-- the status and the text that answer a module and a document: the status of `check` with a picture that isn't
+-- specified, if there is a candidate; otherwise the line of the refusal
 pub data AnswersGraph (module_bytes document_bytes : List ℕ) (status : ℕ) (text : List ℕ) : Type 0 where
   pictured : (verdict : Verdict) → Says module_bytes document_bytes verdict → IsJudged verdict
       → status ≡ verdict_status verdict → AnswersGraph module_bytes document_bytes status text

@@ -68,7 +68,8 @@ help_text = flat_map ended help_lines
 abbrev pub program_version : List ℕ
 program_version = codes "0.2.0"
 
--- the version of the program, those of the log format that are read and written, and the logic that the proofs are checked in
+-- the version of the program, the versions of the log format that are read and written, and the logic in which the
+-- proofs are checked
 abbrev pub version_lines : List (List ℕ)
 version_lines =
     (codes "wmlab " ++ program_version)

@@ -41,7 +41,7 @@ shape_line_text fault = codes "refused shape " ++ shape_fault_text fault
 abbrev pub run_fault_line_text : RunFault → List ℕ
 run_fault_line_text fault = codes "refused " ++ run_fault_text fault
 
--- a word that says nothing; want of memory is no line of its own
+-- a word that spells nothing; an allocation failure has no line here
 abbrev pub word_text : WordFault → List ℕ
 word_text Turns = codes "turns"
 word_text Rounds = codes "rounds"
@@ -54,7 +54,7 @@ word_line_text fault = codes "refused command " ++ word_text fault
 abbrev pub words_line_text : List ℕ
 words_line_text = codes "refused command words"
 
--- what a replay answers; `Same` is no line of its own
+-- the answer of a replay; `Same` has no line here
 abbrev pub replay_text : ReplayAnswer → List ℕ
 replay_text Same = codes "same"
 replay_text (StartRefused thread fault) = codes "thread " ++ decimal thread ++ codes " start " ++ start_fault_text fault

@@ -13,7 +13,7 @@ end_text (Done None) = codes "-"
 end_text (Trap kind) = codes "trap:" ++ trap_text kind
 end_text Cut = codes "cut"
 
--- what stands before the end of a thread
+-- the separator before the end of a thread
 abbrev pub separator_text : ℕ → List ℕ
 separator_text zero = []
 separator_text (suc number) = codes " "

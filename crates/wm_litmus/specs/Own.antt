@@ -23,7 +23,7 @@ pub record IsMadeOf (module_bytes : List ℕ) («module» : Module) (run : Recor
   pub own : IsOwnRun «module» run
   pub within : IsWithinPlan run
 
--- the verdict on its own document: that the run is allowed, or that the text is past the limit of bytes
+-- the verdict on its own document: that the run is allowed, or that the text is over the limit of bytes
 abbrev pub IsOwnVerdict : Record → Verdict → Type 0
 IsOwnVerdict run (Allowed certificate) = (certificate.threads ≡ length run.log) × (certificate.events ≡ event_count run.log)
 IsOwnVerdict run (Refused reason) = (reason ≡ refusal.Document TooLarge) × (max_document_bytes < length (run_text run))

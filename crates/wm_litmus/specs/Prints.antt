@@ -1,4 +1,4 @@
--- What an answer prints.
+-- The output of an answer.
 use Rattle.std.specs.Prelude.{◌≡◌, ℕ, List, [], ◌∷◌, ◌++◌, string_bytes}
 use Rattle.wm_litmus.specs.declared.answer.Answer.{Answer}
 

@@ -1,4 +1,4 @@
--- What the command `races` answers.
+-- The answers of the command `races`.
 use Rattle.std.specs.Prelude.{◌≡◌, ◌≢◌, ℕ, zero, suc, ◌-◌, List, [], ◌∷◌, ◌++◌, codes, length, false, take, ⊤}
 use Rattle.std.specs.Fmt.{decimal, digits}
 use Rattle.std.specs.List.{flat_map}
@@ -34,7 +34,7 @@ abbrev pub races_status : {X : Type 0} → List X → ℕ
 races_status [] = 0
 races_status (race ∷ races) = 1
 
--- a run of so many threads and events without a race
+-- a run of this number of threads and events without a race
 abbrev pub no_races_text : ℕ → ℕ → List ℕ
 no_races_text threads events = codes "no races threads=" ++ decimal threads ++ codes " events=" ++ decimal events
 
@@ -67,7 +67,7 @@ more_text (suc n) = ended (codes "and " ++ decimal (suc n) ++ codes " more")
 abbrev pub lines_text : {X : Type 0} → (X → List ℕ) → List X → List ℕ
 lines_text line races = shown_text line (take 1000 races) ++ more_text (length races - 1000)
 
--- all that is printed of the races of a run of so many threads and events
+-- everything that is printed for the races of a run of this number of threads and events
 abbrev pub races_text : {X : Type 0} → (X → List ℕ) → ℕ → ℕ → List X → List ℕ
 races_text line threads events [] = ended (no_races_text threads events)
 races_text line threads events (race ∷ races) = lines_text line (race ∷ races)
@@ -77,12 +77,12 @@ pub record ListsRaces {X : Type 0} (line : X → List ℕ) (threads events : ℕ
   pub status_is : status ≡ races_status races
   pub text_is : text ≡ races_text line threads events races
 
--- the answer lists the races of which these are the first 1,000, and this is the number
+-- the answer lists the races, given the first 1,000 and their total number
 abbrev pub ListsFirst : {X : Type 0} → (X → List ℕ) → ℕ → ℕ → List X → ℕ → Answer → Type 0
 ListsFirst {X} line threads events shown total answer =
     (races : List X) → shown ≡ take 1000 races → total ≡ length races → Gives (ListsRaces line threads events races) answer
 
--- ---- of a module and a document
+-- ---- for a module and a document
 
 -- the status and the text list the races of a run, reported by the instructions that make its events
 pub record ReportsRaces («module» : Module) (run : LoggedRun) (certificate : Certificate) (status : ℕ) (text : List ℕ) : Type 0 where
@@ -98,7 +98,8 @@ IsNotAllowed (Allowed certificate) = ⊥
 IsNotAllowed (Refused refusal) = ⊤
 IsNotAllowed (Broken breach) = ⊤
 
--- the status and the text that answer a module and a document: the races of an allowed run; else the line of the verdict
+-- the status and the text that answer a module and a document: the races of an allowed run; otherwise the line of the
+-- verdict
 pub data AnswersRaces (module_bytes document_bytes : List ℕ) (status : ℕ) (text : List ℕ) : Type 0 where
   listed : («module» : Module) (run : LoggedRun) (certificate : Certificate) → IsCandidateOf module_bytes document_bytes «module» run
       → Says module_bytes document_bytes (Allowed certificate) → IsValid (execution run) → ReportsRaces «module» run certificate status text
@@ -110,7 +111,7 @@ pub data AnswersRaces (module_bytes document_bytes : List ℕ) (status : ℕ) (t
 abbrev pub RacesOver : Module → List ℕ → Answer → Type 0
 RacesOver «module» document_bytes answer = (module_bytes : List ℕ) → IsModuleOf module_bytes «module» → Gives (AnswersRaces module_bytes document_bytes) answer
 
--- ---- of a document alone
+-- ---- for a document alone
 
 -- the status and the text list the races of a valid run, one by one
 pub record ReportsOwnRaces (run : LoggedRun) (status : ℕ) (text : List ℕ) : Type 0 where
@@ -118,12 +119,12 @@ pub record ReportsOwnRaces (run : LoggedRun) (status : ℕ) (text : List ℕ) : 
   pub list : IsRaceList (execution run) races
   pub lists : ListsRaces pair_text (length run.log) (event_count run.log) races status text
 
--- the status and the text that answer a run: its races, if the memory rules allow it; else the answer of `rules`
+-- the status and the text that answer a run: its races, if the memory rules allow it; otherwise the answer of `rules`
 pub data AnswersRunRaces (run : LoggedRun) (status : ℕ) (text : List ℕ) : Type 0 where
   listed : IsWellShaped run → IsValid (execution run) → ReportsOwnRaces run status text → AnswersRunRaces run status text
   told : status ≢ 0 → AnswersRun run status text → AnswersRunRaces run status text
 
--- the status and the text that answer a document: those of its run over 16 pages of zeros
+-- the status and the text that answer a document: the answer to its run over 16 pages of zeros
 pub data AnswersEventRaces (bytes : List ℕ) (status : ℕ) (text : List ℕ) : Type 0 where
   read : (log : List ThreadLog) (witness : Witness) → IsDocumentOf bytes log witness
       → AnswersRunRaces (run_over 16 log witness) status text → AnswersEventRaces bytes status text

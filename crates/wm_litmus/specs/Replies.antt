@@ -1,4 +1,4 @@
--- What the program answers: what it prints, and the exit status.
+-- The answers of the program: what it prints, and the exit status.
 use Rattle.std.specs.Prelude.{◌≡◌, ◌<◌, ℕ, List, Option, drop, map}
 use Rattle.std.specs.Borrow.{Bor}
 use Rattle.std.specs.Io.KnownBytes.{Appends}
@@ -35,7 +35,7 @@ use Rattle.wm_litmus.specs.Lines.{document_line_text, verdict_text, words_line_t
 
 -- ---- the command `check`
 
--- the status and the text that answer a module and a document: those of the verdict on them
+-- the status and the text that answer a module and a document, by the verdict on them
 pub data AnswersCheck (module_bytes document_bytes : List ℕ) (status : ℕ) (text : List ℕ) : Type 0 where
   allowed : (certificate : Certificate) → IsAllowed module_bytes document_bytes certificate
       → status ≡ 0 → text ≡ ended (verdict_text (Allowed certificate)) → AnswersCheck module_bytes document_bytes status text
@@ -71,7 +71,7 @@ pub data AnswersComplete (module_bytes document_bytes : List ℕ) (status : ℕ)
 abbrev pub words_of : List (Bor Text) → List Text
 words_of words = map (λ word. word.now) words
 
--- what the program is given: the words, and what the files and the input hold, where that is known
+-- the program's input: the words, and the contents of the files and of the input, if they are known
 pub record Given : Type 0 where
   pub words : List Text
   pub files : List ℕ → Option (List ℕ)
@@ -80,7 +80,7 @@ pub record Given : Type 0 where
 abbrev pub given : List Text → (List ℕ → Option (List ℕ)) → Option (List ℕ) → Given
 given words files input = record { words = words; files = files; input = input }
 
--- the status and the text that answer what is given
+-- the status and the text that answer this input
 pub data IsAnswer (given : Given) (status : ℕ) (text : List ℕ) : Type 0 where
   no_command : IsNoCommand given.words → status ≡ 2 → text ≡ ended words_line_text → IsAnswer given status text
   rules_of : (document : Bor Text) (bytes : List ℕ) → IsCommand given.words (Rules document)
@@ -140,7 +140,8 @@ pub record WritesAnswer (given : Given) (old new : Option (List ℕ)) (status : 
   pub answers : IsAnswer given status text
   pub gains : Appends old new text
 
--- the writer gains nothing, a front of what an answer prints, or a front of the answers to the first lines of the input
+-- the writer gains nothing, a prefix of what an answer prints, or a prefix of the answers to the first lines of the
+-- input
 pub data WritesFront (given : Given) (old new : Option (List ℕ)) : Type 0 where
   nothing : new ≡ old → WritesFront given old new
   front : (status : ℕ) (text : List ℕ) → IsAnswer given status text
@@ -154,6 +155,6 @@ pub data WritesFront (given : Given) (old new : Option (List ℕ)) : Type 0 wher
 abbrev pub Serves : List (Bor Text) → (List ℕ → Option (List ℕ)) → Option (List ℕ) → Option (List ℕ) → Option (List ℕ) → ℕ → Type 0
 Serves words files input old new status = status < 3 → WritesAnswer (given (words_of words) files input) old new status
 
--- at status 3 it gains a front of it at most
+-- at status 3 it gains at most a prefix of the answer
 abbrev pub StopsAt3 : List (Bor Text) → (List ℕ → Option (List ℕ)) → Option (List ℕ) → Option (List ℕ) → Option (List ℕ) → ℕ → Type 0
 StopsAt3 words files input old new status = status ≡ 3 → WritesFront (given (words_of words) files input) old new

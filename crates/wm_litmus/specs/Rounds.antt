@@ -1,4 +1,4 @@
--- What the command `run` answers.
+-- The answers of the command `run`.
 use Rattle.std.specs.Prelude.{◌≡◌, ◌≢◌, ◌<◌, ℕ, List, ◌++◌, MatchOption, Option, String, true, codes, length, map, string_bytes}
 use Rattle.std.specs.BTreeMap.{BTreeMap}
 use Rattle.std.specs.declared.alloc.Global.{Global}
@@ -52,7 +52,7 @@ pub record CountsRound («module» : Module) (plan : Plan) (old new : BTreeMap (
   pub allowed : IsAllowedRound «module» plan run
   pub counted : CountsRun run old new
 
--- a table, and how many rounds there were
+-- a table, and the number of rounds
 abbrev pub rounds_text : List ℕ → ℕ → List ℕ
 rounds_text table count = table ++ ended (codes "allowed rounds=" ++ decimal count)
 
@@ -61,16 +61,16 @@ pub record PrintsRounds (table : List ℕ) (count : ℕ) (answer : Answer) : Typ
   pub status_is : answer.status ≡ 0
   pub text_is : string_bytes answer.text ≡ rounds_text table count
 
--- the status and the text that answer a module, a plan and how many rounds there are
+-- the status and the text that answer a module, a plan and a number of rounds
 pub data AnswersRounds (module_bytes : List ℕ) (plan : Plan) (count : ℕ) (status : ℕ) (text : List ℕ) : Type 0 where
   no_module : (refusal : Refusal) → IsModuleRefusal module_bytes refusal
       → status ≡ 2 → text ≡ ended (verdict_text (Refused refusal)) → AnswersRounds module_bytes plan count status text
   refused : («module» : Module) (fault : RunFault) → IsModuleOf module_bytes «module» → fault ≢ OutOfMemory → IsRoundFault «module» plan fault
       → status ≡ 2 → text ≡ ended (run_fault_line_text fault) → AnswersRounds module_bytes plan count status text
-  -- the document of a round is past the limit of bytes
+  -- the document of a round is over the limit of bytes
   too_large : («module» : Module) (run : Record) → IsModuleOf module_bytes «module» → IsRound true «module» plan run → max_document_bytes < length (run_text run)
       → status ≡ 2 → text ≡ ended (verdict_text (Refused (refusal.Document TooLarge))) → AnswersRounds module_bytes plan count status text
-  -- so many rounds, each of them allowed, and the table of their outcomes
+  -- this number of rounds, all allowed, and the table of their outcomes
   made : («module» : Module) (runs : List Record) (table : List ℕ) → IsModuleOf module_bytes «module»
       → length runs ≡ count → All (IsAllowedRound «module» plan) runs → IsTableText (outcomes runs) table
       → status ≡ 0 → text ≡ rounds_text table count → AnswersRounds module_bytes plan count status text
@@ -84,8 +84,9 @@ RunsOver «module» rounds answer =
 abbrev pub CountsOrAnswers : Module → Rounds → BTreeMap (String Global) ℕ → BTreeMap (String Global) ℕ → Option Answer → Type 0
 CountsOrAnswers «module» rounds old new answer = MatchOption answer (CountsRound «module» rounds.plan old new) (RunsOver «module» rounds)
 
--- the status and the text that answer the words of rounds of the module of a file, whose bytes may be known: those of the rounds
--- that a word of their number and the words of the starts spell, or a refusal of the first of them that spells nothing
+-- the status and the text that answer the words of rounds of the module of a file, whose bytes may be known: the answer
+-- to the rounds that a word of their number and the words of the starts spell, or a refusal of the first word that
+-- spells nothing
 pub data IsRoundsAnswer (known : Option (List ℕ)) (count : List ℕ) (starts : List (List ℕ)) (status : ℕ) (text : List ℕ) : Type 0 where
   ran : (rounds : Rounds) (module_bytes : List ℕ) → IsRoundsOf count starts rounds → IsReadOf known max_module_bytes module_bytes
       → AnswersRounds module_bytes rounds.plan rounds.count status text → IsRoundsAnswer known count starts status text

@@ -1,4 +1,4 @@
--- What the command `rules` answers.
+-- The answers of the command `rules`.
 use Rattle.std.specs.Prelude.{◌≡◌, ℕ, ◌*◌, List, replicate}
 use Rattle.wm_event.specs.declared.log.ThreadLog.{ThreadLog}
 use Rattle.wm_event.specs.declared.rule.Judgement.{Judgement}
@@ -13,7 +13,7 @@ use Rattle.wm_logfile.specs.DocumentBytes.{IsDocumentOf, IsNoDocument}
 use Rattle.wm_litmus.specs.Lines.{document_line_text, judgement_status, judgement_text, shape_line_text}
 use Rattle.wm_litmus.specs.Prints.{ended}
 
--- so many pages of zeros, of 65,536 bytes each
+-- this number of pages of zeros, of 65,536 bytes each
 unfoldable pub zeros : ℕ → List ℕ
 zeros pages = replicate (pages * 65536) 0
 

@@ -1,4 +1,4 @@
--- What the parts of the program answer.
+-- The answers of the program's parts.
 use Rattle.std.specs.Prelude.{◌≡◌, ℕ, List, Option, string_bytes, ⊤}
 use Rattle.wm_decode.specs.Bounds.{max_module_bytes}
 use Rattle.wm_command.specs.declared.command.Command.TheVariants.{Stream}
@@ -28,7 +28,7 @@ pub record StreamsAll (file input old new : Option (List ℕ)) (status : ℕ) : 
   pub answers : AnswersStream module_bytes input status text
   pub gains : Appends old new text
 
--- the writer gains nothing, or a front of the answers to the first lines of the input
+-- the writer gains nothing, or a prefix of the answers to the first lines of the input
 pub data StreamsFront (file input old new : Option (List ℕ)) : Type 0 where
   nothing : new ≡ old → StreamsFront file input old new
   front : (module_bytes text : List ℕ) → IsReadOf file max_module_bytes module_bytes → AnswersFirstLines module_bytes input text

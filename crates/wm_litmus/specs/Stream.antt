@@ -1,4 +1,4 @@
--- What the commands `verify` and `stream` answer.
+-- The answers of the commands `verify` and `stream`.
 use Rattle.std.specs.Prelude.{◌≡◌, ℕ, ◌+◌, List, ◌++◌, Option, IfSome, string_bytes, take}
 use Rattle.wm_check.specs.declared.verdict.Verdict.{Verdict}
 use Rattle.wm_check.specs.declared.verdict.Verdict.TheVariants.{Refused}
@@ -18,7 +18,7 @@ use Rattle.wm_litmus.specs.Prints.{ended}
 
 -- ---- the command `verify`
 
--- the status and the text that answer a module and a document: those of the verdict on its completed log
+-- the status and the text that answer a module and a document, by the verdict on its completed log
 pub record AnswersVerify (module_bytes document_bytes : List ℕ) (status : ℕ) (text : List ℕ) : Type 0 where
   pub verdict : Verdict
   pub verifies : Verifies module_bytes document_bytes verdict
@@ -27,11 +27,11 @@ pub record AnswersVerify (module_bytes document_bytes : List ℕ) (status : ℕ)
 
 -- ---- the command `stream`
 
--- the answer to a line is that of `verify` to the line as a document
+-- the answer to a line is the answer of `verify` to the line as a document
 abbrev pub AnswersLine : List ℕ → List ℕ → LineStatus → List ℕ → Type 0
 AnswersLine module_bytes line status text = AnswersVerify module_bytes line (status_code status) text
 
--- the lines of the input, each with its first bytes, as many as a document may have and one more
+-- the lines of the input, each cut to one more byte than a document may have
 abbrev pub input_lines : List ℕ → List (List ℕ)
 input_lines bytes = cut_lines (max_document_bytes + 1) bytes
 
@@ -53,7 +53,7 @@ pub record AnswersFirstLines (module_bytes : List ℕ) (input : Option (List ℕ
   pub are_answers : AreAnswers (AnswersLine module_bytes) (take count lines) answers
   pub text_is : text ≡ text_of answers
 
--- ---- who answers a line
+-- ---- the judge of the lines
 
 -- the answer is the line of the verdict
 pub record IsLineOf (verdict : Verdict) (answer : LineAnswer) : Type 0 where
@@ -65,6 +65,6 @@ abbrev pub IsJudgeOf : List ℕ → Judge → Type 0
 IsJudgeOf module_bytes (judge.Module «module») = IsModuleOf module_bytes «module»
 IsJudgeOf module_bytes (judge.Refused verdict) = (refusal : Refusal) × (verdict ≡ Refused refusal) × IsModuleRefusal module_bytes refusal
 
--- what a judge answers to a line, whichever bytes it is made of
+-- the answer of a judge to a line, whichever bytes the judge was made from
 abbrev pub JudgesLine : Judge → List ℕ → LineStatus → List ℕ → Type 0
 JudgesLine judge line status text = (module_bytes : List ℕ) → IsJudgeOf module_bytes judge → AnswersLine module_bytes line status text

@@ -8,7 +8,7 @@ use Rattle.std.specs.Ordering.{nat_cmp}
 use Rattle.std.specs.Str.{bytes_eq}
 use Rattle.wm_litmus.specs.Prints.{ended}
 
--- a row: an outcome, and how often it came
+-- a row: an outcome, and how often it occurred
 pub record Row : Type 0 where
   pub outcome : List ℕ
   pub count : ℕ
@@ -16,11 +16,12 @@ pub record Row : Type 0 where
 abbrev pub outcomes_of : List Row → List (List ℕ)
 outcomes_of rows = map (λ (row : Row). row.outcome) rows
 
--- how often an outcome is among those that came
+-- how often an outcome is among those that occurred
 abbrev pub times : List ℕ → List (List ℕ) → ℕ
 times outcome came = count_by (λ other. bytes_eq outcome other) came
 
--- the rows of the outcomes that came: sorted by the bytes of the outcome, each once, with how often it came, none left out
+-- the rows of the outcomes that occurred: sorted by the bytes of the outcome, each once, with how often it occurred,
+-- without omissions
 pub record IsTable (came : List (List ℕ)) (rows : List Row) : Type 0 where
   pub sorted : IsStrictlySortedBy (slice_cmp nat_cmp) (outcomes_of rows)
   pub counted : All (λ (row : Row). (0 < row.count) × (row.count ≡ times row.outcome came)) rows
@@ -34,7 +35,7 @@ count_text count = replicate (8 - length (decimal count)) 32 ++ decimal count
 abbrev pub row_text : Row → List ℕ
 row_text row = ended (count_text row.count ++ codes "  " ++ row.outcome)
 
--- the text is that of the table of the outcomes that came
+-- the text is the table of the outcomes that occurred
 pub record IsTableText (came : List (List ℕ)) (text : List ℕ) : Type 0 where
   pub rows : List Row
   pub table : IsTable came rows

@@ -1,4 +1,4 @@
--- What the command `trace` answers.
+-- The answers of the command `trace`.
 use Rattle.std.specs.Prelude.{◌≡◌, ◌≢◌, ℕ, Bool, true, false, List, [], ◌∷◌, ◌++◌, Option, None, Some, codes, length, map}
 use Rattle.std.specs.Fmt.{decimal}
 use Rattle.std.specs.List.{flat_map}
@@ -42,7 +42,7 @@ use Rattle.wm_litmus.specs.Races.{site_text}
 
 -- ---- lines
 
--- a turn as TURNS spell it
+-- a turn as TURNS spells it
 abbrev pub turn_text : Turn → List ℕ
 turn_text (Step t) = decimal t
 turn_text (Drain t) = codes "d" ++ decimal t
@@ -90,7 +90,7 @@ rest_text Ended = codes "the thread has ended"
 rest_text Spent = codes "the thread has made all its steps"
 rest_text Full = codes "the log is full"
 
--- what a turn of this run did
+-- the effect of a turn of this run
 abbrev pub done_text : Record → TurnDone → List ℕ
 done_text run Stepped = codes "step"
 done_text run (Accessed key store) = event_text (event_in run.log key) key ++ from_text (writers_in run.witness key) ++ before_text store
@@ -99,12 +99,13 @@ done_text run (Drained key) = codes "drained " ++ key_text key
 done_text run Absent = codes "no drain: no such store"
 done_text run Held = codes "no drain: an older store overlaps"
 
--- what is in the buffer of the thread after the turn
+-- the contents of the thread's buffer after the turn
 abbrev pub pending_text : List EventKey → List ℕ
 pending_text [] = []
 pending_text (key ∷ keys) = codes " pending" ++ keys_text (key ∷ keys)
 
--- the line of a turn of this run: the turn, the instruction before which the thread was, what the turn did, and what is pending then
+-- the line of a turn of this run: the turn, the thread's next instruction before it, what the turn did, and what is
+-- pending then
 abbrev pub line_text : Record → TracedTurn → Site → List ℕ
 line_text run entry site =
     turn_text entry.turn ++ site_text site ++ codes " " ++ done_text run entry.done ++ pending_text entry.pending
@@ -114,13 +115,13 @@ abbrev pub lines_text : Record → List TracedTurn → List Site → List ℕ
 lines_text run (entry ∷ entries) (site ∷ sites) = ended (line_text run entry site) ++ lines_text run entries sites
 lines_text run entries sites = []
 
--- all that is printed of a traced run; the last line is its outcome
+-- everything that is printed for a traced run; the last line is its outcome
 abbrev pub trace_text : Record → List TracedTurn → List Site → List ℕ
 trace_text run entries sites = lines_text run entries sites ++ ended (codes "outcome " ++ outcome_text run.log)
 
 -- ---- answers
 
--- the status and the text that show the turns of a run, each with the instruction before which its thread was
+-- the status and the text that show the turns of a run, each with its thread's next instruction before it
 pub record ShowsTrace («module» : Module) (run : Record) (entries : List TracedTurn) (status : ℕ) (text : List ℕ) : Type 0 where
   pub sites : List Site
   pub count : length sites ≡ length entries
@@ -128,7 +129,8 @@ pub record ShowsTrace («module» : Module) (run : Record) (entries : List Trace
   pub status_is : status ≡ 0
   pub text_is : text ≡ trace_text run entries sites
 
--- the status and the text that answer a module and a script: the scripted run turn by turn; else what `drive` answers
+-- the status and the text that answer a module and a script: the scripted run turn by turn; otherwise the answer of
+-- `drive`
 pub data AnswersTrace (module_bytes : List ℕ) (plan : Plan) (turns : List Turn) (status : ℕ) (text : List ℕ) : Type 0 where
   no_module : (refusal : Refusal) → IsModuleRefusal module_bytes refusal
       → status ≡ 2 → text ≡ ended (verdict_text (Refused refusal)) → AnswersTrace module_bytes plan turns status text

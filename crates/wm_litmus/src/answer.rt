@@ -1,4 +1,4 @@
-//! What a command answers.
+//! The answer of a command.
 ghost use Rattle.std.specs.Prelude.{◌≡◌, ◌≢◌, IfOk, string_bytes};
 ghost use Rattle.wm_litmus.specs.Drive.{PrintsRun};
 ghost use Rattle.wm_litmus.specs.EventExplanation.{GainsReasons};
@@ -44,7 +44,7 @@ fn verdict_status_of(verdict: &Verdict) -> u8
 }
 
 impl Answer {
-    /// The answer of one line, which is given without its newline.
+    /// The answer of one line, given without its newline.
     pub fn of_line(status: u8, line: String) -> Result<Answer, AllocError>
         ensures { IfOk result (Prints status (string_bytes line)) }
     {
@@ -53,7 +53,7 @@ impl Answer {
         Ok(Answer { text, status })
     }
 
-    /// The answer that a judgement is.
+    /// The answer for a judgement.
     pub fn judged(alloc: Global, judgement: &Judgement) -> Result<Answer, AllocError>
         ensures { IfOk result (Prints (judgement_status judgement.now) (judgement_text judgement.now)) }
     {
@@ -61,7 +61,7 @@ impl Answer {
         Answer::of_line(status_of(judgement), line)
     }
 
-    /// The answer that a verdict is.
+    /// The answer for a verdict.
     pub fn of_verdict(alloc: Global, verdict: &Verdict) -> Result<Answer, AllocError>
         ensures { IfOk result (Prints (verdict_status verdict.now) (verdict_text verdict.now)) }
     {
@@ -69,7 +69,8 @@ impl Answer {
         Answer::of_line(verdict_status_of(verdict), line)
     }
 
-    /// The refusal of a document, such as `refused document BadShape at /2/0/1`; an allocation failure is no answer.
+    /// The refusal of a document, such as `refused document BadShape at /2/0/1`; an allocation failure is not an
+    /// answer.
     pub fn refused_document(alloc: Global, fault: &DocFault) -> Result<Answer, AllocError>
         ensures { IfOk result (λ answer. (fault.now ≢ DocFault.OutOfMemory)
             × Prints 2 (document_line_text fault.now) answer) }
@@ -83,8 +84,8 @@ impl Answer {
         }
     }
 
-    /// The refusal of a log and a witness that are no candidate, such as `refused shape WriterCount at 0.1`; an
-    /// allocation failure is no answer.
+    /// The refusal of a log and a witness that are not a candidate, such as `refused shape WriterCount at 0.1`; an
+    /// allocation failure is not an answer.
     pub fn refused_shape(alloc: Global, fault: ShapeFault) -> Result<Answer, AllocError>
         ensures { IfOk result (λ answer. (fault ≢ ShapeFault.OutOfMemory)
             × Prints 2 (shape_line_text fault) answer) }
@@ -106,7 +107,7 @@ impl Answer {
         Answer::of_line(2, line)
     }
 
-    /// The refusal of a word; an allocation failure is no answer.
+    /// The refusal of a word; an allocation failure is not an answer.
     pub fn refused_word(alloc: Global, fault: WordFault) -> Result<Answer, AllocError>
         ensures { IfOk result (λ answer. (fault ≢ WordFault.OutOfMemory) × Prints 2 (word_line_text fault) answer) }
     {
@@ -120,7 +121,7 @@ impl Answer {
         Answer::of_line(2, line)
     }
 
-    /// The answer that a scripted run is: its outcome, the verdict on its document, and the document, a line each.
+    /// The answer for a scripted run: its outcome, the verdict on its document, and the document, a line each.
     pub fn driven(
         alloc: Global,
         outcome: &str,
@@ -137,7 +138,7 @@ impl Answer {
         })
     }
 
-    /// The answer that rounds are, each of which is allowed: the table of their outcomes, and their number.
+    /// The answer for rounds that are all allowed: the table of their outcomes, and their number.
     pub fn rounds(alloc: Global, table: &str, count: u32) -> Result<Answer, AllocError>
         ensures { IfOk result (PrintsRounds table.now count) }
     {

@@ -10,7 +10,7 @@ use wm_check::{Breach, CompletedDocument, Verdict, complete_document};
 ///
 /// # Errors
 ///
-/// Only if memory was refused.
+/// Only if an allocation fails.
 pub(crate) fn completion_answer(
     alloc: Global,
     module_bytes: &[u8],

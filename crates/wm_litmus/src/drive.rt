@@ -12,7 +12,7 @@ use wm_run::{Run, RunFault, drive};
 use wm_valid::ValidModule;
 use wm_words::Script;
 
-/// The answer that a run is.
+/// The answer for a run.
 fn driven<R: AllocGlobal + Threads + Sync>(
     rt: &R,
     module: &ValidModule,
@@ -49,7 +49,7 @@ fn play<R: AllocGlobal + Threads + Sync>(
 ///
 /// # Errors
 ///
-/// Only if memory was refused.
+/// Only if an allocation fails.
 pub(crate) fn drive_answer<R: AllocGlobal + Threads + Sync>(
     rt: &R,
     module_bytes: &[u8],

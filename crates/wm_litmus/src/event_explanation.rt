@@ -1,5 +1,5 @@
-//! The commands `explain` and `graph` for a document alone: why `rules` answers what it answers, in sentences and as a
-//! picture. The document is read and judged once.
+//! The commands `explain` and `graph` for a document without a module: why `rules` gives its answer, in sentences and
+//! as a picture. The document is read and judged once.
 ghost use Rattle.std.specs.Prelude.{◌≡◌, ◌≤◌, IfOk};
 ghost use Rattle.wm_litmus.specs.EventExplanation.{AnswersEventExplain, AnswersEventGraph, ExplainsFault, ExplainsRun, GraphsRun};
 ghost use Rattle.wm_litmus.specs.Lines.{judgement_status, verdict_status};
@@ -44,7 +44,7 @@ fn explain_log<R: AllocGlobal + Threads + Sync>(
     }
 }
 
-/// The refusal of the bytes of a document, and its explanation; an allocation failure is no answer.
+/// The refusal of the bytes of a document, and its explanation; an allocation failure is not an answer.
 fn explain_fault(alloc: Global, fault: DocFault, bytes: &[u8]) -> Result<Answer, AllocError>
     ensures { IfOk result (ExplainsFault fault) }
 {
@@ -57,7 +57,7 @@ fn explain_fault(alloc: Global, fault: DocFault, bytes: &[u8]) -> Result<Answer,
 ///
 /// # Errors
 ///
-/// Only if memory was refused.
+/// Only if an allocation fails.
 pub(crate) fn explain_events_answer<R: AllocGlobal + Threads + Sync>(
     rt: &R,
     bytes: &[u8],
@@ -70,7 +70,7 @@ pub(crate) fn explain_events_answer<R: AllocGlobal + Threads + Sync>(
     }
 }
 
-/// The verdict that a judgement of a candidate is, where no module is asked.
+/// The verdict for a judgement of a candidate, without a module.
 fn verdict_of(judgement: &Judgement, candidate: &Candidate) -> Verdict
     ensures { verdict_status result ≡ judgement_status judgement.now }
 {
@@ -84,7 +84,8 @@ fn verdict_of(judgement: &Judgement, candidate: &Candidate) -> Verdict
     }
 }
 
-/// The picture of a log with a witness, over this number of pages of zeros; if they are refused, the line of that.
+/// The picture of a log with a witness, over this number of pages of zeros; if they are refused, the line of the
+/// refusal.
 fn graph_log<R: AllocGlobal + Threads + Sync>(
     rt: &R,
     log: Log,
@@ -107,11 +108,12 @@ fn graph_log<R: AllocGlobal + Threads + Sync>(
     Ok(Answer::pictured(&verdict, picture))
 }
 
-/// The execution that the bytes of a document record, for Graphviz; where they are refused, the line of that.
+/// The execution that the bytes of a document record, for Graphviz; if the document is refused, the line of the
+/// refusal.
 ///
 /// # Errors
 ///
-/// Only if memory was refused.
+/// Only if an allocation fails.
 pub(crate) fn graph_events_answer<R: AllocGlobal + Threads + Sync>(
     rt: &R,
     bytes: &[u8],

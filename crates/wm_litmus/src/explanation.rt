@@ -1,5 +1,5 @@
-//! The commands `explain` and `graph`: why a check answers what it answers, in sentences and as a picture. Module and
-//! document are read and checked once, and what is said is said of the candidate of that check.
+//! The commands `explain` and `graph`: why a check gives its answer, in sentences and as a picture. Module and document
+//! are read and checked once, and the explanation is about the candidate of that check.
 ghost use Rattle.std.specs.Prelude.{◌≡◌, IfOk, string_bytes};
 ghost use Rattle.wm_check.specs.Reading.{HasCandidate};
 ghost use Rattle.wm_check.specs.declared.verdict.Verdict.TheVariants.{Refused};
@@ -15,7 +15,7 @@ use wm_explain::{event_places, explain_refusal, explain_run, explain_shape, modu
 use wm_graph::{Caption, draw};
 use wm_valid::ValidModule;
 
-/// The explanation of the verdict on a document: of its candidate, or of what was refused.
+/// The explanation of the verdict on a document, by its candidate or by what was refused.
 fn reasons_of<R: AllocGlobal + Threads + Sync>(
     rt: &R,
     module: &ValidModule,
@@ -60,7 +60,7 @@ fn explain_log<R: AllocGlobal + Threads + Sync>(
     explain_checked(rt, module, &checked, module_bytes, document_bytes)
 }
 
-/// The answer to the bytes of a module that are refused.
+/// The answer to the bytes of a refused module.
 fn explain_unread(
     alloc: Global,
     refusal: Refusal,
@@ -77,7 +77,7 @@ fn explain_unread(
 ///
 /// # Errors
 ///
-/// Only if memory was refused.
+/// Only if an allocation fails.
 pub(crate) fn explain_answer<R: AllocGlobal + Threads + Sync>(
     rt: &R,
     module_bytes: &[u8],
@@ -115,7 +115,7 @@ fn picture_of<R: AllocGlobal + Threads + Sync>(
     draw(alloc, caption, verdict, candidate)
 }
 
-/// The picture of what was checked; where it is refused, the line of that.
+/// The picture of what was checked; if that is refused, the line of the refusal.
 fn show_checked<R: AllocGlobal + Threads + Sync>(
     rt: &R,
     module: &ValidModule,
@@ -147,11 +147,11 @@ fn show_log<R: AllocGlobal + Threads + Sync>(
     show_checked(rt, module, module_bytes, &checked)
 }
 
-/// The execution that these bytes record, for Graphviz; where they are refused, the line of that.
+/// The execution that these bytes record, for Graphviz; if they are refused, the line of the refusal.
 ///
 /// # Errors
 ///
-/// Only if memory was refused.
+/// Only if an allocation fails.
 pub(crate) fn graph_answer<R: AllocGlobal + Threads + Sync>(
     rt: &R,
     module_bytes: &[u8],

@@ -1,4 +1,4 @@
-//! Files, as a trait, so that a test can stand in for them.
+//! Files, as a trait, so that a test can provide its own.
 ghost use Rattle.std.specs.Prelude.{ℕ, ◌≡◌, ◌+◌, ◌^◌, ◌<◌, ◌≤◌, IfErr, IfOk, IfSome, List, OnOk, Option, take, vec_len};
 ghost use Rattle.wm_litmus.specs.declared.files.FileFault.TheVariants.{Device, OutOfMemory};
 
@@ -11,7 +11,7 @@ pub enum FileFault {
     /// It couldn't be opened, or a read of it failed.
     #[error("the device failed")]
     Device,
-    /// Memory was refused.
+    /// An allocation failed.
     #[error("out of memory")]
     OutOfMemory,
 }
@@ -24,19 +24,19 @@ impl From<AllocError> for FileFault {
     }
 }
 
-/// Files by name, and a count of the calls that a device failed.
+/// Files by name, and a count of the calls that failed because of a device.
 pub trait Files {
     ghost failures_of: { Self → ℕ };
 
-    // What the file of a name holds, where that is known.
+    // The contents of the file of a name, if they are known.
     ghost content_of: { Self → List ℕ → Option (List ℕ) };
 
     /// At most the first `limit` bytes of the file `name`.
     ///
     /// # Errors
     ///
-    /// `Device` where the file couldn't be opened or a read of it failed, and then the count is higher than
-    /// before; `OutOfMemory` where memory was refused.
+    /// `Device` if the file couldn't be opened or a read of it failed, and then the count is higher than before;
+    /// `OutOfMemory` if an allocation fails.
     fn read(&mut self, name: &str, limit: usize) -> Result<Vec<u8>, FileFault>
         requires { failures_of self.old + 1 < 2 ^ 64 }
         ensures bound { IfOk result (λ bytes. vec_len bytes ≤ limit) }
@@ -48,7 +48,7 @@ pub trait Files {
         ensures monotone { failures_of self.old ≤ failures_of self.new }
         ensures no_failure { OnOk result (failures_of self.new ≡ failures_of self.old) };
 
-    /// How many calls a device failed so far.
+    /// How many calls have failed so far because of a device.
     fn failures(&self) -> u64
         ensures { result ≡ failures_of self.now };
 }

@@ -8,7 +8,7 @@ use std::alloc::{AllocError, Global};
 /// The version of the program.
 const VERSION: &str = "0.2.0";
 
-/// What `help` prints.
+/// The output of `help`.
 const HELP: &str = "\
 wmlab decides whether a WebAssembly module and its memory model allow a recorded execution.
 
@@ -70,7 +70,7 @@ DOCUMENTATION
 ///
 /// # Errors
 ///
-/// Only if memory was refused.
+/// Only if an allocation fails.
 pub(crate) fn help_answer(alloc: Global) -> Result<Answer, AllocError>
     ensures { IfOk result (PrintsText help_text) }
 {
@@ -78,11 +78,12 @@ pub(crate) fn help_answer(alloc: Global) -> Result<Answer, AllocError>
     Ok(Answer { text, status: 0 })
 }
 
-/// The answer to `version`: the versions of the program, of the log format, and of the logic that its proofs are checked in.
+/// The answer to `version`: the versions of the program, of the log format, and of the logic in which its proofs are
+/// checked.
 ///
 /// # Errors
 ///
-/// Only if memory was refused.
+/// Only if an allocation fails.
 pub(crate) fn version_answer(alloc: Global) -> Result<Answer, AllocError>
     ensures { IfOk result (PrintsText version_text) }
 {

@@ -1,18 +1,18 @@
-//! Reading of input to a limit.
+//! Reading input up to a limit.
 ghost use Rattle.std.specs.Prelude.{◌≡◌, ◌≤◌, IfOk, IfSome, take, vec_len};
 
 use crate::files::FileFault;
 use std::alloc::Global;
 use std::io::Read;
 
-/// How many bytes a read asks for at most.
+/// The most bytes that a read asks for.
 const CHUNK: usize = 4096;
 
-/// The first `limit` bytes of the input, or all of them where there are fewer, in at most `limit` reads.
+/// The first `limit` bytes of the input, or all of them if there are fewer, in at most `limit` reads.
 ///
 /// # Errors
 ///
-/// `Device` at the first read that fails, an interrupted one too; `OutOfMemory` where memory was refused.
+/// `Device` at the first read that fails, including an interrupted one; `OutOfMemory` if an allocation fails.
 pub fn read_limited<R: Read>(
     alloc: Global,
     input: &mut R,

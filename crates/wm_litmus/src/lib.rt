@@ -8,17 +8,17 @@
 //! | a thread's log isn't its run | `broken replay thread 0 event 0` | 1 |
 //! | the document in version 2 | `["wasm-litmus-log",2,[["a",[],["cut"],0,[]]],[]]` | 0 |
 //! | the same with its steps and ends | `["wasm-litmus-log",2,[["a",[],["done",[]],1,[]]],[]]` | 0 |
-//! | the bytes are no module | `refused decode Truncated at 42` | 2 |
+//! | the bytes are not a module | `refused decode Truncated at 42` | 2 |
 //! | the module isn't valid | `refused valid Alignment in function 0 instruction 2` | 2 |
 //! | the document is refused | `refused document BadShape at /2/0/1` | 2 |
-//! | its log and witness are no candidate | `refused shape WriterCount at 0.1` | 2 |
+//! | its log and witness are not a candidate | `refused shape WriterCount at 0.1` | 2 |
 //! | how the program is used, its version | the text of `help`, of `version` | 0 |
 //! | the words are refused | `refused command words` | 2 |
-//! | memory was refused | `out of memory`, on standard error | 3 |
+//! | an allocation failed | `out of memory`, on standard error | 3 |
 //! | a device failed | `cannot read NAME` or `cannot write`, on standard error | 3 |
 #![tactic(auto)]
 
-/// How many pages of zeros the memory of a run begins with under the command `rules`.
+/// The initial pages of zeros in the memory of a run under the command `rules`.
 pub const INITIAL_PAGES: usize = 16;
 
 mod answer;

@@ -1,4 +1,4 @@
-//! The lines that answers print as, without their newline.
+//! The lines that answers print, without their newline.
 ghost use Rattle.std.specs.Prelude.{◌≡◌, IfOk, Some, string_bytes};
 ghost use Rattle.wm_litmus.specs.Lines.{judgement_text, refusal_text, replay_text, verdict_text};
 
@@ -23,12 +23,12 @@ impl fmt::Display for JudgementLine<'_> {
     }
 }
 
-/// The line of a judgement: `allowed`, or `broken V5 case 3 at 1.0 byte 0 writer init other 0.0`, where the
-/// last part is left out if the fault has no other write.
+/// The line of a judgement: `allowed`, or `broken V5 case 3 at 1.0 byte 0 writer init other 0.0`. The last part is left
+/// out if the fault has no other write.
 ///
 /// # Errors
 ///
-/// Only if memory was refused.
+/// Only if an allocation fails.
 pub fn rules_line(alloc: Global, judgement: &Judgement) -> Result<String, AllocError>
     ensures { IfOk result (λ line. string_bytes line ≡ judgement_text judgement.now) }
 {
@@ -53,7 +53,7 @@ impl fmt::Display for RefusalLine<'_> {
     }
 }
 
-/// What a replay answers, as it prints.
+/// The answer of a replay, as it prints.
 #[derive(Clone, Copy)]
 struct ReplayLine(ReplayAnswer);
 
@@ -103,7 +103,7 @@ impl fmt::Display for VerdictLine<'_> {
 ///
 /// # Errors
 ///
-/// Only if memory was refused.
+/// Only if an allocation fails.
 pub fn verdict_line(alloc: Global, verdict: &Verdict) -> Result<String, AllocError>
     ensures { IfOk result (λ line. string_bytes line ≡ verdict_text verdict.now) }
 {

@@ -10,7 +10,7 @@ use wm_logfile::migrate;
 ///
 /// # Errors
 ///
-/// Only if memory was refused.
+/// Only if an allocation fails.
 pub(crate) fn migrate_answer(alloc: Global, bytes: &[u8]) -> Result<Answer, AllocError>
     ensures { IfOk result (λ answer.
         AnswersMigrate bytes.now answer.status (string_bytes answer.text)) }

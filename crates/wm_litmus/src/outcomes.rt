@@ -24,7 +24,7 @@ impl fmt::Display for EndText {
     }
 }
 
-/// What stands before the end of a thread.
+/// The separator before the end of a thread.
 fn separator(number: usize) -> &'static str
     ensures { result.now ≡ separator_text number }
 {
@@ -35,11 +35,11 @@ fn separator(number: usize) -> &'static str
 }
 
 /// The outcome of a run: how each thread ended, in their order, with a space between them. A function's value prints in
-/// decimal, `-` where it has none; else `trap:` with the trap's name, or `cut`.
+/// decimal, `-` if it has none; otherwise `trap:` with the trap's name, or `cut`.
 ///
 /// # Errors
 ///
-/// Only if memory was refused.
+/// Only if an allocation fails.
 pub fn outcome(alloc: Global, run: &Run) -> Result<String, AllocError>
     ensures { IfOk result (λ text. string_bytes text ≡ outcome_text run.now.log) }
 {

@@ -16,12 +16,12 @@ pub(crate) struct Checked {
     pub verdict: Verdict,
 }
 
-/// Writes a run and checks what was written against the run's module: it is allowed, unless the text exceeds the limit of
-/// bytes.
+/// Writes a run and checks the written document against the run's module: it is allowed, unless the text exceeds the
+/// limit of bytes.
 ///
 /// # Errors
 ///
-/// Only if memory was refused.
+/// Only if an allocation fails.
 pub(crate) fn check_own<R: AllocGlobal + Threads + Sync>(
     rt: &R,
     module: &ValidModule,

@@ -44,9 +44,9 @@ enum Failure<'a> {
     UnreadFile(&'a str),
     /// The input was not read.
     UnreadInput,
-    /// The answer was not written whole.
+    /// The answer was not written completely.
     Unwritten,
-    /// Memory was refused.
+    /// An allocation failed.
     OutOfMemory,
 }
 
@@ -70,7 +70,7 @@ impl From<AllocError> for Failure<'_> {
     }
 }
 
-/// The first `limit` bytes of the file `name`, and one more.
+/// The first `limit` bytes of the file `name`, and one more byte.
 fn read_file<'a, F: Files>(
     files: &mut F,
     name: &'a str,
@@ -91,7 +91,7 @@ fn read_file<'a, F: Files>(
     }
 }
 
-/// The first `limit` bytes of the input, and one more.
+/// The first `limit` bytes of the input, and one more byte.
 fn read_input<'a, I: Read>(
     alloc: Global,
     input: &mut I,
@@ -108,7 +108,7 @@ fn read_input<'a, I: Read>(
     }
 }
 
-/// The bytes of the document `name`, or of `input` for `-`, to the limit and one more.
+/// The bytes of the document `name`, or of `input` for `-`, up to the limit and one more byte.
 fn read_document_bytes<'a, R: AllocGlobal, F: Files, I: Read>(
     rt: &R,
     files: &mut F,
@@ -127,7 +127,8 @@ fn read_document_bytes<'a, R: AllocGlobal, F: Files, I: Read>(
     }
 }
 
-/// The bytes of the module and of the document of these names, the module's first, each to its limit and one more.
+/// The bytes of the module and of the document of these names, the module's first, each up to its limit and one more
+/// byte.
 fn read_run<'a, R: AllocGlobal, F: Files, I: Read>(
     rt: &R,
     files: &mut F,
@@ -147,7 +148,7 @@ fn read_run<'a, R: AllocGlobal, F: Files, I: Read>(
     Ok((module_bytes, document_bytes))
 }
 
-/// The words that the threads start with: those after the command, the module, and the turns or rounds.
+/// The words with the starts of the threads: those after the command, the module, and the turns or rounds.
 fn starts_of<'a>(words: &'a [&'a str]) -> &'a [&'a str]
     ensures { words_of result.now ≡ drop 3 (words_of words.now) }
 {
@@ -254,16 +255,16 @@ fn stream_lines<'a, R: AllocGlobal + Threads + Sync, F: Files, I: Read, O: Write
     Ok(status.code())
 }
 
-/// What answers the words.
+/// The reply to the words.
 #[derive(Drop)]
 enum Reply<'a> {
-    /// An answer, which is written whole.
+    /// An answer, which is written completely.
     Answer(Answer),
     /// An answer to each line of the input, over the module of this name.
     Lines(&'a str),
 }
 
-/// What answers the words.
+/// The reply to the words.
 fn reply_to<'a, R: AllocGlobal + Threads + Wait + Sync, F: Files, I: Read>(
     rt: &R,
     words: &'a [&'a str],
@@ -343,14 +344,14 @@ fn reply_to<'a, R: AllocGlobal + Threads + Wait + Sync, F: Files, I: Read>(
     }
 }
 
-/// Writes a text, as far as the writer takes it.
+/// Writes a text, as far as the writer accepts it.
 fn tell<E: Write>(err: &mut E, text: &str)
     ensures { AppendsFront (E.contents err.old) (E.contents err.new) text.now }
 {
     let _ = write_text(err, text);
 }
 
-/// Writes that a file was not read, as far as the writer takes it.
+/// Writes that a file was not read, as far as the writer accepts it.
 fn tell_unread<E: Write>(err: &mut E, name: &str)
     ensures { AppendsFront (E.contents err.old) (E.contents err.new) (unread_text name.now) }
 {
@@ -363,7 +364,7 @@ fn tell_unread<E: Write>(err: &mut E, name: &str)
     tell(err, "\n");
 }
 
-/// Writes why there is no whole answer, and returns the exit status.
+/// Writes why there is no complete answer, and returns the exit status.
 fn report<E: Write>(err: &mut E, failure: Failure) -> u8
     ensures status { result ≡ 3 }
     ensures told { AppendsFront (E.contents err.old) (E.contents err.new) (failure_text failure.entry) }
@@ -379,35 +380,35 @@ fn report<E: Write>(err: &mut E, failure: Failure) -> u8
 
 /// The whole program: answers `words`, those after the program's name, on `out`, and returns the exit status.
 ///
-/// `rules DOC` reads the document of that name among `files`, or `input` for `-`, and judges it over 16 pages of
-/// zeros; it ignores starts, ends and steps. `check MODULE DOC` reads the module of that name among `files`, and
-/// then the document, and checks its run against the module and the memory rules. `migrate DOC` reads a document
-/// and prints it in version 2. `complete MODULE DOC` reads both as `check` does, and prints the document in version 2
-/// with the steps and the ends that the module gives its threads on the values that their events read.
-/// `verify MODULE DOC` reads both, and prints the line of `check` for the completed document. `stream MODULE` reads the
-/// module, and then answers each line of `input` by the line of `verify` for it, in their order, as they come.
-/// `explain MODULE DOC` prints the line of `check`, and then explains it in sentences; `graph MODULE DOC` prints
-/// the execution for Graphviz, or the line of a refusal, each with the status of `check`. Without a module these two read a
-/// document as `rules` does, and explain or draw what `rules` judges.
-/// `drive MODULE TURNS START..` plays a script over a module, and prints the outcome, the verdict on what was logged, and
-/// its document. `trace MODULE TURNS START..` plays a script too, and prints a line for each turn, and then the outcome.
-/// `run MODULE ROUNDS START..` lets the threads run at the same time, ROUNDS times over, checks each log,
-/// and prints how often each outcome came; it is the one command that may wait for other threads.
-/// `help` and `version` print fixed texts, and read nothing.
+/// `rules DOC` reads the document of that name among `files`, or `input` for `-`, and judges it over 16 pages of zeros;
+/// it ignores starts, ends and steps. `check MODULE DOC` reads the module of that name among `files`, then the
+/// document, and checks its run against the module and the memory rules. `migrate DOC` reads a document and prints it
+/// in version 2. `complete MODULE DOC` reads both as `check` does, and prints the document in version 2 with the steps
+/// and the ends that the module gives its threads on the values that their events read. `verify MODULE DOC` reads both,
+/// and prints the line of `check` for the completed document. `stream MODULE` reads the module, and then answers each
+/// line of `input` with the line of `verify` for it, in order, as the lines come. `explain MODULE DOC` prints the line
+/// of `check`, and then explains it in sentences; `graph MODULE DOC` prints the execution for Graphviz, or the line of
+/// a refusal; both have the status of `check`. Without a module, these two read a document as `rules` does, and explain
+/// or draw what `rules` judges. `drive MODULE TURNS START..` plays a script over a module, and prints the outcome, the
+/// verdict on the log, and its document. `trace MODULE TURNS START..` also plays a script, and prints a line for each
+/// turn, and then the outcome. `run MODULE ROUNDS START..` lets the threads run at the same time, ROUNDS times, checks
+/// each log, and prints how often each outcome occurred; it is the only command that may wait for other threads. `help`
+/// and `version` print fixed texts, and read nothing.
 ///
-/// TURNS has items that commas join: `N` is a step of thread N, `dN` lets its oldest store leave its buffer, `dN/I` the
-/// one with I older ones, and `*K` after an item repeats it. START is the name of an exported function and its
+/// TURNS has items separated by commas: `N` is a step of thread N, `dN` lets its oldest store leave its buffer, `dN/I`
+/// the store with I older ones, and `*K` after an item repeats it. START is the name of an exported function and its
 /// arguments, each after a colon; ROUNDS is 1 to 10,000.
 ///
-/// Each file is read to its limit and one byte more, in at most that many reads, and any failed read ends
-/// the program. The clauses speak of the words, by clap's model of the parse, of what `files` and `input` hold, where
-/// that is known, of the text, the status, and what `err` gains; which of its lines that is, is shown by tests.
+/// Each file is read up to its limit and one more byte, in at most that many reads, and any failed read ends the
+/// program. The clauses are about the words, by clap's model of the parse, about the contents of `files` and `input`,
+/// if these are known, about the text and the status, and about what `err` gains. Tests show which of its lines that
+/// is.
 ///
 /// # Errors
 ///
-/// Status 3, with one line on `err` and no answer: `out of memory` where memory was refused, `cannot read NAME`
-/// where `files` or a read of `input` failed, `cannot write` where a write to `out` failed, which has then gained a
-/// front of the answer at most. That a write to `err` failed changes no status.
+/// Status 3, with one line on `err` and no answer: `out of memory` if an allocation fails, `cannot read NAME` if
+/// `files` or a read of `input` failed, `cannot write` if a write to `out` failed, which has then gained at most a
+/// prefix of the answer. A failed write to `err` doesn't change the status.
 pub fn serve<R: AllocGlobal + Threads + Wait + Sync, F: Files, I: Read, O: Write, E: Write>(
     rt: &R,
     words: &[&str],

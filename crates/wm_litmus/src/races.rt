@@ -1,4 +1,4 @@
-//! The command `races`: the data races of an allowed run, by the instructions or by the events.
+//! The command `races`: the data races of an allowed run, by instructions or by events.
 ghost use Rattle.std.specs.Prelude.{◌≡◌, ◌≤◌, ℕ, IfOk, List, Some, string_bytes};
 ghost use Rattle.wm_event.specs.LoggedRun.{execution};
 ghost use Rattle.wm_event.specs.Rules.{IsValid, KeepsOrder};
@@ -23,7 +23,7 @@ use wm_rules::judge;
 use wm_sites::event_sites;
 use wm_valid::ValidModule;
 
-/// How many lines are printed at most.
+/// The most lines that are printed.
 const MAX_LINES: usize = 1000;
 
 /// Happens-before of a candidate whose order agrees with it.
@@ -66,7 +66,7 @@ fn first_of<R: AllocGlobal + Threads + Sync>(
     first_races(rt, rt.alloc(), &before, MAX_LINES)
 }
 
-/// An instruction, as it prints after what happens there.
+/// An instruction, as it prints after its access.
 #[derive(Clone, Copy)]
 pub(crate) struct SitePhrase(pub Site);
 
@@ -86,7 +86,7 @@ impl fmt::Display for SitePhrase {
     }
 }
 
-/// What has a line in a list of races.
+/// An entry of a list of races, which has a line.
 trait RaceLine {
     ghost text: { Self → List ℕ };
 
@@ -112,7 +112,7 @@ impl RaceLine for SiteRace {
     }
 }
 
-/// A race alone, by its events.
+/// A single race, by its events.
 impl RaceLine for RacingPair {
     ghost text = { pair_text };
 
@@ -144,7 +144,7 @@ fn more_line(alloc: Global, count: u64) -> Result<String, AllocError>
     format!(in alloc; "and {count} more\n")
 }
 
-/// The answer to a run of so many threads and events, by the first of its races and their number.
+/// The answer to a run of this number of threads and events, by the first of its races and their number.
 fn listed<L: RaceLine>(
     alloc: Global,
     threads: usize,
@@ -211,12 +211,12 @@ fn races_of_log<R: AllocGlobal + Threads + Sync>(
     }
 }
 
-/// The data races of the run that these bytes record, by the instructions that make their events; if it isn't allowed, the
-/// line of the check.
+/// The data races of the run that these bytes record, by the instructions that make their events; if the run isn't
+/// allowed, the line of the check.
 ///
 /// # Errors
 ///
-/// Only if memory was refused.
+/// Only if an allocation fails.
 pub(crate) fn races_answer<R: AllocGlobal + Threads + Sync>(
     rt: &R,
     module_bytes: &[u8],
@@ -271,12 +271,12 @@ fn races_of_run<R: AllocGlobal + Threads + Sync>(
     }
 }
 
-/// The data races of the run of a document, by its events; if the memory rules don't allow it, the line of `rules`. Starts,
-/// ends and steps play no part in it.
+/// The data races of the run of a document, by its events; if the memory rules don't allow the run, the line of
+/// `rules`. Starts, ends and steps are ignored.
 ///
 /// # Errors
 ///
-/// Only if memory was refused.
+/// Only if an allocation fails.
 pub(crate) fn event_races_answer<R: AllocGlobal + Threads + Sync>(
     rt: &R,
     bytes: &[u8],

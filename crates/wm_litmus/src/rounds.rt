@@ -13,7 +13,8 @@ use wm_run::{OpenGate, RunFault, run_round};
 use wm_valid::ValidModule;
 use wm_words::Rounds;
 
-/// Makes a round and counts its outcome; if that isn't allowed, or can't be made, the answer to the whole.
+/// Makes a round and counts its outcome; if the round isn't allowed or can't be made, it gives the answer to the whole
+/// command.
 fn count_round<R: AllocGlobal + Threads + Wait + Sync>(
     rt: &R,
     module: &ValidModule,
@@ -53,11 +54,11 @@ fn make_rounds<R: AllocGlobal + Threads + Wait + Sync>(
     Answer::rounds(rt.alloc(), table.as_str(), rounds.count)
 }
 
-/// The answer to the bytes of a module, for rounds of its threads. It may wait for these.
+/// The answer to the bytes of a module, for rounds of its threads. It may wait for these threads.
 ///
 /// # Errors
 ///
-/// Only if memory was refused.
+/// Only if an allocation fails.
 pub(crate) fn rounds_answer<R: AllocGlobal + Threads + Wait + Sync>(
     rt: &R,
     module_bytes: &[u8],

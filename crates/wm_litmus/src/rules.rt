@@ -30,11 +30,11 @@ fn run_answer<R: AllocGlobal + Threads + Sync>(
     Answer::judged(rt.alloc(), &judgement)
 }
 
-/// The answer to the bytes of a document. Starts, ends and steps play no part in it.
+/// The answer to the bytes of a document. Starts, ends and steps are ignored.
 ///
 /// # Errors
 ///
-/// Only if memory was refused.
+/// Only if an allocation fails.
 pub(crate) fn rules_answer<R: AllocGlobal + Threads + Sync>(
     rt: &R,
     bytes: &[u8],

@@ -29,7 +29,7 @@ pub(crate) fn verify_answer(
     Answer::of_verdict(alloc, &verdict)
 }
 
-/// Who answers the lines of a stream.
+/// The module, or its refusal, that the lines of a stream are answered by.
 #[derive(Drop)]
 pub(crate) enum Judge {
     /// The module that the lines are verified against.
@@ -38,7 +38,7 @@ pub(crate) enum Judge {
     Refused(Verdict),
 }
 
-/// The status of a line that a verdict answers.
+/// The status of a line by its verdict.
 fn line_status(verdict: &Verdict) -> LineStatus
     ensures { status_code result ≡ verdict_status verdict.now }
 {
@@ -49,7 +49,7 @@ fn line_status(verdict: &Verdict) -> LineStatus
     }
 }
 
-/// The answer to a line that a verdict is.
+/// The answer to a line by its verdict.
 fn line_answer(alloc: Global, verdict: &Verdict) -> Result<LineAnswer, AllocError>
     ensures { IfOk result (IsLineOf verdict.now) }
 {
@@ -85,7 +85,7 @@ impl AnswersLines for Judge {
     }
 }
 
-/// Who answers the lines of a stream over the bytes of a module.
+/// The judge of a stream's lines, over the bytes of a module.
 ///
 /// # Errors
 ///

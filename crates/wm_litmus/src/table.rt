@@ -1,4 +1,4 @@
-//! How often each outcome came.
+//! How often each outcome occurred.
 ghost use Rattle.std.specs.Prelude.{◌≡◌, ◌<◌, ◌^◌, ◌++◌, codes, [], IfOk, OnOk, List, ℕ, length, map, string_bytes};
 ghost use Rattle.std.specs.List.{flat_map};
 ghost use Rattle.wm_litmus.specs.Counts.{Counts, CountsOneMore, IsNextCount, padded_text, row_of};
@@ -17,14 +17,14 @@ fn row_line(alloc: Global, outcome: &str, count: u64) -> Result<String, AllocErr
     format!(in alloc; "{count:>8}  {outcome}\n")
 }
 
-/// How often each outcome came, by the outcome's bytes.
+/// How often each outcome occurred, by the outcome's bytes.
 #[derive(Drop)]
 pub(crate) struct Table {
     counts: BTreeMap<String, u64>,
 }
 
 impl Table {
-    /// The table of no outcome.
+    /// The empty table.
     pub fn new(alloc: Global) -> Table
         ensures { Counts [] result.counts }
     {
@@ -33,7 +33,7 @@ impl Table {
         }
     }
 
-    /// How often an outcome has come, with the next time.
+    /// How often an outcome has occurred, including the next time.
     fn next_count(&self, outcome: &str) -> u64
         ensures { IsNextCount self.now.counts outcome.now result }
     {
@@ -43,7 +43,7 @@ impl Table {
         }
     }
 
-    /// One more of an outcome.
+    /// Counts an outcome once more.
     fn add(&mut self, outcome: String) -> Result<(), AllocError>
         ensures { OnOk result (CountsOneMore (string_bytes outcome) self.old.counts self.new.counts) }
     {
@@ -52,7 +52,7 @@ impl Table {
         Ok(())
     }
 
-    /// One more of the outcome of a run.
+    /// Counts the outcome of a run.
     pub fn count(&mut self, alloc: Global, run: &Run) -> Result<(), AllocError>
         ensures { OnOk result (CountsRun run.now self.old.counts self.new.counts) }
     {
@@ -71,7 +71,7 @@ impl Table {
         Ok(text)
     }
 
-    /// The table of the outcomes that came: a line for each, sorted by its bytes, with how often it came.
+    /// The table of the outcomes that occurred: a line for each, sorted by its bytes, with how often it occurred.
     pub fn text(&self, alloc: Global) -> Result<String, AllocError>
         ensures { IfOk result (λ text. (came : List (List ℕ)) → Counts came self.now.counts → IsTableText came (string_bytes text)) }
     {
@@ -79,11 +79,11 @@ impl Table {
     }
 }
 
-/// The table of the outcomes of runs: a line for each, sorted by its bytes, with how often it came.
+/// The table of the outcomes of runs: a line for each, sorted by its bytes, with how often it occurred.
 ///
 /// # Errors
 ///
-/// Only if memory was refused.
+/// Only if an allocation fails.
 pub fn report(alloc: Global, runs: &[Run]) -> Result<String, AllocError>
     ensures { IfOk result (λ text. IsTableText (outcomes runs.now) (string_bytes text)) }
 {

@@ -20,7 +20,7 @@ use wm_sites::position_sites;
 use wm_valid::ValidModule;
 use wm_words::Script;
 
-/// A turn, as TURNS spell it.
+/// A turn, as TURNS spells it.
 #[derive(Clone, Copy)]
 struct TurnText(Turn);
 
@@ -171,7 +171,7 @@ fn access_of(
     }
 }
 
-/// What a turn of a run did.
+/// The effect of a turn of a run.
 fn done_of(alloc: Global, run: &Run, done: TurnDone) -> Result<String, AllocError>
     ensures { IfOk result (λ text. string_bytes text ≡ done_text run.now done) }
 {
@@ -218,7 +218,7 @@ fn turn_lines(
     Ok(text)
 }
 
-/// Where the threads are before the turns.
+/// The positions of the threads before the turns.
 fn positions_of(alloc: Global, entries: &[TracedTurn]) -> Result<Vec<CodePosition>, AllocError>
     ensures { IfOk result (λ positions. positions.items ≡ map (λ (entry : TracedTurn). entry.position) entries.now) }
 {
@@ -229,7 +229,7 @@ fn positions_of(alloc: Global, entries: &[TracedTurn]) -> Result<Vec<CodePositio
     Ok(positions)
 }
 
-/// The instructions before which the threads are.
+/// The next instructions of the threads at the turns.
 fn sites_of(
     alloc: Global,
     module: &ValidModule,
@@ -243,7 +243,7 @@ fn sites_of(
     position_sites(alloc, module, module_bytes, positions.as_slice())
 }
 
-/// The answer that a traced run is.
+/// The answer for a traced run.
 fn shown(
     alloc: Global,
     module: &ValidModule,
@@ -260,7 +260,7 @@ fn shown(
     Ok(Answer { text, status: 0 })
 }
 
-/// The answer to a script over a module, which these bytes spell.
+/// The answer to a script over the module that these bytes spell.
 fn play(
     alloc: Global,
     module: &ValidModule,
@@ -280,7 +280,7 @@ fn play(
 ///
 /// # Errors
 ///
-/// Only if memory was refused.
+/// Only if an allocation fails.
 pub(crate) fn trace_answer(
     alloc: Global,
     module_bytes: &[u8],

@@ -42,7 +42,7 @@ pub only : (bytes : List ℕ) (d : Data) (r : Result (List ThreadLog × Witness)
 only bytes d (Ok p) h = λ l w is fits spelling. (let one = only_one bytes d p.0 p.1 l w h.text h.given is fits spelling in (one.0, sym (sym one.1)))
 only bytes d (Err e) h = tt
 
--- what the fault says of the value, it says of the bytes
+-- what the fault means for the value, it means for the bytes
 cause_in : (bytes : List ℕ) (d : Data) (fault : DocFault) → length bytes ≤ 8388608 → IsTextOf bytes d → IsCause fault d → IsCauseIn fault bytes
 cause_in bytes d NotJson small text cause = absurd cause
 cause_in bytes d (BadShape path) small text cause = record { small = small; value = d; text = text; holds = cause }

@@ -1,4 +1,4 @@
--- The first fault of a document, and what it says of the document.
+-- The first fault of a document, and what it means for the document.
 use Rattle.std.proofs.Common.{◌≡◌, ℕ, ◌<◌, ◌⊎◌, inl, inr, ◌||◌, Bool, true, false, cond, eqb, leb, List, [], ◌∷◌, length, Option, Some, None, Result, Ok, Err, refl, sym, ap, subst, ◌∙◌}
 use Rattle.std.specs.Prelude.{codes, IfErr}
 use Rattle.std.proofs.lemmas.Bool.{eqb-true, leb-false, lt-leb}
@@ -51,7 +51,7 @@ from_choice : (b : Bool) (x y : Found) (e : DocFault) → cond b x y ≡ Some e 
 from_choice true x y e h = inl h
 from_choice false x y e h = inr (refl, h)
 
--- a fault of a value inside is none of the whole document
+-- a fault of a value inside is not a fault of the whole document
 pub inside_no_version : (x : Option ReadFault) → as_first x ≡ Some BadVersion → ⊥
 inside_no_version None h = absurd cc
 inside_no_version (Some (Shape p)) h = (let same : BadShape p ≡ BadVersion = cc in absurd cc)
@@ -108,7 +108,7 @@ many_threads form path ts many =
     ap (λ (o : Option (List Data)). option_map_or (few_fault (numbered_fault (first_fault form)) path) o (Some (BadShape path))) (list_again ts)
     ∙ ap (λ (b : Bool). cond b (as_first (items_fault (numbered_fault (first_fault form)) path 0 ts)) (Some TooLarge)) h
 
--- ---- behind the version
+-- ---- after the version
 
 pair_no_version : (v : Version) (threads last : Data) → pair_fault v [] threads last ≡ Some BadVersion → ⊥
 pair_no_version First threads last h =
@@ -164,7 +164,7 @@ other_version (unsigned v) other = neither (eqb v 1) (eqb v 2) (λ h. other.not_
 other_version (negative z) other = refl
 other_version (float x) other = refl
 
--- the version is another one, or what is behind a known one is at fault
+-- the version is another one, or what comes after a known one is at fault
 abbrev VersionFault : (Version → Found) → Data → DocFault → Type 0
 VersionFault behind d e = ((n : Num) × (d ≡ number n) × IsOtherVersion n × (BadVersion ≡ e)) ⊎ ((v : Version) × (d ≡ count (version_number v)) × (behind v ≡ Some e))
 
@@ -290,7 +290,7 @@ is_large d has =
 
 -- ---- where the parts of a document are at fault
 
--- a fault of the threads is the first one, whatever is behind them
+-- a fault of the threads is the first one, whatever comes after them
 pub or_inside : (e : DocFault) (x : Found) (z : Option ReadFault) → IsDocFirst e x → IsDocFirst e (option_or x (as_first z))
 or_inside NotJson x z first = absurd first
 or_inside (BadShape p) x z first = rw first refl
@@ -358,7 +358,7 @@ in_known : (v : Version) (threads last : Data) → in_parts (parts_cells (v, thr
 in_known First threads last = refl
 in_known Second threads last = refl
 
--- behind a known version
+-- after a known version
 pub pair_document : {X : Type 0} (d : Data) (ds : List Data) (v w : Version) (threads last : Data) (path : List ℕ) (r : Result X DocFault) → list_at d ≡ Some ds → parts_from ds ≡ Some (v, threads, last) → v ≡ w → path ≡ []
     → DocFaults r (pair_fault w path threads last) → DocFaults r (document_fault d)
 pair_document d ds v w threads last path r is read same whole first =
@@ -366,7 +366,7 @@ pair_document d ds v w threads last path r is read same whole first =
     some_list d ds is ∙ ap in_parts (parts_take ds (v, threads, last) read).0 ∙ in_known v threads last ∙ ap (λ (x : Version). pair_fault x [] threads last) same in
     subst (λ (x : Found). DocFaults r x) (sym all) (subst (λ (p : List ℕ). DocFaults r (pair_fault w p threads last)) whole first)
 
--- ---- what the first fault says
+-- ---- the meaning of the first fault
 
 said : (d : Data) (e : DocFault) → document_fault d ≡ Some e → IsCause e d → IsFaultOf d e
 said d e first cause = record {

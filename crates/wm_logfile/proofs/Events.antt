@@ -125,7 +125,7 @@ pub record FieldsFit (t n : ℕ) (e : Event) : Type 0 where
 abbrev pub made : ℕ → ℕ → EventKind → MemoryOrder → ℕ → AccessWidth → ℕ → ℕ → Event
 made t n k o a w r v = record { thread = t; number = n; kind = k; order = o; address = a; width = w; read = r; written = v }
 
--- behind the word of the kind
+-- after the word of the kind
 pub event_from_takes : (t n : ℕ) (k : EventKind) (order address width : Data) (vs : List Data) (e : Event) → event_from t n k order address width vs ≡ Some e
     → (string (kind_word k) ∷ order ∷ address ∷ width ∷ vs ≡ event_cells e) × FieldsFit t n e × (e.kind ≡ k)
 event_from_takes t n k order address width vs e h =

@@ -49,7 +49,7 @@ by_again Read ws fits none = by_lists.again ws fits
 by_again Write ws fits none = ap (λ (vs : List EventId). Some vs) (sym (none refl))
 by_again Update ws fits none = by_lists.again ws fits
 
--- ---- the items behind the width
+-- ---- the items after the width
 
 length-rest : (k : EventKind) (r w : ℕ) (ws : List EventId) → eqb (length (values k r w ++ by_cells k ws)) (values_by_len k) ≡ true
 length-rest Read r w ws = refl

@@ -142,7 +142,7 @@ pub record AreParts (vs : List Value) (tag order address width : Value) : Type 0
   pub address_is : address ≡ get_or vs 2 address
   pub width_is : width ≡ get_or vs 3 width
 
--- what is behind them
+-- what comes after them
 abbrev pub rest_of : List Value → List Value
 rest_of vs = take (length vs - 4) (drop 4 vs)
 
@@ -234,7 +234,7 @@ module _ (path : List ℕ) (tag order address width : Value) where
       → (length (rest_of vs) ≡ values_by_len k → ⊥) → tagged_fault event_by_cases path (map view vs) ≡ Some (Shape path)
   other_length vs k are read more less other = behind_kind vs k are read more less ∙ wrong_length k (rest_of vs) more less other
 
-  -- an event of the kind: its items up to the values, and what is behind these
+  -- an event of the kind: its items up to the values, and what comes after these
   pub in_two : (vs : List Value) (k : EventKind) (n : ℕ) (front back : List Value) → AreParts vs tag order address width → kind_at (view tag) ≡ Some k → 0 < length (rest_of vs) → length (rest_of vs) < 4
       → length (rest_of vs) ≡ values_by_len k → n ≡ values_len k → front ≡ take n (rest_of vs) → back ≡ drop n (rest_of vs)
       → tagged_fault event_by_cases path (map view vs) ≡ option_or (front_fault k path order address width front) (by_fault k path (map view back))
@@ -259,7 +259,7 @@ module _ (event : Form) (path : List ℕ) where
   behind_head : (a b c d events : Data) → head_fault path (a ∷ b ∷ c ∷ d ∷ events ∷ []) ≡ None → exact_fault (thread_fields event) path 0 (a ∷ b ∷ c ∷ d ∷ events ∷ []) ≡ first_fault (numbered event) (child path 4) events
   behind_head a b c d events none = rest_of_thread (first_fault forms.text (child path 0) a) (first_fault (forms.items grammar.value) (child path 1) b) (first_fault grammar.ending (child path 2) c) (first_fault (forms.up_to 1000000) (child path 3) d) (first_fault (numbered event) (child path 4) events) none
 
-  -- behind a head without a fault the first one is that of the events
+  -- after a head without a fault the first fault is the events'
   pub fault_of_events : (d : Data) (h : ThreadHead) (events : Data) → head_at d ≡ Some (h, events) → in_list (head_fault path) path d ≡ None
       → first_fault (forms.fields (thread_fields event)) path d ≡ first_fault (numbered event) (child path 4) events
   fault_of_events d h events read none =

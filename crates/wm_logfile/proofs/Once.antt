@@ -92,7 +92,7 @@ width_once v w e = same_Some v w (sym (widths.again v tt) ∙ ap width_at e ∙ 
 made_once : (t n : ℕ) (k : EventKind) (o : MemoryOrder) (a : ℕ) (w : AccessWidth) (r v t' n' : ℕ) (k' : EventKind) (o' : MemoryOrder) (a' : ℕ) (w' : AccessWidth) (r' v' : ℕ) → t ≡ t' → n ≡ n' → k ≡ k' → o ≡ o' → a ≡ a' → w ≡ w' → r ≡ r' → v ≡ v' → made t n k o a w r v ≡ made t' n' k' o' a' w' r' v'
 made_once t n k o a w r v t' n' k' o' a' w' r' v' e1 e2 e3 e4 e5 e6 e7 e8 = cc
 
--- the same with more behind the values
+-- the same with more after the values
 fields_once : (t n : ℕ) (e f : Event) (ds es : List Data) → IsEvent t n e → IsEvent t n f
     → ((k : EventKind) → values k e.read e.written ++ ds ≡ values k f.read f.written ++ es → e.kind ≡ k → f.kind ≡ k → values k e.read e.written ≡ values k f.read f.written)
     → event_cells e ++ ds ≡ event_cells f ++ es → e ≡ f
@@ -151,7 +151,7 @@ log_of s xs e n es = record { start = record { name = s; args = xs }; end = e; s
 log_of_once : (s t xs ys : List ℕ) (e f : End) (m n : ℕ) (es fs : List Event) → s ≡ t → xs ≡ ys → e ≡ f → m ≡ n → es ≡ fs → log_of s xs e m es ≡ log_of t ys f n fs
 log_of_once s t xs ys e f m n es fs e1 e2 e3 e4 e5 = cc
 
--- a thread's log is known by its cells, where these say its events
+-- a thread's log is determined by its cells, if these determine its events
 thread_cells_once : (l m : ThreadLog) (ds es : List Data) → (list ds ≡ list es → l.events ≡ m.events) → thread_cells l ds ≡ thread_cells m es → l ≡ m
 unfolding log_of
 thread_cells_once l m ds es events h =
@@ -244,7 +244,7 @@ by_once Read ws vs p q h = items_once writer writer_once ws vs (cells_once (even
 by_once Write ws vs p q h = p refl ∙ sym (q refl)
 by_once Update ws vs p q h = items_once writer writer_once ws vs (cells_once (event_writers ws) (event_writers vs) [] [] h).0
 
--- what stands behind the cells of an event
+-- what comes after the cells of an event
 cells_after : (e : Event) (ds es : List Data) → event_cells e ++ ds ≡ event_cells e ++ es → ds ≡ es
 cells_after e ds es h =
     let c1 = cells_once (string (kind_word e.kind)) (string (kind_word e.kind)) _ _ h in

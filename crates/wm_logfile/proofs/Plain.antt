@@ -143,7 +143,7 @@ plain_end (Done o) fits = plain_list 1 _ (plain_cons 1 _ _ (plain_word 1 _) (pla
 plain_end (Trap k) fits = plain_list 1 _ (plain_cons 1 _ _ (plain_word 1 _) (plain_cons 1 _ _ (plain_word 1 _) (plain_nil 1)))
 plain_end Cut fits = plain_list 1 _ (plain_cons 1 _ _ (plain_word 1 _) (plain_nil 1))
 
--- what a witness within the limits says of an event is within them
+-- the writers that a witness within the limits has for an event are within them
 found_event : (wss : List (List EventId)) (n : ℕ) → All (All WriterFits) wss → All WriterFits (unwrap_or (slice_get wss n) [])
 found_event [] n h = All-nil WriterFits
 found_event (ws ∷ wss) zero h = All-head (All WriterFits) ws wss h

@@ -173,7 +173,7 @@ traverse_more {A} f n m (c ∷ ds) xs d x is h e =
     let same : one.0 ∷ two.0 ≡ xs = cc in
     subst (λ (ys : List A). traverse f n (c ∷ (ds ++ d ∷ [])) ≡ Some (ys ++ x ∷ [])) same (put (f n c) (traverse f (suc n) (ds ++ d ∷ [])) one.0 (two.0 ++ x ∷ []) one.1 more)
 
--- so many items of a list were taken
+-- this number of items of a list were taken
 pub record TakenItems {A : Type 0} (k : ℕ) (f : ℕ → Data → Option A) (old : List Token) (xs : List A) (i : ℕ) (new : List Token) : Type 0 where
   pub front : TakenFront k (traverse f 0) old xs new
   pub many : i ≡ 0 + length front.values

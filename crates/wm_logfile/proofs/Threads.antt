@@ -139,7 +139,7 @@ start_takes a b s h =
 start_again : (s : Start) → All (λ n. n ≤ u64_max) s.args → start_at (string s.name) (list (map count s.args)) ≡ Some s
 start_again s fit = rw (arguments.again s.args fit) refl
 
--- ---- what stands before the events
+-- ---- what comes before the events
 
 pub record HeadFits (h : ThreadHead) : Type 0 where
   pub args : All (λ a. a ≤ u64_max) h.start.args

@@ -9,7 +9,7 @@ use Rattle.wm_logfile.specs.Document.{document_cells, list}
 use Rattle.wm_logfile.specs.FirstFault.{document_fault}
 use Rattle.wm_logfile.specs.Limits.{max_document_bytes}
 
--- ---- of a value
+-- ---- for a value
 
 -- a number other than the integers 1 and 2
 pub record IsOtherVersion (n : Num) : Type 0 where
@@ -33,7 +33,7 @@ pub record HasTooManyThreads (d : Data) : Type 0 where
   pub is : d ≡ list (document_cells version threads last)
   pub many : max_threads < length threads
 
--- what the fault of reading a value says of it; one with a path is the first fault
+-- the meaning of a fault of reading for the value; a fault with a path is the first fault
 abbrev pub IsCause : DocFault → Data → Type 0
 IsCause BadVersion d = HasOtherVersion d
 IsCause TooLarge d = HasTooManyThreads d
@@ -49,30 +49,30 @@ pub record IsFaultOf (d : Data) (fault : DocFault) : Type 0 where
   pub other_version : HasOtherVersion d → fault ≡ BadVersion
   pub many_threads : HasTooManyThreads d → fault ≡ TooLarge
 
--- ---- of bytes
+-- ---- for bytes
 
 -- the bytes are JSON text of the value
 pub record IsTextOf (bytes : List ℕ) (d : Data) : Type 0 where
   pub utf8 : IsUtf8 bytes
   pub text : read bytes ≡ Some d
 
--- the bytes, within the limit, are no JSON text
+-- the bytes, within the limit, are not JSON text
 pub record IsNoJson (bytes : List ℕ) : Type 0 where
   pub small : length bytes ≤ max_document_bytes
   pub none : (d : Data) → ¬ IsTextOf bytes d
 
--- the bytes, within the limit, are JSON text of a value that is so
+-- the bytes, within the limit, are JSON text of a value with this property
 pub record IsTextWith (P : Data → Type 0) (bytes : List ℕ) : Type 0 where
   pub small : length bytes ≤ max_document_bytes
   pub value : Data
   pub text : IsTextOf bytes value
   pub holds : P value
 
--- past the limit of bytes, or within it past the limit of threads
+-- over the limit of bytes, or within it and over the limit of threads
 abbrev pub IsTooLarge : List ℕ → Type 0
 IsTooLarge bytes = (max_document_bytes < length bytes) ⊎ IsTextWith HasTooManyThreads bytes
 
--- what the fault of reading bytes says of them
+-- the meaning of a fault of reading for the bytes
 abbrev pub IsCauseIn : DocFault → List ℕ → Type 0
 IsCauseIn NotJson bytes = IsNoJson bytes
 IsCauseIn BadVersion bytes = IsTextWith HasOtherVersion bytes

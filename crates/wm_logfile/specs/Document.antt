@@ -1,4 +1,4 @@
--- The values that a log with a witness is spelled by, the limits, and the text.
+-- The values that spell a log with a witness, the limits, and the text.
 use Rattle.std.specs.Prelude.{◌≡◌, ◌<◌, ◌≤◌, ◌^◌, ℕ, List, [], ◌∷◌, ◌++◌, map, length, codes, Some, None, Option, ⊤, IsUtf8, IfSome, All}
 use Rattle.serde_json.specs.Data.{Data, number, string, array, unsigned}
 use Rattle.serde_json.specs.Read.{read}
@@ -27,11 +27,11 @@ use Rattle.wm_logfile.specs.Words.{kind_word, order_word}
 abbrev pub list : List Data → Data
 list ds = array (items_of ds)
 
--- a whole number that is not negative
+-- an integer that is not negative
 abbrev pub count : ℕ → Data
 count n = number (unsigned n)
 
--- the values that an event of the kind ends with
+-- the values at the end of an event of the kind
 abbrev pub values : EventKind → ℕ → ℕ → List Data
 values Read read written = count read ∷ []
 values Write read written = count written ∷ []
@@ -82,7 +82,7 @@ keys order = list (map event_key order)
 abbrev pub document_cells : ℕ → List Data → Data → List Data
 document_cells version threads last = string (codes "wasm-litmus-log") ∷ count version ∷ list threads ∷ last ∷ []
 
--- ---- version 1: the witness stands behind the threads
+-- ---- version 1: the witness comes after the threads
 
 abbrev pub thread : ThreadLog → Data
 thread l = list (thread_cells l (map event l.events))
@@ -102,7 +102,7 @@ witness w = list (witness_cells w)
 abbrev pub document_1 : List ThreadLog → Witness → Data
 document_1 log w = list (document_cells 1 (map thread log) (witness w))
 
--- ---- version 2: its writers stand in each event that reads
+-- ---- version 2: each event that reads has its writers
 
 abbrev pub by_cells : EventKind → List EventId → List Data
 by_cells Read ws = event_writers ws ∷ []
@@ -121,14 +121,14 @@ document_2 log w = list (document_cells 2 (map (thread_by w) log) (keys w.order)
 
 -- ---- the relation
 
--- the value spells the log with the witness, in version 1 or, where the witness fits the log, in version 2
+-- the value spells the log with the witness, in version 1 or, if the witness fits the log, in version 2
 pub data IsDocument (d : Data) (log : List ThreadLog) (w : Witness) : Type 0 where
   first : d ≡ document_1 log w → IsDocument d log w
   second : FitsLog log w → d ≡ document_2 log w → IsDocument d log w
 
 -- ---- the limits
 
--- the numbers of an event, also its place in its thread, are in their ranges
+-- the numbers of an event, including its place in its thread, are in their ranges
 pub record EventFits (e : Event) : Type 0 where
   pub number : e.number < 2 ^ 32
   pub address : e.address < 2 ^ 32
@@ -155,7 +155,7 @@ abbrev pub WriterFits : EventId → Type 0
 WriterFits Init = ⊤
 WriterFits (At key) = KeyFits key
 
--- the ranges of the numbers that a document may hold, and at most so many threads
+-- the ranges of the numbers in a document, and the most threads
 pub record IsWithinLimits (log : List ThreadLog) (w : Witness) : Type 0 where
   pub threads : length log ≤ max_threads
   pub each : All ThreadFits log

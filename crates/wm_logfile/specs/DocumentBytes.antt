@@ -1,4 +1,4 @@
--- What the bytes of a document stand for, within the limits.
+-- What the bytes of a document spell, within the limits.
 use Rattle.std.specs.Prelude.{◌≡◌, ◌≢◌, ◌<◌, ◌≤◌, ℕ, List, length}
 use Rattle.serde_json.specs.Data.{Data}
 use Rattle.serde_json.specs.Written.{compact_text}
@@ -27,11 +27,11 @@ abbrev pub SpellsOnePair : Type 0
 SpellsOnePair = (d : Data) → (log : List ThreadLog) → (other : List ThreadLog) → (v : Witness) → (w : Witness) → IsLog log → IsLog other
     → IsDocument d log v → IsDocument d other w → (log ≡ other) × (v ≡ w)
 
--- within the limits a text is read as this log with this witness
+-- within the limits a text reads back as this log with this witness
 abbrev pub IsReadAgain : List ThreadLog → Witness → List ℕ → Type 0
 IsReadAgain log witness text = length text ≤ max_document_bytes → IsWithinLimits log witness → IsDocumentOf text log witness
 
--- the text of the log with the witness is past the limit, unless memory was refused
+-- the text of the log with the witness is over the limit, unless an allocation fails
 abbrev pub IsWrittenTooLarge : List ThreadLog → Witness → DocFault → Type 0
 IsWrittenTooLarge log witness fault = fault ≢ OutOfMemory → max_document_bytes < length (compact_text (document_2 log witness))
 

@@ -26,14 +26,14 @@ use Rattle.wm_logfile.specs.Reading.{◌>>=◌, list_at, version_from}
 abbrev pub values_fault : EventKind → List ℕ → List Data → Option ReadFault
 values_fault kind path values = exact_fault (values_fields kind no_fields) path 4 values
 
--- what follows the word of an event, up to its values
+-- what comes after the word of an event, up to its values
 abbrev pub parts_fault : EventKind → List ℕ → EventParts → List Data → Option ReadFault
 parts_fault kind path parts values =
     option_or (first_fault (order_form kind) (child path 1) (view parts.order.now))
     (option_or (first_fault small (child path 2) (view parts.address.now))
     (option_or (first_fault width (child path 3) (view parts.width.now)) (values_fault kind path values)))
 
--- what follows the values of an event
+-- what comes after the values of an event
 abbrev pub by_fault : EventKind → List ℕ → List Data → Option ReadFault
 by_fault Read path lists = exact_fault (field writers no_fields) path 5 lists
 by_fault Write path lists = exact_fault no_fields path 5 lists
@@ -55,28 +55,28 @@ head_fault path _ = Some (Shape path)
 abbrev pub as_first : Option ReadFault → Option DocFault
 as_first fault = option_map as_document fault
 
--- another value than a list, else what there is in its items
+-- a value other than a list; otherwise the fault among its items
 abbrev pub in_document : (List Data → Option DocFault) → List ℕ → Data → Option DocFault
 in_document fault path d = option_map_or fault (list_at d) (Some (BadShape path))
 
--- too many threads are faulted before the first of them
+-- too many threads are reported before a fault of the first of them
 abbrev pub few_fault : (ℕ → List ℕ → Data → Option ReadFault) → List ℕ → List Data → Option DocFault
 few_fault fault path ds = if nat_le (length ds) max_threads then as_first (items_fault fault path 0 ds) else Some TooLarge
 
 abbrev pub threads_fault : Form → List ℕ → Data → Option DocFault
 threads_fault form path d = in_document (few_fault (numbered_fault (first_fault form)) path) path d
 
--- what follows the version
+-- what comes after the version
 abbrev pub pair_fault : Version → List ℕ → Data → Data → Option DocFault
 pair_fault First path threads last = option_or (threads_fault thread (child path 2) threads) (as_first (first_fault witness (child path 3) last))
 pair_fault Second path threads last = option_or (threads_fault thread_by (child path 2) threads) (as_first (first_fault keys (child path 3) last))
 
--- a number that is not a version, or a known one and what follows it
+-- a number that is not a version; or a known version, and then the fault of what comes after it
 abbrev pub version_fault : (Version → Option DocFault) → List ℕ → Option Num → Option DocFault
 version_fault behind path None = Some (BadShape path)
 version_fault behind path (Some n) = option_map_or behind (as_u64 n >>= version_from) (Some BadVersion)
 
--- the name, the version and what follows it
+-- the name, the version and what comes after it
 abbrev pub parts_fault_with : (Version → Data → Data → Option DocFault) → List ℕ → List Data → Option DocFault
 parts_fault_with behind path (name ∷ version ∷ threads ∷ last ∷ []) =
     option_or (as_first (first_fault format_name (child path 0) name)) (version_fault (λ v. behind v threads last) (child path 1) (as_number version))

@@ -1,4 +1,4 @@
--- What a value of the format may be, and the first fault of a value that isn't so.
+-- The forms of the format's values, and the first fault of a value that doesn't have its form.
 use Rattle.std.specs.Prelude.{◌==◌, ℕ, suc, List, [], ◌∷◌, length, Bool, true, false, nat_le, is_some, if◌then◌else◌, Option, Some, None}
 use Rattle.std.specs.List.{list_any}
 use Rattle.std.specs.Option.{option_or, option_map_or}
@@ -10,21 +10,21 @@ use Rattle.wm_logfile.specs.declared.fault.ReadFault.TheVariants.{Shape, Range}
 use Rattle.wm_logfile.specs.Paths.{child}
 use Rattle.wm_logfile.specs.Reading.{list_at, u32_max}
 
--- ---- what a value may be
+-- ---- the form of a value
 
 mutual
   pub data Form : Type 0 where
-    -- a whole number up to this one
+    -- an integer up to this one
     up_to : ℕ → Form
     -- one of these numbers
     one_of : List ℕ → Form
     -- one of these words
     word_of : List (List ℕ) → Form
-    -- any text
+    -- any string
     text : Form
     -- a list, each item of this form
     items : Form → Form
-    -- the same, where an item's index has 32 bits too
+    -- the same, but an item's index also has 32 bits
     numbered : Form → Form
     -- a list of items of these forms
     fields : Fields → Form
@@ -47,12 +47,12 @@ abbrev pub unless : Bool → ReadFault → Option ReadFault
 unless true fault = None
 unless false fault = Some fault
 
--- a number that isn't allowed is out of range; another value is no number
+-- a number that isn't allowed is out of range; another value is not a number
 abbrev pub number_fault : (ℕ → Bool) → List ℕ → Option Num → Option ReadFault
 number_fault allowed path None = Some (Shape path)
 number_fault allowed path (Some n) = unless (option_map_or allowed (as_u64 n) false) (Range path)
 
--- another value than a list, else what there is in its items
+-- a value other than a list; otherwise the fault among its items
 abbrev pub in_list : (List Data → Option ReadFault) → List ℕ → Data → Option ReadFault
 in_list fault path d = option_map_or fault (list_at d) (Some (Shape path))
 
@@ -61,7 +61,7 @@ abbrev pub items_fault : (ℕ → List ℕ → Data → Option ReadFault) → Li
 items_fault fault path i [] = None
 items_fault fault path i (d ∷ ds) = option_or (fault i (child path i) d) (items_fault fault path (suc i) ds)
 
--- the fault of an item of that index
+-- the fault of the item at that index
 abbrev pub numbered_fault : (List ℕ → Data → Option ReadFault) → ℕ → List ℕ → Data → Option ReadFault
 numbered_fault fault i path d = if nat_le i u32_max then fault path d else Some (Range path)
 
@@ -73,7 +73,7 @@ abbrev pub count_of : Fields → ℕ
 count_of no_fields = 0
 count_of (field form rest) = suc (count_of rest)
 
--- some case has this many items, its word among them
+-- some case has this number of items, including its word
 abbrev pub has_length : Cases → ℕ → Bool
 has_length no_cases n = false
 has_length (case w forms cases) n = if n == suc (count_of forms) then true else has_length cases n
@@ -86,7 +86,7 @@ abbrev pub or_nothing : (List Data → Option ReadFault) → List Data → Optio
 or_nothing fault [] = None
 or_nothing fault (d ∷ ds) = fault (d ∷ ds)
 
--- a length that no case has is faulted before the word
+-- a length that no case has is reported before the word
 abbrev pub begun : Cases → (Option (List ℕ) → List Data → Option ReadFault) → List ℕ → List Data → Option ReadFault
 begun cases fault path [] = Some (Shape path)
 begun cases fault path (d ∷ ds) = if has_length cases (suc (length ds)) then fault (as_str d) ds else Some (Shape path)
@@ -104,19 +104,19 @@ abbrev mutual
   first_fault (maybe forms) path d = in_list (or_nothing (exactly forms (λ ds. fields_fault forms path 0 ds) path)) path d
   first_fault (tagged cases) path d = in_list (begun cases (λ word ds. case_fault cases path word ds) path) path d
 
-  -- of items of these forms, from this index on
+  -- the first fault of items of these forms, from this index on
   pub fields_fault : Fields → List ℕ → ℕ → List Data → Option ReadFault
   fields_fault no_fields path i ds = None
   fields_fault (field form rest) path i [] = None
   fields_fault (field form rest) path i (d ∷ ds) = option_or (first_fault form (child path i) d) (fields_fault rest path (suc i) ds)
 
-  -- of what follows this word
+  -- the first fault of what comes after this word
   pub case_fault : Cases → List ℕ → Option (List ℕ) → List Data → Option ReadFault
   case_fault no_cases path word ds = Some (Shape (child path 0))
   case_fault (case w forms cases) path word ds =
       if is_word (w ∷ []) word then exactly forms (λ xs. fields_fault forms path 1 xs) path ds else case_fault cases path word ds
 
--- of the items of lists
+-- the first faults of the items of lists
 
 abbrev pub exact_fault : Fields → List ℕ → ℕ → List Data → Option ReadFault
 exact_fault forms path i ds = exactly forms (λ xs. fields_fault forms path i xs) path ds

@@ -53,7 +53,7 @@ order_form Read = order
 order_form Write = order
 order_form Update = update_order
 
--- the values of an event of the kind, and what follows those of one that reads
+-- the values of an event of the kind, and what comes after them in an event that reads
 abbrev pub values_fields : EventKind → Fields → Fields
 values_fields Read by = field value by
 values_fields Write by = field value no_fields
@@ -71,7 +71,7 @@ cases_with by = case (codes "r") (event_fields Read by) (case (codes "w") (event
 abbrev pub event_cases : Cases
 event_cases = cases_with no_fields
 
--- version 2: the writers of the bytes read follow the values
+-- version 2: the writers of the bytes read come after the values
 abbrev pub event_by_cases : Cases
 event_by_cases = cases_with (field writers no_fields)
 
@@ -98,7 +98,7 @@ ending_cases = case (codes "done") (field result no_fields) (case (codes "trap")
 unfoldable pub ending : Form
 ending = tagged ending_cases
 
--- a thread whose events are so
+-- a thread whose events have this form
 abbrev pub thread_fields : Form → Fields
 thread_fields event = field text (field (items value) (field ending (field (up_to max_steps) (field (numbered event) no_fields))))
 
@@ -110,7 +110,7 @@ thread = fields (thread_fields event)
 unfoldable pub thread_by : Form
 thread_by = fields (thread_fields event_by)
 
--- ---- what follows the threads
+-- ---- what comes after the threads
 
 -- an order, as in version 2
 unfoldable pub keys : Form

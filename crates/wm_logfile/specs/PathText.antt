@@ -1,4 +1,4 @@
--- How a path prints: each index behind a slash, and a lone slash for the whole.
+-- How a path prints: each index after a slash, and a single slash for the whole.
 use Rattle.std.specs.Prelude.{ℕ, List, [], ◌∷◌, ◌++◌, codes}
 use Rattle.std.specs.Fmt.{decimal}
 

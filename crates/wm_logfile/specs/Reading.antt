@@ -1,5 +1,5 @@
--- Reading as functions on values, for the clauses of the readers: `x_at` reads an x from a value, and `x_from`
--- from the items of a list or from a text. None says that no x is spelled so.
+-- Reading as functions on values, for the clauses of the readers: `x_at` reads an x from a value, and `x_from` from the
+-- items of a list or from a text. None means that no x is spelled this way.
 use Rattle.std.specs.Prelude.{◌==◌, ◌||◌, ℕ, suc, List, [], ◌∷◌, length, map, take, drop, codes, Bool, nat_le, if◌then◌else◌, Option, Some, None, option_map, option_and_then, unwrap_or, ⊤}
 use Rattle.std.specs.Str.{bytes_eq}
 use Rattle.serde_json.specs.Data.{Data, Items, no_items, item}
@@ -31,7 +31,7 @@ use Rattle.wm_logfile.specs.declared.document.Version.TheVariants.{First, Second
 use Rattle.wm_logfile.specs.declared.thread.ThreadHead.{ThreadHead}
 use Rattle.wm_logfile.specs.Words.{kind_word, order_word}
 
--- what the second reads from what the first read
+-- the second reads from what the first read
 infixl 10 ◌>>=◌
 abbrev pub ◌>>=◌ : {A B : Type 0} → Option A → (A → Option B) → Option B
 (Some x) >>= f = f x
@@ -44,7 +44,7 @@ data_list (item d ds) = d ∷ data_list ds
 abbrev pub list_at : Data → Option (List Data)
 list_at d = option_map data_list (as_array d)
 
--- the items of a list, none of another value
+-- the items of a list; none for another value
 abbrev pub items_in : Data → List Data
 items_in d = unwrap_or (list_at d) []
 
@@ -59,7 +59,7 @@ width_from n = if n == 1 then Some One else (if n == 2 then Some Two else (if n 
 abbrev pub width_at : Data → Option AccessWidth
 width_at d = number_at 8 d >>= width_from
 
--- the first of these that is written so
+-- the first of these that is written this way
 abbrev pub word_from : {A : Type 0} → (A → List ℕ) → List A → List ℕ → Option A
 word_from word [] s = None
 word_from word (a ∷ others) s = if bytes_eq s (word a) then Some a else word_from word others s
@@ -76,7 +76,7 @@ kind_at d = as_str d >>= kind_from
 abbrev pub order_at : Data → Option MemoryOrder
 order_at d = as_str d >>= order_from
 
--- how many values an event of the kind ends with
+-- the number of values at the end of an event of the kind
 abbrev pub values_len : EventKind → ℕ
 values_len Read = 1
 values_len Write = 1
@@ -101,17 +101,17 @@ values_at Write (v ∷ []) = number_at u64_max v >>= λ n. Some (0, n)
 values_at Update (r ∷ v ∷ []) = number_at u64_max r >>= λ m. number_at u64_max v >>= λ n. Some (m, n)
 values_at _ _ = None
 
--- some kind has so many values
+-- some kind has this number of values
 abbrev pub is_count : ℕ → Bool
 is_count n = (n == 1) || (n == 2)
 
--- the event of the kind that is written so behind its word
+-- the event of the kind, by the items after its word
 abbrev pub event_from : ℕ → ℕ → EventKind → Data → Data → Data → List Data → Option Event
 event_from t n k order address width values =
     order_for k order >>= λ o. number_at u32_max address >>= λ a. width_at width >>= λ w. values_at k values >>= λ v.
     Some (record { thread = t; number = n; kind = k; order = o; address = a; width = w; read = v.0; written = v.1 })
 
--- the same of the parts that a reader holds
+-- the same for the parts that a reader holds
 abbrev pub event_of : ℕ → ℕ → EventKind → EventParts → List Data → Option Event
 event_of t n k parts values = event_from t n k (view parts.order.now) (view parts.address.now) (view parts.width.now) values
 
@@ -123,7 +123,7 @@ fields_at t n _ = None
 abbrev pub event_at : ℕ → ℕ → Data → Option Event
 event_at t n d = list_at d >>= fields_at t n
 
--- each item, which is given its index
+-- each item, given its index
 abbrev pub traverse : {A : Type 0} → (ℕ → Data → Option A) → ℕ → List Data → Option (List A)
 traverse f n [] = Some []
 traverse f n (d ∷ ds) = f n d >>= λ a. traverse f (suc n) ds >>= λ rest. Some (a ∷ rest)
@@ -153,14 +153,14 @@ writer_at d = list_at d >>= writer_from
 abbrev pub event_writers_at : Data → Option (List EventId)
 event_writers_at d = items_at (λ _ x. writer_at x) d
 
--- the list of writers behind the values, which a write doesn't have
+-- the list of writers after the values, which a write doesn't have
 abbrev pub by_from : EventKind → List Data → Option (List EventId)
 by_from Read (by ∷ []) = event_writers_at by
 by_from Write [] = Some []
 by_from Update (by ∷ []) = event_writers_at by
 by_from _ _ = None
 
--- how many values and lists of writers an event of the kind ends with
+-- the number of values and lists of writers at the end of an event of the kind
 abbrev pub values_by_len : EventKind → ℕ
 values_by_len Read = 2
 values_by_len Write = 1
@@ -208,7 +208,7 @@ end_at d = list_at d >>= end_from
 abbrev pub start_at : Data → Data → Option Start
 start_at name args = as_str name >>= λ s. items_at (λ _ d. number_at u64_max d) args >>= λ xs. Some (record { name = s; args = xs })
 
--- what stands before the events, and the events
+-- what comes before the events, and the events
 unfoldable pub head_from : List Data → Option (ThreadHead × Data)
 head_from (name ∷ args ∷ end ∷ steps ∷ events ∷ []) =
     start_at name args >>= λ s. end_at end >>= λ e. number_at max_steps steps >>= λ n. Some (record { start = s; end = e; steps = n }, events)
@@ -262,7 +262,7 @@ witness_at d = list_at d >>= witness_from
 abbrev pub few_from : {A : Type 0} → (ℕ → Data → Option A) → List Data → Option (List A)
 few_from f ts = if nat_le (length ts) max_threads then traverse f 0 ts else None
 
--- each thread, where there are not too many
+-- each thread, if there are not too many
 abbrev pub few_at : {A : Type 0} → (ℕ → Data → Option A) → Data → Option (List A)
 few_at f d = list_at d >>= few_from f
 
@@ -273,11 +273,11 @@ version_from n = if n == 1 then Some First else (if n == 2 then Some Second else
 abbrev pub version_at : Data → Option Version
 version_at d = as_number d >>= as_u64 >>= version_from
 
--- nothing, where this is the name of the format
+-- nothing, if this is the name of the format
 abbrev pub name_at : Data → Option ⊤
 name_at d = as_str d >>= λ s. if bytes_eq s (codes "wasm-litmus-log") then Some tt else None
 
--- the version of a document, its threads, and what stands behind them
+-- the version of a document, its threads, and what comes after them
 unfoldable pub parts_from : List Data → Option (Version × Data × Data)
 parts_from (name ∷ version ∷ threads ∷ last ∷ []) = name_at name >>= λ _. version_at version >>= λ v. Some (v, threads, last)
 parts_from _ = None

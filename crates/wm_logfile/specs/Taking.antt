@@ -14,15 +14,15 @@ use Rattle.wm_logfile.specs.declared.thread.ThreadHead.{ThreadHead}
 use Rattle.wm_logfile.specs.declared.document.Version.{Version}
 use Rattle.wm_logfile.specs.Reading.{◌>>=◌, list_at, result_from, pair_at, kind_at, values_len, values_at, event_from, document_at, start_at, end_at, number_at}
 
--- the tokens begin with those of the value, which nests at most k deep, and the rest follows
+-- the tokens begin with the tokens of the value, which nests at most k deep, and the rest comes after
 pub record Leads (k : ℕ) (ts : List Token) (d : Data) (rest : List Token) : Type 0 where
   pub at : (depth : ℕ) → k ≤ depth → converted of_json (value depth ts) ≡ Some (d, rest)
 
--- the tokens begin with those of the values up to the end of a list, and the rest follows
+-- the tokens begin with the tokens of the values up to the end of a list, and the rest comes after
 pub record LeadsOn (k : ℕ) (ts : List Token) (ds : List Data) (rest : List Token) : Type 0 where
   pub at : (depth n : ℕ) → k ≤ depth → length ts ≤ n → converted of_items (items (value depth) n ts) ≡ Some (items_of ds, rest)
 
--- the tokens begin with those of the values, and a list goes on with the rest
+-- the tokens begin with the tokens of the values, and a list continues with the rest
 pub record Passes (k : ℕ) (ts : List Token) (ds : List Data) (rest : List Token) : Type 0 where
   pub on : (depth : ℕ) (es : List Data) (end : List Token) → k ≤ depth → LeadsOn depth rest es end → LeadsOn depth ts (ds ++ es) end
 
@@ -74,24 +74,24 @@ pub record TakenHead (old : List Token) (head : ThreadHead) (new : List Token) :
   pub ended : end_at end ≡ Some head.end
   pub counted : number_at max_steps steps ≡ Some head.steps
 
--- the result of a function, where it has one
+-- the result of a function, if it has one
 abbrev pub result_at : Data → Option (Option ℕ)
 result_at d = list_at d >>= result_from
 
--- what stands behind the version of a document was taken
+-- what comes after the version of a document was taken
 pub record TakenPair (version : Version) (old : List Token) (log : List ThreadLog) (w : Witness) (new : List Token) : Type 0 where
   pub threads : Data
   pub last : Data
   pub passes : Passes 6 old (threads ∷ last ∷ []) new
   pub pair : pair_at version threads last ≡ Some (log, w)
 
--- the text is that of a document that reads as the log with the witness
+-- the text is a document that reads as the log with the witness
 pub record TakenText (text : List ℕ) (log : List ThreadLog) (w : Witness) : Type 0 where
   pub value : Data
   pub text_is : read text ≡ Some value
   pub given : document_at value ≡ Some (log, w)
 
--- the bytes are text of a document that reads as the log with the witness
+-- the bytes are the text of a document that reads as the log with the witness
 pub record TakenDocument (bytes : List ℕ) (log : List ThreadLog) (w : Witness) : Type 0 where
   pub utf8 : IsUtf8 bytes
   pub value : Data

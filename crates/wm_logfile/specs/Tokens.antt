@@ -9,11 +9,11 @@ use Rattle.serde_json.specs.Written.{outline}
 abbrev pub tokens_of : Data → List Token
 tokens_of d = json_tokens (outline d)
 
--- those of values one behind the other
+-- the tokens of values, one after the other
 abbrev pub cells_tokens : List Data → List Token
 cells_tokens [] = []
 cells_tokens (d ∷ ds) = tokens_of d ++ cells_tokens ds
 
--- these tokens were written behind the others
+-- these tokens were written after the others
 abbrev pub Adds : Written → Written → List Token → Type 0
 Adds old new ts = (new.before ≡ old.before) × (new.tokens ≡ old.tokens ++ ts)

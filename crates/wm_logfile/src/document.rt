@@ -30,16 +30,16 @@ use std::alloc::Global;
 use wm_event::{Log, MAX_THREADS, ThreadLog, Witness};
 use wm_list::List;
 
-/// How a document is written.
+/// The layout of a document.
 #[derive(Clone, Copy)]
 pub(crate) enum Version {
-    /// The witness stands behind the threads.
+    /// The witness comes after the threads.
     First,
-    /// The writers of the bytes that an event read stand in the event, and the order behind the threads.
+    /// The writers of the bytes that an event read are in the event, and the order comes after the threads.
     Second,
 }
 
-/// The threads, where there are not too many.
+/// The threads, if there are not too many.
 fn threads_of<T: Drop, R: ItemReader<T>>(
     alloc: Global,
     reader: &R,
@@ -86,7 +86,7 @@ fn version_of(value: &Value, path: &Path) -> Result<Version, DocFault>
     }
 }
 
-/// The version, the threads and what stands behind them, by the fields of a document.
+/// The version, the threads and what comes after them, by the fields of a document.
 #[tactic(auto, unfolding(crate::specs::Reading::parts_from))]
 fn parts_of<'a>(
     fields: &'a [Value],
@@ -155,14 +155,14 @@ fn document_of(alloc: Global, value: &Value) -> Result<(Log, Witness), DocFault>
     }
 }
 
-/// Room that the reading of a document takes: some 16 KiB, which serve one document after the other.
+/// Memory for reading documents: about 16 KiB, reused from one document to the next.
 #[derive(Drop)]
 pub struct ReadingRoom {
     scratch: Scratch,
 }
 
 impl ReadingRoom {
-    /// Room for any document.
+    /// A room for any document.
     pub fn new(alloc: Global) -> ReadingRoom {
         ReadingRoom {
             scratch: Scratch::new(alloc),
@@ -170,25 +170,25 @@ impl ReadingRoom {
     }
 }
 
-/// The same as [`read_document`], in room that other documents may have been read in.
+/// The same as [`read_document`], with a room that may have been used for other documents.
 ///
 /// # Errors
 ///
-/// Those of [`read_document`].
+/// The errors of [`read_document`].
 pub fn read_document_in(
     alloc: Global,
     room: &mut ReadingRoom,
     bytes: &[u8],
 ) -> Result<(Log, Witness), DocFault>
-    // What is read is spelled so, and is within the limits.
+    // The bytes spell the pair that is read, and it is within the limits.
     ensures spelled { IfOk result (λ p. Spells bytes.now p.0 p.1) }
     ensures within { IfOk result (λ p. (length bytes.now ≤ max_document_bytes) × IsLog p.0
         × IsWithinLimits p.0 p.1) }
 
-    // Within the limits no other pair is spelled so.
+    // The bytes spell no other pair within the limits.
     ensures only { IfOk result (λ p. IsOnlyPair bytes.now p.0 p.1) }
 
-    // Only what is spelled so by no pair within the limits is refused, with its fault, or for want of memory.
+    // Bytes are refused only if they spell no pair within the limits, with their fault, or because an allocation fails.
     ensures refused { IfErr result (λ e. e ≢ DocFault.OutOfMemory → IsNoDocument bytes.now e) }
 {
     if bytes.len() > MAX_DOCUMENT_BYTES {
@@ -197,7 +197,7 @@ pub fn read_document_in(
     match take_document(alloc, &mut room.scratch, bytes) {
         Ok(pair) => return Ok(pair),
         Err(TakeFault::Memory) => return Err(DocFault::OutOfMemory),
-        // The value of the text says where it falls short.
+        // Reading the value of the text finds the fault.
         Err(TakeFault::Other) => {}
     }
     match Value::from_slice(alloc, bytes) {
@@ -207,29 +207,28 @@ pub fn read_document_in(
     }
 }
 
-/// The log and the witness that the bytes spell, in version 1 or 2. JSON's white space is read anywhere.
+/// The log and the witness that the bytes spell, in version 1 or 2. JSON's white space is allowed anywhere.
 ///
 /// # Errors
 ///
-/// The first fault, in the order that [`DocFault`] states, and never `Misplaced`; `OutOfMemory` where memory was
-/// refused.
+/// The first fault, in the order that [`DocFault`] states, and never `Misplaced`; `OutOfMemory` if an allocation fails.
 pub fn read_document(alloc: Global, bytes: &[u8]) -> Result<(Log, Witness), DocFault>
-    // What is read is spelled so, and is within the limits.
+    // The bytes spell the pair that is read, and it is within the limits.
     ensures spelled { IfOk result (λ p. Spells bytes.now p.0 p.1) }
     ensures within { IfOk result (λ p. (length bytes.now ≤ max_document_bytes) × IsLog p.0
         × IsWithinLimits p.0 p.1) }
 
-    // Within the limits no other pair is spelled so.
+    // The bytes spell no other pair within the limits.
     ensures only { IfOk result (λ p. IsOnlyPair bytes.now p.0 p.1) }
 
-    // Only what is spelled so by no pair within the limits is refused, with its fault, or for want of memory.
+    // Bytes are refused only if they spell no pair within the limits, with their fault, or because an allocation fails.
     ensures refused { IfErr result (λ e. e ≢ DocFault.OutOfMemory → IsNoDocument bytes.now e) }
 {
     let mut room = ReadingRoom::new(alloc);
     read_document_in(alloc, &mut room, bytes)
 }
 
-/// A value spells at most one log with a witness, whatever the version and the limits.
+/// A value spells at most one log with a witness, in whatever version and without regard to limits.
 pub fn one_pair()
     ensures { SpellsOnePair }
 {}

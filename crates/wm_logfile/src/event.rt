@@ -1,4 +1,4 @@
-//! The readers of an event, which in version 2 stands with the writers of the bytes that it read.
+//! The readers of an event, which in version 2 includes the writers of the bytes that it read.
 ghost use Rattle.std.specs.Prelude.{◌≡◌, map};
 ghost use Rattle.serde_json.specs.View.{view};
 ghost use Rattle.wm_logfile.specs.Faults.{Gives, Faults};
@@ -26,7 +26,7 @@ struct EventParts<'a> {
     width: &'a Value,
 }
 
-/// With how many values an event of the kind ends.
+/// The number of values at the end of an event of the kind.
 fn value_count(kind: EventKind) -> usize
     ensures { result ≡ values_len kind }
 {
@@ -72,7 +72,7 @@ fn values_of(kind: EventKind, values: &[Value], path: &Path) -> Result<(u64, u64
     }
 }
 
-/// The event of the kind that is written so behind its word.
+/// The event of the kind, by the items after its word.
 fn event_of_parts(
     kind: EventKind,
     parts: &EventParts<'_>,
@@ -100,7 +100,7 @@ fn event_of_parts(
     })
 }
 
-/// The event of these fields. A length that no kind has is faulted before the kind.
+/// The event of these fields. A length that no kind has is reported before the kind.
 #[tactic(auto, unfolding(crate::specs::Reading::fields_at))]
 fn event_of_fields(
     fields: &[Value],
@@ -164,7 +164,7 @@ impl ItemReader<Event> for EventReader {
     }
 }
 
-/// With how many values and lists of writers an event of the kind ends in version 2.
+/// The number of values and lists of writers at the end of an event of the kind in version 2.
 fn value_by_count(kind: EventKind) -> usize
     ensures { result ≡ values_by_len kind }
 {
@@ -175,8 +175,7 @@ fn value_by_count(kind: EventKind) -> usize
     }
 }
 
-/// The writers of the bytes that an event of the kind read, by the list behind its values, which a write
-/// doesn't have.
+/// The writers of the bytes that an event of the kind read, by the list after its values, which a write doesn't have.
 fn writers_by(
     alloc: Global,
     kind: EventKind,
@@ -194,8 +193,8 @@ fn writers_by(
     }
 }
 
-/// The event of these fields with the writers of the bytes that it read. A length that no kind has is faulted
-/// before the kind.
+/// The event of these fields with the writers of the bytes that it read. A length that no kind has is reported before
+/// the kind.
 #[tactic(auto, unfolding(crate::specs::Reading::fields_by_at))]
 fn event_by_of_fields(
     alloc: Global,

@@ -11,18 +11,17 @@ use std::fmt;
 use thiserror::Error;
 
 /// Why a document was not read: its first fault. The limit of bytes comes first, then the JSON text, then the
-/// document's length, its name and its version, and then the values from left to right, a list before its
-/// items. An end and an event are faulted by a length that no form has, then by their first item, and then by
-/// the length that this form wants.
+/// document's length, its name and its version, and then the values from left to right, a list before its items. For an
+/// end and an event, a length that no form has is reported first, then a fault of the first item, and then a length
+/// that differs from this form's.
 ///
 /// It prints as `BadShape at /2/0/1`, and without a path as `NotJson`.
 #[derive(Debug, Drop, Error)]
 pub enum DocFault {
-    /// The bytes are no JSON text: not UTF-8, cut, against the grammar, nested more than 127 deep, or with a
+    /// The bytes are not JSON text: not UTF-8, truncated, against the grammar, nested more than 127 deep, or with a
     /// number that is too large for a float.
     NotJson,
-    /// The value at this path is of another kind than the format wants there, is a list of another length, or
-    /// is no word of the format.
+    /// The value at this path is of the wrong kind, is a list of the wrong length, or isn't a word of the format.
     BadShape(Path),
     /// The version is a number other than 1 and 2.
     BadVersion,
@@ -30,10 +29,10 @@ pub enum DocFault {
     NumberRange(Path),
     /// There are more than [`crate::MAX_DOCUMENT_BYTES`] bytes or more than [`wm_event::MAX_THREADS`] threads.
     TooLarge,
-    /// Memory was refused.
+    /// An allocation failed.
     OutOfMemory,
-    /// The witness doesn't fit the log: it has no list of writers for each event, or one with writers for a
-    /// write. Only [`crate::migrate`] answers it, after all faults of reading.
+    /// The witness doesn't fit the log: it doesn't have a list of writers for each event, or it has writers for a
+    /// write. Only [`crate::migrate`] reports it, after all faults of reading.
     Misplaced,
 }
 
@@ -72,11 +71,11 @@ impl<T: Drop> From<AllocFailed<T>> for DocFault {
 /// A fault of a value inside a document.
 #[derive(Drop)]
 pub(crate) enum ReadFault {
-    /// Another kind or length, or an unknown word.
+    /// A wrong kind or length, or an unknown word.
     Shape(Path),
     /// A number out of its range.
     Range(Path),
-    /// Memory was refused.
+    /// An allocation failed.
     Memory,
 }
 

@@ -1,4 +1,4 @@
-//! Readers of the values inside a document that are no lists of items.
+//! Readers of the values inside a document that are not lists of items.
 ghost use Rattle.std.specs.Prelude.{◌≡◌, ◌≤◌, None, map, IfErr, IfOk};
 ghost use Rattle.serde_json.specs.View.{view};
 ghost use Rattle.wm_logfile.specs.declared.fault.ReadFault.TheVariants as read_faults;
@@ -26,7 +26,7 @@ pub(crate) fn list_of<'a>(value: &'a Value, path: &Path) -> Result<&'a [Value], 
     }
 }
 
-/// A whole number that is at most the limit.
+/// An integer that is at most the limit.
 pub(crate) fn number_of(value: &Value, limit: u64, path: &Path) -> Result<u64, ReadFault>
     ensures given { Gives (λ n. n) result (number_at limit (view value.now)) }
     ensures bound { IfOk result (λ n. n ≤ limit) }

@@ -1,4 +1,4 @@
-//! The reader of a list, once for all kinds of item.
+//! The reader of a list, shared by all kinds of items.
 ghost use Rattle.std.specs.Prelude.{◌≡◌, ℕ, List, map, IfOk, Option};
 ghost use Rattle.serde_json.specs.Data.{Data};
 ghost use Rattle.serde_json.specs.View.{view};
@@ -59,7 +59,7 @@ pub(crate) fn items_of<T: Drop, R: ItemReader<T>>(
     each_of(alloc, reader, values, path)
 }
 
-/// Reads a number of 64 bits.
+/// Reads a 64-bit integer.
 #[derive(Clone, Copy)]
 pub(crate) struct NumberReader;
 

@@ -1,4 +1,4 @@
-//! The document of a log with a witness: JSON text (RFC 8259) of arrays, texts and whole numbers.
+//! The document of a log with a witness: JSON text (RFC 8259) of arrays, strings and integers.
 //!
 //! - document: `["wasm-litmus-log",2,THREADS,ORDER]`
 //! - thread: `[NAME,[ARG..],END,STEPS,[EVENT..]]`
@@ -12,9 +12,8 @@
 //! ARG, V, READ and WRITTEN are at most 2^64 - 1, ADDR, THREAD and NUMBER at most 2^32 - 1, STEPS is at most
 //! 1,000,000, and WIDTH is 1, 2, 4 or 8.
 //!
-//! Version 1 is read too, and never written. It is `["wasm-litmus-log",1,THREADS,[WRITERS,ORDER]]`: its events
-//! have no BY, and WRITERS has for each thread and each event the list that BY would be, the empty one for a
-//! write.
+//! Version 1 is also read, but never written. It is `["wasm-litmus-log",1,THREADS,[WRITERS,ORDER]]`: its events have no
+//! BY, and WRITERS has, for each thread and each event, the list that would be BY; for a write it is empty.
 #![tactic(auto)]
 
 /// The most bytes of a document.

@@ -1,4 +1,4 @@
-//! Documents of either version as documents of version 2, and read again.
+//! Migration of documents of either version to version 2, and reading them back.
 ghost use Rattle.std.specs.Prelude.{◌≡◌, ◌≢◌, ◌<◌, IfErr, IfOk, string_bytes};
 ghost use Rattle.wm_event.specs.Fitting.{FitsLog};
 ghost use Rattle.wm_logfile.specs.Document.{IsWithinLimits};
@@ -11,12 +11,12 @@ use crate::text::write_document;
 use std::alloc::Global;
 use wm_event::{Log, Witness};
 
-/// The text in version 2 of the log with the witness that the bytes spell, in version 1 or 2.
+/// The text in version 2 of the log with the witness that the bytes spell in version 1 or 2.
 ///
 /// # Errors
 ///
-/// The first fault of [`read_document`]; where there is none, `Misplaced` where the witness doesn't fit the log;
-/// `OutOfMemory` where memory was refused.
+/// The first fault of [`read_document`]; if there is none, `Misplaced` if the witness doesn't fit the log;
+/// `OutOfMemory` if an allocation fails.
 pub fn migrate(alloc: Global, bytes: &[u8]) -> Result<String, DocFault>
     ensures migrated { IfOk result (λ s. IsMigrated bytes.now (string_bytes s)) }
     ensures misplaced { IfErr result (λ e. e ≡ DocFault.Misplaced → IsMisplaced bytes.now) }
@@ -31,7 +31,7 @@ pub fn migrate(alloc: Global, bytes: &[u8]) -> Result<String, DocFault>
 ///
 /// # Errors
 ///
-/// `Misplaced` where the witness doesn't fit the log; `OutOfMemory` where memory was refused.
+/// `Misplaced` if the witness doesn't fit the log; `OutOfMemory` if an allocation fails.
 fn rewrite(alloc: Global, log: Log, witness: Witness) -> Result<String, DocFault>
     ensures written { IfOk result (λ s. IsRewritten log witness (string_bytes s)) }
     ensures refused { IfErr result (IsRewriteFault log witness) }
@@ -43,8 +43,8 @@ fn rewrite(alloc: Global, log: Log, witness: Witness) -> Result<String, DocFault
     Ok(text)
 }
 
-/// Writes a log with its witness, and reads them again: the same pair, unless the text is too large or memory is
-/// refused.
+/// Writes a log with its witness, and reads them back: the same pair, unless the text is too large or an allocation
+/// fails.
 pub fn write_and_read(
     alloc: Global,
     log: &Log,

@@ -1,4 +1,4 @@
-//! Where in a document a fault lies.
+//! The place of a fault in a document.
 ghost use Rattle.std.specs.Prelude.{◌≡◌, ◌<◌, ◌^◌, ◌++◌, ◌∷◌, [], length, Some};
 ghost use Rattle.wm_logfile.specs.PathText.{path_text};
 ghost use Rattle.wm_logfile.specs.Paths as paths;
@@ -6,10 +6,10 @@ ghost use Rattle.wm_logfile.specs.Paths as paths;
 use std::fmt;
 use std::marker::Model;
 
-/// No value of a document lies deeper.
+/// No value of a document is nested deeper.
 const DEPTH: usize = 8;
 
-/// Where a value lies in a document: the indices, each from 0, from the whole document down to the value.
+/// The place of a value in a document: the indices, each from 0, from the whole document down to the value.
 ///
 /// It prints as `/2/0/1`, and for the whole document as `/`.
 #[derive(Drop)]
@@ -49,7 +49,7 @@ impl Path {
         }
     }
 
-    /// The path of the item at `index` of the list at this path; this path where no value lies deeper.
+    /// The path of the item at `index` of the list at this path; this path if no value is nested deeper.
     #[tactic(auto, unfolding(crate::specs::Paths::child))]
     pub(crate) fn child(&self, index: usize) -> Path
         ensures place { length self.now < 8 → index < 2 ^ 32 → result ≡ self.now ++ index ∷ [] }

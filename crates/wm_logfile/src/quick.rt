@@ -1,5 +1,5 @@
-//! Quick reading: what a document spells is taken from the front of its tokens, and no value is made in between. Where that
-//! fails, nothing is said of the text.
+//! Quick reading: what a document spells is taken from the front of its tokens, without building values in between. If
+//! that fails, it means nothing about the text.
 ghost use Rattle.std.specs.Prelude.{◌≡◌, ◌≤◌, ◌∷◌, ℕ, suc, Option, Some, IfOk, IfSome, OnOk};
 ghost use Rattle.json.specs.Json.{after_end_array};
 ghost use Rattle.json.specs.Token.{begin_array};
@@ -23,9 +23,9 @@ use wm_list::List;
 /// Why nothing was taken.
 #[derive(Clone, Copy)]
 pub(crate) enum TakeFault {
-    /// The text is no document, or isn't seen to be one.
+    /// The text isn't a document, or isn't recognized as one.
     Other,
-    /// Memory was refused.
+    /// An allocation failed.
     Memory,
 }
 
@@ -62,7 +62,7 @@ pub(crate) fn close_list(reader: &mut Reader<'_>) -> Result<(), TakeFault>
     }
 }
 
-/// Takes a text.
+/// Takes a string.
 #[tactic(auto, using(crate::proofs::Taking::text_taken))]
 pub(crate) fn take_text<'a>(reader: &mut Reader<'a>) -> Result<&'a str, TakeFault>
     ensures { IfOk result (λ s. Taken 0 as_str reader.old s.now reader.new) }
@@ -73,10 +73,10 @@ pub(crate) fn take_text<'a>(reader: &mut Reader<'a>) -> Result<&'a str, TakeFaul
     }
 }
 
-/// A number up to this can take one more digit within 64 bits.
+/// A number up to this one can take one more digit within 64 bits.
 const ROOM_FOR_A_DIGIT: u64 = 1_000_000_000_000_000_000;
 
-/// The number that a text of digits alone writes, where it is small enough to be read digit by digit.
+/// The number that a text of only digits spells, if it is short enough to be read digit by digit.
 fn number_of_digits(bytes: &[u8]) -> Option<u64>
     ensures { IfSome result (λ n. number_of bytes.now ≡ Some (unsigned n)) }
 {
@@ -93,7 +93,7 @@ fn number_of_digits(bytes: &[u8]) -> Option<u64>
     Some(number)
 }
 
-/// The whole number of 64 bits that a numeral writes, where it has no sign.
+/// The 64-bit integer that a numeral spells, if it has no sign.
 #[cold]
 #[inline(never)]
 fn scanned_natural(bytes: &[u8]) -> Option<u64>
@@ -105,19 +105,19 @@ fn scanned_natural(bytes: &[u8]) -> Option<u64>
     Numeral::scan(bytes).to_u64()
 }
 
-/// The whole number of 64 bits that a number's text writes, where it has no sign.
+/// The 64-bit integer that a number's text spells, if it has no sign.
 fn natural_of(text: &str) -> Option<u64>
     ensures { IfSome result (λ n. number_of text.now ≡ Some (unsigned n)) }
 {
     let bytes = text.as_bytes();
-    // Most numbers of a log are a few digits and nothing else. Only the others are scanned.
+    // Most numbers of a log are only a few digits. Only the others are scanned.
     match number_of_digits(bytes) {
         Some(number) => Some(number),
         None => scanned_natural(bytes),
     }
 }
 
-/// Takes a whole number that is at most the limit.
+/// Takes an integer that is at most the limit.
 #[tactic(auto, using(crate::proofs::Taking::number_taken))]
 pub(crate) fn take_number(reader: &mut Reader<'_>, limit: u64) -> Result<u64, TakeFault>
     ensures taken { IfOk result (λ n. Taken 0 (number_at limit) reader.old n reader.new) }
@@ -143,7 +143,7 @@ pub(crate) trait ItemTaker<T> {
             Taken (levels self.now) (reads self.now index) reader.old x reader.new) };
 }
 
-/// Takes the items of a list up to its end. Memory for `room` items is taken at once, and more as it is needed.
+/// Takes the items of a list up to its end. Capacity for `room` items is reserved at once, and more as needed.
 fn take_items<T: Drop, R: ItemTaker<T>>(
     alloc: Global,
     taker: &R,
@@ -164,7 +164,7 @@ fn take_items<T: Drop, R: ItemTaker<T>>(
     Err(TakeFault::Other)
 }
 
-/// Takes a list. Memory for `room` items is taken at once, and more where the list is longer.
+/// Takes a list. Capacity for `room` items is reserved at once, and more if the list is longer.
 pub(crate) fn take_list_with_room<T: Drop, R: ItemTaker<T>>(
     alloc: Global,
     taker: &R,
@@ -190,7 +190,7 @@ pub(crate) fn take_list<T: Drop, R: ItemTaker<T>>(
     take_list_with_room(alloc, taker, 0, reader)
 }
 
-/// Takes a number of 64 bits.
+/// Takes a 64-bit integer.
 #[derive(Clone, Copy)]
 pub(crate) struct NumberTaker;
 

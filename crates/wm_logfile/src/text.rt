@@ -109,7 +109,7 @@ fn write_values(
     }
 }
 
-/// Writes the list of writers of an event of the kind, where it has one.
+/// Writes the list of writers of an event of the kind, if it has one.
 fn write_by(kind: EventKind, writers: &[EventId], out: &mut Writer) -> Result<(), AllocError>
     ensures { OnOk result (Adds out.old out.new (cells_tokens (by_cells kind writers.now))) }
 {
@@ -133,7 +133,7 @@ fn write_event(event: &Event, writers: &[EventId], out: &mut Writer) -> Result<(
     out.end_array()
 }
 
-/// Writes an event with the writers that the witness has of it.
+/// Writes an event with its writers in the witness.
 #[derive(Clone, Copy)]
 struct EventWriter<'a> {
     witness: &'a Witness,
@@ -170,7 +170,7 @@ fn write_end(ended: End, out: &mut Writer) -> Result<(), AllocError>
     out.end_array()
 }
 
-/// Writes the log of a thread with the writers that the witness has of its events.
+/// Writes the log of a thread with the writers of its events in the witness.
 #[derive(Clone, Copy)]
 struct ThreadWriter<'a> {
     witness: &'a Witness,
@@ -213,7 +213,7 @@ fn write_whole(threads: &[ThreadLog], witness: &Witness, out: &mut Writer) -> Re
     out.end_array()
 }
 
-/// The text that was written.
+/// The string that was written.
 fn text_of(out: Writer) -> String
     requires { out.before ≡ [] }
     ensures text { string_bytes result ≡ print out.tokens }
@@ -222,16 +222,16 @@ fn text_of(out: Writer) -> String
     String::from_utf8(out.into_inner()).unwrap()
 }
 
-/// The text of the log with the witness in version 2, with no white space.
+/// The text of the log with the witness in version 2, without white space.
 ///
 /// # Errors
 ///
-/// Only where memory was refused.
+/// Only if an allocation fails.
 pub fn write_document(alloc: Global, log: &Log, witness: &Witness) -> Result<String, AllocError>
     requires { FitsLog log.now witness.now }
     ensures text { IfOk result (λ s. string_bytes s ≡ compact_text (document_2 log.now witness.now)) }
 
-    // Within the limits it is read again as the same pair.
+    // Within the limits it reads back as the same pair.
     ensures again { IfOk result (λ s. IsReadAgain log.now witness.now (string_bytes s)) }
 {
     let mut out = Writer::new(Vec::new(alloc));

@@ -45,7 +45,7 @@ fn trap_of(value: &Value, path: &Path) -> Result<TrapKind, ReadFault>
     }
 }
 
-/// The result of a function, where it has one.
+/// The result of a function, if it has one.
 fn result_of(values: &[Value], path: &Path) -> Result<Option<u64>, ReadFault>
     ensures given { Gives (λ o. o) result (result_from (map view values.now)) }
     ensures fault { Faults result (forms.maybe_fault grammar.result_fields path.now (map view values.now)) }
@@ -60,7 +60,7 @@ fn result_of(values: &[Value], path: &Path) -> Result<Option<u64>, ReadFault>
     }
 }
 
-/// How a thread ended, by these fields. A length that no end has is faulted before the word.
+/// The end of a thread, by these fields. A length that no end has is reported before the word.
 #[tactic(auto, unfolding(crate::specs::Reading::end_from, crate::specs::Grammar::result))]
 fn end_of_fields(fields: &[Value], path: &Path) -> Result<End, ReadFault>
     ensures given { Gives (λ e. e) result (end_from (map view fields.now)) }
@@ -90,7 +90,7 @@ fn end_of_fields(fields: &[Value], path: &Path) -> Result<End, ReadFault>
     }
 }
 
-/// How a thread ended.
+/// The end of a thread.
 #[tactic(auto, unfolding(crate::specs::Grammar::ending))]
 fn end_of(value: &Value, path: &Path) -> Result<End, ReadFault>
     ensures given { Gives (λ e. e) result (end_at (view value.now)) }
@@ -100,7 +100,7 @@ fn end_of(value: &Value, path: &Path) -> Result<End, ReadFault>
     end_of_fields(fields, path)
 }
 
-/// What a thread starts with: its function's name and the arguments.
+/// The start of a thread: its function's name and the arguments.
 fn start_of(alloc: Global, name: &Value, args: &Value, path: &Path) -> Result<Start, ReadFault>
     ensures given { Gives (λ s. s) result (start_at (view name.now) (view args.now)) }
     ensures fault { Faults result (first_faults.start_fault path.now (view name.now) (view args.now)) }
@@ -110,7 +110,7 @@ fn start_of(alloc: Global, name: &Value, args: &Value, path: &Path) -> Result<St
     Ok(Start { name, args })
 }
 
-/// What stands before the events of a thread.
+/// What comes before the events of a thread.
 #[derive(Drop)]
 pub(crate) struct ThreadHead {
     pub(crate) start: Start,
@@ -133,7 +133,7 @@ impl ThreadHead {
     }
 }
 
-/// What stands before the events of a thread, and the events, by these fields.
+/// What comes before the events of a thread, and the events, by these fields.
 #[tactic(auto, unfolding(crate::specs::Reading::head_from))]
 fn head_of_fields<'a>(
     alloc: Global,
@@ -152,7 +152,7 @@ fn head_of_fields<'a>(
     Ok((ThreadHead { start, end, steps }, events))
 }
 
-/// What stands before the events of a thread, and the events.
+/// What comes before the events of a thread, and the events.
 fn head_of<'a>(
     alloc: Global,
     value: &'a Value,

@@ -15,7 +15,7 @@ use std::alloc::Global;
 use wm_event::{EventId, EventKey, Witness};
 use wm_list::List;
 
-/// The largest thread and number of an event.
+/// The greatest thread and number of an event.
 const MAX_INDEX: u64 = u32::MAX as u64;
 
 /// The name of an event, by these fields.
@@ -32,7 +32,7 @@ fn key_of(fields: &[Value], path: &Path) -> Result<EventKey, ReadFault>
     Ok(EventKey { thread, number })
 }
 
-/// The writer of a byte, by these fields: none for Init.
+/// The writer of a byte, by these fields: Init if there are none.
 fn writer_of(fields: &[Value], path: &Path) -> Result<EventId, ReadFault>
     ensures given { Gives (λ w. w) result (writer_from (map view fields.now)) }
     ensures fault { Faults result (forms.maybe_fault grammar.key_fields path.now (map view fields.now)) }

@@ -1,4 +1,4 @@
-//! The words of the log format: each kind, ordering, trap and width beside how it is written. Reading is the inverse of
+//! The words of the log format: each kind, ordering, trap and width with its written form. Reading is the inverse of
 //! writing.
 ghost use Rattle.std.specs.Prelude.{◌≡◌, Some};
 ghost use Rattle.wm_event.specs.TrapText.{trap_text};
@@ -20,7 +20,7 @@ pub(crate) fn word_of_kind(kind: EventKind) -> &'static str
     }
 }
 
-/// The kind of this word, `None` if it is not a kind's.
+/// The kind of this word; `None` if it is not the word of a kind.
 pub(crate) fn kind_of_word(word: &str) -> Option<EventKind>
     ensures { result ≡ kind_from word.now }
 {
@@ -43,7 +43,7 @@ pub(crate) fn word_of_order(order: MemoryOrder) -> &'static str
     }
 }
 
-/// The ordering of this word, `None` if it is not an ordering's.
+/// The ordering of this word; `None` if it is not the word of an ordering.
 pub(crate) fn order_of_word(word: &str) -> Option<MemoryOrder>
     ensures { result ≡ order_from word.now }
 {
@@ -62,7 +62,7 @@ pub(crate) fn word_of_trap(trap: TrapKind) -> &'static str
     trap.name()
 }
 
-/// The trap of this word, `None` if it is not a trap's.
+/// The trap of this word; `None` if it is not the word of a trap.
 pub(crate) fn trap_of_word(word: &str) -> Option<TrapKind>
     ensures { result ≡ trap_from word.now }
 {
@@ -77,7 +77,7 @@ pub(crate) fn trap_of_word(word: &str) -> Option<TrapKind>
     }
 }
 
-/// The width of this many bytes, `None` if an access does not have that many.
+/// The width of this number of bytes; `None` if no access has that width.
 pub(crate) fn width_of_bytes(bytes: u64) -> Option<AccessWidth>
     ensures { result ≡ width_from bytes }
 {

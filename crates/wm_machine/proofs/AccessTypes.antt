@@ -1,4 +1,4 @@
--- An access that is typed finds its operands, and stack_polymorphic what its type says.
+-- An access that is typed finds its operands, and leaves what its type states.
 use Rattle.std.proofs.Common.{◌≡◌, ℕ, List, ◌∷◌, drop, Option, Some, refl, sym, ap, ◌∙◌}
 use Rattle.std.specs.Prelude.{slice_get}
 use Rattle.wm_num.specs.declared.operator.Width.TheVariants.{W32}

@@ -1,4 +1,4 @@
--- Locals that are held, and zeros behind them.
+-- Locals that are held, followed by zeros.
 use Rattle.std.proofs.lemmas.Option.{slice_get-map, slice_get_within}
 use Rattle.std.proofs.Common.{◌≡◌, ℕ, zero, suc, ◌+◌, ◌-◌, ◌<◌, ◌≤◌, List, [], ◌∷◌, Some, option_map, slice_get, refl, ◌++◌, length, take, drop, map, set, sym, ap, ◌∙◌, arith, length-drop}
 use Rattle.std.proofs.lemmas.List.{set-append_left, map-append, take-append-drop, append_assoc, length-map, length-append, length-take-le, take_all}
@@ -6,7 +6,7 @@ use Rattle.wm_ast.specs.declared.types.ValType.{ValType}
 use Rattle.wm_machine.specs.declared.value.TypedValue.{TypedValue}
 use Rattle.wm_machine.specs.Values.{zero_of}
 
--- one behind a front is set
+-- an item after a prefix is set
 set_behind : {X : Type 0} (xs ys : List X) (i at : ℕ) (v : X) → i ≡ length xs + at → set (xs ++ ys) i v ≡ xs ++ set ys at v
 set_behind [] ys i at v e = ap (λ (n : ℕ). set ys n v) (let f : i ≡ at = omega arith in f)
 set_behind (x ∷ xs) ys zero at v e = absurd (omega arith)
@@ -69,14 +69,14 @@ get_behind [] ys i at e = ap (slice_get ys) (let f : i ≡ at = omega arith in f
 get_behind (x ∷ xs) ys zero at e = absurd (omega arith)
 get_behind (x ∷ xs) ys (suc i) at e = get_behind xs ys i at (omega arith)
 
--- one that is held, and one behind those
+-- an item that is held, and an item after those
 pub get_held : (held late : List TypedValue) (unset : List ValType) (index : ℕ) → index < length held → slice_get ((held ++ map zero_of unset) ++ late) index ≡ slice_get held index
 get_held held late unset index h = ap (λ (vs : List TypedValue). slice_get vs index) (append_assoc held (map zero_of unset) late) ∙ get_before held (map zero_of unset ++ late) index h
 
 pub get_unheld : (held late : List TypedValue) (unset : List ValType) (index : ℕ) → length held ≤ index → slice_get ((held ++ map zero_of unset) ++ late) index ≡ slice_get (map zero_of unset ++ late) (index - length held)
 get_unheld held late unset index h = ap (λ (vs : List TypedValue). slice_get vs index) (append_assoc held (map zero_of unset) late) ∙ get_behind held (map zero_of unset ++ late) index (index - length held) (omega arith)
 
--- a zero, and one behind the zeros
+-- a zero, and an item after the zeros
 pub get_near : (unset : List ValType) (late : List TypedValue) (index : ℕ) (ty : ValType) → slice_get unset index ≡ Some ty → Some (zero_of ty) ≡ slice_get (map zero_of unset ++ late) index
 get_near unset late index ty t = sym (get_before (map zero_of unset) late index (omega (arith, slice_get_within unset index ty t, length-map unset zero_of)) ∙ (slice_get-map zero_of unset index ∙ ap (option_map zero_of) t))
 

@@ -31,7 +31,7 @@ value_is index ty kept e = grind (arith, nat_tests)
 value_not : (index : ℕ) (ty : ValType) (kept : Kept) → kept.index ≢ index → value_of index ty (Some kept) ≡ zero_of ty
 value_not index ty kept n = grind (arith, nat_tests)
 
--- a list, and one more behind it
+-- a list with one more item at the end
 get_last : {X : Type 0} (xs : List X) (v : X) → slice_get (xs ++ v ∷ []) (length xs) ≡ Some v
 get_last [] v = refl
 get_last (x ∷ xs) v = get_last xs v
@@ -41,7 +41,7 @@ get_before [] ys j h = absurd (omega arith)
 get_before (x ∷ xs) ys zero h = refl
 get_before (x ∷ xs) ys (suc j) h = get_before xs ys j (omega arith)
 
--- what is beyond all that is held before one is held behind it, and is of another then
+-- what is beyond all held entries before one is appended, and is another local's then
 value_behind : (held : List Kept) (index other slot : ℕ) (ty : ValType) (value : TypedValue) → other ≢ index → length held ≤ slot → value_of other ty (slice_get (held ++ record { index = index; value = value } ∷ []) slot) ≡ zero_of ty
 value_behind [] index other zero ty value n h = value_not other ty (record { index = index; value = value }) (λ e. n (sym e))
 value_behind [] index other (suc slot) ty value n h = refl
@@ -82,7 +82,7 @@ sets_held slots held index slot d value p h k = record {
   others = λ other ty n. value_write_at held index other slot (slice_get slots other) d ty value n h k;
 }
 
--- slots that lead where they led, or behind all that is held
+-- slots that point where they pointed, or after all held entries
 pub record Leads (slots : List ℕ) (index count : ℕ) (now : List ℕ) : Type 0 where
   pub at : slice_get now index ≡ Some count
   pub others : (other : ℕ) → other ≢ index → (slice_get now other ≡ slice_get slots other) ⊎ ((slice_get slots other ≡ None) × (slice_get now other ≡ Some count))

@@ -1,4 +1,5 @@
--- What a memory instruction asks of memory, and what it makes of the answer (Core 1.0, section 4.4.4, and the threads proposal).
+-- What a memory instruction asks of memory, and how it uses the reply (Core 1.0, section 4.4.4, and the threads
+-- proposal).
 use Rattle.std.specs.Prelude.{ℕ, ◌+◌, ◌%◌, List, drop, Bool, ◌&&◌, not, ◌==◌, nat_lt, if◌then◌else◌, Option, Some, None}
 use Rattle.wm_access.specs.AccessWidth.{bytes_of}
 use Rattle.wm_access.specs.MemoryOrder.{is_sequential}
@@ -22,7 +23,7 @@ use Rattle.wm_machine.specs.declared.value.TypedValue.{TypedValue}
 use Rattle.wm_machine.specs.Values.{typed, number_at}
 use Rattle.wm_ast.specs.Module.{memory_size}
 
--- what is asked of memory, at which address but for the offset, and the operands that are left
+-- what is asked of memory, at which address without the offset, and the operands that are left
 pub record Asked : Type 0 where
   pub kind : OpKind
   pub base : ℕ
@@ -36,14 +37,14 @@ abbrev pub asked_with : (ℕ → OpKind) → Option ℕ → Option ℕ → List 
 asked_with kind None base below = None
 asked_with kind (Some value) base below = asked_at (kind value) base below
 
--- the address, an i32, is the operand under those of the access
+-- the address, an i32, is the operand below those of the access
 abbrev pub on_address : OpKind → List TypedValue → Option Asked
 on_address kind operands = asked_at kind (number_at W32 operands 0) (drop 1 operands)
 
 abbrev pub on_value : Width → (ℕ → OpKind) → List TypedValue → Option Asked
 on_value width kind operands = asked_with kind (number_at width operands 0) (number_at W32 operands 1) (drop 2 operands)
 
--- the expected value is the operand under the new one
+-- the expected value is the operand below the new one
 abbrev pub on_expected : Option ℕ → Width → List TypedValue → Option Asked
 on_expected None width operands = None
 on_expected (Some new) width operands =
@@ -64,7 +65,7 @@ abbrev pub extended : Signedness → Storage → ℕ → TypedValue
 extended sign s read =
     typed (width_of (storage_operand s)) (extension_meaning sign (storage_width s) (width_of (storage_operand s)) read)
 
--- what an access leaves on the operands: a narrow load extends as its name says, an atomic one by zero
+-- what an access leaves on the operands: a narrow load extends as its name states, an atomic one with zeros
 abbrev pub loaded : AccessKind → ℕ → Option TypedValue
 loaded (Read s) read = Some (extended Unsigned s read)
 loaded (ReadSigned n) read = Some (extended Signed (narrow_storage n) read)

@@ -1,4 +1,4 @@
--- What a step does, once its operands were looked at.
+-- The effect of a step, decided from its operands.
 use Rattle.std.specs.Prelude.{ℕ, ◌<◌, List, ◌∷◌, ◌≡◌, Option, Some, None, slice_get, slice_set, drop, length, ⊤}
 use Rattle.wm_ast.specs.declared.module.Module.{Module}
 use Rattle.wm_ast.specs.declared.instr.Instr.{Instr}
@@ -13,7 +13,7 @@ use Rattle.wm_machine.specs.Accesses.{loaded}
 use Rattle.wm_machine.specs.Term.{Vars, Here, Reduced, Next, Leaves, Returns, Traps, Stuck}
 use Rattle.wm_machine.specs.Step.{continue_with, after, enter, invoke, push_optional, act}
 
--- what the action makes of the innermost place
+-- the effect of the action on the innermost place
 abbrev pub does : Module → ℕ → ℕ → ℕ → Vars → List TypedValue → List Instr → Action → Reduced
 does m depth read func vars operands instrs action.Stuck = Stuck
 does m depth read func vars operands instrs (action.Trap kind) = Traps kind
@@ -32,7 +32,7 @@ does m depth read func vars operands instrs action.Return = Returns operands
 does m depth read func vars operands instrs (action.Call callee) =
     invoke (callable m callee) depth callee vars operands (after instrs)
 
--- how many operands an action takes
+-- how many operands an action pops
 abbrev pub popped_by : Action → ℕ
 popped_by action.Stuck = 0
 popped_by (action.Trap kind) = 0
@@ -45,7 +45,7 @@ popped_by (action.Branch label popped) = popped
 popped_by action.Return = 0
 popped_by (action.Call callee) = 0
 
--- a local or global that is set is there
+-- a local or global that is set exists
 abbrev pub SetsWithin : Action → List TypedValue → List TypedValue → Type 0
 SetsWithin action.Stuck locals globals = ⊤
 SetsWithin (action.Trap kind) locals globals = ⊤
@@ -84,12 +84,12 @@ op_of (action.Branch label popped) = None
 op_of action.Return = None
 op_of (action.Call callee) = None
 
--- the action does what the instruction does
+-- the action has the effect of the instruction
 abbrev pub Acts : Module → Instr → Vars → List TypedValue → Action → Type 0
 Acts m i vars operands a = (depth : ℕ) (read : ℕ) (func : ℕ) (rest : List Instr) →
     act m depth read func vars operands i rest ≡ does m depth read func vars operands (i ∷ rest) a
 
--- it puts this value on the operands, if it is that of the local or of the global, and there is one
+-- it pushes this value, if the value is the local's or the global's, and there is one
 abbrev pub GetsLocal : Option TypedValue → Action → Type 0
 GetsLocal value a = (m : Module) (index : ℕ) (locals globals operands : List TypedValue)
     → value ≡ slice_get locals index → Acts m (instr.LocalGet index) (record { locals = locals; globals = globals }) operands a
@@ -98,7 +98,7 @@ abbrev pub GetsGlobal : Option TypedValue → Action → Type 0
 GetsGlobal value a = (m : Module) (index : ℕ) (locals globals operands : List TypedValue)
     → value ≡ slice_get globals index → Acts m (instr.GlobalGet index) (record { locals = locals; globals = globals }) operands a
 
--- it sets a local of these
+-- it sets one of these locals
 abbrev pub SetsLocal : ℕ → List TypedValue → List TypedValue → Action → Type 0
 SetsLocal index locals operands a = (m : Module) (globals : List TypedValue)
     → Acts m (instr.LocalSet index) (record { locals = locals; globals = globals }) operands a
@@ -107,7 +107,7 @@ abbrev pub TeesLocal : ℕ → List TypedValue → List TypedValue → Action �
 TeesLocal index locals operands a = (m : Module) (globals : List TypedValue)
     → Acts m (instr.LocalTee index) (record { locals = locals; globals = globals }) operands a
 
--- it sets a global of these
+-- it sets one of these globals
 abbrev pub SetsGlobal : ℕ → List TypedValue → List TypedValue → Action → Type 0
 SetsGlobal index globals operands a = (m : Module) (locals : List TypedValue)
     → Acts m (instr.GlobalSet index) (record { locals = locals; globals = globals }) operands a

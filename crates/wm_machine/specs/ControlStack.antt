@@ -4,7 +4,7 @@ use Rattle.wm_machine.specs.declared.value.TypedValue.{TypedValue}
 use Rattle.wm_machine.specs.declared.control_stack.ControlFrame.{ControlFrame}
 use Rattle.wm_machine.specs.Nest.{Nest, Position}
 
--- the blocks round, whose operands are these values
+-- the enclosing blocks, whose operands are these values
 abbrev pub places_of : List ControlFrame → List TypedValue → List Position
 places_of [] values = []
 places_of (l ∷ ls) values =

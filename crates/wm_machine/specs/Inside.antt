@@ -1,4 +1,4 @@
--- A step inside one call, whatever the calls round it are.
+-- A step inside one call, whatever the surrounding calls.
 use Rattle.std.specs.Prelude.{ℕ, zero, suc, ◌+◌, ◌<◌, ◌^◌, ◌≡◌, List, [], ◌∷◌, ◌++◌, Option, Some, None, Result, Ok, Err, length, drop, take, reverse, map}
 use Rattle.wm_ast.specs.declared.module.Module.{Module}
 use Rattle.wm_ast.specs.declared.types.ValType.{ValType}
@@ -26,13 +26,13 @@ use Rattle.wm_machine.specs.Configuration.{left_of}
 abbrev pub vars_of : CallFrame → List TypedValue → Vars
 vars_of a globals = record { locals = a.locals; globals = globals }
 
--- what a function gives back, or no step
+-- what a function returns, or no step
 abbrev pub back : Option (List TypedValue) → Reduced
 back None = Stuck
 back (Some values) = Returns values
 
--- how a step looks from outside the call: the access that was made put aside, and each way to leave the function
--- with what it gives back
+-- how a step looks from outside the call: without the access that was made, and with what is returned for each way to
+-- leave the function
 abbrev pub seen : Module → ℕ → Reduced → Reduced
 seen m func (Next made vars t) = Next None vars t
 seen m func (Ends values) = back (returned m func values)
@@ -46,7 +46,7 @@ abbrev pub as_list : Option TypedValue → List TypedValue
 as_list None = []
 as_list (Some v) = v ∷ []
 
--- out of the labels round a place
+-- out of the enclosing labels of a place
 abbrev pub out_of_labels : Module → ℕ → Vars → List Position → Reduced → Reduced
 out_of_labels m func vars [] r = r
 out_of_labels m func vars (p ∷ ps) r =
@@ -61,15 +61,16 @@ made_of (Returns values) = None
 made_of (Traps kind) = None
 made_of Stuck = None
 
--- the access that an instruction makes with these operands, whichever call it is in, whatever it reads and whatever follows
+-- the access that an instruction makes with these operands, whichever call it is in, whatever it reads and whatever
+-- comes after
 abbrev pub AsksFor : Module → List TypedValue → Instr → Option OpFields → Type 0
 AsksFor m operands instr op = (depth read func : ℕ) (vars : Vars) (rest : List Instr) → made_of (act m depth read func vars operands instr rest) ≡ op
 
--- a call and the globals are what they were
+-- a call and the globals are unchanged
 abbrev pub Same : CallFrame → List TypedValue → CallFrame → List TypedValue → Type 0
 Same old globals new globals' = (new ≡ old) × (globals' ≡ globals)
 
--- how far a step inside a call has come, where r is what it makes of that call's term
+-- how far a step inside a call has come, where r is its result for that call's term
 abbrev pub Reaches : Module → ℕ → Reduced → CallFrame → List TypedValue → CallFrame → List TypedValue → Flow → Type 0
 Reaches m depth r old globals new globals' Within =
     (seen m old.func r ≡ Next None (vars_of new globals') (left_of m new.func new.control_stack)) × (new.func ≡ old.func)
@@ -103,7 +104,7 @@ abbrev pub asked_for : StepOutcome → Option OpFields
 asked_for Made = None
 asked_for (NeedsReply op) = Some op
 
--- an access waits where the value that it reads isn't given
+-- an access waits if the value that it reads isn't given
 abbrev pub unanswered : Option ℕ → Option OpFields → Option OpFields
 unanswered None op = op
 unanswered (Some value) op = None
@@ -131,7 +132,7 @@ abbrev pub param_count : Option Callable → ℕ
 param_count None = 0
 param_count (Some f) = length f.params
 
--- the caller once it has given its arguments away
+-- the caller after its arguments were popped
 abbrev pub without_arguments : ℕ → CallFrame → CallFrame
 without_arguments count a = record a { control_stack = record a.control_stack { operands = drop count a.control_stack.operands; at = a.control_stack.at + 1 } }
 
@@ -143,7 +144,7 @@ called_frame func count caller others = record {
   control_stack = at_begin 0;
 }
 
--- from r, what a call makes of the caller's place, to the calls after it
+-- from r, the result of a call at the caller's place, to the calls after it
 abbrev pub Called : Module → ℕ → Reduced → CallFrame → List TypedValue → List CallFrame → CallFrame → List CallFrame → Result Invocation StepFault → Type 0
 Called m callee r old globals call_stack new callers' (Ok Entered) =
     (callers' ≡ without_arguments (param_count (callable m callee)) old ∷ call_stack)

@@ -13,16 +13,16 @@ pub record Nest : Type 0 where
   pub at : ℕ
   pub outer : List Position
 
--- at the begin of a block, in no other
+-- at the start of a block, which is the only one
 abbrev pub at_begin : ℕ → Nest
 at_begin block = record { operands = []; block = block; at = 0; outer = [] }
 
--- at the begin of a block within the innermost one, which has given its topmost operands away
+-- at the start of a block within the innermost one, after the topmost operands were popped
 abbrev pub entered : ℕ → ℕ → Nest → Nest
 entered popped block n =
     record { operands = []; block = block; at = 0; outer = record { operands = drop popped n.operands; block = n.block; at = n.at } ∷ n.outer }
 
--- the block round, once operands of the inner one have joined its own
+-- the enclosing block, after operands of the inner one were added to its own
 abbrev pub joined : List TypedValue → List Position → Option Nest
 joined operands [] = None
 joined operands (p ∷ ps) =

@@ -1,4 +1,4 @@
--- What a memory instruction asks for, as the code has it.
+-- What a memory instruction asks for, as in the code.
 use Rattle.std.specs.Prelude.{List, drop}
 use Rattle.wm_machine.specs.declared.value.TypedValue.{TypedValue}
 use Rattle.wm_machine.specs.declared.memory.Request.{Request}

@@ -12,7 +12,7 @@ use Rattle.wm_machine.specs.Term.{Config, Running, Over, Step, ReducesTo, NoStep
 use Rattle.wm_machine.specs.Step.{step, access_of}
 use Rattle.wm_machine.specs.Start.{started}
 
--- how far a run has come: its events, where it is, and the values that are still to be read
+-- how far a run has come: its events, its configuration, and the values that are still to be read
 pub record Ran : Type 0 where
   pub events : List Event
   pub config : Config
@@ -32,7 +32,7 @@ abbrev pub take_where : Bool → OpFields → List ℕ → Option Taken
 take_where true op reads = take_fitting op reads
 take_where false op reads = Some record { read = 0; others = reads }
 
--- one for each access that reads
+-- a value for each access that reads
 abbrev pub take_read : Option OpFields → List ℕ → Option Taken
 take_read None reads = Some record { read = 0; others = reads }
 take_read (Some op) reads = take_where (kind_finds op.kind) op reads
@@ -51,7 +51,7 @@ abbrev pub ran_with : Module → ℕ → Ran → Option Taken → Option Ran
 ran_with m thread ran None = None
 ran_with m thread ran (Some taken) = ran_on thread ran taken (step m taken.read ran.config)
 
--- one step more; what an access is doesn't depend on the value read
+-- one more step; which access it makes doesn't depend on the value read
 abbrev pub run_on : Module → ℕ → Ran → Option Ran
 run_on m thread ran = ran_with m thread ran (take_read (access_of (step m 0 ran.config)) ran.reads)
 
@@ -64,12 +64,12 @@ abbrev pub steps : Module → ℕ → Config → List ℕ → ℕ → Option Ran
 steps m thread config reads zero = Some record { events = []; config = config; reads = reads }
 steps m thread config reads (suc n) = and_run_on m thread (steps m thread config reads n)
 
--- how a configuration ends a run: cut where it hasn't ended
+-- how a configuration ends a run: cut if it hasn't ended
 abbrev pub end_of : Config → End
 end_of (Over end) = end
 end_of (Running func vars body) = Cut
 
--- what a run says
+-- the result of a run
 pub record Outcome : Type 0 where
   pub events : List Event
   pub end : End
@@ -78,7 +78,7 @@ abbrev pub outcome_with : List ℕ → Ran → Option Outcome
 outcome_with [] ran = Some record { events = ran.events; end = end_of ran.config }
 outcome_with (r ∷ reads) ran = None
 
--- where all reads were used up
+-- the outcome if all reads were used up
 abbrev pub outcome_of : Option Ran → Option Outcome
 outcome_of None = None
 outcome_of (Some ran) = outcome_with ran.reads ran
@@ -87,7 +87,7 @@ abbrev pub run_from : Module → ℕ → Result Config StartFault → List ℕ �
 run_from m thread (Err fault) reads n = None
 run_from m thread (Ok config) reads n = outcome_of (steps m thread config reads n)
 
--- the events and the end of a thread after exactly n steps. None where the start isn't good, a read is missing, left over
+-- the events and the end of a thread after exactly n steps. None if the start isn't good, a read is missing, left over
 -- or doesn't fit its width, or the thread ends or is stuck before step n
 abbrev pub run : Module → ℕ → List ℕ → List ℕ → List ℕ → ℕ → Option Outcome
 run m thread name args reads n = run_from m thread (started m name args) reads n

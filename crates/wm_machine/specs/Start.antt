@@ -1,4 +1,4 @@
--- How a thread begins.
+-- The start of a thread.
 use Rattle.std.specs.Prelude.{ℕ, ◌^◌, List, [], ◌∷◌, ◌++◌, map, length, Bool, false, ◌==◌, ◌||◌, nat_le, Result, Ok, Err, Option, Some, None, if◌then◌else◌}
 use Rattle.wm_num.specs.Number.{bits_of}
 use Rattle.wm_ast.specs.declared.module.Module.{Module}
@@ -53,6 +53,6 @@ abbrev pub started_at : Module → Option Export → List ℕ → Result Config 
 started_at m None args = Err NoExport
 started_at m (Some e) args = started_by m (func_of e) args
 
--- the first configuration of a thread that starts with the export of this name, or the first fault that there is
+-- the first configuration of a thread that starts with the export of this name, or the first fault
 abbrev pub started : Module → List ℕ → List ℕ → Result Config StartFault
 started m name args = started_at m (export_at name m.exports) args

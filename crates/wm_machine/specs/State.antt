@@ -1,4 +1,4 @@
--- What a thread is seen as.
+-- The view of a thread.
 use Rattle.std.specs.Prelude.{ℕ, List, Option, Some, None, ⊤}
 use Rattle.wm_ast.specs.declared.module.Module.{Module}
 use Rattle.wm_event.specs.declared.log.End.{End}
@@ -18,7 +18,7 @@ use Rattle.wm_machine.specs.Inside.{vars_of}
 use Rattle.wm_machine.specs.Fits.{FitsConfig}
 use Rattle.wm_valid.specs.Valid.{Valid}
 
--- the calls of a thread, the innermost apart and the call stack after it
+-- the calls of a thread: the innermost by itself, then the call stack
 pub record State : Type 0 where
   pub «module» : Module
   pub ended : Option End
@@ -40,12 +40,12 @@ config_from None s =
 abbrev pub config_of : State → Config
 config_of s = config_from s.ended s
 
--- the module is valid, and what is left of the thread fits it
+-- the module is valid, and the remaining term of the thread fits it
 pub record Sound (s : State) : Type 0 where
   pub valid : Valid s.module
   pub fits : FitsConfig s.module (config_of s)
 
--- where the innermost call is: the code that it has still to run there is `continuation` of these
+-- the position of the innermost call: its remaining code there is `continuation` of these
 abbrev pub position_of : State → CodePosition
 position_of s = record { func = s.running.func; block = s.running.control_stack.block; at = s.running.control_stack.at }
 
@@ -61,7 +61,7 @@ need_in None read s = as_need (access_of (step s.module read (config_of s)))
 abbrev pub need_of : ℕ → State → Need
 need_of read s = need_in s.ended read s
 
--- the value that a reply brings, or 0
+-- the value of a reply, or 0
 abbrev pub value_or_zero : Option ℕ → ℕ
 value_or_zero None = 0
 value_or_zero (Some value) = value
@@ -70,12 +70,12 @@ abbrev pub read_in : Option Reply → ℕ
 read_in None = 0
 read_in (Some reply) = value_or_zero reply.read
 
--- the value that a reply gives to its access, 0 where this reads none
+-- the value that a reply gives to its access; 0 if the access reads nothing
 abbrev pub given_by : Option Reply → Option ℕ
 given_by None = None
 given_by (Some reply) = Some (value_or_zero reply.read)
 
--- a reply exactly where the next step is an access, with a read exactly where that reads
+-- a reply exactly if the next step is an access, with a value read exactly if that access reads
 abbrev pub RepliesTo : Need → Option Reply → Type 0
 RepliesTo need.Local None = ⊤
 RepliesTo need.Local (Some reply) = ⊥

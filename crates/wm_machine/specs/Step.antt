@@ -27,7 +27,7 @@ use Rattle.wm_machine.specs.Functions.{Callable, callable}
 use Rattle.wm_machine.specs.Term.{Vars, Term, Here, Label, Frame, Config, Running, Over, Reduced, Next, Ends, Leaves, Returns, Traps, Stuck, Step, ReducesTo, NoStep}
 use Rattle.wm_machine.specs.Accesses.{Asked, asked, loaded, access_trap, op_at}
 
--- what a branch carries: a result's value, if there is one to be
+-- what a branch carries: the result's value, if there is a result
 abbrev pub carried : Option ValType → List TypedValue → Option (List TypedValue)
 carried None operands = Some []
 carried (Some t) [] = None
@@ -46,7 +46,7 @@ after (i ∷ rest) = rest
 abbrev pub continue_with : Vars → List TypedValue → List Instr → Reduced
 continue_with vars operands rest = Next None vars (Here operands rest)
 
--- a value on the operands, if there is one
+-- pushes a value, if there is one
 abbrev pub push_optional : Option TypedValue → List TypedValue → List TypedValue
 push_optional None operands = operands
 push_optional (Some v) operands = v ∷ operands
@@ -60,7 +60,7 @@ abbrev pub with_number : Option ℕ → (ℕ → Reduced) → Reduced
 with_number None next = Stuck
 with_number (Some n) next = next n
 
--- the choice of an i32: the second where it is 0
+-- the choice by an i32: the second if it is 0
 abbrev pub chosen : {A : Type 0} → ℕ → A → A → A
 chosen zero first other = other
 chosen (suc n) first other = first
@@ -78,7 +78,7 @@ abbrev pub truth : Bool → ℕ
 truth true = 1
 truth false = 0
 
--- the label of an index: the default where the index is past the list
+-- the label of an index: the default if the index is past the list
 abbrev pub label_of_index : Option ℕ → ℕ → ℕ
 label_of_index None default = default
 label_of_index (Some label) default = label
@@ -99,7 +99,7 @@ begin f callee vars operands rest =
 abbrev pub max_calls : ℕ
 max_calls = 256
 
--- a call where this number of calls is active
+-- a call while this number of calls is active
 abbrev pub invoke : Option Callable → ℕ → ℕ → Vars → List TypedValue → List Instr → Reduced
 invoke None depth callee vars operands rest = Stuck
 invoke (Some f) depth callee vars operands rest =
@@ -117,7 +117,7 @@ access m kind offset read None vars rest = Stuck
 access m kind offset read (Some a) vars rest =
     make (access_trap m kind (a.base + offset)) kind (a.base + offset) read a vars rest
 
--- what the first instruction does in its place
+-- the effect of the first instruction at its place
 abbrev pub act : Module → ℕ → ℕ → ℕ → Vars → List TypedValue → Instr → List Instr → Reduced
 act m depth read func vars operands instr.Unreachable rest = Traps Unreachable
 act m depth read func vars operands instr.Nop rest = continue_with vars operands rest
@@ -180,7 +180,7 @@ abbrev pub gives : Vars → List TypedValue → List Instr → Option (List Type
 gives vars operands rest None = Stuck
 gives vars operands rest (Some values) = continue_with vars (values ++ operands) rest
 
--- a branch to the label of the first instruction: on after it, but of a loop to the loop itself
+-- a branch to the label of the first instruction: it continues after it, or for a loop at the loop itself
 abbrev pub branch_to : Vars → List TypedValue → List Instr → List TypedValue → Reduced
 branch_to vars operands (instr.Loop t n ∷ rest) values = continue_with vars operands (instr.Loop t n ∷ rest)
 branch_to vars operands (instr.Block t n ∷ rest) values = gives vars operands rest (carried t values)
@@ -191,7 +191,7 @@ abbrev pub carried_by : Option FuncType → List TypedValue → Option (List Typ
 carried_by None values = None
 carried_by (Some t) values = carried t.result values
 
--- what a function gives back
+-- what a function returns
 abbrev pub returned : Module → ℕ → List TypedValue → Option (List TypedValue)
 returned m func values = carried_by (func_type m func) values
 
@@ -225,7 +225,7 @@ reduce m read depth func vars (Label operands instrs inner) =
 reduce m read depth func vars (Frame operands rest callee mine inner) =
     out_of_call m callee vars operands rest (reduce m read (suc depth) callee (record vars { locals = mine }) inner)
 
--- the thread's end, with what its function gives back
+-- the thread's end, with what its function returns
 abbrev pub ended : Option (List TypedValue) → Step
 ended None = NoStep
 ended (Some values) = ReducesTo None (Over (Done (result_of values)))

@@ -1,4 +1,4 @@
--- What the calls that make a step say: of a call's frame, and of a thread.
+-- The contracts of the calls that make a step: for a call's frame, and for a thread.
 use Rattle.std.specs.Prelude.{◌≡◌, ◌⊎◌, ◌++◌, ◌<◌, ℕ, List, [], Option, Some, Bool, true, Result, Ok, Err, drop, length, option_map}
 use Rattle.wm_num.specs.Conversion.{low_part}
 use Rattle.wm_ast.specs.declared.access.Storage.{Storage}
@@ -33,12 +33,13 @@ use Rattle.wm_machine.specs.Values.{number_at}
 abbrev pub low_operand_of : Storage → List TypedValue → Option ℕ
 low_operand_of storage operands = option_map (low_part (storage_width storage)) (number_at (width_of (storage_operand storage)) operands 0)
 
--- a value, if there is one, in the place of the topmost operands
+-- the topmost operands replaced by a value, if there is one
 abbrev pub replaced : ℕ → Option TypedValue → CallFrame → CallFrame
 replaced popped pushed a =
     record a { control_stack = record a.control_stack { operands = push_optional pushed (drop popped a.control_stack.operands) } }
 
--- a branch to the instruction at this place continues at place next of its block, with the topmost operand if it carries one
+-- a branch to the instruction at this place continues at place `next` of its block, with the topmost operand if it
+-- carries one
 abbrev pub BranchContinuesAt : Module → ℕ → ℕ → ℕ → Bool → ℕ → Type 0
 BranchContinuesAt m func block at carry next = (vars : Vars) → (operands values : List TypedValue) → (carry ≡ true → 0 < length values)
     → branch_to vars operands (continuation m func block at) values ≡ continue_with vars (carried_top carry values ++ operands) (continuation m func block next)
@@ -52,12 +53,12 @@ BranchNeedsOperand m func block at carry =
 abbrev pub IsNoBranchTarget : Module → ℕ → ℕ → ℕ → Type 0
 IsNoBranchTarget m func block at = (vars : Vars) → (operands values : List TypedValue) → branch_to vars operands (continuation m func block at) values ≡ Stuck
 
--- the step within the call, however many calls are active, if its access reads the value given
+-- the step within the call, for any number of active calls, if its access reads the value given
 abbrev pub StepsAs : Module → Option ℕ → CallFrame → List TypedValue → CallFrame → List TypedValue → Result Flow StepFault → Type 0
 StepsAs m given old globals new globals' result =
     (depth : ℕ) → StepsTo m depth (call_step m (value_or_zero given) depth old globals) old globals new globals' result
 
--- the access that the step needs the value of is named, and no other
+-- the access whose value the step needs is named, and no other
 abbrev pub NamesAccess : Module → Option ℕ → CallFrame → List TypedValue → Result Flow StepFault → Type 0
 NamesAccess m given old globals result = (depth read : ℕ) → asking result ≡ unanswered given (made_of (call_step m read depth old globals))
 
@@ -71,7 +72,7 @@ IsIn m config t = (config ≡ Ok (config_of t)) × (t.module ≡ m)
 abbrev pub IsStartFault : Result Config StartFault → StartFault → Type 0
 IsStartFault config fault = (fault ≡ OutOfMemory) ⊎ (config ≡ Err fault)
 
--- the access that the thread's step needs the value of is named, and no other
+-- the access whose value the thread's step needs is named, and no other
 abbrev pub NamesNextAccess : Option ℕ → State → StepOutcome → Type 0
 NamesNextAccess given old o = (read : ℕ) → asked_for o ≡ unanswered given (access_of (step old.module read (config_of old)))
 
@@ -86,7 +87,7 @@ KeepsThread old new o = (op : OpFields) → o ≡ outcome.NeedsReply op → new 
 abbrev pub NeedsAccess : State → State → Stepped → Type 0
 NeedsAccess old new s = (op : OpFields) → s ≡ stepped.Access op → ((read : ℕ) → need_of read old ≡ need.Access op) × (new ≡ old)
 
--- the thread had ended so, and nothing has changed
+-- the thread had ended this way, and nothing has changed
 abbrev pub HasEnded : State → State → Stepped → Type 0
 HasEnded old new s = (end : End) → s ≡ stepped.Ended end → ((read : ℕ) → need_of read old ≡ need.Ended end) × (new ≡ old)
 

@@ -13,30 +13,30 @@ pub record Vars : Type 0 where
   pub globals : List TypedValue
 
 pub data Term : Type 0 where
-  -- the innermost place: its operands, and the instructions to come
+  -- the innermost place: its operands, and the remaining instructions
   Here : (operands : List TypedValue) (instrs : List Instr) → Term
   -- inside a block: the first of the instructions is the block, loop or if that was entered
   Label : (operands : List TypedValue) (instrs : List Instr) (inner : Term) → Term
   -- inside a call of func, which has these locals; the instructions come after the call
   Frame : (operands : List TypedValue) (instrs : List Instr) (func : ℕ) (locals : List TypedValue) (inner : Term) → Term
 
--- A thread: the function that was started with its variables and what is left of it, or an end.
+-- A thread: the function that was started with its variables and its remaining term, or an end.
 pub data Config : Type 0 where
   Running : (func : ℕ) (vars : Vars) (body : Term) → Config
   Over : End → Config
 
--- What becomes of a term by one step of its innermost place.
+-- The result of one step of a term's innermost place.
 pub data Reduced : Type 0 where
   -- it continues as this term, after an access if there was one
   Next : (made : Option OpFields) (vars : Vars) (term : Term) → Reduced
   -- it is at its end
   Ends : (operands : List TypedValue) → Reduced
-  -- it branches out of this number of labels more
+  -- it branches out of this number of further labels
   Leaves : (labels : ℕ) (operands : List TypedValue) → Reduced
   -- it returns from its function
   Returns : (operands : List TypedValue) → Reduced
   Traps : TrapKind → Reduced
-  -- no case fits
+  -- no case applies
   Stuck : Reduced
 
 -- A step of a thread.

@@ -1,4 +1,4 @@
--- What the parts of a step do within a call, whatever the calls round it are.
+-- The effects of the parts of a step within a call, whatever the surrounding calls.
 use Rattle.std.specs.Prelude.{ℕ, ◌+◌, ◌≡◌, List, ◌∷◌, Result, drop}
 use Rattle.wm_ast.specs.declared.instr.Instr.{Instr}
 use Rattle.wm_ast.specs.declared.module.Module.{Module}
@@ -14,11 +14,11 @@ use Rattle.wm_machine.specs.Inside.{Called, StepsTo, out_of_labels, vars_of}
 use Rattle.wm_machine.specs.Step.{invoke}
 use Rattle.wm_machine.specs.Term.{Leaves}
 
--- the instruction is the one where the call is
+-- the instruction is the call's next one
 abbrev pub StandsAt : Module → CallFrame → Instr → Type 0
 StandsAt m a i = continuation m a.func a.control_stack.block a.control_stack.at ≡ i ∷ continuation m a.func a.control_stack.block (a.control_stack.at + 1)
 
--- the action of the instruction where the call is, in each of the labels round it
+-- the action of the call's next instruction, inside the enclosing labels
 abbrev pub Performs : Module → ℕ → Action → CallFrame → List TypedValue → CallFrame → List TypedValue → Result Flow StepFault → Type 0
 Performs m read action old globals new globals' result =
     (depth : ℕ) → (i : Instr) → continuation m old.func old.control_stack.block old.control_stack.at ≡ i ∷ continuation m old.func old.control_stack.block (old.control_stack.at + 1)

@@ -1,4 +1,4 @@
-//! What a step does, once its operands were looked at.
+//! The effect of a step, decided from its operands.
 ghost use Rattle.std.specs.Prelude.{◌≡◌};
 ghost use Rattle.wm_machine.specs.Action.{op_of};
 
@@ -6,30 +6,30 @@ use crate::value::TypedValue;
 use wm_ast::AccessKind;
 use wm_event::{Op, TrapKind};
 
-/// What a step does, once its operands were looked at.
+/// The effect of a step, decided from its operands.
 #[derive(Clone, Copy, Debug)]
 pub enum Action {
-    /// No case fits.
+    /// No case applies.
     Stuck,
     Trap(TrapKind),
-    /// Puts a value in the place of the topmost operands.
+    /// Replaces this number of topmost operands by a value, if there is one.
     Replace(usize, Option<TypedValue>),
-    /// Sets a local, and takes this number of operands.
+    /// Sets a local, and pops this number of operands.
     SetLocal(u32, TypedValue, usize),
-    /// Moves the topmost operand into a global.
+    /// Pops the topmost operand into a global.
     SetGlobal(u32, TypedValue),
-    /// An access, the instruction that it is of, and how many operands this takes.
+    /// An access, its instruction, and how many operands that pops.
     Access(Op, AccessKind, usize),
-    /// Enters a block, and takes this number of operands first.
+    /// Enters a block, after popping this number of operands.
     Enter { block: usize, popped: usize },
-    /// Branches out of blocks, and takes this number of operands first.
+    /// Branches out of blocks, after popping this number of operands.
     Branch { label: u32, popped: usize },
     Return,
     Call(u32),
 }
 
 impl Action {
-    /// The access of an action, None where it makes none.
+    /// The access of an action; None if it makes none.
     pub fn op(self) -> Option<Op>
         ensures { result ≡ op_of self }
     {

@@ -1,11 +1,11 @@
-//! A function that was called, and how far a step within it comes.
+//! An active call, and the outcome of a step within it.
 
 use crate::control_stack::ControlStack;
 use crate::locals::Locals;
 use crate::value::TypedValue;
 use wm_event::{Op, TrapKind};
 
-/// A function that was called, as far as it has come.
+/// An active call, with its current state.
 #[derive(Drop)]
 pub struct CallFrame<'m> {
     pub func: usize,
@@ -13,7 +13,7 @@ pub struct CallFrame<'m> {
     pub control_stack: ControlStack,
 }
 
-/// Where a function that is left goes back to.
+/// Where a function returns to.
 #[derive(Clone, Copy)]
 pub enum ReturnTo {
     Caller,
@@ -21,15 +21,15 @@ pub enum ReturnTo {
     Outside,
 }
 
-/// What became of a call.
+/// The outcome of a call.
 #[derive(Clone, Copy)]
 pub enum Invocation {
     Entered,
-    /// As many calls are active as may be: it traps.
+    /// The maximal number of calls is active: it traps.
     TooDeep,
 }
 
-/// What became of a step that may have been given the value that its access reads.
+/// The outcome of a step that may have been given the value that its access reads.
 #[derive(Clone, Copy)]
 pub enum StepOutcome {
     Made,
@@ -37,13 +37,13 @@ pub enum StepOutcome {
     NeedsReply(Op),
 }
 
-/// How far a step within a call has come.
+/// The outcome of a step within a call.
 #[derive(Clone, Copy)]
 pub enum Flow {
     /// Still within the call.
     Within,
     Trapped(TrapKind),
-    /// It has left the call, and gives this back.
+    /// It has left the call, and returns this.
     Left(Option<TypedValue>),
     /// It is before a call of this function.
     Calling(u32),

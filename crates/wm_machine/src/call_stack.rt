@@ -1,4 +1,4 @@
-//! The calls that wait for another.
+//! The calls that wait for another call.
 ghost use Rattle.std.specs.Prelude.{◌^◌, ◌≡◌, ◌≤◌, ◌<◌, ◌+◌, [], ◌∷◌, length, take, reverse, Some, OnErr, OnOk, IfOk};
 ghost use Rattle.wm_machine.specs.Inside.{ReturnsTo, called_frame, without_arguments};
 
@@ -11,13 +11,13 @@ use std::marker::Model;
 use std::mem::swap;
 use wm_ast::ValType;
 
-/// The calls that wait for another, and calls that were left, whose memory those to come take over. Contracts see those that
-/// wait, the innermost first.
+/// The calls that wait for another call, and calls that have returned, whose memory later calls reuse. Contracts see
+/// the waiting calls, the innermost first.
 #[derive(Drop)]
 pub struct CallStack<'m> {
-    /// The outermost first; those that were left come after those that wait.
+    /// The outermost first; calls that have returned come after the waiting ones.
     calls: Vec<CallFrame<'m>>,
-    /// How many of them wait.
+    /// How many of the calls wait.
     depth: usize,
 }
 
@@ -33,7 +33,7 @@ impl<'m> Model for CallStack<'m> {
 }
 
 impl<'m> CallStack<'m> {
-    /// No call.
+    /// The empty stack.
     pub fn new(alloc: Global) -> Self
         ensures { result ≡ [] }
     {
@@ -50,8 +50,8 @@ impl<'m> CallStack<'m> {
         self.depth
     }
 
-    /// Enters a function, which takes this number of operands of the running call as its arguments; this now waits. An `Err` changes
-    /// nothing.
+    /// Enters a function, which takes this number of operands of the running call as its arguments; the running call
+    /// now waits. An `Err` changes nothing.
     pub fn enter(
         &mut self,
         alloc: Global,
@@ -72,8 +72,8 @@ impl<'m> CallStack<'m> {
         Ok(())
     }
 
-    /// Goes back to the innermost call that waits, if there is one, with what was given back; else, and at an `Err`, nothing
-    /// changes.
+    /// Goes back to the innermost waiting call, if there is one, with what was returned; otherwise, and on an `Err`,
+    /// nothing changes.
     pub fn leave(
         &mut self,
         running: &mut CallFrame<'m>,
@@ -97,7 +97,7 @@ impl<'m> CallStack<'m> {
     }
 }
 
-/// Sees to it that there is a call at this place, whatever it is. Those before it stay as they were.
+/// Makes sure that there is some call at this place. The calls before it stay as they were.
 fn make_room(alloc: Global, calls: &mut Vec<CallFrame>, place: usize) -> Result<(), AllocError>
     requires { place ≤ length calls.old.items }
     ensures before { take place calls.new.items ≡ take place calls.old.items }
@@ -114,8 +114,9 @@ fn make_room(alloc: Global, calls: &mut Vec<CallFrame>, place: usize) -> Result<
     Ok(())
 }
 
-/// Moves the running call to a place where it waits, and makes what was there a call of a function, with this number of operands of
-/// the other as its arguments and zeros of these types. An `Err` leaves the running call as it was.
+/// Moves the running call to a place where it waits, and makes the call that was there a call of a function, with this
+/// number of operands of the running call as its arguments, then zeros of these types. An `Err` leaves the running call
+/// as it was.
 fn hand_over<'m>(
     running: &mut CallFrame<'m>,
     place: &mut CallFrame<'m>,

@@ -6,7 +6,7 @@ use crate::value::TypedValue;
 use std::alloc::{AllocError, Global};
 use std::marker::Model;
 
-/// Where one block is: the next instruction, and where its operands begin.
+/// The state of one block: the next instruction, and the start of its operands.
 #[derive(Clone, Copy, Debug)]
 struct ControlFrame {
     block: usize,
@@ -36,7 +36,7 @@ impl Model for ControlStack {
 }
 
 impl ControlStack {
-    /// At the begin of a block, in no other.
+    /// At the start of a block, which is the only one.
     pub fn new(alloc: Global, block: usize) -> Self
         ensures { result ≡ at_begin block }
     {
@@ -51,7 +51,7 @@ impl ControlStack {
         }
     }
 
-    /// The block that is innermost.
+    /// The innermost block.
     #[inline(always)]
     pub fn block(&self) -> usize
         ensures { result ≡ self.now.block }
@@ -59,7 +59,7 @@ impl ControlStack {
         self.inner.block
     }
 
-    /// The place of the next instruction in it.
+    /// The next instruction in the innermost block, by its number.
     #[inline(always)]
     pub fn at(&self) -> usize
         ensures { result ≡ self.now.at }
@@ -87,7 +87,7 @@ impl ControlStack {
         }
     }
 
-    /// The topmost operands of the innermost block, the deepest first.
+    /// The topmost operands of the innermost block, from the bottom.
     pub fn top(&self, count: usize) -> &[TypedValue]
         requires { count ≤ length self.now.operands }
         ensures { result.now ≡ reverse (take count self.now.operands) }
@@ -95,7 +95,7 @@ impl ControlStack {
         &self.values[self.values.len() - count..]
     }
 
-    /// Goes back to the begin of the body of a function.
+    /// Goes back to the start of a function's body.
     pub fn restart(&mut self)
         ensures { self.new ≡ at_begin 0 }
     {
@@ -116,7 +116,7 @@ impl ControlStack {
         self.inner.at = at;
     }
 
-    /// Takes the topmost operands off.
+    /// Pops this number of operands.
     #[inline(always)]
     pub fn pop(&mut self, popped: usize)
         requires { popped ≤ length self.old.operands }
@@ -126,7 +126,7 @@ impl ControlStack {
         self.values.truncate(rest);
     }
 
-    /// Puts a value in the place of the topmost operands. An `Err` changes nothing.
+    /// Pops this number of operands and pushes a value. An `Err` changes nothing.
     #[inline(always)]
     pub fn replace(&mut self, popped: usize, value: TypedValue) -> Result<(), AllocError>
         requires { popped ≤ length self.old.operands }
@@ -144,7 +144,7 @@ impl ControlStack {
         Ok(())
     }
 
-    /// Enters a block, once the topmost operands were taken off. An `Err` changes nothing.
+    /// Pops this number of operands and enters a block. An `Err` changes nothing.
     pub fn enter(&mut self, popped: usize, block: usize) -> Result<(), AllocError>
         requires room { popped ≤ length self.old.operands }
         requires followed { self.old.at + 1 < 2 ^ 64 }
@@ -162,14 +162,14 @@ impl ControlStack {
         Ok(())
     }
 
-    /// How many blocks are round the innermost one.
+    /// How many blocks enclose the innermost one.
     pub fn depth(&self) -> usize
         ensures { result ≡ length self.now.outer }
     {
         self.outer.len()
     }
 
-    /// The block and the instruction where a block round the innermost one is.
+    /// The block and the instruction of an enclosing block.
     pub fn place(&self, label: usize) -> (usize, usize)
         requires { label < length self.now.outer }
         ensures place { IfSome (slice_get self.now.outer label) (λ p. (result.0 ≡ p.block) × (result.1 ≡ p.at)) }
@@ -179,7 +179,7 @@ impl ControlStack {
         (level.block, level.at)
     }
 
-    /// Leaves the innermost block at its end, where there is one round it.
+    /// Leaves the innermost block at its end, if another block encloses it.
     pub fn close(&mut self) -> bool
         ensures closed { result ≡ true → closed self.old ≡ Some self.new }
         ensures none { result ≡ false → (self.old.outer ≡ []) × (self.new ≡ self.old) }
@@ -193,7 +193,8 @@ impl ControlStack {
         }
     }
 
-    /// Gives the innermost block up, where there is one round it, which may take over the topmost operand.
+    /// Leaves the innermost block by a branch, if another block encloses it; that block may take over the topmost
+    /// operand.
     pub fn give_up(&mut self, carry: bool) -> bool
         requires { carry ≡ true → 0 < length self.old.operands }
         ensures left { result ≡ true → given_up carry self.old ≡ Some self.new }
@@ -215,7 +216,7 @@ impl ControlStack {
         }
     }
 
-    /// Gives up blocks, out to one that is round them, which may take over the topmost operand.
+    /// Leaves blocks by a branch to an enclosing one, which may take over the topmost operand.
     pub fn unwind(&mut self, label: usize, carry: bool)
         requires label { label < length self.old.outer }
         requires carry { carry ≡ true → 0 < length self.old.operands }

@@ -1,4 +1,4 @@
-//! What an instruction does, decided from its operands before anything changes (Core 1.0, section 4.4).
+//! The effect of an instruction, decided from its operands before anything changes (Core 1.0, section 4.4).
 ghost use Rattle.std.specs.Prelude.{◌≡◌, ◌≤◌, List, length};
 ghost use Rattle.wm_ast.specs.declared.module.Module.{Module};
 ghost use Rattle.wm_ast.specs.declared.instr.Instr.{Instr};
@@ -18,7 +18,7 @@ use wm_event::TrapKind;
 use wm_list::List;
 use wm_num::Width;
 
-/// `if`: enters its second block where the topmost operand is 0, else the first.
+/// `if`: enters its second block if the topmost operand is 0, otherwise the first.
 fn entered(
     control_stack: &ControlStack,
     ty: BlockType,
@@ -43,7 +43,7 @@ fn entered(
     }
 }
 
-/// `br_if`: branches where the topmost operand isn't 0.
+/// `br_if`: branches if the topmost operand isn't 0.
 #[inline(always)]
 fn branch_if(control_stack: &ControlStack, label: u32) -> Action
     ensures means { (m : Module) (vars : Vars) → Acts m (Instr.BrIf label) vars control_stack.now.operands result }
@@ -57,7 +57,8 @@ fn branch_if(control_stack: &ControlStack, label: u32) -> Action
     }
 }
 
-/// `br_table`: branches to the label that the topmost operand is the index of, past the list to the default.
+/// `br_table`: branches to the label at the index that is the topmost operand, or to the default label if the index is
+/// past the list.
 fn branch_by_table(control_stack: &ControlStack, labels: &List<u32>, default: u32) -> Action
     ensures means { (m : Module) (vars : Vars) → Acts m (Instr.BrTable labels.now default) vars control_stack.now.operands result }
     ensures room { popped_by result ≤ length control_stack.now.operands }
@@ -90,7 +91,7 @@ fn dropped(control_stack: &ControlStack) -> Action
     }
 }
 
-/// `select`: keeps the first of two operands where the i32 above them isn't 0, else the second.
+/// `select`: keeps the first of two operands if the i32 above them isn't 0, otherwise the second.
 fn selected(control_stack: &ControlStack) -> Action
     ensures means { (m : Module) (vars : Vars) → Acts m Instr.Select vars control_stack.now.operands result }
     ensures room { popped_by result ≤ length control_stack.now.operands }
@@ -106,7 +107,7 @@ fn selected(control_stack: &ControlStack) -> Action
     }
 }
 
-/// `local.get` and `global.get` of this variable, where it is there.
+/// `local.get` and `global.get` of this variable, if it exists.
 #[inline(always)]
 fn got(variable: Option<TypedValue>) -> Action
     ensures local { GetsLocal variable result }
@@ -120,7 +121,7 @@ fn got(variable: Option<TypedValue>) -> Action
     }
 }
 
-/// `local.set` and `local.tee`, which takes no operand.
+/// `local.set`, and `local.tee`, which pops nothing.
 #[inline(always)]
 fn set_local(control_stack: &ControlStack, locals: &Locals, index: u32, popped: usize) -> Action
     requires { popped ≤ 1 }
@@ -147,7 +148,7 @@ fn set_global(control_stack: &ControlStack, globals: &[TypedValue], index: u32) 
     }
 }
 
-/// What an instruction does with these operands, locals and globals.
+/// The effect of an instruction with these operands, locals and globals.
 #[inline(always)]
 pub fn decide(
     module: &Module,

@@ -1,4 +1,4 @@
-//! What a call needs of its function.
+//! What a call needs to know about its function.
 ghost use Rattle.std.specs.Prelude.{◌≡◌, IfSome, Some, None};
 ghost use Rattle.wm_machine.specs.Functions.{callable, called_with};
 
@@ -11,7 +11,7 @@ pub struct LocalTypes<'m> {
     pub locals: &'m [ValType],
 }
 
-/// What a call needs of its function; None where the function, its type or its body isn't there.
+/// What a call needs to know about its function; None if the function, its type or its body isn't there.
 pub fn callable(module: &Module, func: usize) -> Option<LocalTypes<'_>>
     ensures none { result ≡ None → callable «module».now func ≡ None }
     ensures some { IfSome result (λ f. callable «module».now func ≡ Some (called_with f.params.now f.locals.now «module».now func)) }

@@ -8,18 +8,18 @@ use std::alloc::{AllocError, Global};
 use std::marker::Model;
 use wm_ast::ValType;
 
-/// How many locals are held in their order, besides the arguments: most functions have no more.
+/// How many locals, besides the arguments, are held densely: most functions have no more.
 const DENSE_LOCALS: usize = 16;
 
-/// The locals of a call: the arguments and the first of the others, of which the zeros after the last one that was set aren't
-/// held, and the later ones, of which only those that were set are held. So a call costs no more than its arguments and what
-/// it sets.
+/// The locals of a call: the arguments; the first of the other locals, held only up to the last one that was set; and
+/// the later ones, of which only those that were set are held. So the cost of a call depends only on its arguments and
+/// on the locals that it sets.
 #[derive(Drop)]
 pub struct Locals<'m> {
     held: Vec<TypedValue>,
-    /// The types of the first ones that aren't held.
+    /// The types of the first locals that aren't held; they are zeros.
     unset: &'m [ValType],
-    /// The others. They stand in a box so that a call is small: it is moved where a function is entered or left.
+    /// The later locals. They are boxed so that a call is small: it is moved when a function is entered or left.
     sparse_locals: Box<SparseLocals<'m>>,
 }
 
@@ -34,7 +34,7 @@ impl<'m> Model for Locals<'m> {
 }
 
 impl<'m> Locals<'m> {
-    /// No local.
+    /// Without locals.
     pub fn new(alloc: Global) -> Result<Self, AllocError>
         ensures { IfOk result (λ l. l ≡ []) }
     {
@@ -45,7 +45,7 @@ impl<'m> Locals<'m> {
         })
     }
 
-    /// These values, and then zeros of these types. Where memory is refused, they may be any.
+    /// These values, then zeros of these types. If an allocation fails, the values are unspecified.
     #[tactic(auto, using(crate::proofs::Held::values_split))]
     pub fn restart(&mut self, values: &[TypedValue], unset: &'m [ValType]) -> Result<(), AllocError>
         ensures { OnOk result (self.new ≡ values.now ++ map zero_of unset.now) }
@@ -112,14 +112,14 @@ fn split(types: &[ValType]) -> (&[ValType], &[ValType])
     types.split_at(types.len().min(DENSE_LOCALS))
 }
 
-/// Whether there is a local of this index after those that are held.
+/// Whether there is a local of this index after the ones held.
 fn has_unheld(unset: &[ValType], sparse_locals: &SparseLocals, index: usize) -> bool
     ensures { result ≡ nat_lt index (length unset.now + length sparse_locals.now) }
 {
     index < unset.len() || sparse_locals.has(index - unset.len())
 }
 
-/// The local of this index after those that are held.
+/// The local of this index after the ones held.
 #[tactic(auto, using(crate::proofs::Held::get_near, crate::proofs::Held::get_late))]
 fn get_unheld(unset: &[ValType], sparse_locals: &SparseLocals, index: usize) -> Option<TypedValue>
     ensures { result ≡ slice_get (map zero_of unset.now ++ sparse_locals.now) index }
@@ -130,7 +130,7 @@ fn get_unheld(unset: &[ValType], sparse_locals: &SparseLocals, index: usize) -> 
     }
 }
 
-/// Puts zeros of these types after the values. An `Err` changes nothing.
+/// Appends zeros of these types to the values. An `Err` changes nothing.
 fn hold(values: &mut Vec<TypedValue>, types: &[ValType]) -> Result<(), AllocError>
     ensures ok { OnOk result (values.new.items ≡ values.old.items ++ map zero_of types.now) }
     ensures err { OnErr result (values.new.items ≡ values.old.items) }

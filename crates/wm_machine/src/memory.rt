@@ -1,4 +1,4 @@
-//! What the memory instructions do (Core 1.0, section 4.4.4, and the threads proposal).
+//! The effects of the memory instructions (Core 1.0, section 4.4.4, and the threads proposal).
 ghost use Rattle.std.specs.Prelude.{◌≡◌, ◌≤◌, ◌<◌, ◌+◌, ◌^◌, IfSome, None, length, option_map};
 ghost use Rattle.wm_access.specs.AccessWidth.{bytes_of, Fits};
 ghost use Rattle.wm_num.specs.declared.operator.Width.TheVariants.{W32};
@@ -21,7 +21,7 @@ use wm_ast::{AccessKind, Instr, MemArg, Module, Storage, ValType};
 use wm_event::{Op, OpFields, OpKind, TrapKind};
 use wm_num::{Signedness, Width, extend_bytes, low_bytes};
 
-/// What a memory instruction asks for, the i32 that its address is but for the offset, and how many operands it takes.
+/// The access of a memory instruction, the i32 that its address is without the offset, and how many operands it pops.
 #[derive(Clone, Copy)]
 struct Request {
     kind: OpKind,
@@ -29,7 +29,7 @@ struct Request {
     popped: usize,
 }
 
-/// A request whose address is the operand at `depth`, under the others.
+/// A request whose address is the operand at `depth`, below the others.
 fn at_address(control_stack: &ControlStack, kind: OpKind, depth: usize) -> Option<Request>
     requires { depth ≤ 2 }
     ensures kind { IfSome result (λ r. r.kind ≡ kind) }
@@ -55,7 +55,7 @@ fn low_operand(control_stack: &ControlStack, storage: Storage) -> Option<u64>
     Some(low_bytes(operand, storage.width()))
 }
 
-/// The request of a memory instruction, None where its operands aren't there.
+/// The request of a memory instruction; None if its operands aren't there.
 fn requested(control_stack: &ControlStack, kind: AccessKind) -> Option<Request>
     ensures asked { option_map (asked_by control_stack.now.operands) result ≡ asked kind control_stack.now.operands }
     ensures fits { IfSome result (λ r. KindFits r.kind (access_order kind) (access_width kind)) }
@@ -82,7 +82,7 @@ fn requested(control_stack: &ControlStack, kind: AccessKind) -> Option<Request>
     }
 }
 
-/// Why an access at an address traps, None where it doesn't.
+/// Why an access at an address traps; None if it doesn't.
 fn access_trap(module: &Module, kind: AccessKind, address: u64) -> Option<TrapKind>
     requires { address < 2 ^ 33 }
     ensures trap { result ≡ access_trap «module».now kind address }
@@ -110,7 +110,7 @@ fn extended(signedness: Signedness, storage: Storage, read: u64) -> TypedValue
     )
 }
 
-/// What an access that reads this value leaves on the operands, None for a store.
+/// The operand that an access leaves if it reads this value; None for a store.
 pub fn loaded(kind: AccessKind, read: u64) -> Option<TypedValue>
     ensures { result ≡ loaded kind read }
 {

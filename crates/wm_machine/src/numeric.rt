@@ -19,7 +19,7 @@ use wm_num::{
     convert, unary,
 };
 
-/// The operand at `depth`, counted from the top, where it is a number of this width.
+/// The operand at `depth`, counted from the top, if it has this width.
 #[inline(always)]
 pub fn number(control_stack: &ControlStack, depth: usize, width: Width) -> Option<u64>
     ensures value { result ≡ number_at width control_stack.now.operands depth }
@@ -42,7 +42,7 @@ fn trap_of(trap: NumTrap) -> TrapKind
     }
 }
 
-/// What a test leaves on the operands.
+/// The result of a test, as an operand.
 #[inline(always)]
 fn truth(holds: bool) -> TypedValue
     ensures { result ≡ TypedValue.I32 (truth holds) }
@@ -66,7 +66,7 @@ pub fn eqz(control_stack: &ControlStack, width: Width) -> Action
     }
 }
 
-/// A comparison of the two topmost operands, of which the right one is on top.
+/// A comparison of the two topmost operands, with the right one on top.
 #[inline(always)]
 pub fn comparison(control_stack: &ControlStack, op: Comparison, width: Width) -> Action
     ensures means { (m : Module) (vars : Vars) → Acts m (Instr.Compare op width) vars control_stack.now.operands result }
@@ -97,7 +97,7 @@ pub fn counted(control_stack: &ControlStack, op: UnaryOperator, width: Width) ->
     }
 }
 
-/// An operator on the two topmost operands, of which the right one is on top.
+/// An operator on the two topmost operands, with the right one on top.
 #[inline(always)]
 pub fn calculated(control_stack: &ControlStack, op: BinaryOperator, width: Width) -> Action
     ensures means { (m : Module) (vars : Vars) → Acts m (Instr.Binary op width) vars control_stack.now.operands result }
@@ -129,7 +129,7 @@ pub fn converted(control_stack: &ControlStack, op: Conversion) -> Action
     }
 }
 
-/// The width that a conversion takes, and the one that it gives.
+/// The width that a conversion takes, and the width that it gives.
 fn widths(op: Conversion) -> (Width, Width)
     ensures { result ≡ (source_of op, target_of op) }
 {

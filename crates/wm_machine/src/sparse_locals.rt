@@ -17,8 +17,9 @@ struct Kept {
     value: TypedValue,
 }
 
-/// Locals of which those that were set are held, one after the other as they came, so that the others cost nothing. A slot
-/// holds a local only where what is held there says so: slots that were used before need no clearing.
+/// Locals of which only those that were set are held, in the order in which they were first set, so the others cost
+/// nothing. A slot counts only if the entry that it points to has its index, so slots that were used before need no
+/// clearing.
 #[derive(Drop)]
 pub struct SparseLocals<'m> {
     types: &'m [ValType],
@@ -37,7 +38,7 @@ impl<'m> Model for SparseLocals<'m> {
 }
 
 impl<'m> SparseLocals<'m> {
-    /// No local.
+    /// Without locals.
     pub fn new(alloc: Global) -> Self
         ensures { result ≡ [] }
     {
@@ -48,7 +49,7 @@ impl<'m> SparseLocals<'m> {
         }
     }
 
-    /// Zeros of these types, in the memory of what was there.
+    /// Zeros of these types; the memory is reused.
     #[tactic(auto, using(crate::proofs::SparseLocals::none_held))]
     pub fn restart(&mut self, types: &'m [ValType])
         ensures { self.new ≡ map zero_of types.now }
@@ -94,7 +95,7 @@ impl<'m> SparseLocals<'m> {
     }
 }
 
-/// Where a local is held, if it was set.
+/// The place where a local is held, if it was set.
 fn find(slots: &[usize], held: &[Kept], index: usize) -> Option<usize>
     ensures slot { IfSome result (λ slot. (slice_get slots.now index ≡ Some slot) × (slot < length held.now)) }
     ensures some { IfSome result (λ slot. (d : KeptAt) → (slice_index_or held.now slot d).index ≡ index) }
@@ -112,7 +113,7 @@ fn find(slots: &[usize], held: &[Kept], index: usize) -> Option<usize>
     }
 }
 
-/// Holds a local that wasn't set before. An `Err` changes no local.
+/// Adds a local that wasn't set before. An `Err` changes no local.
 fn add(
     slots: &mut Vec<usize>,
     held: &mut Vec<Kept>,

@@ -1,4 +1,4 @@
-//! How a thread begins.
+//! The start of a thread.
 ghost use Rattle.std.specs.Prelude.{◌≡◌, ◌^◌, ◌++◌, IfOk, false, map, length, nat_le};
 ghost use Rattle.wm_num.specs.Number.{bits_of};
 ghost use Rattle.wm_ast.specs.Types.{width_of};
@@ -11,7 +11,7 @@ use std::alloc::{AllocError, Global};
 use wm_ast::{Export, ExportKind, Module, ValType};
 use wm_list::List;
 
-/// The function that an export names, None where it names something else.
+/// The function that an export names; None if it names something else.
 pub fn func_of(export: Export) -> Option<u32>
     ensures { result ≡ func_of export }
 {
@@ -21,7 +21,7 @@ pub fn func_of(export: Export) -> Option<u32>
     }
 }
 
-/// Whether a number is past the type's greatest value.
+/// Whether a number is above the type's greatest value.
 fn is_past(ty: ValType, number: u64) -> bool
     ensures { result ≡ nat_le (2 ^ bits_of (width_of ty)) number }
 {
@@ -44,7 +44,7 @@ pub fn any_past(params: &[ValType], args: &[u64]) -> bool
     false
 }
 
-/// The locals of a started function: its arguments, and then zeros.
+/// The locals of a started function: its arguments, then zeros.
 pub fn first_locals<'m>(
     alloc: Global,
     params: &[ValType],
@@ -64,7 +64,7 @@ pub fn first_locals<'m>(
     Ok(locals)
 }
 
-/// The values that the globals begin with.
+/// The initial values of the globals.
 pub fn first_globals(alloc: Global, module: &Module) -> Result<List<TypedValue>, AllocError>
     ensures { IfOk result (λ v. v ≡ map initial_of «module».now.globals) }
 {

@@ -32,23 +32,23 @@ pub enum Need {
     Local,
     /// The reply to this access.
     Access(Op),
-    /// There is no step: the thread has ended so.
+    /// There is no step: the thread has ended this way.
     Ended(End),
 }
 
 /// What a step without a reply did.
 #[derive(Clone, Copy, Debug, PartialEq, Eq)]
 pub enum Stepped {
-    /// It made the step: this makes no access, or traps.
+    /// It made a step that makes no access, or traps.
     Local,
-    /// It made none: this access needs a reply.
+    /// It made no step: this access needs a reply.
     Access(Op),
-    /// It made none: the thread has ended so.
+    /// It made no step: the thread has ended this way.
     Ended(End),
 }
 
 impl StepOutcome {
-    /// What a step without a value did of a thread that hadn't ended.
+    /// The outcome of a step without a value, for a thread that hadn't ended.
     fn stepped(self) -> Stepped
         ensures made { self ≡ StepOutcome.Made → result ≡ Stepped.Local }
         ensures asks { (op : OpFields) → self ≡ StepOutcome.NeedsReply op → result ≡ Stepped.Access op }
@@ -60,19 +60,19 @@ impl StepOutcome {
     }
 }
 
-/// Where a thread is in its module's code.
+/// The position of a thread in its module's code.
 #[derive(Clone, Copy, Debug, PartialEq, Eq)]
 pub struct CodePosition {
-    /// The function of the innermost call, by its index.
+    /// The index of the function of the innermost call.
     pub func: usize,
-    /// The innermost block that it is in, by its number in that function.
+    /// The number of its innermost block in that function.
     pub block: usize,
-    /// The next instruction, by its number in that block; at the block's end, how many it has.
+    /// The number of the next instruction in that block; at the block's end, the number of its instructions.
     pub at: usize,
 }
 
-/// A thread of a module, which holds its calls and its own globals. Contracts see it as these, and as the module;
-/// `config_of` is its configuration in the semantics.
+/// A thread of a module, with its calls and its own globals. Contracts see it as these and the module; `config_of` is
+/// its configuration in the semantics.
 #[derive(Drop)]
 pub struct Thread<'m> {
     module: &'m Module,
@@ -130,14 +130,14 @@ impl<'m> Thread<'m> {
         })
     }
 
-    /// A thread that starts with the exported function of this name and these arguments, in which an i32 is a number
-    /// below 2^32. An allocation failure can come at any point.
+    /// A thread that starts with the exported function of this name and these arguments; an i32 argument is below 2^32.
+    /// An allocation failure can come at any point.
     ///
     /// # Errors
     ///
-    /// In this order: `NoExport` where nothing is exported under this name, `NotFunction` where no function is, `ArgCount`
-    /// where the function has another number of parameters, `ArgRange` where the argument of an i32 parameter is 2^32 or
-    /// more; `OutOfMemory` where memory was refused.
+    /// In this order: `NoExport` if nothing is exported under this name, `NotFunction` if the export isn't a function,
+    /// `ArgCount` if the function has a different number of parameters, `ArgRange` if the argument of an i32 parameter
+    /// is 2^32 or more; `OutOfMemory` if an allocation fails.
     pub fn start(
         alloc: Global,
         module: &'m ValidModule,
@@ -157,7 +157,7 @@ impl<'m> Thread<'m> {
         }
     }
 
-    /// What the next step needs. It takes no memory. An access that will trap needs nothing.
+    /// What the next step needs. It doesn't allocate. An access that will trap needs nothing.
     pub fn next(&self) -> Need
         ensures { (read : ℕ) → result ≡ need_of read self.now }
     {
@@ -170,8 +170,8 @@ impl<'m> Thread<'m> {
         }
     }
 
-    /// Where the next step is made: the next instruction of the innermost call, or the end of its innermost block. A thread
-    /// that has ended is where it made its last step.
+    /// The position of the next step: the next instruction of the innermost call, or the end of its innermost block.
+    /// The position of a thread that has ended is that of its last step.
     pub fn position(&self) -> CodePosition
         ensures { result ≡ position_of self.now }
     {
@@ -182,8 +182,8 @@ impl<'m> Thread<'m> {
         }
     }
 
-    /// Makes a step of a thread that hasn't ended, with the value that its access reads. Where none is given, an access isn't
-    /// made, but named.
+    /// Makes a step of a thread that hasn't ended, with the value that its access reads. Without a value, an access
+    /// isn't made but named.
     fn step_with(&mut self, given: Option<u64>) -> Result<StepOutcome, AdvanceFault>
         requires { self.old.ended ≡ None }
         ensures asks { IfOk result (NamesNextAccess given self.old) }
@@ -237,12 +237,12 @@ impl<'m> Thread<'m> {
         }
     }
 
-    /// Makes the next step, where it needs nothing; else says what it needs, and nothing changes. So it is `next`, and `advance`
-    /// without a reply where this may be called, in one. An `Err` changes nothing.
+    /// Makes the next step if it needs nothing; otherwise it reports what the step needs, and nothing changes. So it
+    /// combines `next` with `advance` without a reply, if that may be called. An `Err` changes nothing.
     ///
     /// # Errors
     ///
-    /// `OutOfMemory` where memory was refused. For a thread that needs nothing there is a step: it is of a valid module.
+    /// `OutOfMemory` if an allocation fails. A thread that needs nothing always has a step, since its module is valid.
     pub fn step(&mut self) -> Result<Stepped, AdvanceFault>
         ensures local { result ≡ Ok Stepped.Local → next_config (step self.old.module 0 (config_of self.old)) ≡ Some (config_of self.new) }
         ensures needs_nothing { result ≡ Ok Stepped.Local → (read : ℕ) → need_of read self.old ≡ Need.Local }
@@ -261,12 +261,12 @@ impl<'m> Thread<'m> {
         }
     }
 
-    /// Makes one step of a thread that hasn't ended, with the reply to its access exactly where `next` says `Access`. The
-    /// reply has a value read exactly where the access reads, and it fits the width. An `Err` changes nothing.
+    /// Makes one step of a thread that hasn't ended, with the reply to its access exactly if `next` returns `Access`.
+    /// The reply has a value read exactly if the access reads, and the value fits the width. An `Err` changes nothing.
     ///
     /// # Errors
     ///
-    /// `OutOfMemory` where memory was refused. There is a step whatever the access reads: the thread is of a valid module.
+    /// `OutOfMemory` if an allocation fails. There is a step whatever the access reads, since the module is valid.
     pub fn advance(&mut self, reply: Option<Reply>) -> Result<(), AdvanceFault>
         requires { RepliesTo (need_of 0 self.old) reply }
         ensures ok { OnOk result (next_config (step self.old.module (read_in reply) (config_of self.old)) ≡ Some (config_of self.new)) }
@@ -292,7 +292,7 @@ fn bits(value: Option<TypedValue>) -> Option<u64>
     }
 }
 
-/// The value that a reply gives to its access, 0 where this reads none.
+/// The value that a reply gives to its access; 0 if the access reads nothing.
 fn given_by(reply: Option<Reply>) -> Option<u64>
     ensures { result ≡ given_by reply }
 {

@@ -5,7 +5,7 @@ ghost use Rattle.wm_num.specs.Number.{IsOperand};
 use wm_ast::{ConstExpr, ValType};
 use wm_num::Width;
 
-/// A value: an i32 or an i64, as the unsigned number that its bits are.
+/// A value: an i32 or an i64, as the unsigned integer with its bits.
 #[derive(Clone, Copy, Debug, PartialEq, Eq)]
 pub enum TypedValue {
     I32(u32),
@@ -16,7 +16,7 @@ impl TypedValue {
     ghost use Rattle.wm_machine.specs.Values.{typed, bits_of, zero_of, constant_of};
     ghost use Rattle.wm_machine.specs.Values.{number as number_of};
 
-    /// The value of this width that is this number.
+    /// The value of this width with these bits.
     #[inline(always)]
     pub fn of(width: Width, number: u64) -> Self
         requires { IsOperand width number }
@@ -28,7 +28,7 @@ impl TypedValue {
         }
     }
 
-    /// The number, if the value has this width.
+    /// The bits, if the value has this width.
     #[inline(always)]
     pub fn number(self, width: Width) -> Option<u64>
         ensures value { result ≡ number_of width self }
@@ -41,7 +41,7 @@ impl TypedValue {
         }
     }
 
-    /// The number, whatever the type.
+    /// The bits, whatever the type.
     pub fn bits(self) -> u64
         ensures { result ≡ bits_of self }
     {
@@ -51,7 +51,7 @@ impl TypedValue {
         }
     }
 
-    /// The value that a local begins with.
+    /// The initial value of a local.
     pub fn zero(ty: ValType) -> Self
         ensures { result ≡ zero_of ty }
     {

@@ -149,7 +149,7 @@ store_with_room m x n t count op e ws h r bs pending few p threads initial s f =
     subst (λ (l : List Step). AccessFits threads initial l t op e ws n) (sym (ready_room s t op waits))
     (stored_fits threads initial s x n t op e ws h (room_for t op p.0.accesses 0 e x.cells q.event r.room) p fx)
 
--- a plain store into a full buffer, behind a drain
+-- a plain store into a full buffer, after a drain
 pub store_when_full : (m x y n : State) (t count : ℕ) (op : Op) (e : Event) (ws : List EventId) → plain_store op.order op.kind ≡ true → MakesRoom op.address (bytes_of op.width) m.cells x.cells → x.buffers ≡ m.buffers
     → IsPending t x count → count ≡ 64 → PublishesAt t 0 x y → DoesStore t op y e ws n → Fitting t op m e ws n
 store_when_full m x y n t count op e ws h r bs pending full d p threads initial s f =

@@ -14,7 +14,7 @@ abbrev pub Exists : Execution → EventId → Type 0
 Exists x Init = Unit {0}
 Exists x (At k) = IsSome (x.event_of k)
 
--- y says what x says of each event of x, and has no other
+-- y agrees with x on each event of x, and has no other event
 pub record Agrees (x y : Execution) : Type 0 where
   pub events : (k : EventKey) → y.event_of k ≡ x.event_of k
   pub writers : (k : EventKey) → y.writers_of k ≡ x.writers_of k

@@ -20,7 +20,7 @@ use Rattle.wm_memory.proofs.Overwritten.{published_atomic}
 use Rattle.wm_memory.proofs.Tables.{put_shows, put_keeps, all_shows, all_keeps}
 use Rattle.wm_memory.proofs.Chunks.{slice_get-set_same, slice_get-set_other}
 
--- a list, the newest first, of which k are behind x
+-- a list, the newest first, with k items after x
 pick_here : (k : ℕ) (f : List Event) (x : Event) (b : List Event) → length b ≡ k → pick k (f ++ x ∷ b) ≡ x ∷ []
 pick_here k [] x b h = rw (eq-eqb (length b) k h) refl
 pick_here k (y ∷ f) x b h =
@@ -133,7 +133,7 @@ own_seen base e xs a false eq =
     let c : covers e a ≡ false = and_left (writes e) _ eq in
     ap (λ (w : List Event). cell_over base (w ++ xs) a) l ∙ sym (rw c refl)
 
--- what the cells show behind the stores of t is what t sees
+-- what the cells show under the stores of t is what t sees
 pub shown_seen : (threads : ℕ) (initial : List ℕ) (s : List Step) (t : ℕ) (b : Buffered) (m : State) → Fits threads initial s m → slice_get m.buffers t ≡ Some b → (a : ℕ) → shown m.cells (reverse b.stores) a ≡ seen initial (visible s t) a
 shown_seen threads initial s t b m f was a =
     ap (λ (c : Cell). cell_over c (reverse b.stores) a) (f.cells a)

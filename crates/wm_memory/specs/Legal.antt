@@ -8,7 +8,7 @@ use Rattle.wm_memory.specs.declared.history_step.HistoryStep.TheVariants.{Access
 use Rattle.wm_memory.specs.Limits.{max_pending}
 use Rattle.wm_memory.specs.Visibility.{Step, events, waiting, steps, Passes}
 
--- an item may come after these steps of so many threads over a memory of that size
+-- an item may come after these steps of this number of threads over a memory of that size
 abbrev pub MayFollow : ℕ → ℕ → List Step → HistoryStep → Type 0
 MayFollow threads size s (Access t op) = (t < threads) × (op.address + bytes_of op.width ≤ size) × IsOp op
 MayFollow threads size s (Drain t) = (t < threads) × (0 < length (waiting s t))

@@ -1,4 +1,4 @@
--- What a memory shows, and when it fits the steps made so far.
+-- The visible state of a memory, and when it fits the steps made so far.
 use Rattle.std.specs.Prelude.{◌≡◌, ℕ, ◌+◌, ◌^◌, ◌<◌, ◌≤◌, Bool, true, false, List, [], ◌∷◌, ◌++◌, length, reverse, take, drop, slice_get, slice_set, Some, MatchBool, MatchResult, ◌&&◌, ◌==◌, if◌then◌else◌, Result, Ok, Err}
 use Rattle.wm_access.specs.declared.MemoryOrder.{MemoryOrder}
 use Rattle.wm_access.specs.declared.MemoryOrder.TheVariants.{Unordered, SeqCst}
@@ -21,20 +21,20 @@ use Rattle.wm_memory.specs.Visibility.{Step, Made, Drained, Passes, In, publishe
 use Rattle.wm_memory.specs.declared.history_step.HistoryStep.TheVariants.{Access}
 use Rattle.wm_memory.specs.Reply.{padded, reply_after}
 
--- both write some byte
+-- both write a common byte
 abbrev pub Overlaps : Event → Event → Type 0
 Overlaps x y = (a : ℕ) × (covers x a ≡ true) × (covers y a ≡ true)
 
--- of these stores, the oldest first, there is one with k older ones, and it overlaps none of these
+-- among these stores, the oldest first, there is one with k older ones, and it overlaps none of them
 abbrev pub MayPass : ℕ → List Event → Type 0
 MayPass k stores = (k < length stores) × Passes k (reverse stores)
 
--- what waits in the buffer of a thread, the oldest first, and how many accesses the thread made
+-- the waiting stores of a thread, the oldest first, and how many accesses the thread made
 pub record Buffered : Type 0 where
   pub stores : List Event
   pub accesses : ℕ
 
--- the buffer without the store that has so many older ones
+-- the buffer without the store that has this number of older ones
 abbrev pub without_store : ℕ → Buffered → Buffered
 without_store index b = record b { stores = take index b.stores ++ drop (index + 1) b.stores }
 
@@ -47,7 +47,7 @@ pub record FitsThread (s : List Step) (t : ℕ) (b : Buffered) : Type 0 where
   pub stores : reverse b.stores ≡ waiting s t
   pub accesses : b.accesses ≡ accesses s t
 
--- a memory shows what these steps of so many threads over Init left, and has room for what waits
+-- a memory shows what these steps of this number of threads over Init left, and has cells for the waiting stores
 pub record Fits (threads : ℕ) (init : List ℕ) (s : List Step) (m : State) : Type 0 where
   pub initial : m.cells.initial ≡ init
   pub size : length m.buffers ≡ threads
@@ -55,11 +55,11 @@ pub record Fits (threads : ℕ) (init : List ℕ) (s : List Step) (m : State) : 
   pub buffers : (t : ℕ) (b : Buffered) → slice_get m.buffers t ≡ Some b → FitsThread s t b
   pub room : (t : ℕ) (e : Event) (a : ℕ) → In e (waiting s t) → covers e a ≡ true → HasCell m.cells a
 
--- n stores of t wait, none where there is no such thread
+-- n stores of t wait; 0 if there is no such thread
 abbrev pub IsPending : ℕ → State → ℕ → Type 0
 IsPending t m n = ((b : Buffered) → slice_get m.buffers t ≡ Some b → n ≡ length b.stores) × (length m.buffers ≤ t → n ≡ 0)
 
--- the waiting store e of t that has k older ones went to the bytes
+-- the waiting store e of t that has k older ones was published
 pub record PublishesStore (t k : ℕ) (b : Buffered) (e : Event) (m n : State) : Type 0 where
   pub was : slice_get m.buffers t ≡ Some b
   pub there : k < length b.stores
@@ -70,7 +70,7 @@ pub record PublishesStore (t k : ℕ) (b : Buffered) (e : Event) (m n : State) :
 abbrev pub PublishesAt : ℕ → ℕ → State → State → Type 0
 PublishesAt t k m n = (b : Buffered) × ((e : Event) × PublishesStore t k b e m n)
 
--- a store of t waits that has k older ones
+-- t has a waiting store with k older ones
 abbrev pub Waits : ℕ → ℕ → State → Type 0
 Waits t k m = (b : Buffered) × (slice_get m.buffers t ≡ Some b) × (k < length b.stores)
 
@@ -81,11 +81,11 @@ CannotLeave t k m = (b : Buffered) → slice_get m.buffers t ≡ Some b → k < 
 abbrev pub MayLeave : ℕ → ℕ → State → Type 0
 MayLeave t k m = (b : Buffered) × (slice_get m.buffers t ≡ Some b) × (k < length b.stores) × Passes k (reverse b.stores)
 
--- the store left where it may, else nothing changed
+-- the store left if it may, otherwise nothing changed
 abbrev pub Drains : ℕ → ℕ → Bool → State → State → Type 0
 Drains t k result m n = MatchBool result (MayLeave t k m × PublishesAt t k m n) ((n ≡ m) × CannotLeave t k m)
 
--- whatever steps the memory fitted, the new one fits them with the drain after them; else nothing changed
+-- whatever steps the memory fitted, the new one fits them with the drain after them; otherwise nothing changed
 abbrev pub DrainFits : ℕ → ℕ → Bool → State → State → Type 0
 DrainFits t k result m n = MatchBool result ((threads : ℕ) (initial : List ℕ) (s : List Step) → Fits threads initial s m → Fits threads initial (Drained t k ∷ s) n) (n ≡ m)
 
@@ -123,7 +123,7 @@ pub record DoesStoreBy (t : ℕ) (op : Op) (b : Buffered) (m : State) (e : Event
 abbrev pub DoesStore : ℕ → Op → State → Event → List EventId → State → Type 0
 DoesStore t op m e ws n = (b : Buffered) × DoesStoreBy t op b m e ws n
 
--- a plain store waits in its buffer
+-- a plain store, which waits in its buffer
 abbrev pub plain_store : MemoryOrder → OpKind → Bool
 plain_store SeqCst kind = false
 plain_store Unordered Read = false
@@ -131,7 +131,7 @@ plain_store Unordered (Write v) = true
 plain_store Unordered (Rmw operator v) = false
 plain_store Unordered (CmpXchg expected new) = false
 
--- the oldest store leaves just before the access: it is a plain store, and as many wait as may
+-- the oldest store leaves directly before the access: the access is a plain store, and the buffer is full
 abbrev pub drains_first : List Step → ℕ → Op → Bool
 drains_first s t op = plain_store op.order op.kind && (length (waiting s t) == max_pending)
 
@@ -154,11 +154,11 @@ pub record Answered (threads : ℕ) (initial : List ℕ) (s : List Step) (t : �
 abbrev pub Answers : ℕ → Op → State → Reply → State → Type 0
 Answers t op m reply n = (threads : ℕ) (initial : List ℕ) (s : List Step) → Fits threads initial s m → Answered threads initial (ready s t op) t op reply n
 
--- whatever steps the memory fitted, a drain comes first exactly where these make it so
+-- whatever steps the memory fitted, a drain comes first exactly if these require it
 abbrev pub DrainsFirst : ℕ → Op → State → Bool → Type 0
 DrainsFirst t op m first = (threads : ℕ) (initial : List ℕ) (s : List Step) → Fits threads initial s m → first ≡ drains_first s t op
 
--- there is a number for one more access of t
+-- there is a number for another access of t
 abbrev pub HasNumber : ℕ → State → Type 0
 HasNumber t m = (b : Buffered) → slice_get m.buffers t ≡ Some b → b.accesses + 1 < 2 ^ 32
 
@@ -170,7 +170,7 @@ Fitting t op m e ws n = (threads : ℕ) (initial : List ℕ) (s : List Step) →
 abbrev pub MakesAccess : {E : Type 0} → ℕ → Op → State → State → Result MadeAccess E → Type 0
 MakesAccess t op old new result = MatchResult result (λ made. Fitting t op old made.event made.writers new) (λ fault. new ≡ old)
 
--- NoThread exactly where there is no such thread, then OutOfBounds exactly where there is no such range
+-- NoThread exactly if there is no such thread, then OutOfBounds exactly if there is no such range
 abbrev pub FaultIs : {D : Type 0} → Result D MemFault → Type 0 → Type 0 → Type 0
 FaultIs (Ok d) none out = (none → ⊥) × (out → ⊥)
 FaultIs (Err NoThread) none out = none

@@ -21,7 +21,7 @@ abbrev pub In : Event → List Event → Type 0
 In v [] = ⊥
 In v (x ∷ xs) = (x ≡ v) ⊎ In v xs
 
--- the item after which k older ones come, the others, and those older ones
+-- the item that has k older ones after it, the other items, and those older ones
 abbrev pub pick : ℕ → List Event → List Event
 pick k [] = []
 pick k (x ∷ xs) = if length xs == k then x ∷ [] else pick k xs
@@ -34,16 +34,16 @@ abbrev pub behind : ℕ → List Event → List Event
 behind k [] = []
 behind k (x ∷ xs) = if length xs == k then xs else behind k xs
 
--- the store after which k older ones come overlaps none of these
+-- the store that has k older ones after it overlaps none of them
 abbrev pub Passes : ℕ → List Event → Type 0
 Passes k w = (x y : Event) (a : ℕ) → In x (pick k w) → In y (behind k w) → covers x a ≡ true → covers y a ≡ true → ⊥
 
--- the write of an event, where it has one
+-- the write of an event, if it has one
 abbrev pub own_write : Event → List Event
 own_write e = if writes e then e ∷ [] else []
 
--- the stores of t that are unpublished after these steps: a plain store is, until a drain takes it as the oldest one
--- or an atomic access of t publishes them all
+-- the stores of t that are unpublished after these steps: a plain store is, until a drain takes it or an atomic access
+-- of t publishes them all
 abbrev pub waiting : List Step → ℕ → List Event
 waiting [] t = []
 waiting (Drained u k ∷ s) t = if u == t then rest k (waiting s t) else waiting s t

@@ -8,7 +8,8 @@ use std::alloc::{AllocError, Global};
 use std::marker::Model;
 use wm_event::Event;
 
-/// The waiting stores of a thread, the oldest first, and how many accesses it made. There is always room for as many as may wait.
+/// The waiting stores of a thread, the oldest first, and how many accesses it made. There is always room for
+/// [`MAX_PENDING`] stores.
 #[derive(Drop)]
 pub struct Buffer {
     stores: Vec<Event>,
@@ -30,7 +31,7 @@ impl Model for Buffer {
 }
 
 impl Buffer {
-    /// A buffer with no store, of a thread that made no access.
+    /// The empty buffer of a thread that has made no access.
     pub fn new(alloc: Global) -> Result<Self, AllocError>
         ensures { IfOk result (λ buffer. buffer ≡ record { stores = []; accesses = 0 }) }
     {
@@ -62,7 +63,7 @@ impl Buffer {
         self.accesses
     }
 
-    /// Whether a store waits that has so many older ones, and it overlaps none of these.
+    /// Whether a store waits at `index`, counted from 0 at the oldest, that overlaps no older one.
     pub fn may_leave(&self, index: usize) -> bool
         ensures { MatchBool result (MayPass index self.now.stores) (MayPass index self.now.stores → ⊥) }
     {
@@ -79,7 +80,7 @@ impl Buffer {
         true
     }
 
-    /// Takes the store with so many older ones out.
+    /// Removes the store at `index`, counted from 0 at the oldest.
     pub fn take_at(&mut self, index: usize) -> Event
         requires { index < length self.old.stores }
         ensures taken { self.old.stores ≡ take index self.old.stores ++ result ∷ drop (index + 1) self.old.stores }
@@ -88,7 +89,7 @@ impl Buffer {
         self.stores.remove(index)
     }
 
-    /// Forgets the stores, and takes the next number of an access.
+    /// Clears the buffer, and takes the next number of an access.
     pub fn publish_all(&mut self) -> u32
         requires { self.old.accesses + 1 < 2 ^ 32 }
         ensures number { result ≡ self.old.accesses }
@@ -111,7 +112,7 @@ impl Buffer {
         number
     }
 
-    /// Adds a store, which is an access, where fewer wait than may. It takes no memory.
+    /// Adds a store, which is an access, if the buffer isn't full. It doesn't allocate.
     pub fn add(&mut self, e: Event)
         requires few { self.old.accesses + 1 < 2 ^ 32 }
         requires room { length self.old.stores < max_pending }
@@ -125,7 +126,7 @@ impl Buffer {
     }
 }
 
-/// Whether two events both write some byte.
+/// Whether two events both write a common byte.
 fn overlap(first: &Event, second: &Event) -> bool
     ensures { MatchBool result (Overlaps first.now second.now) (Overlaps first.now second.now → ⊥) }
 {

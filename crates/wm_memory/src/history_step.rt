@@ -8,6 +8,6 @@ pub enum HistoryStep {
     Access(u32, Op),
     /// Publishes the oldest waiting store of a thread.
     Drain(u32),
-    /// Publishes the waiting store of a thread that has so many older ones, which it doesn't overlap.
+    /// Publishes the waiting store of a thread at an index, counted from 0 at the oldest. It overlaps no older one.
     DrainAt(u32, u32),
 }

@@ -27,7 +27,7 @@ pub enum MemFault {
     NoThread,
     /// The range ends past the memory.
     OutOfBounds,
-    /// Memory was refused.
+    /// An allocation failed.
     OutOfMemory,
 }
 
@@ -58,7 +58,8 @@ impl Model for Memory {
     ghost view = { λ a. record { cells = a.cells; buffers = a.buffers.items } };
 }
 
-/// What an access did: its event, and the writer of each byte that it read, the lowest first, Init past them.
+/// What an access did: its event, and the writer of each byte that it read, the lowest first; the remaining writers are
+/// Init.
 #[derive(Clone, Copy)]
 pub struct Made {
     pub event: Event,
@@ -66,7 +67,7 @@ pub struct Made {
 }
 
 impl Made {
-    /// The event with the writers of its range, where it reads that.
+    /// The event with the writers of its range, if it reads.
     fn of(event: Event, reading: ReadResult) -> Self
         ensures event { result.event ≡ event }
         ensures writers { result.writers ≡ (if reads event then reading.writers else padded []) }
@@ -99,7 +100,7 @@ impl Made {
         self.event.width.bytes() as usize
     }
 
-    /// What the thread is answered.
+    /// The reply to the thread.
     pub fn reply(&self) -> Reply
         ensures { result ≡ reply_of self.now.event self.now.writers }
     {
@@ -111,7 +112,7 @@ impl Made {
         }
     }
 
-    /// The value read, None where none was.
+    /// The value read; None if the access reads nothing.
     fn read(&self) -> Option<u64>
         ensures { result ≡ (if reads self.now.event then Some self.now.event.read else None) }
     {
@@ -123,11 +124,11 @@ impl Made {
 }
 
 impl Memory {
-    /// A memory of the bytes of Init, and of so many threads, at most 16, none of which made an access.
+    /// A memory with the bytes of Init for `threads` threads, at most 16, which have made no access yet.
     ///
     /// # Errors
     ///
-    /// Only where memory was refused.
+    /// Only if an allocation fails.
     pub fn new(alloc: Global, initial: &Initial, threads: usize) -> Result<Self, AllocError>
         requires { threads ≤ 16 }
         ensures { IfOk result (λ memory. Fits threads initial.now [] memory) }
@@ -155,7 +156,7 @@ impl Memory {
         self.buffers.len()
     }
 
-    /// How many accesses a thread made, 0 where there is no such thread.
+    /// How many accesses a thread made; 0 if there is no such thread.
     pub fn accesses(&self, thread: u32) -> u32
         ensures made { (b : Buffered) → slice_get self.now.buffers thread ≡ Some b → result ≡ b.accesses }
         ensures none { length self.now.buffers ≤ thread → result ≡ 0 }
@@ -166,7 +167,7 @@ impl Memory {
         }
     }
 
-    /// The stores of a thread that wait, the oldest first; none if there is no such thread.
+    /// The waiting stores of a thread, the oldest first; none if there is no such thread.
     pub fn stores(&self, thread: u32) -> &[Event]
         ensures waiting { (b : Buffered) → slice_get self.now.buffers thread ≡ Some b → result.now ≡ b.stores }
         ensures none { length self.now.buffers ≤ thread → result.now ≡ [] }
@@ -177,7 +178,7 @@ impl Memory {
         }
     }
 
-    /// Whether an access of the thread would drain its oldest store first: a plain store where as many wait as may.
+    /// Whether an access of the thread would drain its oldest store first: a plain store into a full buffer.
     pub fn drains_first(&self, thread: u32, op: Op) -> bool
         requires { thread < length self.now.buffers }
         ensures { DrainsFirst thread op self.now result }
@@ -188,7 +189,7 @@ impl Memory {
         is_plain_store(&op)
     }
 
-    /// How many stores of a thread wait, 0 where there is no such thread.
+    /// How many stores of a thread wait; 0 if there is no such thread.
     pub fn pending(&self, thread: u32) -> usize
         ensures count { IsPending thread self.now result }
         ensures few { result ≤ max_pending }
@@ -199,7 +200,7 @@ impl Memory {
         }
     }
 
-    /// Publishes the oldest waiting store of a thread; false, and nothing changes, where none waits. It takes no memory.
+    /// Publishes the oldest waiting store of a thread; false, and nothing changes, if none waits. It doesn't allocate.
     pub fn drain(&mut self, thread: u32) -> bool
         ensures drained { Drains thread 0 result self.old self.new }
         ensures fits { DrainFits thread 0 result self.old self.new }
@@ -211,8 +212,8 @@ impl Memory {
         true
     }
 
-    /// Publishes the waiting store of a thread that has so many older ones, where it overlaps none of these; false, and
-    /// nothing changes, where there is no such store. It takes no memory.
+    /// Publishes the waiting store of a thread at `index`, counted from 0 at the oldest, if it overlaps no older one.
+    /// If it does, or if there is no such store: false, and nothing changes. It doesn't allocate.
     pub fn drain_at(&mut self, thread: u32, index: u32) -> bool
         ensures drained { Drains thread index result self.old self.new }
         ensures fits { DrainFits thread index result self.old self.new }
@@ -224,7 +225,7 @@ impl Memory {
         true
     }
 
-    /// Whether a store of the thread waits that has so many older ones, and it overlaps none of these.
+    /// Whether a store of the thread waits at `index`, counted from 0 at the oldest, that overlaps no older one.
     pub fn may_leave(&self, thread: u32, index: usize) -> bool
         ensures { MatchBool result (MayLeave thread index self.now) (CannotLeave thread index self.now) }
     {
@@ -234,7 +235,7 @@ impl Memory {
         }
     }
 
-    /// Publishes the waiting store of a thread that has so many older ones.
+    /// Publishes the waiting store of a thread at `index`, counted from 0 at the oldest.
     fn publish(&mut self, thread: u32, index: usize)
         requires { Waits thread index self.old }
         ensures { PublishesAt thread index self.old self.new }
@@ -292,7 +293,7 @@ impl Memory {
         }
     }
 
-    /// A plain store, after a drain of the oldest one where as many wait as may.
+    /// A plain store, after a drain of the oldest one if the buffer is full.
     fn plain_store(&mut self, thread: u32, op: Op) -> Result<Made, AllocError>
         requires there { thread < length self.old.buffers }
         requires range { op.address + bytes_of op.width ≤ length self.old.cells.initial }
@@ -322,15 +323,16 @@ impl Memory {
         Ok(self.atomic(thread, op))
     }
 
-    /// One access of a thread, which has made fewer than 2^32 - 1. A plain store waits in the thread's buffer; where 64 wait
-    /// there, the oldest is drained first. An atomic access first publishes all stores of its thread, then reads and writes
-    /// at once; a compare-exchange that finds another value than the expected one does so too, and is a read. Each byte read
-    /// is that of the thread's newest waiting store there, else the latest published one, else Init's.
+    /// Makes one access of a thread, which has made fewer than 2^32 - 1. A plain store goes into the thread's buffer;
+    /// if 64 stores wait there, the oldest is drained first. An atomic access first publishes all stores of its thread,
+    /// then reads and writes at once; a compare-exchange that doesn't find the expected value does so too, and is a
+    /// read. Each byte read comes from the thread's newest waiting store there, else from the latest published one,
+    /// else from Init.
     ///
     /// # Errors
     ///
-    /// With nothing changed, in this order: [`MemFault::NoThread`] where there is no such thread, [`MemFault::OutOfBounds`]
-    /// where the range ends past the memory, [`MemFault::OutOfMemory`] where memory was refused.
+    /// With nothing changed, in this order: [`MemFault::NoThread`] if there is no such thread,
+    /// [`MemFault::OutOfBounds`] if the range ends past the memory, [`MemFault::OutOfMemory`] if an allocation fails.
     pub fn access(&mut self, thread: u32, op: Op) -> Result<Reply, MemFault>
         requires { HasNumber thread self.old }
         ensures ok { MatchResult result (λ reply. Answers thread op self.old reply self.new) (λ fault. self.new ≡ self.old) }
@@ -342,7 +344,7 @@ impl Memory {
         }
     }
 
-    /// The same, with the event and its writers in place of the reply.
+    /// The same as [`Memory::access`], with the event and its writers instead of the reply.
     ///
     /// # Errors
     ///
@@ -379,7 +381,7 @@ impl Memory {
     }
 }
 
-/// Whether an access is a plain store, which waits in its buffer.
+/// Whether an access is a plain store, which goes into its thread's buffer.
 fn is_plain_store(op: &Op) -> bool
     ensures { result ≡ plain_store op.now.order op.now.kind }
 {

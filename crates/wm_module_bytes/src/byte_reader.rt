@@ -2,7 +2,7 @@
 
 use std::str;
 
-/// How many bytes come before the first section of a module: the magic number and the version.
+/// The number of bytes before the first section of a module: the magic number and the version.
 const HEADER_BYTES: usize = 8;
 
 /// A section of a module, or a subsection of one.
@@ -10,12 +10,12 @@ const HEADER_BYTES: usize = 8;
 pub struct Section<'a> {
     /// Its number.
     pub id: u8,
-    /// Where its contents begin.
+    /// The start of its contents.
     pub start: usize,
     pub contents: &'a [u8],
 }
 
-/// A place in the bytes of a module, from which they are read on.
+/// A position in the bytes of a module, from which they are read on.
 #[derive(Clone, Copy)]
 pub struct ByteReader<'a> {
     pub bytes: &'a [u8],
@@ -23,12 +23,12 @@ pub struct ByteReader<'a> {
 }
 
 impl<'a> ByteReader<'a> {
-    /// Before the first of these bytes.
+    /// A reader at the first of these bytes.
     pub fn new(bytes: &'a [u8]) -> Self {
         ByteReader { bytes, at: 0 }
     }
 
-    /// Before the first section of a module.
+    /// A reader at the first section of a module.
     pub fn at_sections(module_bytes: &'a [u8]) -> Self {
         ByteReader {
             bytes: module_bytes,
@@ -36,7 +36,7 @@ impl<'a> ByteReader<'a> {
         }
     }
 
-    /// Whether there is no further byte.
+    /// Whether all bytes have been read.
     pub fn is_at_end(&self) -> bool {
         self.at >= self.bytes.len()
     }
@@ -48,7 +48,7 @@ impl<'a> ByteReader<'a> {
         Some(byte)
     }
 
-    /// The unsigned number of at most 32 bits that begins here (Core 1.0, section 5.2.2), if one ends within its bytes.
+    /// The unsigned integer of at most 32 bits that begins here (Core 1.0, section 5.2.2), if it ends within its bytes.
     pub fn number(&mut self) -> Option<usize> {
         let mut number = 0usize;
         let mut scale = 1usize;
@@ -63,12 +63,12 @@ impl<'a> ByteReader<'a> {
         None
     }
 
-    /// Leaves out this many bytes.
+    /// Skips this number of bytes.
     pub fn skip(&mut self, count: usize) {
         self.at = self.at.saturating_add(count);
     }
 
-    /// Leaves out a number of at most 64 bits, with or without a sign.
+    /// Skips an integer of at most 64 bits, signed or not.
     pub fn skip_number(&mut self) -> Option<()> {
         for _ in 0..10usize {
             if self.byte()? < 128 {
@@ -78,7 +78,7 @@ impl<'a> ByteReader<'a> {
         None
     }
 
-    /// Leaves out this many numbers.
+    /// Skips this number of integers.
     pub fn skip_numbers(&mut self, count: usize) -> Option<()> {
         for _ in 0..count {
             self.skip_number()?;
@@ -86,14 +86,14 @@ impl<'a> ByteReader<'a> {
         Some(())
     }
 
-    /// Leaves out a name, or other bytes after their number.
+    /// Skips a name, or other bytes after their count.
     pub fn skip_vector(&mut self) -> Option<()> {
         let size = self.number()?;
         self.skip(size);
         Some(())
     }
 
-    /// This many bytes, if there are so many.
+    /// This number of bytes, if there are enough.
     fn take(&mut self, count: usize) -> Option<&'a [u8]> {
         let end = self.at.checked_add(count)?;
         let taken = self.bytes.get(self.at..end)?;
@@ -101,13 +101,13 @@ impl<'a> ByteReader<'a> {
         Some(taken)
     }
 
-    /// A name (Core 1.0, section 5.2.4); None where it is cut off or not UTF-8.
+    /// A name (Core 1.0, section 5.2.4); None if it is cut off or not UTF-8.
     pub fn name(&mut self) -> Option<&'a str> {
         let size = self.number()?;
         str::from_utf8(self.take(size)?).ok()
     }
 
-    /// A section or a subsection (Core 1.0, section 5.5.2); None where it is cut off.
+    /// A section or a subsection (Core 1.0, section 5.5.2); None if it is cut off.
     pub fn section(&mut self) -> Option<Section<'a>> {
         let id = self.byte()?;
         let size = self.number()?;

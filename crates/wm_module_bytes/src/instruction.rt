@@ -1,4 +1,4 @@
-//! Instructions of any part of WebAssembly, as far as is needed to find the next one.
+//! Instructions of any part of WebAssembly, as far as needed to find the next one.
 
 use crate::byte_reader::ByteReader;
 
@@ -21,21 +21,21 @@ impl Opcode {
     }
 }
 
-/// What follows an opcode.
+/// The immediates of an opcode.
 #[derive(Clone, Copy, PartialEq, Eq)]
 pub enum Immediates {
-    /// Numbers, and then bytes.
+    /// Integers, then bytes.
     Fixed { numbers: usize, bytes: usize },
-    /// The alignment and the offset of an access, and then bytes. An alignment of 64 or more is followed by the index of a
-    /// memory.
+    /// The alignment and the offset of an access, then bytes. If the alignment is 64 or more, the index of a memory
+    /// follows it.
     Access { bytes: usize },
-    /// A vector of numbers, and then numbers.
+    /// A vector of integers, then integers.
     Vector { numbers: usize },
     /// The type of a block.
     BlockType,
 }
 
-/// Numbers.
+/// Only integers.
 fn numbers(count: usize) -> Option<Immediates> {
     Some(Immediates::Fixed {
         numbers: count,
@@ -43,7 +43,7 @@ fn numbers(count: usize) -> Option<Immediates> {
     })
 }
 
-/// Bytes.
+/// Only bytes.
 fn bytes(count: usize) -> Option<Immediates> {
     Some(Immediates::Fixed {
         numbers: 0,
@@ -51,7 +51,7 @@ fn bytes(count: usize) -> Option<Immediates> {
     })
 }
 
-/// What follows an opcode with the prefix `FC`.
+/// The immediates of an opcode with the prefix `FC`.
 fn after_bulk(code: usize) -> Option<Immediates> {
     match code {
         0x00..=0x07 => numbers(0),
@@ -61,7 +61,7 @@ fn after_bulk(code: usize) -> Option<Immediates> {
     }
 }
 
-/// What follows an opcode with the prefix `FD`.
+/// The immediates of an opcode with the prefix `FD`.
 fn after_simd(code: usize) -> Option<Immediates> {
     match code {
         0x00..=0x0B | 0x5C | 0x5D => Some(Immediates::Access { bytes: 0 }),
@@ -72,7 +72,7 @@ fn after_simd(code: usize) -> Option<Immediates> {
     }
 }
 
-/// What follows an opcode without a prefix.
+/// The immediates of an opcode without a prefix.
 fn after_plain(byte: u8) -> Option<Immediates> {
     match byte {
         0x02..=0x04 | 0x06 => Some(Immediates::BlockType),
@@ -89,7 +89,7 @@ fn after_plain(byte: u8) -> Option<Immediates> {
     }
 }
 
-/// What follows an opcode; None where it is not known.
+/// The immediates of an opcode; None if the opcode is not known.
 pub fn immediates_of(opcode: Opcode) -> Option<Immediates> {
     match opcode.byte {
         0xFC => after_bulk(opcode.code),
@@ -100,7 +100,7 @@ pub fn immediates_of(opcode: Opcode) -> Option<Immediates> {
     }
 }
 
-/// Leaves out what follows an opcode.
+/// Skips the immediates of an opcode.
 pub fn skip_immediates(reader: &mut ByteReader, immediates: Immediates) -> Option<()> {
     match immediates {
         Immediates::Fixed { numbers, bytes } => {

@@ -1,5 +1,5 @@
 //! Reading the bytes of a module without judging them: numbers, sections, instructions of any part of WebAssembly, and
-//! the names of functions. For explanations: no verdict is based on it.
+//! the names of functions. It is for explanations: no verdict is based on it.
 #![tactic(auto)]
 
 mod byte_reader;

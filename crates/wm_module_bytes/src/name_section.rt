@@ -9,10 +9,10 @@ const CUSTOM_SECTION: u8 = 0;
 /// The number of the subsection with the names of functions.
 const FUNCTION_NAMES: u8 = 1;
 
-/// Why names aren't read.
+/// Why names can't be read.
 #[derive(Clone, Copy)]
 enum Unread {
-    /// The section is against its format.
+    /// The section violates its format.
     Malformed,
     OutOfMemory,
 }
@@ -29,7 +29,7 @@ impl<T: Drop> From<AllocFailed<T>> for Unread {
     }
 }
 
-/// What was read.
+/// The value that was read, or `Malformed` without one.
 fn well_formed<T: Drop>(read: Option<T>) -> Result<T, Unread> {
     match read {
         Some(read) => Ok(read),
@@ -50,7 +50,7 @@ fn custom_section<'m>(module_bytes: &'m [u8], name: &str) -> Option<&'m [u8]> {
     None
 }
 
-/// The subsection with the names of functions, if the section has it. The numbers of subsections grow.
+/// The subsection with the names of functions, if the section has it. The numbers of subsections increase.
 fn function_subsection(section: &[u8]) -> Result<Option<&[u8]>, Unread> {
     let mut reader = ByteReader::new(section);
     let mut names = None;
@@ -71,7 +71,7 @@ fn function_subsection(section: &[u8]) -> Result<Option<&[u8]>, Unread> {
     Ok(names)
 }
 
-/// By its index the name of each of so many functions. The indices grow.
+/// The names of the functions below `functions`, by index. The indices in the subsection increase.
 fn read_names<'m>(
     alloc: Global,
     subsection: &'m [u8],
@@ -97,7 +97,7 @@ fn read_names<'m>(
     }
 }
 
-/// The names that a section has for so many functions.
+/// The names that a section has for the functions below `functions`.
 fn names_of<'m>(
     alloc: Global,
     section: &'m [u8],
@@ -109,8 +109,9 @@ fn names_of<'m>(
     }
 }
 
-/// The names that the module's section `name` has for its functions, by their indices. There are none if its subsections or
-/// its names of functions are against the format, as with a name that is not UTF-8 or of a function that isn't there.
+/// The names that the module's custom section `name` has for its functions, by their indices. There are none if its
+/// subsections or its names of functions violate the format, as with a name that is not UTF-8 or a function that
+/// doesn't exist.
 ///
 /// # Errors
 ///

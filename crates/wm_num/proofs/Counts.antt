@@ -56,7 +56,7 @@ leading_by_places w n fits =
         let over : n < 2 ^ i = omega (arith, step, top) in
         grind (arith, nat_tests)
 
--- where the highest 1 stands
+-- the place of the highest 1
 leading_bounds : (w n m : ℕ) → count_leading_zeros w n + m ≡ w → n < 2 ^ m → 2 ^ m ≤ 2 * n + 1
     → (n < 2 ^ (w - count_leading_zeros w n)) × (0 < n → 2 ^ (w - 1 - count_leading_zeros w n) ≤ n)
 leading_bounds w n zero total below reached =

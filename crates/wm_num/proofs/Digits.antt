@@ -12,7 +12,7 @@ use Rattle.wm_num.proofs.Sums.{sum_below-same}
 pub mod-pow-suc : (w n : ℕ) → n % 2 ^ suc w ≡ digit n w * 2 ^ w + n % 2 ^ w
 mod-pow-suc w n = ap (λ (x : ℕ). n % x) (pow-suc 2 w ∙ mul_comm (2 ^ w) 2) ∙ mod-mul n {m = 2} {c = 2 ^ w} (lit< tt) (pow_pos w)
 
--- the digits of a number make up that number, cut to so many digits
+-- the bits of an integer make up that integer, cut to this number of bits
 pub number_of-digits : (w n : ℕ) → number_of w (λ i. digit n i) ≡ n % 2 ^ w
 unfolding sum_below
 number_of-digits zero n = sym (mod-one n)

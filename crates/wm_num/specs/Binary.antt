@@ -9,7 +9,7 @@ use Rattle.wm_num.specs.declared.operator.NumTrap.TheVariants.{DivideByZero, Ove
 use Rattle.wm_num.specs.declared.operator.Width.{Width}
 use Rattle.wm_num.specs.Number.{bits_of, signed_view, residue, digit, number_of}
 
--- the operator divides, so that 0 on the right traps
+-- the operator divides, so a right operand of 0 traps
 abbrev pub divides : BinaryOperator → Bool
 divides DivS = true
 divides DivU = true
@@ -17,7 +17,7 @@ divides RemS = true
 divides RemU = true
 divides _ = false
 
--- the quotient of the signed views, cut toward 0, is past the greatest signed value
+-- the quotient of the signed views, truncated toward 0, is above the greatest signed value
 abbrev pub quotient_overflows : ℕ → ℕ → ℕ → Bool
 quotient_overflows w a b = int_le (pos (2 ^ (w - 1))) (int_div (signed_view w a) (signed_view w b))
 
@@ -31,7 +31,7 @@ difference_modulo w a b = (a + 2 ^ w - b) % 2 ^ w
 abbrev pub product_modulo : ℕ → ℕ → ℕ → ℕ
 product_modulo w a b = (a * b) % 2 ^ w
 
--- the quotient of the signed views, cut toward 0
+-- the quotient of the signed views, truncated toward 0
 abbrev pub signed_quotient : ℕ → ℕ → ℕ → ℕ
 signed_quotient w a b = residue w (int_div (signed_view w a) (signed_view w b))
 
@@ -39,7 +39,7 @@ signed_quotient w a b = residue w (int_div (signed_view w a) (signed_view w b))
 abbrev pub signed_remainder : ℕ → ℕ → ℕ → ℕ
 signed_remainder w a b = residue w (int_rem (signed_view w a) (signed_view w b))
 
--- digit i of the result is 1 where both digits i are, where one of them is, and where they differ
+-- bit i of the result is 1 if both bits i are, if one of them is, and if they differ
 abbrev pub conjunction : ℕ → ℕ → ℕ → ℕ
 conjunction w a b = number_of w (λ i. min (digit a i) (digit b i))
 
@@ -49,18 +49,18 @@ disjunction w a b = number_of w (λ i. max (digit a i) (digit b i))
 abbrev pub exclusive_disjunction : ℕ → ℕ → ℕ → ℕ
 exclusive_disjunction w a b = number_of w (λ i. (digit a i + digit b i) % 2)
 
--- a by k places to the left: what passes 2^w is lost
+-- a shifted left by k bits: bits shifted past 2^w are lost
 abbrev pub shifted_left : ℕ → ℕ → ℕ → ℕ
 shifted_left w a k = (a * 2 ^ k) % 2 ^ w
 
--- a by k places to the right: the quotient by 2^k, cut downward, of a and of its signed view
+-- a shifted right by k bits: the quotient by 2^k, rounded down, of a and of its signed view
 abbrev pub shifted_right : ℕ → ℕ → ℕ
 shifted_right a k = a / 2 ^ k
 
 abbrev pub signed_shifted_right : ℕ → ℕ → ℕ → ℕ
 signed_shifted_right w a k = residue w (int_div_euclid (signed_view w a) (pos (2 ^ k)))
 
--- the same, where the k digits that are lost at one end come in at the other
+-- the same, but the k bits shifted out at one end come in at the other
 abbrev pub rotated_left : ℕ → ℕ → ℕ → ℕ
 rotated_left w a k = (a * 2 ^ k) % 2 ^ w + a / 2 ^ (w - k)
 
@@ -75,7 +75,7 @@ unless_zero b x = if b == 0 then Err DivideByZero else x
 abbrev pub divided : ℕ → ℕ → ℕ → Result ℕ NumTrap
 divided w a b = unless_zero b (if quotient_overflows w a b then Err Overflow else Ok (signed_quotient w a b))
 
--- what an operator gives at operands of w bits
+-- the result of an operator for operands of w bits
 abbrev pub result_of : BinaryOperator → ℕ → ℕ → ℕ → Result ℕ NumTrap
 result_of Add w a b = Ok (sum_modulo w a b)
 result_of Sub w a b = Ok (difference_modulo w a b)
@@ -97,6 +97,6 @@ result_of Rotr w a b = Ok (rotated_right w a (b % w))
 abbrev pub DividesLeastByMinusOne : ℕ → BinaryOperator → ℕ → ℕ → Type 0
 DividesLeastByMinusOne w op a b = (op ≡ DivS) × (a ≡ 2 ^ (w - 1)) × (b ≡ 2 ^ w - 1)
 
--- what an operator gives at operands of a width
+-- the result of an operator for operands of a width
 abbrev pub binary_meaning : BinaryOperator → Width → ℕ → ℕ → Result ℕ NumTrap
 binary_meaning op width a b = result_of op (bits_of width) a b

@@ -1,4 +1,5 @@
--- The meaning of the conversions between widths, and of a number's low bytes (WebAssembly Core 1.0, sections 4.3.4 and 4.4.4).
+-- The meaning of the conversions between widths, and of the low bytes of a value (WebAssembly Core 1.0, sections 4.3.4
+-- and 4.4.4).
 use Rattle.std.specs.Prelude.{ℕ, ℤ, pos, ◌*◌, ◌%◌, ◌^◌}
 use Rattle.wm_access.specs.declared.AccessWidth.{AccessWidth}
 use Rattle.wm_access.specs.AccessWidth.{bytes_of}
@@ -21,21 +22,21 @@ target_of WrapI64 = W32
 target_of ExtendI32S = W64
 target_of ExtendI32U = W64
 
--- a number of w bits as a whole number
+-- the view of w bits as a signed or unsigned integer
 abbrev pub view_of : Signedness → ℕ → ℕ → ℤ
 view_of Signed w u = signed_view w u
 view_of Unsigned w u = pos u
 
--- what a conversion gives
+-- the result of a conversion
 abbrev pub conversion_meaning : Conversion → ℕ → ℕ
 conversion_meaning WrapI64 u = u % 2 ^ 32
 conversion_meaning ExtendI32S u = residue 64 (signed_view 32 u)
 conversion_meaning ExtendI32U u = u
 
--- the low bytes of a number
+-- the low bytes of a value
 abbrev pub low_part : AccessWidth → ℕ → ℕ
 low_part bytes v = v % 2 ^ (8 * bytes_of bytes)
 
--- the low bytes of v, read as a number of so many bytes, as an operand of the width
+-- the low bytes of v, read as an integer of this number of bytes, as an operand of the width
 abbrev pub extension_meaning : Signedness → AccessWidth → Width → ℕ → ℕ
 extension_meaning sign bytes width v = residue (bits_of width) (view_of sign (8 * bytes_of bytes) (low_part bytes v))

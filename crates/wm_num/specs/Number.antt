@@ -1,4 +1,4 @@
--- Operands as whole numbers, and what each is as a signed number and by its binary digits.
+-- Operands as integers, with their signed views and their bits.
 use Rattle.std.specs.Prelude.{ℕ, zero, suc, ◌+◌, ◌-◌, ◌*◌, ◌/◌, ◌%◌, ◌^◌, ◌<◌, Bool, if◌then◌else◌, nat_lt, ℤ, pos, ◌-ℤ◌, unsigned_abs}
 use Rattle.std.specs.Int.{int_rem_euclid}
 use Rattle.wm_num.specs.declared.operator.Width.{Width}
@@ -13,15 +13,15 @@ bits_of W64 = 64
 abbrev pub IsOperand : Width → ℕ → Type 0
 IsOperand width u = u < 2 ^ bits_of width
 
--- the signed view of a number u of w bits: u, or u - 2^w from 2^(w-1) on
+-- the signed view of an integer u of w bits: u, or u - 2^w if u is at least 2^(w-1)
 abbrev pub signed_view : ℕ → ℕ → ℤ
 signed_view w u = if nat_lt u (2 ^ (w - 1)) then pos u else pos u -ℤ pos (2 ^ w)
 
--- z modulo 2^w, which is the number of w bits that z leaves
+-- z modulo 2^w, as an integer of w bits
 abbrev pub residue : ℕ → ℤ → ℕ
 residue w z = unsigned_abs (int_rem_euclid z (pos (2 ^ w)))
 
--- binary digit i of n, where digit 0 is the lowest
+-- bit i of n, where bit 0 is the lowest
 abbrev pub digit : ℕ → ℕ → ℕ
 digit n i = n / 2 ^ i % 2
 
@@ -30,7 +30,7 @@ unfoldable pub sum_below : ℕ → (ℕ → ℕ) → ℕ
 sum_below zero f = 0
 sum_below (suc w) f = sum_below w f + f w
 
--- the number of w binary digits whose digit i is d i
+-- the integer of w bits whose bit i is d i
 abbrev pub number_of : ℕ → (ℕ → ℕ) → ℕ
 number_of w d = sum_below w (λ i. d i * 2 ^ i)
 

@@ -1,4 +1,4 @@
-//! The operators on binary digits (Core 1.0, section 4.3.2: iand, ior, ixor).
+//! The bitwise operators (Core 1.0, section 4.3.2: iand, ior, ixor).
 
 ghost use Rattle.std.specs.Prelude.{◌≡◌};
 ghost use Rattle.wm_num.specs.Number.{bits_of, IsOperand};
@@ -6,7 +6,7 @@ ghost use Rattle.wm_num.specs.Binary.{conjunction, disjunction, exclusive_disjun
 
 use crate::operator::Width;
 
-/// The digits that both operands have.
+/// The bits that are set in both operands.
 pub fn and(width: Width, left: u64, right: u64) -> u64
     requires left { IsOperand width left }
     requires right { IsOperand width right }
@@ -16,7 +16,7 @@ pub fn and(width: Width, left: u64, right: u64) -> u64
     left & right
 }
 
-/// The digits that one of the operands has.
+/// The bits that are set in at least one operand.
 pub fn or(width: Width, left: u64, right: u64) -> u64
     requires left { IsOperand width left }
     requires right { IsOperand width right }
@@ -26,7 +26,7 @@ pub fn or(width: Width, left: u64, right: u64) -> u64
     left | right
 }
 
-/// The digits in which the operands differ.
+/// The bits in which the operands differ.
 pub fn xor(width: Width, left: u64, right: u64) -> u64
     requires left { IsOperand width left }
     requires right { IsOperand width right }

@@ -7,7 +7,7 @@ ghost use Rattle.wm_num.specs.Comparison.{comparison_meaning, signed_lt, signed_
 use crate::operator::{Comparison, Width};
 use crate::view::{signed_32, signed_64};
 
-/// Whether the comparison holds of the operands, which are below 2^32 at W32.
+/// Whether the comparison of the operands holds. They are below 2^32 at W32.
 /// The operators that end in S compare the signed views, the others the operands themselves.
 /// The standard's `eqz` is `Eq` with 0 on the right.
 pub fn compare(op: Comparison, width: Width, left: u64, right: u64) -> bool

@@ -7,9 +7,8 @@ ghost use Rattle.wm_num.specs.Conversion.{source_of, target_of, conversion_meani
 use crate::operator::Conversion;
 use crate::view::{operand_64, signed_32};
 
-/// Converts an operand, which is below 2^32 where the conversion takes an i32.
-/// `WrapI64` leaves the number modulo 2^32, `ExtendI32U` the number itself, and `ExtendI32S` the i64 with the same
-/// signed view.
+/// Converts an operand, which is below 2^32 if the conversion takes an i32. `WrapI64` gives the value modulo 2^32,
+/// `ExtendI32U` the value itself, and `ExtendI32S` the i64 with the same signed view.
 pub fn convert(op: Conversion, operand: u64) -> u64
     requires { IsOperand (source_of op) operand }
     ensures meaning { result ≡ conversion_meaning op operand }

@@ -1,4 +1,4 @@
-//! Counts of binary digits (Core 1.0, section 4.3.2: iclz, ictz, ipopcnt).
+//! Counts of bits (Core 1.0, section 4.3.2: iclz, ictz, ipopcnt).
 
 ghost use Rattle.std.specs.Prelude.{◌≡◌, ◌-◌, ◌%◌, ◌^◌, ◌<◌, ◌≤◌};
 ghost use Rattle.wm_num.specs.Number.{bits_of, IsOperand, digit};
@@ -6,7 +6,7 @@ ghost use Rattle.wm_num.specs.Unary.{leading_zero_count, trailing_zero_count, on
 
 use crate::operator::Width;
 
-/// How many zeros stand above the highest 1, all w where there is none.
+/// The number of zeros above the highest 1, w if the operand is 0.
 pub fn leading_zeros(width: Width, operand: u64) -> u32
     requires { IsOperand width operand }
     ensures bound { result ≤ bits_of width }
@@ -21,7 +21,7 @@ pub fn leading_zeros(width: Width, operand: u64) -> u32
     }
 }
 
-/// How many zeros stand below the lowest 1, all w where there is none.
+/// The number of zeros below the lowest 1, w if the operand is 0.
 pub fn trailing_zeros(width: Width, operand: u64) -> u32
     requires { IsOperand width operand }
     ensures bound { result ≤ bits_of width }
@@ -36,7 +36,7 @@ pub fn trailing_zeros(width: Width, operand: u64) -> u32
     }
 }
 
-/// How many digits are 1.
+/// The number of bits that are 1.
 pub fn ones(width: Width, operand: u64) -> u32
     requires { IsOperand width operand }
     ensures bound { result ≤ bits_of width }

@@ -12,8 +12,8 @@ use crate::{arithmetic, bitwise, counting, division, shift};
 ///
 /// # Errors
 ///
-/// `DivideByZero` where a division or a remainder has 0 on the right, `Overflow` where the signed quotient of the
-/// least value by -1 is wanted. Nothing else traps: the signed remainder of the least value by -1 is 0.
+/// `DivideByZero` if the right operand of a division or a remainder is 0, `Overflow` for the signed quotient of the
+/// least value and -1. Nothing else traps: the signed remainder of the least value by -1 is 0.
 pub fn binary(op: BinaryOperator, width: Width, left: u64, right: u64) -> Result<u64, NumTrap>
     requires left { IsOperand width left }
     requires right { IsOperand width right }
@@ -42,7 +42,7 @@ pub fn binary(op: BinaryOperator, width: Width, left: u64, right: u64) -> Result
 }
 
 /// Applies an operator to one operand, which is below 2^32 at W32 (Core 1.0, section 4.3.2).
-/// The leading and the trailing zeros of 0 are as many as the width has bits.
+/// The counts of leading and of trailing zeros of 0 are the width.
 pub fn unary(op: UnaryOperator, width: Width, operand: u64) -> u64
     requires { IsOperand width operand }
     ensures meaning { result ≡ unary_meaning op width operand }

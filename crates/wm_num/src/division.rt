@@ -1,4 +1,4 @@
-//! Quotients cut toward 0 and their remainders (Core 1.0, section 4.3.2: idiv_u, idiv_s, irem_u, irem_s).
+//! Quotients truncated toward 0 and their remainders (Core 1.0, section 4.3.2: idiv_u, idiv_s, irem_u, irem_s).
 
 ghost use Rattle.std.specs.Prelude.{◌≡◌, ◌≢◌, ◌/◌, ◌%◌, if◌then◌else◌};
 ghost use Rattle.wm_num.specs.Number.{bits_of, IsOperand};
@@ -27,7 +27,7 @@ pub fn rem_u(left: u64, right: u64) -> Result<u64, NumTrap>
     Ok(left % right)
 }
 
-/// The signed quotient, which is past the greatest signed value at the least one by -1 alone.
+/// The signed quotient. It overflows only for the least value and -1.
 pub fn div_s(width: Width, left: u64, right: u64) -> Result<u64, NumTrap>
     requires left { IsOperand width left }
     requires right { IsOperand width right }
@@ -42,7 +42,7 @@ pub fn div_s(width: Width, left: u64, right: u64) -> Result<u64, NumTrap>
     Ok(quotient(width, left, right))
 }
 
-/// The signed remainder, with the sign of the dividend. That of the least value by -1 is 0.
+/// The signed remainder, with the sign of the dividend. For the least value and -1 it is 0.
 pub fn rem_s(width: Width, left: u64, right: u64) -> Result<u64, NumTrap>
     requires left { IsOperand width left }
     requires right { IsOperand width right }
@@ -54,7 +54,7 @@ pub fn rem_s(width: Width, left: u64, right: u64) -> Result<u64, NumTrap>
     Ok(remainder(width, left, right))
 }
 
-/// Whether the signed quotient is past the greatest signed value: that of the least one by -1 alone is.
+/// Whether the signed quotient overflows, which only that of the least value and -1 does.
 fn overflows(width: Width, left: u64, right: u64) -> bool
     requires left { IsOperand width left }
     requires right { IsOperand width right }

@@ -1,4 +1,5 @@
-//! The low bytes of a number, and what they are as an operand (Core 1.0, section 4.4.4: loads and stores of fewer bytes).
+//! The low bytes of a value, and their extension to an operand (Core 1.0, section 4.4.4: loads and stores of fewer
+//! bytes).
 
 ghost use Rattle.std.specs.Prelude.{◌≡◌, ◌*◌, ◌^◌, ◌<◌};
 ghost use Rattle.wm_access.specs.AccessWidth.{bytes_of};
@@ -9,7 +10,7 @@ use crate::operator::Width;
 use crate::sign::Signedness;
 use wm_access::AccessWidth;
 
-/// The low bytes of the value: it modulo 2^8, 2^16, 2^32 or 2^64.
+/// The low bytes of the value: the value modulo 2^8, 2^16, 2^32 or 2^64.
 pub fn low_bytes(value: u64, bytes: AccessWidth) -> u64
     ensures meaning { result ≡ low_part bytes value }
     ensures bound { result < 2 ^ (8 * bytes_of bytes) }
@@ -22,9 +23,9 @@ pub fn low_bytes(value: u64, bytes: AccessWidth) -> u64
     }
 }
 
-/// The low bytes of the value, read as a number of that many bytes with or without a sign, as an operand of the width:
-/// a negative number stands as itself plus 2^w, and eight bytes at W32 are cut to four. An operand read at its own width
-/// stays as it is.
+/// The low bytes of the value, read as a signed or unsigned integer of that many bytes, as an operand of the width: a
+/// negative integer has 2^w added, and eight bytes at W32 are cut to four. An operand read at its own width doesn't
+/// change.
 pub fn extend_bytes(value: u64, bytes: AccessWidth, width: Width, signedness: Signedness) -> u64
     ensures meaning { result ≡ extension_meaning signedness bytes width value }
     ensures operand { IsOperand width result }
@@ -41,7 +42,7 @@ pub fn extend_bytes(value: u64, bytes: AccessWidth, width: Width, signedness: Si
     }
 }
 
-/// The signed view of a number of that many bytes.
+/// The signed view of an integer of that many bytes.
 fn signed_bytes(low: u64, bytes: AccessWidth) -> i64
     requires { low < 2 ^ (8 * bytes_of bytes) }
     ensures { result ≡ signed_view (8 * bytes_of bytes) low }

@@ -7,7 +7,7 @@ pub enum Width {
     W64,
 }
 
-/// An operator on two operands, whose result is an operand again.
+/// An operator on two operands whose result is an operand too.
 #[derive(Clone, Copy, Debug, PartialEq, Eq)]
 pub enum BinaryOperator {
     Add,
@@ -64,8 +64,8 @@ pub enum Conversion {
 /// Why an operator has no result.
 #[derive(Clone, Copy, Debug, PartialEq, Eq)]
 pub enum NumTrap {
-    /// A division or a remainder by 0.
+    /// A division or a remainder with divisor 0.
     DivideByZero,
-    /// The signed quotient of the least value by -1.
+    /// The signed quotient of the least value and -1.
     Overflow,
 }

@@ -1,4 +1,4 @@
-//! Shifts and rotations by `count` modulo w places (Core 1.0, section 4.3.2: ishl, ishr_u, ishr_s, irotl, irotr).
+//! Shifts and rotations by `count` modulo w bits (Core 1.0, section 4.3.2: ishl, ishr_u, ishr_s, irotl, irotr).
 
 ghost use Rattle.std.specs.Prelude.{◌≡◌, ◌%◌, ◌<◌};
 ghost use Rattle.wm_num.specs.Number.{bits_of, IsOperand};
@@ -7,7 +7,7 @@ ghost use Rattle.wm_num.specs.Binary.{shifted_left, shifted_right, signed_shifte
 use crate::operator::Width;
 use crate::view::{operand_32, operand_64, signed_32, signed_64};
 
-/// How many places a count stands for: the count modulo w.
+/// How many bits a count shifts by: the count modulo w.
 fn places(width: Width, count: u64) -> u32
     ensures value { result ≡ count % bits_of width }
     ensures bound { result < bits_of width }
@@ -18,7 +18,7 @@ fn places(width: Width, count: u64) -> u32
     }
 }
 
-/// To the left: what passes 2^w is lost.
+/// To the left. Bits shifted past 2^w are lost.
 pub fn left(width: Width, operand: u64, count: u64) -> u64
     requires { IsOperand width operand }
     ensures { result ≡ shifted_left (bits_of width) operand (count % bits_of width) }
@@ -30,14 +30,14 @@ pub fn left(width: Width, operand: u64, count: u64) -> u64
     }
 }
 
-/// To the right, with zeros from above.
+/// To the right, filled with zeros.
 pub fn right_unsigned(width: Width, operand: u64, count: u64) -> u64
     ensures { result ≡ shifted_right operand (count % bits_of width) }
 {
     operand >> places(width, count)
 }
 
-/// To the right, with copies of the sign from above.
+/// To the right, filled with copies of the sign bit.
 pub fn right_signed(width: Width, operand: u64, count: u64) -> u64
     requires { IsOperand width operand }
     ensures { result ≡ signed_shifted_right (bits_of width) operand (count % bits_of width) }
@@ -49,7 +49,7 @@ pub fn right_signed(width: Width, operand: u64, count: u64) -> u64
     }
 }
 
-/// To the left, with what passes 2^w put in below.
+/// To the left. Bits shifted out come in at the low end.
 pub fn rotate_left(width: Width, operand: u64, count: u64) -> u64
     requires { IsOperand width operand }
     ensures operand { IsOperand width result }
@@ -62,7 +62,7 @@ pub fn rotate_left(width: Width, operand: u64, count: u64) -> u64
     }
 }
 
-/// To the right, with what is lost below put in above.
+/// To the right. Bits shifted out come in at the high end.
 pub fn rotate_right(width: Width, operand: u64, count: u64) -> u64
     requires { IsOperand width operand }
     ensures operand { IsOperand width result }

@@ -1,10 +1,10 @@
-//! How the bits of a number are read.
+//! How the bits of an integer are read.
 
-/// Whether a number is read with a sign.
+/// Whether an integer is signed.
 #[derive(Clone, Copy, Debug, PartialEq, Eq)]
 pub enum Signedness {
-    /// From 2^(w-1) on a number u of w bits is u - 2^w.
+    /// An integer u of w bits is u - 2^w if u is at least 2^(w-1), otherwise u.
     Signed,
-    /// A number of w bits is itself.
+    /// An integer of w bits is itself.
     Unsigned,
 }

@@ -1,4 +1,4 @@
-//! Operands as signed numbers, and signed numbers as operands (Core 1.0, section 4.3.2, sign interpretation).
+//! Operands as signed integers, and signed integers as operands (Core 1.0, section 4.3.2, sign interpretation).
 
 ghost use Rattle.std.specs.Prelude.{◌≡◌, ◌^◌, ◌<◌};
 ghost use Rattle.wm_num.specs.Number.{signed_view, residue};

@@ -2,8 +2,8 @@
 
 use std::fmt;
 
-/// A string in quotes, with the escapes of JSON (RFC 8259, section 7). Control characters are escaped, U+007F too, so
-/// that no name can write to the terminal.
+/// A string in quotes, with the escapes of JSON (RFC 8259, section 7). Control characters are escaped, including
+/// U+007F, so that no name can control the terminal.
 #[derive(Clone, Copy)]
 pub struct JsonText<'a>(pub &'a str);
 
@@ -30,10 +30,10 @@ impl fmt::Display for JsonText<'_> {
     }
 }
 
-/// The most characters that are shown of a name that stands in many rows.
+/// The most characters that are shown of a name that is in many rows.
 const MAX_CHARACTERS: usize = 100;
 
-/// A string as [`JsonText`] has it; after [`MAX_CHARACTERS`] of its characters `..` stands for the rest.
+/// A string like [`JsonText`]; after [`MAX_CHARACTERS`] of its characters, `..` replaces the rest.
 #[derive(Clone, Copy)]
 pub struct ShortText<'a>(pub &'a str);
 

@@ -29,7 +29,7 @@ fn order_word(atomic: bool) -> &'static str {
 #[derive(Clone, Copy)]
 pub enum ValueForm {
     Decimal,
-    /// With each of its bytes in hex too, the highest first.
+    /// Also with each of its bytes in hex, the highest first.
     WithHex,
 }
 
@@ -55,7 +55,7 @@ impl fmt::Display for ValuePhrase {
     }
 }
 
-/// Whether an access is an atomic one, what it does, its range and its values.
+/// Whether an access is atomic, what it does, its range and its values.
 #[derive(Clone, Copy)]
 pub struct EventPhrase<'a> {
     pub event: &'a Event,
@@ -106,7 +106,7 @@ impl fmt::Display for EventPhrase<'_> {
     }
 }
 
-/// What an update makes of the value that it reads.
+/// The operator of an update, in words.
 fn operator_word(operator: RmwOperator) -> &'static str {
     match operator {
         RmwOperator::Add => "adds",
@@ -118,7 +118,7 @@ fn operator_word(operator: RmwOperator) -> &'static str {
     }
 }
 
-/// An access that isn't made yet.
+/// An access that hasn't been made.
 #[derive(Clone, Copy)]
 pub struct OpPhrase(pub OpFields);
 
@@ -149,7 +149,7 @@ impl fmt::Display for OpPhrase {
     }
 }
 
-/// Who wrote the bytes that were read: one event, or which bytes each wrote.
+/// The writers of the bytes that were read: one event, or which bytes each event wrote.
 #[derive(Clone, Copy)]
 pub struct WritersPhrase<'a>(pub &'a [WriterRun]);
 

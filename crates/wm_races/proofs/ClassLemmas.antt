@@ -31,7 +31,7 @@ module _ (run : LoggedRun) (once : ListsEachOnce run.log run.witness.order) (key
   placed : (n : ℕ) (w : EventKey) → StandsAt run n w → place (execution run) (At w) ≡ 1 + n
   placed n w at = ap (λ m. 1 + m) (place-is run once n w at)
 
-  -- of two events of a thread the one that stands first happens before the other
+  -- of two events of a thread, the one that comes first happens before the other
   in_turn_at : (m n : ℕ) (a b : EventKey) → m < n → StandsAt run m a → StandsAt run n b → a.thread ≡ b.thread → HappensBefore (execution run) (At a) (At b)
   in_turn_at m n a b l at_a at_b same =
       let p = placed m a at_a in

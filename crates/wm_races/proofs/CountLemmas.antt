@@ -39,7 +39,7 @@ laws = record {
     turned a b true false h k = absurd (false≢true (sym k ∙ ap (λ x. same_key b x) (key_from_same a b h) ∙ key_self b))
     turned a b false true h k = absurd (false≢true (sym h ∙ ap (λ x. same_key a x) (key_from_same b a k) ∙ key_self a))
 
--- no key stands twice in a list
+-- no key is in a list twice
 abbrev pub IsOnce : List EventKey → Type 0
 IsOnce keys = (m n : ℕ) (key : EventKey) → slice_get keys m ≡ Some key → slice_get keys n ≡ Some key → m ≡ n
 
@@ -95,7 +95,7 @@ size (thread ∷ log) =
     let e = sum_by-cons (λ (thread : ThreadLog). length thread.events) thread log in
     omega (arith, a, b, c, d, e)
 
--- a key that a test finds is one that stands there
+-- a key that a test finds is in the list
 found : (keys : List EventKey) (q : EventKey) → list_any (same_key q) keys ≡ true → (n : ℕ) × (slice_get keys n ≡ Some q)
 found [] q h = absurd (false≢true h)
 found (key ∷ keys) q h = by (same_key q key) refl (found keys q) h

@@ -388,7 +388,7 @@ module _ (run : LoggedRun) (sites : List (List Site)) where
         order = ordered;
       }
 
--- the groups and the new one say where their first pairs stand
+-- the groups and the new one state the places of their first pairs
 pub placed_insert : (run : LoggedRun) (groups more : List Group) (g : Group) → ArePlaced run groups → write_place run g.pair ≡ g.place → Inserts g groups more → ArePlaced run more
 placed_insert run groups more g placed new inserts n h at = by n h (get-insert groups inserts.at g n h inserts.within (ap (λ (gs : List Group). slice_get gs n) (sym inserts.is) ∙ at))
   where

@@ -18,7 +18,7 @@ use Rattle.wm_races.proofs.OneReportLaw.{never-both}
 
 module _ (x : Execution) (sites : List (List Site)) (groups : List Group) (pairs : List RacingPair) (gathers : Gathers x sites groups pairs)
     (sorted : (m n : ℕ) (p q : RacingPair) → m < n → slice_get pairs m ≡ Some p → slice_get pairs n ≡ Some q → ComesBefore x p q) (order : AreInOrder x groups) where
-  -- what stands where among the first pairs
+  -- the group at a place among the first pairs
   its_group : (k : ℕ) (q : RacingPair) → slice_get (map first_pair groups) k ≡ Some q → (g : Group) × (slice_get groups k ≡ Some g) × (g.pair ≡ q)
   its_group k q at = found (slice_get groups k) refl (sym (slice_get-map first_pair groups k) ∙ at)
     where
@@ -29,7 +29,7 @@ module _ (x : Execution) (sites : List (List Site)) (groups : List Group) (pairs
   first_there : (k : ℕ) (g : Group) → slice_get groups k ≡ Some g → slice_get (map first_pair groups) k ≡ Some g.pair
   first_there k g at = slice_get-map first_pair groups k ∙ ap (option_map first_pair) at
 
-  -- a pair that is no later than another does not stand after it
+  -- a pair that is no later than another does not come after it
   not_after : (m n : ℕ) (p q : RacingPair) → m < n → slice_get pairs m ≡ Some p → slice_get pairs n ≡ Some q → IsNoLater x q p → ⊥
   not_after m n p q l at_p at_q (inl e) = let b = sorted m n p q l at_p at_q in never-both x p q b (subst (λ (r : RacingPair). ComesBefore x r p) (sym e) (subst (ComesBefore x p) e b))
   not_after m n p q l at_p at_q (inr c) = never-both x p q (sorted m n p q l at_p at_q) c
@@ -75,7 +75,7 @@ module _ (x : Execution) (sites : List (List Site)) (groups : List Group) (pairs
           (λ (more : a ≤ b). not_after n b p h.pair (omega (arith, l, more)) at_p at_h second)
           (cases_lt b a)
 
-  -- where a line's first pair stands among the pairs
+  -- the place of a line's first pair among the pairs
   line_first : (lines : List SiteRace) (report : IsGroupReport sites groups lines) (n : ℕ) (r : SiteRace) → slice_get lines n ≡ Some r → (a : ℕ) × IsFirst (has_sites sites (line_sites r)) pairs a (pair_of r)
   line_first lines report n r at = first_pair_there (line_sites r) (first_at sites (map first_pair groups) r) (pair_of r) (find-first (has_sites sites (line_sites r)) (map first_pair groups) (pair_of r) (report.first n r at))
 

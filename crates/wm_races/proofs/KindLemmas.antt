@@ -163,7 +163,7 @@ module _ (run : LoggedRun) (sites : List (List Site)) (writes : List ByteWrite) 
         (get-append classes (record { kind = kind; places = places } ∷ []) n c at);
   }
 
--- what a kind says of the event
+-- what a kind means for the event
 pub record IsOfKind (run : LoggedRun) (sites : List (List Site)) (place : ℕ) (kind : Kind) : Type 0 where
   pub key : EventKey
   pub event : Event

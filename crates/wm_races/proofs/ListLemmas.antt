@@ -1,4 +1,4 @@
--- What a list has at an index, after an item or a list was put behind it, or an item was replaced.
+-- What a list has at an index, after an item or a list was appended to it, or an item was replaced.
 use Rattle.std.proofs.Common.{◌≡◌, ◌≢◌, ℕ, zero, suc, ◌+◌, ◌-◌, ◌<◌, ◌≤◌, List, [], ◌∷◌, ◌++◌, Bool, true, false, not, cond, length, slice_get, set, take, drop, get_or, Option, None, Some, refl, sym, ap, subst, map, Result, Ok, IfOk, ◌∙◌, arith, ◌⊎◌, inl, inr, ⊎_elim}
 use Rattle.std.specs.Prelude.{count_by, sum_by}
 use Rattle.std.specs.List.{AllZip, find, insert, position_or_len, range_with_len}

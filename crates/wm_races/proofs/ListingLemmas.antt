@@ -1,4 +1,4 @@
--- Lists of racing pairs, put behind one another.
+-- Lists of racing pairs, appended to one another.
 use Rattle.std.proofs.Common.{◌≡◌, ℕ, ◌+◌, ◌<◌, List, [], ◌∷◌, ◌++◌, length, slice_get, Some, refl, sym, ap, subst, arith, ◌⊎◌, inl, inr, ⊎_elim}
 use Rattle.std.proofs.lemmas.Option.{slice_get_within}
 use Rattle.wm_event.specs.LoggedRun.{LoggedRun, execution}

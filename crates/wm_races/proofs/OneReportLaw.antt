@@ -16,7 +16,7 @@ use Rattle.wm_races.specs.declared.site.SiteRace.{SiteRace}
 use Rattle.wm_races.proofs.ReportLemmas.{sites-same}
 
 module _ {X : Type 0} (Before : X → X → Type 0) (never_both : (a b : X) → Before a b → Before b a → ⊥) where
-  -- each item comes before those behind it
+  -- each item comes before those after it
   abbrev pub InOrder : List X → Type 0
   InOrder xs = (m n : ℕ) (a b : X) → m < n → slice_get xs m ≡ Some a → slice_get xs n ≡ Some b → Before a b
 
@@ -106,7 +106,7 @@ module _ (sites : List (List Site)) (pairs : List RacingPair) where
   never-first : (r s : SiteRace) → ComesFirst r s → ComesFirst s r → ⊥
   never-first r s a b = omega (arith, a, b)
 
-  -- two lines of equal sites say the same
+  -- two lines of equal sites state the same
   one-line : (r s : SiteRace) → IsLine sites pairs r → IsLine sites pairs s → line_sites r ≡ line_sites s → r ≡ s
   one-line r s line other same =
       let p : pair_of r ≡ pair_of s = same_Some (pair_of r) (pair_of s) (sym line.first ∙ ap (λ b. find (has_sites sites b) pairs) same ∙ other.first) in

@@ -80,7 +80,7 @@ own-in-log (thread ∷ log) zero k e there = slice_get-map own_site thread.event
 own-in-log (thread ∷ log) (suc t) k e there = own-in-log log t k e there
 
 module _ (log : List ThreadLog) (keys : HasKeys log) where
-  -- the site of an event says which it is
+  -- the site of an event determines which it is
   own-site-at : (key : EventKey) (e : Event) → event_in log key ≡ Some e → site_at (own_site_table log) key ≡ record { function = key.thread; instruction = key.number; offset = 0 }
   own-site-at key e there =
       let k = keys key e there in

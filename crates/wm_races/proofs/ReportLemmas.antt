@@ -45,7 +45,7 @@ module _ (sites : List (List Site)) where
   same-sites p = and_from (same_site (pair_sites sites p).site (pair_sites sites p).site) (same_site (pair_sites sites p).other (pair_sites sites p).other) (same-site (pair_sites sites p).site) (same-site (pair_sites sites p).other)
 
   module _ (firsts : List RacingPair) (number : SitePair → ℕ) (q : RacingPair) (c : ℕ) where
-    -- so many more pairs of the sites of q
+    -- this number of further pairs of the sites of q
     abbrev pub numbers_more : SitePair → ℕ
     numbers_more between = number between + cond (has_sites sites between q) c 0
 

@@ -25,7 +25,7 @@ use Rattle.wm_races.specs.declared.site.Site.{Site}
 use Rattle.wm_races.proofs.GroupLemmas.{groups_append, groups_none, groups_one, groups_same, single}
 use Rattle.wm_races.proofs.RaceLemmas.{first-accessed, stands}
 
--- one of the first of the writes stands at this place
+-- one of the first of the writes is at this place
 abbrev pub IsAmong : List ByteWrite → ℕ → ℕ → Type 0
 IsAmong writes count place = (k : ℕ) × (k < count) × ((w : ByteWrite) × (slice_get writes k ≡ Some w) × (w.place ≡ place))
 

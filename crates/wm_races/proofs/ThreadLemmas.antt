@@ -71,7 +71,7 @@ before_join x a b c h k = (h.0 ++ b ∷ k.0, join h.0 a h.1)
 pub in_program : (run : LoggedRun) (a b : EventKey) → IsSome (event_in run.log a) → IsSome (event_in run.log b) → a.thread ≡ b.thread → a.number < b.number → HappensBefore (execution run) (At a) (At b)
 in_program run a b there_a there_b same less = ([], inl (record { first = there_a; second = there_b; same_thread = same; earlier = less }))
 
--- what stands in the names of a thread
+-- what is in the names of a thread
 module _ (log : List ThreadLog) (keys : HasKeys log) (t : ℕ) where
   key_of_event : (thread : ThreadLog) → slice_get log t ≡ Some thread → (i : ℕ) (o : Option Event) → slice_get thread.events i ≡ o → (k : EventKey) → option_map key_of o ≡ Some k
       → (k.thread ≡ t) × (k.number ≡ i) × IsSome (event_in log k)
@@ -105,7 +105,7 @@ module _ (log : List ThreadLog) (keys : HasKeys log) (t : ℕ) where
   pub key_listed : (n : ℕ) → IsSome (event_in log (record { thread = t; number = n })) → slice_get (thread_keys log t) n ≡ Some (record { thread = t; number = n })
   key_listed n some = key_there (slice_get log t) refl n (event_in log (record { thread = t; number = n })) refl some
 
--- what holds of each two in turn holds of each two that pass a test
+-- what holds of each two items, in order, holds of each two that pass a test
 pairs_kept : {X : Type 0} (R : X → X → Type 0) (p : X → Bool) (xs : List X) → ((i j : ℕ) (a b : X) → i < j → slice_get xs i ≡ Some a → slice_get xs j ≡ Some b → R a b)
     → (i j : ℕ) (a b : X) → i < j → slice_get (filter p xs) i ≡ Some a → slice_get (filter p xs) j ≡ Some b → R a b
 pairs_kept R p [] all i j a b l at_a at_b = absurd (cc)
@@ -118,7 +118,7 @@ pairs_kept {X} R p (y ∷ ys) all i j a b l at_a at_b = one (p y) i j l at_a at_
     one true (suc i) (suc j) l at_a at_b h = h i j a b (omega arith) at_a at_b
     one false i j l at_a at_b h = h i j a b l at_a at_b
 
--- what stands in a list of names
+-- what is in a list of names
 named : (ks : List EventKey) (i : ℕ) (a : EventId) → slice_get (map At ks) i ≡ Some a → (k : EventKey) × (a ≡ At k) × (slice_get ks i ≡ Some k)
 named [] i a at = absurd (cc)
 named (k ∷ ks) zero a at = (k, sym (same_Some (At k) a at), refl)

@@ -29,7 +29,7 @@ racing_all run once j a = record {
 }
 
 module _ (run : LoggedRun) (once : ListsEachOnce run.log run.witness.order) (e : Event) (j : ℕ) (listed : event_in run.log (key_of e) ≡ Some e) (at_e : slice_get run.witness.order j ≡ Some (key_of e)) where
-  -- at a byte behind the event's first one the write of a racing pair begins
+  -- at a byte after the event's first one the write of a racing pair begins
   begins_there : (a : ℕ) → a ≢ e.address → (p : RacingPair) (racing : IsRacingPair (execution run) p) → event_place run p ≡ j → first_common (execution run) p ≡ a → a ≡ racing.race.second.address
   begins_there a other p racing here d =
       let race = racing.race in
@@ -41,7 +41,7 @@ module _ (run : LoggedRun) (once : ListsEachOnce run.log run.witness.order) (e :
       larger : (a f e w : ℕ) → a ≢ e → f ≡ e → a ≡ max f w → a ≡ w
       larger a f e w other same is = grind arith
 
-  -- so there is none where no write begins
+  -- so there is no racing pair if no write begins there
   pub racing_none : (begins : Begins) (a : ℕ) → HasBegins run begins → a ≢ e.address → (IsAmongBegins begins a → ⊥) → AreRacingWrites run j a []
   racing_none begins a has other none = record {
     written = λ i w key at at_key. absurd (nothing i w at);

@@ -16,7 +16,7 @@ use Rattle.wm_event.specs.Writes.{writes_byte}
 abbrev pub AreInSequence : Execution → List EventId → Type 0
 AreInSequence x ids = (i j : ℕ) (a b : EventId) → i < j → slice_get ids i ≡ Some a → slice_get ids j ≡ Some b → HappensBefore x a b
 
--- the listed write of a byte at a place, by a thread of which P holds
+-- the listed write of a byte at a place, by a thread that P holds of
 pub record IsWriteBy (run : LoggedRun) (P : ℕ → Type 0) (byte place : ℕ) (w : EventKey) : Type 0 where
   pub listed : slice_get run.witness.order place ≡ Some w
   pub by_thread : P w.thread
@@ -34,14 +34,14 @@ IsEnd run P byte event end = (n : ℕ) (w : EventKey) → end ≤ n → IsWriteB
 abbrev pub IsEndFor : LoggedRun → (ℕ → Type 0) → Event → ℕ → ℕ → ℕ → Type 0
 IsEndFor run P e place byte end = (IsTrue (writes e) × (end ≡ place)) ⊎ IsEnd run P byte (At (key_of e)) end
 
--- from one place on, and before another
+-- from one place up to but not including another
 abbrev pub stands_between : ℕ → ℕ → ByteWrite → Bool
 stands_between start end write = not (ltb write.place start) && ltb write.place end
 
--- how many of the writes stand before the place: these are the first ones
+-- how many of the writes come before the place; they are the first ones
 abbrev pub IsCountBelow : ℕ → List ByteWrite → ℕ → Type 0
 IsCountBelow place writes count = IsPartitionPoint (λ (b : ByteWrite). ltb b.place place ≡ true) (λ (b : ByteWrite). ltb b.place place ≡ false) writes count
 
--- each write stands before those after it
+-- each write comes before those after it
 abbrev pub Rises : List ByteWrite → Type 0
 Rises writes = (i j : ℕ) (a b : ByteWrite) → i < j → slice_get writes i ≡ Some a → slice_get writes j ≡ Some b → a.place < b.place

@@ -1,4 +1,4 @@
--- The writes of a byte, parted into classes.
+-- The writes of a byte, divided into classes.
 use Rattle.std.specs.Prelude.{◌≡◌, ℕ, ◌<◌, List, Option, Some, slice_get, option_and_then, nat_eq, true}
 use Rattle.std.specs.Option.{option_map}
 use Rattle.indexmap.specs.IndexMap.{get}
@@ -33,7 +33,7 @@ IsListed places place = (i : ℕ) × (slice_get places i ≡ Some place)
 abbrev pub RisePlaces : List ℕ → Type 0
 RisePlaces places = (i j m n : ℕ) → i < j → slice_get places i ≡ Some m → slice_get places j ≡ Some n → m < n
 
--- the places of those of the writes whose event is of a kind
+-- the places of the writes, among those given, whose event is of a kind
 pub record AreMembers (run : LoggedRun) (sites : List (List Site)) (writes : List ByteWrite) (kind : Kind) (places : List ℕ) : Type 0 where
   pub sound : (i o : ℕ) → slice_get places i ≡ Some o
       → (k : ℕ) × ((w : ByteWrite) × (slice_get writes k ≡ Some w) × (w.place ≡ o) × (kind_of run sites o ≡ Some kind))
@@ -50,7 +50,7 @@ pub record AreKinds (run : LoggedRun) (sites : List (List Site)) (writes : List 
   pub all : (k : ℕ) (w : ByteWrite) (kind : Kind) → k < count → slice_get writes k ≡ Some w → kind_of run sites w.place ≡ Some kind
       → IsAmong kinds kind
 
--- a write of the byte by an event of this thread and range, atomic or not as said
+-- a write of the byte by an event of this thread and range, atomic or not as stated
 pub record IsMember (run : LoggedRun) (byte : ℕ) (kind : Kind) (place : ℕ) : Type 0 where
   pub key : EventKey
   pub event : Event

@@ -16,13 +16,13 @@ pub record AreFirstRaces (x : Execution) (limit : ℕ) (found : FirstRaces) : Ty
   pub first : found.pairs ≡ take limit races
   pub total : found.total ≡ length races
 
--- ---- what parts find
+-- ---- what the parts of the search find
 
 -- the races of the event at a place
 abbrev pub AreRacesAt : LoggedRun → ℕ → List RacingPair → Type 0
 AreRacesAt run place pairs = Lists run (λ p. event_place run p ≡ place) pairs
 
--- one site for all events
+-- the same site for all events
 abbrev pub one_site : Site
 one_site = record { function = 0; instruction = 0; offset = 0 }
 

@@ -22,7 +22,7 @@ IsGathered report = report.index.keys ≡ map line_sites report.lines
 abbrev pub HasSitesOf : List SiteRace → ℕ → SitePair → Type 0
 HasSitesOf lines n sites = (r : SiteRace) × (slice_get lines n ≡ Some r) × (line_sites r ≡ sites)
 
--- a line for each two sites of some first pairs, in the order of these, with the number of its sites
+-- a line for each two sites of some first pairs, in the order of these pairs, with the number of its sites
 pub record IsNumbered (sites : List (List Site)) (firsts : List RacingPair) (number : SitePair → ℕ) (lines : List SiteRace) : Type 0 where
   pub first : (n : ℕ) (r : SiteRace) → slice_get lines n ≡ Some r → find (has_sites sites (line_sites r)) firsts ≡ Some (pair_of r)
   pub count : (n : ℕ) (r : SiteRace) → slice_get lines n ≡ Some r → r.count ≡ number (line_sites r)
@@ -38,15 +38,15 @@ number_in sites groups between = sum_by (count_between sites between) groups
 abbrev pub IsGroupReport : List (List Site) → List Group → List SiteRace → Type 0
 IsGroupReport sites groups lines = IsNumbered sites (map first_pair groups) (number_in sites groups) lines
 
--- what reports some groups reports these too afterwards
+-- whatever reports some groups also reports these afterwards
 abbrev pub ReportsMore : List (List Site) → List Group → List SiteRace → List SiteRace → Type 0
 ReportsMore sites groups old new = (earlier : List Group) → IsGroupReport sites earlier old → IsGroupReport sites (earlier ++ groups) new
 
--- a line that counts so many more pairs
+-- a line that counts this number of further pairs
 abbrev pub counts_more : ℕ → SiteRace → SiteRace
 counts_more more r = record r { count = r.count + more }
 
--- that line counts so many more
+-- that line counts this number of further pairs
 abbrev pub CountsIn : ℕ → ℕ → List SiteRace → List SiteRace → Type 0
 CountsIn n more old new = (r : SiteRace) × (slice_get old n ≡ Some r) × (new ≡ slice_set old n (counts_more more r))
 
@@ -54,7 +54,7 @@ CountsIn n more old new = (r : SiteRace) × (slice_get old n ≡ Some r) × (new
 abbrev pub first_line : SitePair → Group → SiteRace
 first_line sites g = record { site = sites.site; other = sites.other; event = g.pair.event; write = g.pair.write; count = g.count }
 
--- the line of these sites counts the group's pairs, or the group is the first of these sites
+-- the line of these sites counts the group's pairs, or the group is the first one of these sites
 pub data AddsGroup (sites : SitePair) (g : Group) (old new : List SiteRace) : Type 0 where
   counts : (n : ℕ) → HasSitesOf old n sites → CountsIn n g.count old new → AddsGroup sites g old new
   begins : ((n : ℕ) → HasSitesOf old n sites → ⊥) → new ≡ old ++ first_line sites g ∷ [] → AddsGroup sites g old new

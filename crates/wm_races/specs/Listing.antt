@@ -1,4 +1,4 @@
--- What a part of the scan lists.
+-- The list of a part of the scan.
 use Rattle.std.specs.Prelude.{◌≡◌, ◌≢◌, ◌⊎◌, ◌↔◌, false, Bool, IsTrue, ℕ, ◌<◌, List, Option, None, Some, MatchOption, slice_get}
 use Rattle.wm_event.specs.declared.event.Event.{Event}
 use Rattle.wm_event.specs.declared.event.EventKey.{EventKey}
@@ -7,7 +7,7 @@ use Rattle.wm_event.specs.LoggedRun.{LoggedRun, execution}
 use Rattle.wm_races.specs.Races.{ComesBefore, IsIn, IsRacingPair, IsUnordered, first_common}
 use Rattle.wm_races.specs.declared.pair.RacingPair.{RacingPair}
 
--- the racing pairs of which P holds, each once, in their order
+-- the racing pairs that P holds of, each once, in their order
 pub record Lists (run : LoggedRun) (P : RacingPair → Type 0) (pairs : List RacingPair) : Type 0 where
   pub sound : (n : ℕ) (p : RacingPair) → slice_get pairs n ≡ Some p → IsRacingPair (execution run) p × P p
   pub complete : (p : RacingPair) → IsRacingPair (execution run) p → P p → IsIn pairs p
@@ -20,11 +20,11 @@ event_place run p = (execution run).place_of p.event
 abbrev pub write_place : LoggedRun → RacingPair → ℕ
 write_place run p = (execution run).place_of p.write
 
--- the event that is listed at the place, None where none is
+-- the event that is listed at the place; None if there is none
 abbrev pub IsKeyAt : List EventKey → ℕ → Option EventKey → Type 0
 IsKeyAt order place result = MatchOption result (slice_get order place ≡ None) (λ key. slice_get order place ≡ Some key)
 
--- the two places differ, and the event only reads or stands later than the write
+-- the two places differ, and the event only reads or comes later than the write
 abbrev pub IsNamed : Event → ℕ → ℕ → Type 0
 IsNamed e place other = (other ≢ place) × ((writes e ≡ false) ⊎ (other < place))
 
@@ -38,7 +38,7 @@ abbrev pub IsPairAt : LoggedRun → ℕ → ℕ → ℕ → RacingPair → Type 
 IsPairAt run place byte other p = IsRacingPair (execution run) p
     × (event_place run p ≡ place) × (first_common (execution run) p ≡ byte) × (write_place run p ≡ other)
 
--- that pair, or None where there is none
+-- that pair, or None if there is no such pair
 abbrev pub FindsPair : LoggedRun → ℕ → ℕ → ℕ → Option RacingPair → Type 0
 FindsPair run place byte other result =
     MatchOption result ((p : RacingPair) → IsPairAt run place byte other p → ⊥) (IsPairAt run place byte other)

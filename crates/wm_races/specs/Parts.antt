@@ -19,20 +19,20 @@ use Rattle.wm_races.specs.declared.pair.RacingPair.{RacingPair}
 abbrev pub IsBeforeAt : LoggedRun → ℕ → ℕ → Type 0
 IsBeforeAt run m n = (a b : EventKey) → StandsAt run m a → StandsAt run n b → HappensBefore (execution run) (At a) (At b)
 
--- it does not
+-- the event at one place does not happen before the event at another
 abbrev pub IsNotBeforeAt : LoggedRun → ℕ → ℕ → Type 0
 IsNotBeforeAt run m n = (a b : EventKey) → StandsAt run m a → StandsAt run n b → HappensBefore (execution run) (At a) (At b) → ⊥
 
--- events stand at the places, and each happens before those after it
+-- there are events at the places, and each happens before those after it
 pub record AreInSequenceAt (run : LoggedRun) (places : List ℕ) : Type 0 where
   pub listed : (i o : ℕ) → slice_get places i ≡ Some o → (key : EventKey) × StandsAt run o key
   pub sequence : (i j m n : ℕ) → i < j → slice_get places i ≡ Some m → slice_get places j ≡ Some n → IsBeforeAt run m n
 
--- the event or those of the kind are plain, or their ranges differ
+-- the event or the events of the kind are plain, or their ranges differ
 abbrev pub IsWeakWith : Event → Kind → Type 0
 IsWeakWith e kind = (is_atomic e ≡ false) ⊎ ((kind.atomic ≡ false) ⊎ (range_of e ≢ kind.range))
 
--- P holds of the first of the places, so many, and Q of the others
+-- P holds of the first of the places, up to this number, and Q of the others
 pub record AreParted (P Q : ℕ → Type 0) (places : List ℕ) (count : ℕ) : Type 0 where
   pub bound : count ≤ length places
   pub first : (i o : ℕ) → i < count → slice_get places i ≡ Some o → P o
@@ -42,7 +42,7 @@ pub record AreParted (P Q : ℕ → Type 0) (places : List ℕ) (count : ℕ) : 
 abbrev pub IsUnorderedAt : LoggedRun → ℕ → ℕ → Type 0
 IsUnorderedAt run m n = (a b : EventKey) → StandsAt run m a → StandsAt run n b → IsUnordered (execution run) a b
 
--- the writes from one index to another are those of the races of the event at a place
+-- the writes from one index to another are the writes of the races of the event at a place
 pub record IsPart (run : LoggedRun) (e : Event) (place : ℕ) (places : List ℕ) (low high : ℕ) : Type 0 where
   pub bound : high ≤ length places
   pub inside : (i o : ℕ) → low ≤ i → i < high → slice_get places i ≡ Some o → IsNamed e place o × IsUnorderedAt run place o
@@ -52,7 +52,7 @@ pub record IsPart (run : LoggedRun) (e : Event) (place : ℕ) (places : List ℕ
 abbrev pub IsPairWith : LoggedRun → ℕ → ℕ → List ℕ → RacingPair → Type 0
 IsPairWith run place byte places p = IsAtByte run place byte p × IsListed places (write_place run p)
 
--- the racing pairs of which P holds are those of a group
+-- the racing pairs that P holds of are the pairs of a group
 pub record IsGroupOf (run : LoggedRun) (P : RacingPair → Type 0) (g : Group) : Type 0 where
   pub pairs : List RacingPair
   pub list : Lists run P pairs
@@ -60,6 +60,6 @@ pub record IsGroupOf (run : LoggedRun) (P : RacingPair → Type 0) (g : Group) :
   pub count : g.count ≡ length pairs
   pub placed : write_place run g.pair ≡ g.place
 
--- that group, or None where no racing pair is such
+-- that group, or None if there is no such racing pair
 abbrev pub FindsGroup : LoggedRun → (RacingPair → Type 0) → Option Group → Type 0
 FindsGroup run P result = MatchOption result ((p : RacingPair) → IsRacingPair (execution run) p → P p → ⊥) (IsGroupOf run P)

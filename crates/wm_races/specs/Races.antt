@@ -26,7 +26,8 @@ IsWeak a b = (is_atomic a ≡ false) ⊎ ((is_atomic b ≡ false) ⊎ (range_of 
 abbrev pub IsUnordered : Execution → EventKey → EventKey → Type 0
 IsUnordered x a b = (HappensBefore x (At a) (At b) → ⊥) × (HappensBefore x (At b) (At a) → ⊥)
 
--- two events race: they are two, they overlap, one writes, one is plain or their ranges differ, and neither happens before the other
+-- two events race: they are different, they overlap, one writes, one is plain or their ranges differ, and neither
+-- happens before the other
 pub record Race (x : Execution) (a b : EventKey) : Type 0 where
   pub first : Event
   pub second : Event
@@ -38,7 +39,7 @@ pub record Race (x : Execution) (a b : EventKey) : Type 0 where
   pub weak : IsWeak first second
   pub unordered : IsUnordered x a b
 
--- how the events of a race are named: `write` writes, and `event` only reads, or stands later in the order than `write`
+-- how the events of a race are named: `write` writes, and `event` only reads, or comes later in the order than `write`
 pub record IsRacingPair (x : Execution) (p : RacingPair) : Type 0 where
   pub race : Race x p.event p.write
   pub write : IsTrue (writes race.second)

@@ -25,7 +25,7 @@ site_at sites key = unwrap_or (site_in sites key) (record { function = 0; instru
 abbrev pub same_site : Site → Site → Bool
 same_site a b = (a.function == b.function) && ((a.instruction == b.instruction) && (a.offset == b.offset))
 
--- the sites of a pair's events, and those of a line
+-- the sites of a pair's events, and the sites of a line
 abbrev pub pair_sites : List (List Site) → RacingPair → SitePair
 pair_sites sites p = record { site = site_at sites p.event; other = site_at sites p.write }
 
@@ -40,11 +40,11 @@ has_sites sites between p = same_site between.site (site_at sites p.event) && sa
 abbrev pub pair_of : SiteRace → RacingPair
 pair_of r = record { event = r.event; write = r.write }
 
--- where the first pair of the line's sites stands
+-- the place of the first pair of the line's sites
 abbrev pub first_at : List (List Site) → List RacingPair → SiteRace → ℕ
 first_at sites pairs r = position_or_len (has_sites sites (line_sites r)) pairs
 
--- what a line says: the first pair of its sites, and how many pairs there are of them
+-- what a line states: the first pair of its sites, and the number of their pairs
 pub record IsLine (sites : List (List Site)) (pairs : List RacingPair) (r : SiteRace) : Type 0 where
   pub first : find (has_sites sites (line_sites r)) pairs ≡ Some (pair_of r)
   pub count : r.count ≡ count_by (has_sites sites (line_sites r)) pairs
@@ -67,6 +67,6 @@ pub record IsRaceReport (x : Execution) (sites : List (List Site)) (lines : List
   pub report : IsReport sites pairs lines
   pub total : sum_by (λ r. r.count) lines ≡ length pairs
 
--- the races of an execution have one report under a table of sites
+-- the races of an execution have only one report for a given table of sites
 abbrev pub OneReport : Type 0
 OneReport = (x : Execution) (sites : List (List Site)) (lines other : List SiteRace) → IsRaceReport x sites lines → IsRaceReport x sites other → lines ≡ other

@@ -20,7 +20,7 @@ IsAmongBegins begins address = IsTrue (contains nat_eq begins.addresses address)
 abbrev pub HasBegins : LoggedRun → Begins → Type 0
 HasBegins run begins = (key : EventKey) (e : Event) → event_in run.log key ≡ Some e → IsTrue (writes e) → IsAmongBegins begins e.address
 
--- a write stands at the place
+-- there is a write at the place
 abbrev pub IsWriteAt : List ByteWrite → ℕ → Type 0
 IsWriteAt writes place = (i : ℕ) × ((w : ByteWrite) × (slice_get writes i ≡ Some w) × (w.place ≡ place))
 

@@ -1,4 +1,4 @@
-//! Where writes begin, and where events do.
+//! The first bytes of writes, and of events.
 ghost use Rattle.std.specs.Prelude.{◌↔◌, IfOk, IsTrue};
 ghost use Rattle.wm_races.specs.Window.{HasBegins, IsAmongBegins};
 
@@ -51,7 +51,7 @@ impl Begins {
         self.addresses.len()
     }
 
-    /// One of them, None past the last.
+    /// One of them; None past the last.
     pub fn get(&self, index: usize) -> Option<u64> {
         self.addresses.get_index(index).copied()
     }

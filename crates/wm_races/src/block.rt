@@ -1,4 +1,4 @@
-//! The races of some events that stand one after the other, worked in parallel.
+//! The races of consecutive events, computed in parallel.
 ghost use Rattle.std.specs.Prelude.{◌≡◌, ◌≤◌, ◌<◌, ◌+◌, ◌^◌, IfOk, length};
 ghost use Rattle.wm_races.specs.Groups.{AreGroupsFrom, IsGroupedAt};
 ghost use Rattle.wm_races.specs.Classes.{HasClasses};
@@ -14,7 +14,7 @@ use std::thread::Threads;
 use wm_hb::HappensBefore;
 use wm_list::List;
 
-/// For each of the events from a place of the order on its races in groups.
+/// For each of the events from a place of the order on, its races in groups.
 pub(crate) fn groups_from(
     rt: &(impl Threads + Sync),
     alloc: Global,

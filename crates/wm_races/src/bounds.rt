@@ -10,7 +10,7 @@ ghost use Rattle.wm_races.specs.Bounds.{AreInSequence, IsEnd, IsStart};
 use wm_event::{Candidate, EventId};
 use wm_hb::HappensBefore;
 
-/// How many of a thread's writes, all of them first, happen before an event.
+/// How many of a thread's writes, a prefix of them, happen before an event.
 fn count_before(before: &HappensBefore, writes: &[EventId], event: EventId) -> usize
     requires { AreInSequence (execution before.now) writes.now }
     ensures bound { result ≤ length writes.now }
@@ -58,7 +58,7 @@ fn place_or_first(candidate: &Candidate, id: EventId) -> usize
     }
 }
 
-/// The place after that of an event, the greatest number if it isn't listed.
+/// The place after an event's, the greatest number if the event isn't listed.
 fn place_after(candidate: &Candidate, id: EventId) -> usize
     ensures { (max_events ≤ result) ⊎ (place (execution candidate.now) id ≡ result) }
 {

@@ -1,4 +1,4 @@
-//! The writes of a byte, parted into classes that race alike.
+//! The writes of a byte, divided into classes that race alike.
 ghost use Rattle.std.specs.Prelude.{◌≡◌, ◌↔◌, ℕ, IfOk, IfSome, IsTrue, None, Some, length, nat_eq};
 ghost use Rattle.indexmap.specs.IndexMap.{get};
 ghost use Rattle.wm_races.specs.Bounds.{Rises};
@@ -14,7 +14,7 @@ use std::alloc::{AllocError, Global};
 use wm_event::{ByteWrite, Candidate, EventId, Range};
 use wm_list::List;
 
-/// How many classes a byte has at most: where there would be more, its writes are taken one by one.
+/// The most classes of a byte: if there would be more, its writes are taken one by one.
 const MANY: usize = 128;
 
 /// What the events of a class have in common.
@@ -30,7 +30,7 @@ pub(crate) struct Kind {
 #[derive(Drop)]
 pub(crate) struct Class {
     pub kind: Kind,
-    /// Where they stand in the order.
+    /// Their places in the order.
     pub places: List<usize>,
 }
 
@@ -40,7 +40,7 @@ pub(crate) struct ClassTable {
     of_byte: IndexMap<u64, List<Class>>,
 }
 
-/// Whether two kinds are one.
+/// Whether two kinds are the same.
 fn is_same(first: Kind, second: Kind) -> bool
     ensures { IsTrue result ↔ (first ≡ second) }
 {
@@ -74,7 +74,7 @@ fn is_of_kind(candidate: &Candidate, sites: &[List<Site>], kind: Kind, place: us
     }
 }
 
-/// The places of those of some writes whose event is of a kind.
+/// The places of the writes, among those given, whose event is of a kind.
 fn members(
     alloc: Global,
     candidate: &Candidate,
@@ -95,7 +95,7 @@ fn members(
     Ok(places)
 }
 
-/// Whether a kind is among some.
+/// Whether a kind is among those given.
 fn has_kind(kinds: &[Kind], kind: Kind) -> bool
     ensures { IsTrue result ↔ IsAmong kinds.now kind }
 {
@@ -107,7 +107,7 @@ fn has_kind(kinds: &[Kind], kind: Kind) -> bool
     false
 }
 
-/// The kinds of the events of some writes, each once, None where they are many.
+/// The kinds of the events of some writes, each once; None if there are too many.
 fn kinds_of(
     alloc: Global,
     candidate: &Candidate,
@@ -133,7 +133,7 @@ fn kinds_of(
     Ok(Some(kinds))
 }
 
-/// The classes of the writes of a byte, None where they are many.
+/// The classes of the writes of a byte; None if there are too many.
 fn classes_of(
     alloc: Global,
     candidate: &Candidate,
@@ -161,7 +161,7 @@ fn classes_of(
 }
 
 impl ClassTable {
-    /// The classes of no byte.
+    /// The table without classes.
     pub fn none(alloc: Global) -> Self
         ensures { (byte : ℕ) → get nat_eq result.of_byte byte ≡ None }
     {
@@ -170,7 +170,7 @@ impl ClassTable {
         }
     }
 
-    /// The classes of each byte that many events write and that is among some first bytes.
+    /// The classes of each byte that many events write and that is among the first bytes given.
     pub fn of(
         alloc: Global,
         candidate: &Candidate,

@@ -31,14 +31,14 @@ pub struct FirstRaces {
     pub total: u64,
 }
 
-/// A site that stands for all events.
+/// A site that represents all events.
 const ONE_SITE: Site = Site {
     function: 0,
     instruction: 0,
     offset: 0,
 };
 
-/// One site for all events of a log.
+/// The same site for all events of a log.
 fn one_site(alloc: Global, log: &Log) -> Result<Vec<List<Site>>, AllocError>
     ensures { IfOk result (λ sites. sites.items ≡ one_site_table log.now) }
 {
@@ -49,7 +49,7 @@ fn one_site(alloc: Global, log: &Log) -> Result<Vec<List<Site>>, AllocError>
     Ok(sites)
 }
 
-/// How many races the one line of a report has, if it has one.
+/// How many races the only line of a report has, 0 without a line.
 fn count_in(lines: &[SiteRace]) -> u64
     requires { length lines.now ≤ 1 }
     ensures { result ≡ sum_by count_of lines.now }
@@ -71,7 +71,7 @@ fn first_pairs(alloc: Global, groups: &[Group]) -> Result<List<RacingPair>, Allo
     Ok(List::from_vec(pairs))
 }
 
-/// The races of the event at a place of the order, one by one. Those of an event without any take little time.
+/// The races of the event at a place of the order, one by one. An event without races takes little time.
 fn races_at(
     alloc: Global,
     before: &HappensBefore,
@@ -94,8 +94,8 @@ fn races_at(
     first_pairs(alloc, groups.as_slice())
 }
 
-/// The first races of a candidate whose order agrees with happens-before, at most `limit` of them, and how many there are.
-/// What a race is, and the order of the races, is that of [`races`].
+/// The first races of a candidate whose order agrees with happens-before, at most `limit` of them, and how many there
+/// are. Races and their order are defined as for [`races`].
 ///
 /// # Errors
 ///

@@ -10,13 +10,13 @@ use std::alloc::AllocError;
 pub(crate) struct Group {
     /// The first of them.
     pub pair: RacingPair,
-    /// Where the write of the first one stands in the order.
+    /// The place in the order of the write of the first one.
     pub place: usize,
-    /// How many they are.
+    /// How many races there are.
     pub count: u64,
 }
 
-/// Puts a group between those of lower places and those of higher ones.
+/// Inserts a group after the groups of lower places and before those of higher ones.
 pub(crate) fn insert(groups: &mut Vec<Group>, group: Group) -> Result<(), AllocError>
     requires { RiseInPlace groups.old.items }
     ensures { OnOk result (Inserts group groups.old.items groups.new.items) }

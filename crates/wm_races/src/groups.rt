@@ -20,7 +20,7 @@ use wm_event::{Event, EventId};
 use wm_hb::HappensBefore;
 use wm_list::List;
 
-/// The races of the event at a place with the classes of a byte, where this is the first byte that both access.
+/// The races of the event at a place with the classes of a byte, if this is the first byte that both access.
 fn class_groups(
     alloc: Global,
     before: &HappensBefore,
@@ -46,7 +46,7 @@ fn class_groups(
     Ok(groups)
 }
 
-/// The races of the event at a place, each as a group, where this is the first byte that both access.
+/// The races of the event at a place, each as a group, if this is the first byte that both access.
 fn pair_groups(
     alloc: Global,
     before: &HappensBefore,
@@ -76,7 +76,7 @@ fn pair_groups(
     Ok(groups)
 }
 
-/// Puts groups after others.
+/// Appends groups.
 fn append(groups: &mut List<Group>, more: &[Group]) -> Result<(), AllocError>
     ensures { OnOk result (groups.new ≡ groups.old ++ more.now) }
 {

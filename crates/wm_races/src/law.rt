@@ -1,7 +1,7 @@
 //! A law about the definitions.
 ghost use Rattle.wm_races.specs.Report.{OneReport};
 
-/// The races of an execution have one list, and one report under a table of sites. It computes nothing.
+/// An execution has one list of races, and one report for a given table of sites. It computes nothing.
 pub fn one_race_report()
     ensures { OneReport }
 {}

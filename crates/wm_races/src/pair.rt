@@ -14,7 +14,7 @@ use wm_hb::HappensBefore;
 /// Two events that race.
 #[derive(Clone, Copy, Debug, PartialEq, Eq)]
 pub struct RacingPair {
-    /// An event that only reads, or that also writes and stands later in the order than `write`.
+    /// An event that only reads, or that also writes and comes later in the order than `write`.
     pub event: EventKey,
     /// An event that writes.
     pub write: EventKey,
@@ -27,7 +27,7 @@ fn is_weak(first: &Event, second: &Event) -> bool
     !first.is_atomic() || !second.is_atomic() || first.range() != second.range()
 }
 
-/// Whether a race of the event at one place with a write at another is named by them in this order.
+/// Whether a race of the event at one place with a write at another is named in this order.
 fn is_named(event: &Event, place: usize, other: usize) -> bool
     ensures { IsTrue result ↔ IsNamed event.now place other }
 {
@@ -41,15 +41,15 @@ fn is_unordered(before: &HappensBefore, place: usize, other: usize) -> bool
     !before.before_at(place, other) && !before.before_at(other, place)
 }
 
-/// The event at a place of the order, None past its end.
+/// The event at a place of the order; None past its end.
 pub(crate) fn key_at(candidate: &Candidate, place: usize) -> Option<EventKey>
     ensures { IsKeyAt candidate.now.witness.order place result }
 {
     candidate.witness().order.as_slice().get(place).copied()
 }
 
-/// The race of the event at a place of the order with the write of a byte at another, if it is one and this is the first
-/// byte that both access.
+/// The race of the event at a place of the order with the write of a byte at another, if they race and this is the
+/// first byte that both access.
 pub(crate) fn pair_at(
     before: &HappensBefore,
     event: &Event,

@@ -13,7 +13,7 @@ use crate::pair::{RacingPair, key_at};
 use wm_event::Event;
 use wm_hb::HappensBefore;
 
-/// How many of the events at some places, all of them first, happen before the event at another.
+/// How many of the events at some places, a prefix of them, happen before the event at another place.
 fn count_before(before: &HappensBefore, places: &[usize], place: usize) -> usize
     requires { AreInSequenceAt before.now places.now }
     ensures { AreParted (λ o. IsBeforeAt before.now o place) (λ o. IsNotBeforeAt before.now o place) places.now result }
@@ -31,7 +31,7 @@ fn count_before(before: &HappensBefore, places: &[usize], place: usize) -> usize
     low
 }
 
-/// How many of the events at some places, all of them first, the event at another does not happen before.
+/// How many of the events at some places, a prefix of them, the event at another place does not happen before.
 fn count_not_after(before: &HappensBefore, places: &[usize], place: usize) -> usize
     requires { AreInSequenceAt before.now places.now }
     ensures { AreParted (λ o. IsNotBeforeAt before.now place o) (λ o. IsBeforeAt before.now place o) places.now result }
@@ -49,7 +49,7 @@ fn count_not_after(before: &HappensBefore, places: &[usize], place: usize) -> us
     low
 }
 
-/// How many of the places, all of them first, are before another.
+/// How many of the places, a prefix of them, are before another place.
 fn count_below(places: &[usize], place: usize) -> usize
     requires { RisePlaces places.now }
     ensures { AreParted (λ o. o < place) (λ o. place ≤ o) places.now result }
@@ -67,7 +67,7 @@ fn count_below(places: &[usize], place: usize) -> usize
     low
 }
 
-/// Where the part of a class begins that races with the event at a place, and where it ends.
+/// The start and the end of the part of a class that races with the event at a place.
 fn part_of(
     before: &HappensBefore,
     event: &Event,
@@ -91,7 +91,7 @@ fn part_of(
     }
 }
 
-/// Whether an event or those of a kind are plain, or their ranges differ.
+/// Whether an event or the events of a kind are plain, or their ranges differ.
 fn is_weak_with(event: &Event, kind: Kind) -> bool
     ensures { IsTrue result ↔ IsWeakWith event.now kind }
 {

@@ -20,7 +20,7 @@ pub(crate) struct Report {
 }
 
 impl Report {
-    /// No line.
+    /// The empty report.
     pub fn new(alloc: Global) -> Self
         ensures gathered { IsGathered result }
         ensures empty { result.lines ≡ [] }
@@ -39,7 +39,7 @@ impl Report {
         self.lines
     }
 
-    /// Whether a line is that of two sites.
+    /// Whether a line is the line of two sites.
     fn is_line_of(&self, line: usize, sites: SitePair) -> bool
         ensures { IsTrue result → HasSitesOf self.now.lines line sites }
     {
@@ -49,7 +49,7 @@ impl Report {
         }
     }
 
-    /// Counts so many more pairs in a line.
+    /// Counts `more` further pairs in a line.
     fn count(&mut self, line: usize, more: u64)
         requires line { line < length self.old.lines }
         requires room { sum_by count_of self.old.lines + more < 2 ^ 64 }

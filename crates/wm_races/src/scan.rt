@@ -16,10 +16,10 @@ use std::thread::Threads;
 use wm_hb::HappensBefore;
 use wm_list::List;
 
-/// How many events are worked at a time: the pairs of more of them would take too much memory.
+/// How many events are processed at a time: the pairs of more of them would take too much memory.
 const BLOCK: usize = 512;
 
-/// Adds the races of the events from one place of the order to another.
+/// Adds the races of the events from one place of the order up to another.
 fn add_block(
     rt: &(impl Threads + Sync),
     alloc: Global,
@@ -48,13 +48,14 @@ fn add_block(
     Ok(())
 }
 
-/// The data races of a candidate whose order agrees with happens-before, by the sites of their events. `sites` has for
-/// each thread a list with a site for each of its events.
+/// The data races of a candidate whose order agrees with happens-before, by the sites of their events. `sites` has, for
+/// each thread, a list with a site for each of its events.
 ///
-/// Two events race if they overlap, at least one writes, at least one is plain or their ranges differ, and neither happens
-/// before the other. There is a line for each two sites between which events race, with the first such pair and their
-/// number. The pairs are in the order of the event's place, then of the first byte that both access, then of the write's
-/// place; the lines are in the order of their first pairs. How the work was shared out plays no part in it.
+/// Two events race if they overlap, at least one writes, at least one is plain or their ranges differ, and neither
+/// happens before the other. There is a line for each two sites with a race between their events, with the first such
+/// pair and the number of pairs. The pairs are in the order of the event's place, then of the first byte that both
+/// access, then of the write's place; the lines are in the order of their first pairs. The result doesn't depend on how
+/// the work is divided.
 ///
 /// # Errors
 ///

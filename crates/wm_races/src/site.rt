@@ -5,23 +5,23 @@ ghost use Rattle.wm_races.specs.Report.{site_at, site_in};
 use wm_event::EventKey;
 use wm_list::List;
 
-/// An instruction of a module; of a log without a module the event itself, by its thread and its number.
+/// An instruction of a module; for a log without a module the event itself, by its thread and its number.
 #[derive(Clone, Copy, Debug, PartialEq, Eq, Hash)]
 pub struct Site {
     /// The function, by its index.
     pub function: u32,
-    /// The number of the instruction among the opcodes of the function, from 0 in the order of the text.
+    /// The number of the instruction among the opcodes of the function, from 0 in code order.
     pub instruction: u32,
-    /// Where the instruction begins among the bytes of the module.
+    /// The byte offset of the instruction in the module.
     pub offset: u32,
 }
 
 /// The two sites of a race.
 #[derive(Clone, Copy, Debug, PartialEq, Eq, Hash)]
 pub(crate) struct SitePair {
-    /// Of the event that only reads, or that also writes and stands later in the order.
+    /// The site of the event that only reads, or that also writes and comes later in the order.
     pub site: Site,
-    /// Of the write.
+    /// The site of the write.
     pub other: Site,
 }
 
@@ -32,9 +32,10 @@ pub struct SiteRace {
     pub site: Site,
     /// The site of `write`.
     pub other: Site,
-    /// Of the first race between these sites the event that only reads, or that also writes and stands later in the order.
+    /// In the first race between these sites, the event that only reads, or that also writes and comes later in the
+    /// order.
     pub event: EventKey,
-    /// Of the first race between these sites the write.
+    /// In the first race between these sites, the write.
     pub write: EventKey,
     /// How many pairs of events race between these sites, at least 1.
     pub count: u64,

@@ -14,10 +14,10 @@ use crate::bounds::{end_of, start_of};
 use wm_event::{ByteWrite, Event, EventId};
 use wm_hb::HappensBefore;
 
-/// How many writes are all looked at; among more of them those of each thread or class are searched.
+/// Up to this number, all writes are looked at; if there are more, those of each thread or class are searched.
 pub(crate) const FEW: usize = 16;
 
-/// How many of the writes stand before a place.
+/// How many of the writes are before a place.
 fn count_below(writes: &[ByteWrite], place: usize) -> usize
     requires { IsNonDecreasingBy (λ (b : ByteWrite). b.place) writes.now }
     ensures bound { result ≤ length writes.now }
@@ -30,7 +30,7 @@ fn count_below(writes: &[ByteWrite], place: usize) -> usize
     )
 }
 
-/// The writes from one place on and before another.
+/// The writes from one place up to but not including another.
 fn part_between(writes: &[ByteWrite], start: usize, end: usize) -> &[ByteWrite]
     requires { Rises writes.now }
     ensures { result.now ≡ filter (stands_between start end) writes.now }

@@ -51,7 +51,7 @@ own_at_most : (e : Event) (b : Bool) → kind_writes e.kind ≡ b → (w : List 
 own_at_most e true h w = rw h (omega arith)
 own_at_most e false h w = rw h (omega arith)
 
--- the stores that wait behind an access which no drain has to precede
+-- the stores that wait after an access that no drain has to precede
 room : (order : MemoryOrder) (kind : OpKind) (width : AccessWidth) (r : ℕ) (e : Event) (w : List Event) → KindFits kind order width → e.kind ≡ made_kind kind r
     → (plain_store order kind && (length w == 64)) ≡ false → length w ≤ 64 → length (if is_sequential order then [] else (own_write e ++ w)) ≤ 64
 room SeqCst kind width r e w fits k first old = omega arith

@@ -1,4 +1,4 @@
--- What the lists of a transcript hold, and the room in them.
+-- The contents of a transcript's lists, and their capacity.
 use Rattle.std.specs.Prelude.{◌≡◌, ℕ, Bool, ◌+◌, ◌<◌, ◌≤◌, List, [], ◌∷◌, ◌++◌, length, map, replicate, slice_get, slice_set, Some, if◌then◌else◌}
 use Rattle.wm_event.specs.declared.event.Event.{Event}
 use Rattle.wm_event.specs.declared.event.EventId.{EventId}
@@ -18,7 +18,7 @@ thread_events threads = map (λ r. r.events.items) threads
 abbrev pub thread_writers : List ThreadRecord → List (List (List EventId))
 thread_writers threads = map (λ r. r.writers.items) threads
 
--- of so many threads, none of which recorded an event
+-- for this number of threads, none of which recorded an event
 pub record IsBlank (threads : ℕ) (x : Transcript) : Type 0 where
   pub history : x.history.items ≡ []
   pub events : thread_events x.threads.items ≡ replicate threads []
@@ -29,33 +29,33 @@ pub record SameThread (old new : ThreadRecord) : Type 0 where
   pub events : new.events.items ≡ old.events.items
   pub writers : new.writers.items ≡ old.writers.items
 
--- only the room differs
+-- only the capacity differs
 pub record SameItems (old new : Transcript) : Type 0 where
   pub history : new.history.items ≡ old.history.items
   pub events : thread_events new.threads.items ≡ thread_events old.threads.items
   pub writers : thread_writers new.threads.items ≡ thread_writers old.threads.items
   pub order : new.order.items ≡ old.order.items
 
--- one event fits
+-- there is capacity for one more event
 pub record HasThreadRoom (r : ThreadRecord) : Type 0 where
   pub events : length r.events.items < r.events.capacity
   pub writers : length r.writers.items < r.writers.capacity
 
--- the lists are those of the transcript
+-- the lists are the transcript's
 pub record IsPartsOf (x : Transcript) (parts : Parts) : Type 0 where
   pub history : parts.history ≡ x.history.items
   pub events : parts.events ≡ thread_events x.threads.items
   pub writers : parts.writers ≡ thread_writers x.threads.items
   pub order : parts.order ≡ x.order.items
 
--- an access of t fits, with a drain before it
+-- there is capacity for an access of t, with a drain before it
 pub record HasRoom (t : ℕ) (x : Transcript) : Type 0 where
   pub history : length x.history.items + 2 ≤ x.history.capacity
   pub order : length x.order.items < x.order.capacity
   pub there : t < length x.threads.items
   pub thread : (r : ThreadRecord) → slice_get x.threads.items t ≡ Some r → HasThreadRoom r
 
--- the steps that an access of t makes, with a drain before it where one came first
+-- the steps that an access of t makes, after a drain if one came first
 abbrev pub access_items : Bool → ℕ → Op → List HistoryStep
 access_items drained t op = if drained then Drain t ∷ Access t op ∷ [] else Access t op ∷ []
 

@@ -12,7 +12,7 @@ pub enum AccessFault {
     NoThread,
     /// The range ends past the memory.
     OutOfBounds,
-    /// Memory was refused.
+    /// An allocation failed.
     OutOfMemory,
     /// [`wm_event::MAX_EVENTS`] events are held.
     Full,

@@ -1,4 +1,4 @@
-//! What lies under the lock of a memory that threads share.
+//! The data under the lock of a memory that threads share.
 ghost use Rattle.std.specs.Prelude.{◌≡◌, IfOk};
 ghost use Rattle.wm_event.specs.Op.{kind_finds};
 ghost use Rattle.wm_event.specs.Reply.{ReadAnswers};
@@ -11,7 +11,7 @@ use std::alloc::AllocError;
 use std::marker::PhantomData;
 use wm_event::{Op, Reply};
 
-/// A recorder over the Init that `N` names, of as many threads. Each of its calls is one step.
+/// A recorder over the Init and for the number of threads that `N` names. Each of its calls is one step.
 #[derive(Drop)]
 pub struct Held<N: Over> {
     recorder: Recorder,
@@ -21,7 +21,7 @@ pub struct Held<N: Over> {
 }
 
 impl<N: Over> Held<N> {
-    /// What lies under a new lock.
+    /// The data under a new lock.
     pub fn new(recorder: Recorder) -> Self
         requires { IsOver N.initial N.threads recorder }
         ensures { result.recorder ≡ recorder }
@@ -65,7 +65,7 @@ impl<N: Over> Held<N> {
         answer
     }
 
-    /// One drain of the store with so many older ones, as [`Recorder::step_drain_at`] makes it.
+    /// One drain of the store at `index`, as [`Recorder::step_drain_at`] makes it.
     pub fn drain_at(&mut self, thread: u32, index: u32) -> Result<bool, AllocError>
         ensures { IfOk result (λ drained. IsDrainAtOver N.initial N.threads thread index self.old.recorder drained self.new.recorder) }
     {

@@ -11,8 +11,8 @@ use std::alloc::AllocError;
 use std::sync::{Mutex, Wait};
 use wm_event::{Op, Reply};
 
-/// A recorder under a lock, beside the handle that waits for it. Each call takes the lock once, for one access with the
-/// drain that a full buffer forces before it, or for one drain; so whenever the lock is free, the recorder's history is
+/// A recorder under a lock, with the handle that waits for it. Each call takes the lock once, for one access with the
+/// drain that a full buffer forces before it, or for one drain. So whenever the lock is free, the recorder's history is
 /// legal, and its events, writers and order are what that history records: a valid execution.
 #[derive(Drop)]
 pub struct LockedMemory<'a, R: Wait, N: Over> {
@@ -31,7 +31,8 @@ impl<'a, R: Wait, N: Over> LockedMemory<'a, R, N> {
         }
     }
 
-    /// The recorder, with all that the threads did. It is over the same Init, and of as many threads, as the one put in.
+    /// The recorder, with everything that the threads did. It has the same Init and the same number of threads as the
+    /// one put in.
     pub fn into_recorder(self) -> Recorder
         ensures over { IsOver N.initial N.threads result }
         ensures recording { IsRecording result }

@@ -1,9 +1,9 @@
-//! What all who share a recorder know of it.
+//! What everyone who shares a recorder knows about it.
 ghost use Rattle.std.specs.Prelude.{ℕ, List, []};
 
 use std::marker::Brand;
 
-/// What all who share a recorder under one lock know of it. The call that makes the lock picks both.
+/// What everyone who shares a recorder under one lock knows about it. The call that makes the lock chooses both.
 pub trait Over {
     /// The bytes of Init.
     ghost initial: { List ℕ };

@@ -9,26 +9,27 @@ use wm_event::{Op, Reply};
 
 /// A memory that threads share by reference.
 pub trait Shared {
-    /// One access of a thread. The reply has a value read exactly where the access reads, and it fits the width.
+    /// Makes one access of a thread. The reply has a value read exactly if the access reads, and the value fits the
+    /// width.
     ///
     /// # Errors
     ///
-    /// [`AccessFault::OutOfMemory`] where memory was refused; what the others say of this thread and this access holds.
+    /// [`AccessFault::OutOfMemory`] if an allocation fails; any other fault is true of this thread and this access.
     fn access(&self, thread: u32, op: Op) -> Result<Reply, AccessFault>
         ensures answers { IfOk result (λ reply. ReadAnswers (kind_finds op.kind) op.width reply.read) };
 
-    /// Publishes the oldest waiting store of a thread; false where none waits.
+    /// Publishes the oldest waiting store of a thread; false if none waits.
     ///
     /// # Errors
     ///
-    /// Only where memory was refused.
+    /// Only if an allocation fails.
     fn drain(&self, thread: u32) -> Result<bool, AllocError>;
 
-    /// Publishes the waiting store of a thread that has so many older ones, where it overlaps none of these; false where
-    /// there is no such store.
+    /// Publishes the waiting store of a thread at `index`, counted from 0 at the oldest, if it overlaps no older one;
+    /// false if it does, or if there is no such store.
     ///
     /// # Errors
     ///
-    /// Only where memory was refused.
+    /// Only if an allocation fails.
     fn drain_at(&self, thread: u32, index: u32) -> Result<bool, AllocError>;
 }

@@ -1,4 +1,4 @@
-//! What a history records, in lists whose room is taken before a step is made.
+//! What a history records, in lists whose capacity is reserved before a step is made.
 ghost use Rattle.std.specs.Prelude.{◌≡◌, ◌+◌, ◌<◌, ◌≤◌, ◌++◌, ◌∷◌, [], length, IfOk, OnOk};
 ghost use Rattle.wm_recorder.specs.Transcript.{AddsAccess, HasRoom, HasThreadRoom, IsBlank, IsPartsOf, SameItems, SameThread, access_items};
 
@@ -7,7 +7,7 @@ use wm_event::{Event, EventId, EventKey, Op};
 use wm_list::{Growing, List};
 use wm_memory::HistoryStep;
 
-/// The events of a thread, and for each the writers of the bytes that it read.
+/// The events of a thread, and for each of them the writers of the bytes that it read.
 #[derive(Drop)]
 pub struct ThreadRecord {
     pub events: Growing<Event>,
@@ -15,7 +15,7 @@ pub struct ThreadRecord {
 }
 
 impl ThreadRecord {
-    /// Makes room for one event.
+    /// Reserves space for one event.
     fn reserve(&mut self) -> Result<(), AllocError>
         ensures same { SameThread self.old self.new }
         ensures room { OnOk result (HasThreadRoom self.new) }
@@ -24,7 +24,7 @@ impl ThreadRecord {
         self.writers.reserve(1)
     }
 
-    /// Adds an event into room taken before.
+    /// Adds an event within the reserved capacity.
     fn add(&mut self, event: Event, writers: List<EventId>)
         requires { HasThreadRoom self.old }
         ensures events { self.new.events.items ≡ self.old.events.items ++ event ∷ [] }
@@ -42,7 +42,7 @@ pub struct Parts {
     pub history: List<HistoryStep>,
     /// The events of each thread.
     pub events: List<List<Event>>,
-    /// For each thread and each of its events the writers of the bytes that it read, the lowest first.
+    /// For each thread and each of its events, the writers of the bytes that it read, from the lowest address.
     pub writers: List<List<List<EventId>>>,
     /// The events in the order in which they were made.
     pub order: List<EventKey>,
@@ -57,7 +57,7 @@ pub struct Transcript {
 }
 
 impl Transcript {
-    /// That of no step, for so many threads.
+    /// The empty transcript for `threads` threads.
     pub fn new(alloc: Global, threads: usize) -> Result<Self, AllocError>
         requires { threads ≤ 16 }
         ensures { IfOk result (λ transcript. IsBlank threads transcript) }
@@ -77,7 +77,7 @@ impl Transcript {
         })
     }
 
-    /// The lists, each thread's beside one another.
+    /// The lists of the transcript, with an entry for each thread.
     pub fn into_parts(self, alloc: Global) -> Result<Parts, AllocError>
         ensures { IfOk result (λ parts. IsPartsOf self parts) }
     {
@@ -104,7 +104,7 @@ impl Transcript {
         })
     }
 
-    /// Makes room for an access of a thread, and for a drain before it.
+    /// Reserves space for an access of a thread and for a drain before it.
     pub fn reserve(&mut self, thread: usize) -> Result<(), AllocError>
         requires { thread < length self.old.threads.items }
         ensures same { SameItems self.old self.new }
@@ -116,7 +116,7 @@ impl Transcript {
         Ok(())
     }
 
-    /// Adds an access of a thread into room taken before, behind a drain where one came first.
+    /// Adds an access of a thread within the reserved capacity, after a drain if one came first.
     pub fn add_access(
         &mut self,
         drained: bool,
@@ -134,7 +134,7 @@ impl Transcript {
     }
 }
 
-/// Adds an access to the steps, behind a drain where one came first.
+/// Adds an access to the steps, after a drain if one came first.
 fn add_steps(history: &mut Growing<HistoryStep>, drained: bool, thread: u32, op: Op)
     requires { length history.old.items + 2 ≤ history.old.capacity }
     ensures { history.new.items ≡ history.old.items ++ access_items drained thread op }

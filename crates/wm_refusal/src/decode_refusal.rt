@@ -11,10 +11,10 @@ use wm_decode::{
     MAX_NESTING,
 };
 
-/// How many bytes are shown before a faulty one, and how many from it on.
+/// How many bytes are shown before a faulty byte, and how many from that byte on.
 const AROUND: usize = 8;
 
-/// A number that passes a limit, where it is known.
+/// A number that is over a limit, if it is known.
 #[derive(Clone, Copy)]
 struct Found(Option<u64>);
 
@@ -27,7 +27,7 @@ impl fmt::Display for Found {
     }
 }
 
-/// What there is too much of.
+/// The quantity that is over a limit.
 #[derive(Clone, Copy)]
 struct LimitSentence {
     limit: Limit,
@@ -67,7 +67,7 @@ impl fmt::Display for LimitSentence {
 #[derive(Clone, Copy)]
 pub(crate) struct DecodeSentence {
     pub kind: FaultKind,
-    /// The number that passes a limit, where it is known.
+    /// The number that is over a limit, if it is known.
     pub found: Option<u64>,
 }
 
@@ -111,7 +111,7 @@ impl fmt::Display for DecodeSentence {
     }
 }
 
-/// The number that passes a limit, where the bytes say it.
+/// The number that is over a limit, if the bytes contain it.
 fn found_at(kind: FaultKind, bytes: &[u8], offset: usize) -> Option<u64> {
     match kind {
         FaultKind::Limit(Limit::ModuleBytes) => Some(bytes.len() as u64),
@@ -121,7 +121,7 @@ fn found_at(kind: FaultKind, bytes: &[u8], offset: usize) -> Option<u64> {
     }
 }
 
-/// The words before the bytes around an offset, with how many bytes there are.
+/// The words before the bytes around an offset, with the number of bytes.
 #[derive(Clone, Copy)]
 struct Heading(usize, usize);
 
@@ -138,7 +138,7 @@ impl fmt::Display for Heading {
     }
 }
 
-/// The bytes round an offset, the one there in brackets.
+/// The bytes around an offset, with the byte there in brackets.
 #[derive(Clone, Copy)]
 struct BytesAround<'a>(&'a [u8], usize);
 

@@ -1,9 +1,9 @@
-//! The part of a document at a path, as its bytes are.
+//! The part of a document at a path, as bytes.
 ghost use Rattle.std.specs.Prelude.{◌≤◌, length};
 
 use std::fmt;
 
-/// How many bytes of a part are shown at most.
+/// The most bytes of a part that are shown.
 const SHOWN: usize = 60;
 
 /// Whether a byte is white space of JSON (RFC 8259, section 2).
@@ -11,7 +11,7 @@ fn is_space(byte: u8) -> bool {
     matches!(byte, b' ' | b'\t' | b'\n' | b'\r')
 }
 
-/// Where the value ends with which these bytes of a JSON text begin: at a comma or a closing bracket that isn't in it.
+/// The end of the value at the front of these bytes of a JSON text: at a comma or a closing bracket outside the value.
 fn value_end(bytes: &[u8]) -> usize
     ensures inside { result ≤ length bytes.now }
 {
@@ -36,7 +36,7 @@ fn value_end(bytes: &[u8]) -> usize
     bytes.len()
 }
 
-/// The bytes from the first one on that isn't white space.
+/// The bytes from the first one that isn't white space.
 fn without_front(bytes: &[u8]) -> &[u8] {
     for (position, byte) in bytes.iter().enumerate() {
         if !is_space(*byte) {
@@ -65,7 +65,7 @@ fn inside(bytes: &[u8]) -> Option<&[u8]> {
     }
 }
 
-/// The item of a list with which these bytes begin, counted from 0; None where there is none.
+/// The item at `index` of the list at the front of these bytes, counted from 0; None if there is no such item.
 fn item(bytes: &[u8], index: u32) -> Option<&[u8]> {
     let mut rest = inside(bytes)?;
     for _ in 0..index {
@@ -77,7 +77,7 @@ fn item(bytes: &[u8], index: u32) -> Option<&[u8]> {
     Some(&rest[..value_end(rest)])
 }
 
-/// How many items a list has with which these bytes begin, at least 1.
+/// How many items the list at the front of these bytes has, at least 1.
 fn count_items(bytes: &[u8]) -> Option<u64> {
     let mut rest = inside(bytes)?;
     let mut count = 1u64;
@@ -93,7 +93,7 @@ fn count_items(bytes: &[u8]) -> Option<u64> {
     Some(count)
 }
 
-/// The bytes of the value at a path of a JSON text, without white space around them; None if there is none.
+/// The bytes of the value at a path of a JSON text, without white space around them; None if there is no such value.
 pub(crate) fn value_at<'a>(bytes: &'a [u8], path: &[u32]) -> Option<&'a [u8]> {
     let mut value = bytes;
     for index in path {
@@ -107,14 +107,14 @@ pub(crate) fn count_threads(bytes: &[u8]) -> Option<u64> {
     count_items(item(bytes, 2)?)
 }
 
-/// The value at a path of a document, cut where it is long.
+/// The value at a path of a document, cut if it is long.
 #[derive(Clone, Copy)]
 pub(crate) struct PartPhrase<'a> {
     pub document: &'a [u8],
     pub path: &'a [u32],
 }
 
-/// How many of these bytes are shown: no more than [`SHOWN`], and no part of a character.
+/// How many of these bytes are shown: no more than [`SHOWN`], and only whole characters.
 fn shown(bytes: &[u8]) -> usize
     ensures inside { result ≤ length bytes.now }
 {

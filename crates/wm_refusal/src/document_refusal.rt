@@ -9,7 +9,7 @@ use std::fmt;
 use wm_event::MAX_THREADS;
 use wm_logfile::{DocFault, MAX_DOCUMENT_BYTES};
 
-/// What a document has at a path, and what it has to have there.
+/// What a document has at a path, and what is expected there.
 #[derive(Clone, Copy)]
 struct FoundAndExpected<'a> {
     document: &'a [u8],
@@ -25,7 +25,7 @@ impl fmt::Display for FoundAndExpected<'_> {
     }
 }
 
-/// Of what a document has too much.
+/// Which part of a document is too large.
 #[derive(Clone, Copy)]
 struct TooLargeSentence<'a>(&'a [u8]);
 
@@ -51,7 +51,7 @@ impl fmt::Display for TooLargeSentence<'_> {
     }
 }
 
-/// A byte of a text, by its offset and by its line and column, which count from 1.
+/// A byte of a text, by its offset and by its line and column, counted from 1.
 #[derive(Clone, Copy, Debug, PartialEq, Eq)]
 pub(crate) struct TextPosition {
     pub offset: usize,
@@ -91,7 +91,7 @@ impl fmt::Display for TextPosition {
     }
 }
 
-/// The offset of a line's column, both from 1.
+/// The offset of a line's column, both counted from 1.
 fn offset_of(bytes: &[u8], line: usize, column: usize) -> usize
     ensures inside { result ≤ length bytes.now }
 {
@@ -111,7 +111,7 @@ fn offset_of(bytes: &[u8], line: usize, column: usize) -> usize
         .min(bytes.len())
 }
 
-/// What JSON (RFC 8259) has at an offset of a text that is faulted there.
+/// What JSON (RFC 8259) allows at the offset of a fault in a text.
 fn expected_at(bytes: &[u8], offset: usize) -> &'static str {
     let before = bytes
         .iter()
@@ -129,7 +129,7 @@ fn expected_at(bytes: &[u8], offset: usize) -> &'static str {
     }
 }
 
-/// Why a text is not JSON where a fault was found, which isn't its end.
+/// Why a text is not JSON, if a fault was found before its end.
 fn fault_inside(alloc: Global, bytes: &[u8], fault: &Error) -> Result<String, AllocError> {
     let offset = offset_of(bytes, fault.line(), fault.column());
     let position = TextPosition::of(bytes, offset);

@@ -1,4 +1,4 @@
-//! What the format of a document has at a path.
+//! What the format of a document expects at a path.
 
 use crate::document_part::value_at;
 use std::fmt;
@@ -14,7 +14,7 @@ const TRAPS: [TrapKind; 6] = [
     TrapKind::Exhausted,
 ];
 
-/// The names of the traps in a row.
+/// The names of the traps, listed.
 #[derive(Clone, Copy)]
 struct TrapNames;
 
@@ -30,7 +30,7 @@ impl fmt::Display for TrapNames {
     }
 }
 
-/// What the format has at a path of a document.
+/// What the format expects at a path of a document.
 #[derive(Clone, Copy)]
 pub(crate) struct ExpectedPhrase<'a> {
     pub document: &'a [u8],
@@ -73,7 +73,7 @@ fn in_order(path: &[u32]) -> &'static str {
     }
 }
 
-/// What a document has outside of its threads' ends.
+/// What a document has outside its threads' ends.
 fn outside_ends(path: &[u32], is_first_version: bool) -> &'static str {
     match path {
         [] => "a list of \"wasm-litmus-log\", the version, the threads and the order",
@@ -96,12 +96,12 @@ fn outside_ends(path: &[u32], is_first_version: bool) -> &'static str {
 }
 
 impl ExpectedPhrase<'_> {
-    /// Whether the value at a path is spelled so.
+    /// Whether the value at a path is spelled this way.
     fn is_at(&self, path: &[u32], spelled: &[u8]) -> bool {
         value_at(self.document, path) == Some(spelled)
     }
 
-    /// Writes what the second item of an end is, by the end's word.
+    /// Writes what the second item of an end is, for the end's word.
     fn write_end_item<W: fmt::Write>(&self, f: &mut fmt::Formatter<W>, thread: u32) -> fmt::Result {
         let word = [2, thread, 2, 0];
         if self.is_at(&word, b"\"done\"") {

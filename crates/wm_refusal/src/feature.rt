@@ -106,7 +106,7 @@ fn is_float(code: u8) -> bool {
     )
 }
 
-/// The part that an instruction without a prefix is of; None if it is supported, or none is known.
+/// The part that an instruction without a prefix belongs to; None if it is supported, or no part is known.
 fn plain_part(code: u8) -> Option<Part> {
     if is_float(code) {
         return Some(Part::of(Feature::Floats));
@@ -127,7 +127,7 @@ fn plain_part(code: u8) -> Option<Part> {
     }
 }
 
-/// The part that an instruction is of; None if it is supported, or none is known.
+/// The part that an instruction belongs to; None if it is supported, or no part is known.
 pub(crate) fn unsupported_part(opcode: Opcode) -> Option<Part> {
     match opcode.byte {
         0xFC => Some(Part::named(Feature::PrefixFC, bulk_name(opcode.code))),
@@ -137,7 +137,7 @@ pub(crate) fn unsupported_part(opcode: Opcode) -> Option<Part> {
     }
 }
 
-/// The part that a value type is of; None if it is supported, or none is known.
+/// The part that a value type belongs to; None if it is supported, or no part is known.
 pub(crate) fn unsupported_type(byte: u8) -> Option<Part> {
     match byte {
         0x7C | 0x7D => Some(Part::of(Feature::Floats)),

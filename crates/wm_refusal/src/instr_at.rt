@@ -1,4 +1,4 @@
-//! The instruction of a number of a function, with the operands that it finds.
+//! The instruction at a number of a function, with the operands before it.
 
 use crate::type_stack::{Scope, TypeStack};
 use std::alloc::{AllocError, Global};
@@ -26,7 +26,7 @@ pub(crate) struct InstrAt<'m> {
     pub scope: Scope<'m>,
 }
 
-/// How many opcodes an instruction has, where it is known how many its blocks have, each with the opcode that closes it.
+/// How many opcodes an instruction has, given how many its blocks have, each with the opcode that closes it.
 fn opcodes(instr: &Instr, sizes: &[usize]) -> usize {
     let size = |block: &usize| sizes.get(*block).copied().unwrap_or(0);
     match instr {
@@ -47,7 +47,7 @@ fn opcodes(instr: &Instr, sizes: &[usize]) -> usize {
     }
 }
 
-/// How many opcodes each block has, with the one that closes it. A block has a smaller number than those in it.
+/// How many opcodes each block has, with the opcode that closes it. A block has a smaller number than the blocks in it.
 fn block_sizes(alloc: Global, blocks: &[Block]) -> Result<Vec<usize>, AllocError> {
     let mut sizes = Vec::new(alloc);
     for _ in blocks {
@@ -65,7 +65,7 @@ fn block_sizes(alloc: Global, blocks: &[Block]) -> Result<Vec<usize>, AllocError
     Ok(sizes)
 }
 
-/// The block of an instruction that has the opcode of a number.
+/// The block of an instruction that has the opcode of this number.
 fn inner_block(instr: &Instr, first: usize, number: usize, sizes: &[usize]) -> Option<BlockAt> {
     let inside = |block: usize, first: usize, ty: BlockType, label: BlockType| BlockAt {
         block,
@@ -95,16 +95,16 @@ fn inner_block(instr: &Instr, first: usize, number: usize, sizes: &[usize]) -> O
     }
 }
 
-/// Where a way through a block ends.
+/// Where a walk through a block ends.
 #[derive(Drop)]
 enum Reached<'m> {
-    /// At an instruction, or at the end of the block if there is none, with the operands there.
+    /// At an instruction, or at the end of the block if there is no instruction, with the operands there.
     Opcode(Option<&'m Instr>, TypeStack),
     /// In a block inside it.
     Inner(BlockAt),
 }
 
-/// Goes through a block up to the opcode of a number.
+/// Walks through a block up to the opcode of this number.
 fn walk<'m>(
     alloc: Global,
     scope: &Scope,
@@ -143,7 +143,7 @@ fn body(scope: &Scope) -> BlockAt {
     }
 }
 
-/// The opcode of a number of a function that is well-typed up to there; None if there is none.
+/// The opcode of this number in a function that is well-typed up to it; None if there is no such opcode.
 ///
 /// # Errors
 ///

@@ -1,4 +1,4 @@
-//! Numbers in the bytes of a module that is past a limit.
+//! Counts in the bytes of a module that is over a limit.
 
 use wm_module_bytes::ByteReader;
 
@@ -53,7 +53,7 @@ fn type_index(bytes: &[u8], function: usize) -> Option<usize> {
     None
 }
 
-/// How many locals a body declares up to the entry that begins at an offset, with that entry's (Core 1.0, section 5.5.13).
+/// How many locals a body declares, up to and including the entry at an offset (Core 1.0, section 5.5.13).
 fn locals(body: ByteReader, offset: usize) -> Option<usize> {
     let mut reader = body;
     let entries = reader.number()?;
@@ -69,8 +69,8 @@ fn locals(body: ByteReader, offset: usize) -> Option<usize> {
     None
 }
 
-/// How many parameters and locals a function has up to an offset: where its body begins its parameters, and where an entry
-/// of locals begins there those of that entry too.
+/// How many parameters and locals a function has up to an offset: only its parameters if its body begins there; also
+/// its locals, up to and including the entry at the offset, if an entry of locals begins there.
 pub(crate) fn parameters_and_locals(bytes: &[u8], offset: usize) -> Option<u64> {
     let mut reader = section(bytes, 10)?;
     let bodies = reader.number()?;

@@ -35,7 +35,7 @@ fn count_events(log: &Log) -> usize {
     count
 }
 
-/// The number of an event among all events of a log, thread by thread; None if it isn't there.
+/// The number of an event among all events of a log, thread by thread; None if there is no such event.
 fn number_in_log(log: &Log, key: EventKey) -> Option<usize> {
     log.event(key)?;
     let mut number = key.number as usize;
@@ -58,7 +58,7 @@ fn first_unmarked(log: &Log, marked: &[bool]) -> Option<EventKey> {
     None
 }
 
-/// The first fault of the order of the events; None if there is none.
+/// The first fault of the order of the events; None if it has no fault.
 ///
 /// # Errors
 ///
@@ -84,7 +84,7 @@ pub(crate) fn order_fault(
     Ok(first_unmarked(log, listed.as_slice()).map(OrderFault::Missing))
 }
 
-/// Adds how many lists of writers there are, if the witness has not one for each event of each thread.
+/// Adds how many lists of writers there are, if the witness doesn't have exactly one for each event of each thread.
 fn add_list_counts(text: &mut String, log: &Log, witness: &Witness) -> Result<(), AllocError> {
     let lists = witness.writers.as_slice();
     let threads = log.threads();
@@ -118,7 +118,7 @@ fn bytes_read(event: &Event) -> u8 {
     }
 }
 
-/// The value of an event that is too wide for it: the one that it reads, or the one that it writes.
+/// The value of an event that is too wide for it: the value read, or the value written.
 fn wide_value(event: &Event) -> u64 {
     let bits = u32::from(event.width.bytes()).saturating_mul(8);
     if bits < 64 && event.read >> bits == 0 {
@@ -128,7 +128,7 @@ fn wide_value(event: &Event) -> u64 {
     }
 }
 
-/// Adds which byte of an event has a writer that isn't there.
+/// Adds which byte of an event has a writer that doesn't exist.
 fn add_missing_writer(
     text: &mut String,
     log: &Log,

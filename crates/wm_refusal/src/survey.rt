@@ -1,7 +1,7 @@
-//! All parts of a module that are not supported, where each is used first, and how often.
+//! All unsupported parts of a module, with the first use of each and the number of uses.
 //!
-//! The decoder stops at the first of them. This reads on, and leaves out what it cannot read: the rest of a body or of a
-//! section.
+//! The decoder stops at the first of them. This code reads on, and skips what it cannot read: the rest of a body or of
+//! a section.
 
 use crate::feature::{Part, remedy, unsupported_part, unsupported_type};
 use std::alloc::{AllocError, AllocFailed, Global};
@@ -9,7 +9,7 @@ use std::fmt;
 use wm_decode::Feature;
 use wm_module_bytes::{ByteReader, Immediates, Opcode, immediates_of, skip_immediates};
 
-/// Where a part is used.
+/// The place of a use.
 #[derive(Clone, Copy, PartialEq, Eq)]
 pub(crate) enum Location {
     Module,
@@ -34,7 +34,7 @@ impl fmt::Display for Location {
     }
 }
 
-/// A part that is used: where first, and how often.
+/// A part that is used: its first use, and the number of uses.
 #[derive(Clone, Copy)]
 pub(crate) struct Use {
     pub part: Part,
@@ -62,7 +62,7 @@ impl fmt::Display for Use {
 /// Why reading stops.
 #[derive(Clone, Copy)]
 enum Stop {
-    /// The bytes can't be read on.
+    /// The rest of the bytes can't be read.
     Unread,
     OutOfMemory,
 }
@@ -79,7 +79,7 @@ impl<T: Drop> From<AllocFailed<T>> for Stop {
     }
 }
 
-/// What was found, or that the bytes can't be read on.
+/// The value that was read, or `Unread` without one.
 fn read<T: Drop>(found: Option<T>) -> Result<T, Stop> {
     match found {
         Some(found) => Ok(found),
@@ -87,7 +87,7 @@ fn read<T: Drop>(found: Option<T>) -> Result<T, Stop> {
     }
 }
 
-/// What was found so far.
+/// The parts found so far.
 #[derive(Drop)]
 struct Survey {
     uses: Vec<Use>,
@@ -97,7 +97,7 @@ struct Survey {
 }
 
 impl Survey {
-    /// Adds that a part is used at an offset.
+    /// Records that a part is used at an offset.
     fn add(&mut self, part: Part, offset: usize) -> Result<(), Stop> {
         for known in self.uses.iter_mut() {
             if known.part == part {
@@ -210,7 +210,7 @@ impl Survey {
         Ok(())
     }
 
-    /// A section of which each item is of a part.
+    /// A section whose items are all uses of a part.
     fn items(&mut self, reader: &mut ByteReader, name: &'static str) -> Result<(), Stop> {
         let offset = reader.at;
         if read(reader.number())? > 0 {
@@ -313,7 +313,7 @@ impl Survey {
         read(skip_immediates(reader, immediates))
     }
 
-    /// The locals and the instructions of a function, which are all the bytes.
+    /// The locals and the instructions of a function, which take up all the bytes.
     fn body(&mut self, reader: &mut ByteReader) -> Result<(), Stop> {
         for _ in 0..read(reader.number())? {
             read(reader.skip_number())?;
@@ -361,7 +361,7 @@ impl Survey {
     }
 }
 
-/// The next bytes of a reader, by their number.
+/// A reader of the next `size` bytes.
 fn part_of<'a>(reader: &ByteReader<'a>, size: usize) -> ByteReader<'a> {
     let end = reader.at.saturating_add(size);
     ByteReader {

@@ -1,4 +1,4 @@
-//! The instruction at which a function's types are wrong: the operands found, and those expected.
+//! The instruction at which a function's types are wrong: the operands found, and the operands expected.
 
 use crate::instr_at::InstrAt;
 use crate::type_stack::Operand;
@@ -6,7 +6,7 @@ use std::alloc::{AllocError, Global};
 use std::fmt;
 use wm_ast::{ConstExpr, Instr, InstrText, Module, Mutability, ValType};
 
-/// How many operands are shown at most.
+/// The most operands that are shown.
 const SHOWN: usize = 8;
 
 /// Operands in brackets, as `[i32 i64]`, with a word for one of any type.
@@ -56,12 +56,12 @@ impl fmt::Display for OpcodePhrase<'_> {
     }
 }
 
-/// Whether a block ends here with the operands that are expected.
+/// Whether a block ends here with the expected operands.
 fn is_result(found: &InstrAt, expected: &[Operand]) -> bool {
     found.instr.is_none() && !found.stack.is_open && found.stack.known.as_slice() == expected
 }
 
-/// The fault of an instruction whose operands are not the fault.
+/// The fault of an instruction whose operands are right.
 fn other_fault(
     alloc: Global,
     found: &InstrAt,
@@ -89,7 +89,7 @@ fn other_fault(
     }
 }
 
-/// The operands that are expected: those of the instruction, or the result of the block.
+/// The expected operands: those of the instruction, or the result of the block.
 fn expected_operands(alloc: Global, found: &InstrAt) -> Result<Vec<Operand>, AllocError> {
     match found.instr {
         Some(instr) => found.scope.operands(alloc, instr),

@@ -4,7 +4,7 @@ use std::alloc::{AllocError, Global};
 use wm_ast::{AccessKind, BlockType, FuncType, Instr, Module, ValType};
 use wm_num::{Conversion, Width};
 
-/// The type of an operand; None if it can have any.
+/// The type of an operand; None if it can be any type.
 pub(crate) type Operand = Option<ValType>;
 
 /// The operands of a block.
@@ -12,12 +12,12 @@ pub(crate) type Operand = Option<ValType>;
 pub(crate) struct TypeStack {
     /// The last one is on top.
     pub known: Vec<Operand>,
-    /// Whether operands of any type are below them: after a jump.
+    /// Whether operands of any type are below the known ones, as after a branch.
     pub is_open: bool,
 }
 
 impl TypeStack {
-    /// The operands with which a block begins.
+    /// The operands at the start of a block.
     pub(crate) fn new(alloc: Global) -> TypeStack {
         TypeStack {
             known: Vec::new(alloc),
@@ -25,19 +25,19 @@ impl TypeStack {
         }
     }
 
-    /// The one on top goes.
+    /// Pops an operand.
     fn pop(&mut self) -> Operand {
         self.known.pop().flatten()
     }
 
-    /// As many go as are expected.
+    /// Pops as many operands as are expected.
     fn take(&mut self, expected: &[Operand]) {
         for _ in expected {
             self.pop();
         }
     }
 
-    /// One comes if there is a type.
+    /// Pushes an operand if there is a type.
     fn give(&mut self, ty: BlockType) -> Result<(), AllocError> {
         if ty.is_some() {
             self.known.push(ty)?;
@@ -45,7 +45,7 @@ impl TypeStack {
         Ok(())
     }
 
-    /// What an instruction makes of the operands.
+    /// Applies an instruction to the operands.
     pub(crate) fn step(
         &mut self,
         alloc: Global,
@@ -104,7 +104,7 @@ fn add_access(operands: &mut Vec<Operand>, kind: AccessKind) -> Result<(), Alloc
     Ok(())
 }
 
-/// Adds operands that are all of one type.
+/// Adds a number of operands of the same type.
 fn add_same(operands: &mut Vec<Operand>, ty: Operand, count: usize) -> Result<(), AllocError> {
     for _ in 0..count {
         operands.push(ty)?;
@@ -130,7 +130,7 @@ pub(crate) struct Scope<'m> {
 }
 
 impl<'m> Scope<'m> {
-    /// A function outside of its body, which is its outermost label.
+    /// A function outside its body, with the body as the outermost label.
     pub(crate) fn new(alloc: Global, module: &'m Module, function: usize) -> Scope<'m> {
         Scope {
             module,
@@ -151,7 +151,7 @@ impl Scope<'_> {
         self.function_type()?.result
     }
 
-    /// The type of a label, from the innermost on.
+    /// The type of a label, counted from the innermost.
     pub(crate) fn label(&self, label: u32) -> BlockType {
         let number = self
             .labels
@@ -181,7 +181,7 @@ impl Scope<'_> {
         Some(self.module.globals.get(global as usize)?.ty)
     }
 
-    /// The parameters of a function that is called.
+    /// The parameters of a called function.
     fn add_parameters(&self, operands: &mut Vec<Operand>, function: u32) -> Result<(), AllocError> {
         if let Some(called) = self.module.func_type(function as usize) {
             for parameter in called.params.as_slice() {
@@ -209,7 +209,7 @@ impl Scope<'_> {
         }
     }
 
-    /// The operands that an instruction takes, the last one on top; None for one of any type.
+    /// The operands that an instruction takes, the last one on top; None for an operand of any type.
     ///
     /// # Errors
     ///
@@ -243,7 +243,7 @@ impl Scope<'_> {
         Ok(operands)
     }
 
-    /// The result of an instruction after which its block goes on, without that of `select`.
+    /// The result of an instruction after which its block goes on, except for `select`.
     fn result(&self, instr: &Instr) -> BlockType {
         match instr {
             Instr::Block(result, _) | Instr::Loop(result, _) | Instr::If { result, .. } => *result,

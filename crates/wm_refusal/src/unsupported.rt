@@ -1,4 +1,4 @@
-//! What a module uses that is not supported.
+//! Unsupported features that a module uses.
 
 use crate::feature::{Part, remedy};
 use crate::survey::{Location, Use, unsupported_parts};
@@ -6,7 +6,7 @@ use std::alloc::{AllocError, Global};
 use std::fmt;
 use wm_decode::Feature;
 
-/// What a module uses that is not supported, and where.
+/// An unsupported feature that a module uses, and where.
 #[derive(Clone, Copy)]
 pub(crate) struct UnsupportedSentence {
     pub part: Part,
@@ -25,7 +25,7 @@ impl fmt::Display for UnsupportedSentence {
     }
 }
 
-/// What is used at an offset at which a feature is faulted: the part by its name, or the feature alone.
+/// The use at the offset of an unsupported feature: the part by its name, or only the feature.
 fn sentence_at(uses: &[Use], feature: Feature, offset: usize) -> UnsupportedSentence {
     for one in uses {
         if one.offset == offset && one.part.feature == feature {
@@ -41,7 +41,7 @@ fn sentence_at(uses: &[Use], feature: Feature, offset: usize) -> UnsupportedSent
     }
 }
 
-/// Whether there is more to report than the first use of one part.
+/// Whether there is more to report than the first use of a single part.
 fn are_several(uses: &[Use]) -> bool {
     match uses {
         [] => false,
@@ -50,8 +50,8 @@ fn are_several(uses: &[Use]) -> bool {
     }
 }
 
-/// Which part is faulted at an offset of a module, in a sentence; and all parts that are not supported, a line each, if
-/// there are several.
+/// Which part is at fault at an offset of a module, in a sentence; and all unsupported parts, a line each, if there are
+/// several.
 ///
 /// # Errors
 ///

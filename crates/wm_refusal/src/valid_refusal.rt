@@ -44,7 +44,7 @@ impl fmt::Display for ValidSentence {
     }
 }
 
-/// Where a module breaks a rule.
+/// The place where a module breaks a rule.
 #[derive(Clone, Copy)]
 struct LocationPhrase(Location);
 
@@ -60,7 +60,7 @@ impl fmt::Display for LocationPhrase {
     }
 }
 
-/// The module that is not valid; None if the bytes spell none.
+/// The module that is not valid; None if the bytes spell no module.
 fn read_again(alloc: Global, bytes: &[u8]) -> Result<Option<Module>, AllocError> {
     match decode(alloc, bytes) {
         Ok(module) => Ok(Some(module)),
@@ -116,7 +116,7 @@ fn fault_text(
     format!(in alloc; "{sentence}")
 }
 
-/// Why the module of these bytes isn't valid. It is decoded again, since the fault keeps nothing of it.
+/// Why the module of these bytes isn't valid. It is decoded again, since the fault doesn't keep it.
 ///
 /// # Errors
 ///

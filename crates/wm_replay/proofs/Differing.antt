@@ -50,7 +50,7 @@ one_step_more m k t start w j ran so lt =
         let grown = more_grows m k (t.steps - suc j) next w.ran (sym e) in
         (next, is, (grown.0, sym w.made ∙ grown.1))
 
--- the event behind a list
+-- the event after a list
 get_behind : (xs : List Event) (e : Event) (es : List Event) → slice_get ((xs ++ e ∷ []) ++ es) (length xs) ≡ Some e
 get_behind [] e es = refl
 get_behind (x ∷ xs) e es = get_behind xs e es

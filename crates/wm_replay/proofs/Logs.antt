@@ -12,7 +12,7 @@ use Rattle.wm_replay.specs.Comparison.{IsFirstOther, IsOther, Replays}
 use Rattle.wm_replay.specs.Following.{HasPlaces}
 use Rattle.wm_replay.specs.Replay.{AreRuns, IsRun}
 
--- the events of a log's thread stand there
+-- the events of a log's thread are there
 pub places_in : (log : List ThreadLog) (k : ℕ) (t : ThreadLog) → HasKeys log → slice_get log k ≡ Some t → HasPlaces k t.events
 places_in log k t keys is i e at =
     keys record { thread = k; number = i } e (ap (option_and_then (λ (u : ThreadLog). slice_get u.events i)) is ∙ at)

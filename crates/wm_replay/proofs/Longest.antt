@@ -25,7 +25,7 @@ with_ending m k t start c j n i end f = record { is_start = f.is_start; places =
 
 -- ---- more steps
 
--- where it stops, no more steps make just the log's events
+-- if it stops, no further steps make exactly the log's events
 no_more : (m : Module) (k : ℕ) (t : ThreadLog) (start c : Config) (j n : ℕ) → Follows m k t start c j n → Stops m c t.events 1000000 j n
     → (i : ℕ) → j < i → i ≤ 1000000 → ¬ MakesEvents m k t i
 no_more m k t start c j n f (at_limit e) i lt le makes = omega (arith, e, lt, le)
@@ -71,7 +71,7 @@ no_steps m k t c j n places g left i le = either (nat_lt j i) refl
     either true is = no_more m k t g.start c j n (follows m k t 1000000 c j n places g) g.stops i (ltb-true j i is) le
     either false is = no_fewer m k t g.start c j n (follows m k t 1000000 c j n places g) left i (ltb-false j i is)
 
--- a replay of 1,000,000 steps says so
+-- this is the answer of a replay of 1,000,000 steps
 pub stop_at_differs : (m : Module) (k : ℕ) (t : ThreadLog) (c : Config) (j n : ℕ) → HasPlaces k t.events → RunsByLog m k t 1000000 c j n → n < length t.events
     → DiffersAt m k (ending t 1000000 t.end) (place.Event n)
 stop_at_differs m k t c j n places g left =

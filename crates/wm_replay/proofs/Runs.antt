@@ -30,7 +30,7 @@ grows m k ran ran' e = grows_with m k ran (take_read (access_of (step m 0 ran.co
 
 -- ---- more steps
 
--- so many steps more
+-- this number of further steps
 abbrev pub more : Module → ℕ → ℕ → Option Ran → Option Ran
 more m k zero o = o
 more m k (suc i) o = and_run_on m k (more m k i o)

@@ -1,4 +1,4 @@
--- How a log compares with the runs of its threads, as the replay answers it.
+-- How a log compares with the runs of its threads, as answered by the replay.
 use Rattle.std.specs.Prelude.{◌≡◌, ◌≢◌, ℕ, ◌<◌, List, Option, Some, None, Result, Ok, Err, length, slice_get, nat_lt, if◌then◌else◌}
 use Rattle.wm_ast.specs.declared.module.Module.{Module}
 use Rattle.wm_event.specs.declared.log.ThreadLog.{ThreadLog}
@@ -11,7 +11,7 @@ use Rattle.wm_replay.specs.Replay.{AreRuns, DiffersAt, IsRun, start_of}
 
 -- ---- a thread
 
--- where a thread that makes no further step differs from its log, after this number of its events
+-- the place where a thread that makes no further step differs from its log, after this number of its events
 abbrev pub end_place : ℕ → ℕ → Place
 end_place made stated = if nat_lt made stated then place.Event made else place.End
 
@@ -35,7 +35,7 @@ ComparesThread m k t (Some answer) = IsOther m k t answer × (¬ IsRun m k t)
 abbrev pub ComparesAt : Module → List ThreadLog → ℕ → Option ReplayAnswer → Type 0
 ComparesAt m log k answer = (t : ThreadLog) → slice_get log k ≡ Some t → ComparesThread m k t answer
 
--- and each of them, but where memory was refused
+-- the comparison of each thread, unless an allocation fails
 pub record ComparesEach {E : Type 0} (m : Module) (log : List ThreadLog) (answers : List (Result (Option ReplayAnswer) E)) : Type 0 where
   pub size : length answers ≡ length log
   pub each : (k : ℕ) (answer : Option ReplayAnswer) → slice_get answers k ≡ Some (Ok answer) → ComparesAt m log k answer

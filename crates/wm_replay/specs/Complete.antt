@@ -16,7 +16,7 @@ use Rattle.wm_replay.specs.Replay.{AreRuns, IsRun}
 abbrev pub ending : ThreadLog → ℕ → End → ThreadLog
 ending t n end = record { start = t.start; end = end; steps = n; events = t.events }
 
--- n steps of thread k make just its log's events, on the values that they read
+-- n steps of thread k make exactly its log's events, on the values that they read
 abbrev pub MakesEvents : Module → ℕ → ThreadLog → ℕ → Type 0
 MakesEvents m k t n = (end : End) × IsRun m k (ending t n end)
 
@@ -48,7 +48,7 @@ pub record IsCompletion (m : Module) (log completed : List ThreadLog) : Type 0 w
   pub threads : (k : ℕ) (t c : ThreadLog) → slice_get log k ≡ Some t → slice_get completed k ≡ Some c → IsLongestRun m k t c
   pub are_runs : AreRuns m completed
 
--- thread k is the first whose events no number of steps makes; a replay of 1,000,000 steps says this of it
+-- thread k is the first whose events no number of steps makes; this is the answer of a replay of 1,000,000 steps to it
 pub record IsFirstWithoutRun (m : Module) (log : List ThreadLog) (k : ℕ) (answer : ReplayAnswer) : Type 0 where
   pub thread : ThreadLog
   pub is_thread : slice_get log k ≡ Some thread

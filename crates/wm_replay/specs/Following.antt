@@ -18,13 +18,13 @@ use Rattle.wm_replay.specs.declared.by_log.StepByLog.{StepByLog}
 use Rattle.wm_replay.specs.declared.by_log.StepByLog.TheVariants as by_log
 use Rattle.wm_replay.specs.Replay.{reads_of, start_of}
 
--- ---- a step beside the log
+-- ---- a step and the log
 
 -- the access makes the event when it reads the value that the event read
 abbrev pub MakesEvent : OpFields → Event → Type 0
 MakesEvent a e = (event_made (key_of e) a e.read ≡ e) × Fits a.width e.read
 
--- it doesn't make it, whatever value it reads
+-- the access doesn't make the event, whatever value it reads
 abbrev pub MakesNotEvent : OpFields → Event → Type 0
 MakesNotEvent a e = (r : ℕ) → Fits a.width r → event_made (key_of e) a r ≢ e
 

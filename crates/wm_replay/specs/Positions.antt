@@ -1,4 +1,4 @@
--- Where in the code a thread makes the events of its log.
+-- The positions in the code at which a thread makes the events of its log.
 use Rattle.std.specs.Prelude.{◌≡◌, ◌⊎◌, ◌+◌, ℕ, List, [], ◌∷◌, ◌++◌, length, take, drop, Some, Result, Ok, Err, slice_get, ⊤}
 use Rattle.wm_ast.specs.declared.module.Module.{Module}
 use Rattle.wm_event.specs.declared.log.ThreadLog.{ThreadLog}
@@ -30,7 +30,7 @@ pub record ArePositions (m : Module) (k : ℕ) (t : ThreadLog) (n : ℕ) (positi
   pub count : length positions ≡ n
   pub each : (i : ℕ) (p : CodePosition) → slice_get positions i ≡ Some p → IsMadeAt m k t i p
 
--- those of the events that a thread has made
+-- the positions of the events that a thread has made
 abbrev pub HasPositions : Module → ℕ → ThreadLog → Result Followed StartFault → Type 0
 HasPositions m k t (Ok f) = ArePositions m k t f.events f.positions
 HasPositions m k t (Err fault) = ⊤

@@ -21,7 +21,7 @@ abbrev pub reads_of : List Event → List ℕ
 reads_of [] = []
 reads_of (e ∷ es) = if reads e then e.read ∷ reads_of es else reads_of es
 
--- the events and the end of thread k are those of its run on the values that they read
+-- the events and the end of thread k are the ones that its run has on the values that they read
 abbrev pub IsRun : Module → ℕ → ThreadLog → Type 0
 IsRun m k t = run m k t.start.name t.start.args (reads_of t.events) t.steps ≡ Some record { events = t.events; end = t.end }
 
@@ -40,11 +40,11 @@ pub record Reaches (m : Module) (k : ℕ) (t : ThreadLog) (j n : ℕ) (ran : Ran
   pub made : ran.events ≡ take n t.events
   pub listed : n ≤ length t.events
 
--- no value that the access may read makes it the log's event, which may be missing
+-- no value that the access may read makes it the log's event; or the log has no such event
 abbrev pub MakesNo : EventKey → OpFields → Option Event → Type 0
 MakesNo key a stated = (r : ℕ) → Fits a.width r → stated ≢ Some (event_made key a r)
 
--- it has made its stated steps, or makes no further one
+-- it has made its stated steps, or makes no further step
 abbrev pub Rests : Module → ThreadLog → ℕ → Config → Type 0
 Rests m t j c = (j ≡ t.steps) ⊎ (step m 0 c ≡ NoStep)
 
@@ -52,12 +52,12 @@ Rests m t j c = (j ≡ t.steps) ⊎ (step m 0 c ≡ NoStep)
 abbrev pub EndsOtherwise : Module → ThreadLog → ℕ → Config → Type 0
 EndsOtherwise m t j c = ((j ≡ t.steps) × (end_of c ≢ t.end)) ⊎ ((j < t.steps) × (step m 0 c ≡ NoStep))
 
--- where thread k differs from its log
+-- the place where thread k differs from its log
 pub data DiffersAt (m : Module) (k : ℕ) (t : ThreadLog) : Place → Type 0 where
-  -- it makes an access that isn't the log's event n, or the log has none
+  -- it makes an access that isn't the log's event n, or the log has no such event
   access : {j n : ℕ} {ran : Ran} {a : OpFields} → Reaches m k t j n ran → j < t.steps → ((r : ℕ) → access_of (step m r ran.config) ≡ Some a)
       → MakesNo record { thread = k; number = n } a (slice_get t.events n) → DiffersAt m k t (place.Event n)
   -- the log's event n is left over
   left_over : {j n : ℕ} {ran : Ran} → Reaches m k t j n ran → n < length t.events → Rests m t j ran.config → DiffersAt m k t (place.Event n)
-  -- it makes the log's events, but ends otherwise
+  -- it makes the log's events, but ends differently
   end : {j : ℕ} {ran : Ran} → Reaches m k t j (length t.events) ran → EndsOtherwise m t j ran.config → DiffersAt m k t place.End

@@ -1,21 +1,21 @@
-//! What a replay answers.
+//! The result of a replay.
 
 use wm_machine::StartFault;
 
 /// Where a thread differs from its log.
 #[derive(Clone, Copy, Debug, PartialEq, Eq)]
 pub enum Place {
-    /// At the log's event of that number: the thread makes an access there that isn't that event whatever value it
-    /// reads, or for which the log has no event, or it makes no access where the log has one.
+    /// At the log's event of that number: the thread makes an access there that can't be that event, whatever value it
+    /// reads; or it makes an access and the log has no event; or it makes none and the log has one.
     Event(usize),
-    /// At its end: it ends before its last stated step, or otherwise than stated.
+    /// At its end: it ends before its last stated step, or differently from what is stated.
     End,
 }
 
 /// How a log compares with the runs of its threads. The thread named is the first that differs.
 #[derive(Clone, Copy, Debug, PartialEq, Eq)]
 pub enum ReplayAnswer {
-    /// Each thread's events and end are those of its run on the values that it read.
+    /// Each thread's events and end are the ones that its run has on the values that it read.
     Same,
     /// The thread doesn't start.
     StartRefused(usize, StartFault),

@@ -1,4 +1,4 @@
-//! A thread that is run by its log: on the values that its events read, as long as it makes them.
+//! A thread that is run by its log: on the values that its events read, as long as it makes those events.
 ghost use Rattle.std.specs.Prelude.{◌≡◌, ℕ, Ok, true, false, IfOk};
 ghost use Rattle.wm_event.specs.Op.{kind_finds};
 ghost use Rattle.wm_event.specs.Reply.{ReadAnswers};
@@ -15,7 +15,7 @@ use wm_machine::{AdvanceFault, CodePosition, Need, StartFault, Stepped, Thread};
 use wm_num::low_bytes;
 use wm_valid::ValidModule;
 
-/// What became of the next step of a thread beside its log.
+/// The outcome of the next step of a thread by its log.
 #[derive(Clone, Copy)]
 enum StepByLog {
     /// It was made: it makes no access, or the access is the log's next event. The thread has now made the given number
@@ -23,7 +23,7 @@ enum StepByLog {
     Stepped(usize),
     /// It wasn't made: its access isn't the log's next event, or the log has no further event.
     OtherAccess,
-    /// There is no step: the thread has ended.
+    /// There is no step because the thread has ended.
     Ended,
 }
 
@@ -31,9 +31,9 @@ enum StepByLog {
 #[derive(Drop)]
 struct Progress {
     steps: u32,
-    /// How many events of its log it made.
+    /// How many events of its log the thread made.
     events: usize,
-    /// Where it was before the step that made each of them.
+    /// The position of the thread before the step that made each event.
     positions: Vec<CodePosition>,
 }
 
@@ -45,9 +45,9 @@ pub struct Followed<'m> {
     pub thread: Thread<'m>,
     /// How many steps it made.
     pub steps: u32,
-    /// How many events of its log it made. They are the log's first ones.
+    /// How many events of its log it made. They are the first ones of the log.
     pub events: usize,
-    /// Where in the code it was before the step that made each of them, in their order.
+    /// The position in the code before the step that made each event, in their order.
     pub positions: List<CodePosition>,
 }
 
@@ -102,7 +102,7 @@ fn access_by_log(
 }
 
 /// Makes the next step of a thread. If it makes an access, that has to be the log's next event, after the given number
-/// of events; where it is made is noted.
+/// of events; the position of the access is noted.
 #[inline(always)]
 fn step_by_log(
     thread: &mut Thread,
@@ -177,10 +177,10 @@ fn run_by_log(
     })
 }
 
-/// Starts a thread as its log states, and runs it on the values that its events read. It stops when it has ended, before
-/// an access that isn't the log's next event, or after `limit` steps. The steps and the end that the log states play no
-/// part. `number` is the thread's number in the log. If the thread doesn't start, the answer is why; that is never
-/// `OutOfMemory`.
+/// Starts a thread as its log states, and runs it on the values that its events read. It stops when it has ended,
+/// before an access that isn't the log's next event, or after `limit` steps. The steps and the end that the log states
+/// are ignored. `number` is the thread's number in the log. If the thread doesn't start, the result is the reason,
+/// which is never `OutOfMemory`.
 ///
 /// # Errors
 ///

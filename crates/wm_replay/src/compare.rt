@@ -12,7 +12,7 @@ use wm_event::{Log, ThreadLog};
 use wm_machine::Need;
 use wm_valid::ValidModule;
 
-/// Where a thread that was run by its log for at most its stated steps differs from that, None if it doesn't.
+/// Where a thread that was run by its log, for at most its stated steps, differs from the log; None if it doesn't.
 fn differing_place(followed: &Followed, stated: &ThreadLog, number: usize) -> Option<Place>
     requires places { HasPlaces number stated.now.events }
     requires runs { RunsAsStated number stated.now followed.now }
@@ -33,7 +33,7 @@ fn differing_place(followed: &Followed, stated: &ThreadLog, number: usize) -> Op
     None
 }
 
-/// Why the log of a thread isn't its run, None where it is.
+/// Why the log of a thread isn't its run; None if it is.
 pub(crate) fn difference(
     alloc: Global,
     module: &ValidModule,
@@ -72,8 +72,8 @@ fn replay_in_order(
     Ok(ReplayAnswer::Same)
 }
 
-/// Compares a log with the runs of its threads: each is started as its log says, and run for its stated steps on the
-/// values that its events read. Long threads are run at the same time, with the same answer.
+/// Compares a log with the runs of its threads: each thread is started as its log states, and run for its stated steps
+/// on the values that its events read. Long threads are run at the same time, with the same answer.
 ///
 /// # Errors
 ///

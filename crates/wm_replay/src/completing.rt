@@ -22,8 +22,8 @@ pub(crate) struct LongestRun {
 pub enum Completion {
     /// The log, with each thread's steps and end from its longest run of at most [`MAX_STEPS`] steps.
     Completed(Log),
-    /// The first thread whose events no number of steps up to [`MAX_STEPS`] makes, and why: what a replay of
-    /// [`MAX_STEPS`] steps says of it. The answer isn't `Same`.
+    /// The first thread whose events no number of steps up to [`MAX_STEPS`] makes, and the answer of a replay of
+    /// [`MAX_STEPS`] steps to it, which isn't `Same`.
     NoRun(ReplayAnswer),
 }
 
@@ -93,10 +93,10 @@ fn complete_thread(
     }
 }
 
-/// Completes a log: each thread gets the steps and the end of the longest of its runs that make just its events, on the
-/// values that they read, of at most [`MAX_STEPS`] steps. It runs until its events are used up and it has ended or
-/// comes to an access that the log doesn't have, where it is cut. The steps and the ends that the log has play no
-/// part; starts and events stay as they are.
+/// Completes a log: each thread gets the steps and the end of its longest run that makes exactly its events, on the
+/// values that they read, of at most [`MAX_STEPS`] steps. It runs until its events are used up and it has ended, or
+/// until it comes to an access that the log doesn't have; there it is cut. The steps and the ends in the log are
+/// ignored; starts and events stay as they are.
 ///
 /// # Errors
 ///

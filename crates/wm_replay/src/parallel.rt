@@ -1,4 +1,4 @@
-//! Long threads are replayed at the same time.
+//! Parallel replay of long threads.
 ghost use Rattle.std.specs.Prelude.{◌<◌, IfOk, length};
 ghost use Rattle.wm_event.specs.Log.{HasKeys};
 ghost use Rattle.wm_replay.specs.Comparison.{ComparesAt, ComparesEach, Replays};
@@ -11,10 +11,10 @@ use std::thread::Threads;
 use wm_event::{Log, ThreadLog};
 use wm_valid::ValidModule;
 
-/// How a thread compares with its log, or that memory was refused.
+/// How a thread compares with its log, or that an allocation failed.
 type Comparison = Result<Option<ReplayAnswer>, AllocError>;
 
-/// From this number of steps on a thread is worth a processor of its own.
+/// A thread with at least this number of steps is worth its own processor.
 const LONG_STEPS: u32 = 20_000;
 
 /// Whether some thread has enough steps for a replay in parallel. The answer is the same either way.

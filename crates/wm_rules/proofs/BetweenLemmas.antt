@@ -65,7 +65,7 @@ module _ (run : LoggedRun) (once : ListsEachOnce run.log run.witness.order) wher
   pub stands_at : (n : ℕ) (key : EventKey) → slice_get run.witness.order n ≡ Some key → place (execution run) (At key) ≡ 1 + n
   stands_at n key at = ap (λ m. 1 + m) (position_listed run.log run.witness.order once n key at)
 
-  -- the place from which on a write can stand behind w
+  -- the place from which on a write can come after w
   start_of : Option ℕ → ℕ
   start_of None = 0
   start_of (Some n) = n
@@ -149,7 +149,7 @@ module _ (order : List EventKey) (part : List ByteWrite) (P : EventKey → Type 
   found_none None some m none = none_written-more order part P all i (get_or part i d) (slice_get-get_or part i d inside) m none
   found_none (Some key) some m none = absurd (cc)
 
--- the writes between a writer and a read that pass a test have each event that passes it and stands there
+-- the writes between a writer and a read that pass a test include each event that passes it and is there
 pub covers_between : (run : LoggedRun) → ListsEachOnce run.log run.witness.order → (w : EventId) (start : Option ℕ) (first end : ℕ) (r : EventKey) → IsPlaceOf run.witness.order start w → first ≡ unwrap_or start 0
     → slice_get run.witness.order end ≡ Some r → (p : EventKey → Bool) (a : ℕ) (P : EventKey → Type 0)
     → ((v : EventKey) → P v → (p v ≡ true) × (place (execution run) w < place (execution run) (At v)) × (place (execution run) (At v) < place (execution run) (At r)))

@@ -19,7 +19,7 @@ use Rattle.wm_rules.specs.Late.{late_number}
 use Rattle.wm_rules.specs.Others.{FindsListed}
 use Rattle.wm_hb.specs.Scan.{Finds}
 
--- of two faults of one case the one whose other write stands no later comes no later
+-- of two faults of one case, the one whose other write is no later comes no later
 pub other_no_later : (x : Execution) (a t i k c : ℕ) (f g : RuleFault) → BeginsWith (a ∷ t ∷ i ∷ k ∷ c ∷ []) (rank x f) → BeginsWith (a ∷ t ∷ i ∷ k ∷ c ∷ []) (rank x g)
     → option_map_or (place x) f.other 0 ≤ option_map_or (place x) g.other 0 → NoLater (rank x f) (rank x g)
 other_no_later x a t i k c f g u v l =

@@ -36,7 +36,7 @@ nothing_before_init x a h = none a h.0 h.1
     none (At a) [] c = c
     none a (m ∷ ms) c = none m ms c.1
 
--- what a fault of V3 under a byte says
+-- the meaning of a fault of V3 at a byte
 pub coherence_says : (x : Execution) (e : Event) (k : ℕ) (w : EventId) → IsEventOf x e → ReadsFrom x (key_of e) k w
     → (f : RuleFault) → Under (rank x) (Breaks x) (3 ∷ e.thread ∷ e.number ∷ k ∷ []) f → BreaksCoherence x (key_of e) e k w f.case f.other
 coherence_says x e k w there reads f u =

@@ -1,4 +1,4 @@
--- What stands between a read and its one writer, and what it tells of coherence and sequential consistency.
+-- What is between a read and its one writer, and what it means for coherence and sequential consistency.
 use Rattle.std.proofs.Common.{◌≡◌, ◌==◌, ℕ, ◌+◌, ◌<◌, ◌≤◌, ◌&&◌, List, [], ◌∷◌, Bool, IsTrue, not, ltb, true, false, Option, None, Some, IsSome, IfSome, arith, refl, length, slice_get, subst, ap, ◌∙◌, if◌then◌else◌}
 use Rattle.std.specs.List.{filter}
 use borrow.Author.Tests.{tests}
@@ -44,7 +44,7 @@ byte_inside run shape e k w there from =
     below false n k less = absurd (omega arith)
 
 module _ (run : LoggedRun) (once : ListsEachOnce run.log run.witness.order) where
-  -- a read doesn't happen before a writer that stands before it
+  -- a read doesn't happen before a writer that comes before it
   pub no_future : KeepsOrder (execution run) → (r : EventKey) (w : EventId) (start : Option ℕ) (end : ℕ) → IsPlaceOf run.witness.order start w → slice_get run.witness.order end ≡ Some r → IfSome start (λ n. n < end)
       → HappensBefore (execution run) (At r) w → ⊥
   no_future agrees r Init start end is at less before = nothing_before_init (execution run) (At r) before
@@ -55,7 +55,7 @@ module _ (run : LoggedRun) (once : ListsEachOnce run.log run.witness.order) wher
       let q = stands_at run once end r at in
       absurd (omega (arith, o, p, q, less))
 
-  -- what stands after a writer is listed from the place after the writer's on
+  -- what comes after a writer is listed from the place after the writer's on
   pub stands_after : (w : EventId) (start : Option ℕ) (n : ℕ) (v : EventKey) → IsPlaceOf run.witness.order start w → slice_get run.witness.order n ≡ Some v → place (execution run) w < place (execution run) (At v)
       → option_map_or (λ m. m + 1) start 0 ≤ n
   stands_after w None n v is at after = omega arith
@@ -65,7 +65,7 @@ module _ (run : LoggedRun) (once : ListsEachOnce run.log run.witness.order) wher
       let q = stands_at run once m w is in
       omega (arith, after, p, q)
 
-  -- what stands before a read is listed before it
+  -- what comes before a read is listed before it
   pub stands_earlier : (r v : EventKey) (end n : ℕ) → slice_get run.witness.order end ≡ Some r → slice_get run.witness.order n ≡ Some v → place (execution run) (At v) < place (execution run) (At r) → n < end
   stands_earlier r v end n at_r at_v before =
       let p = stands_at run once n v at_v in
@@ -97,7 +97,7 @@ coherent_none run e w b there only if_incoherent is_not f u =
     (subst (λ (v : EventId). BreaksCoherence (execution run) (key_of e) e f.byte v f.case f.other) same breaks))
     is_not
 
--- what stands at a place from the first on, and before the last, passes the test
+-- an event at a place from the first up to but not including the last passes the test
 in_between : (first last n a : ℕ) → first ≤ n → n < last → stands_between first last (record { address = a; place = n }) ≡ true
 in_between first last n a from before = test n first last from before
   where

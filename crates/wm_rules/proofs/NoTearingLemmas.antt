@@ -19,7 +19,7 @@ use Rattle.wm_hb.specs.Scan.{Finds, IsEventOf}
 use Rattle.wm_rules.proofs.CaseLemmas.{finds_other, first_case, last_case}
 use Rattle.wm_hb.proofs.FaultLemmas.{read_moves, rule_four, same_key_parts, some_of}
 
--- what a fault of V4 under a byte says
+-- the meaning of a fault of V4 at a byte
 tearing_says : (x : Execution) (e : Event) (k : ℕ) (w : EventId) → IsEventOf x e → ReadsFrom x (key_of e) k w
     → (f : RuleFault) → Under (rank x) (Breaks x) (4 ∷ e.thread ∷ e.number ∷ k ∷ []) f → (f.case ≡ 1) × ((v : EventId) × (f.other ≡ Some v) × BreaksNoTearing x (key_of e) e k w v)
 tearing_says x e k w there reads f u =

@@ -50,7 +50,7 @@ written_over_if x w v r e f b at atomic range wr vr = (λ h. written_over refl f
     back (written_over two g is a wr2 vr2 h) = vr.1 vr2
     back (read_past three a wr2 wv h) = absurd (omega arith)
 
--- of a write that stands between the writer and the read
+-- of a write that is between the writer and the read
 pub out_of_order_if : (x : Execution) (w v : EventId) (r : EventKey) (e : Event) (c : ℕ) (b : Bool) → IsAtomicWrite x v → place x w < place x v → place x v < place x (At r)
     → IsTrue b ↔ Overtakes x w v r e c → IsTrue b ↔ BreaksSequentialConsistency x r e w v c
 out_of_order_if x w v r e c b write after before over =
@@ -61,7 +61,7 @@ overtakes_case x w v r e c (synchronized is t at s h) = (omega arith, omega arit
 overtakes_case x w v r e c (written_over is f at a wr vr h) = (omega arith, omega arith)
 overtakes_case x w v r e c (read_past is a wr wv h) = (omega arith, omega arith)
 
--- what a fault of V5 under a byte says
+-- the meaning of a fault of V5 at a byte
 pub consistency_says : (x : Execution) (e : Event) (k : ℕ) (w : EventId) → IsEventOf x e → ReadsFrom x (key_of e) k w
     → (f : RuleFault) → Under (rank x) (Breaks x) (5 ∷ e.thread ∷ e.number ∷ k ∷ []) f → (v : EventId) × (f.other ≡ Some v) × BreaksSequentialConsistency x (key_of e) e w v f.case
 consistency_says x e k w there reads f u =
@@ -163,7 +163,7 @@ write_of_range run range v = of (event_in run.log v)
         let address : f.address ≡ range.address = p.3 in
         (f, refl, p.0, p.1, rw (width, address) refl)
 
--- what the third case says
+-- the meaning of the third case
 third_after : (x : Execution) (w v : EventId) (r : EventKey) (e : Event) (c : ℕ) → c ≡ 3 → Overtakes x w v r e c → HappensBefore x w v
 third_after x w v r e c three (synchronized one t at s range) = absurd (omega arith)
 third_after x w v r e c three (written_over two f at atomic wr vr range) = absurd (omega arith)

@@ -34,7 +34,7 @@ before_join x a b c h k = (h.0 ++ b ∷ k.0, join h.0 a h.1)
     join [] a e = (e, k.1)
     join (m ∷ ms) a e = (e.0, join ms m e.1)
 
--- what stands in the names of a thread
+-- what is in the names of a thread
 module _ (log : List ThreadLog) (keys : HasKeys log) (t : ℕ) where
   key_of_event : (thread : ThreadLog) → slice_get log t ≡ Some thread → (i : ℕ) (o : Option Event) → slice_get thread.events i ≡ o → (k : EventKey) → option_map key_of o ≡ Some k
       → (k.thread ≡ t) × (k.number ≡ i) × IsSome (event_in log k)
@@ -78,7 +78,7 @@ passes {X} p (y ∷ ys) j x at = one (p y) refl j at (λ j at. passes p ys j x a
     one true is (suc j) at h = h j at
     one false is j at h = h j at
 
--- what holds of each two in turn holds of each two that pass a test
+-- what holds of each two items, in order, holds of each two that pass a test
 pairs_kept : {X : Type 0} (R : X → X → Type 0) (p : X → Bool) (xs : List X) → ((i j : ℕ) (a b : X) → i < j → slice_get xs i ≡ Some a → slice_get xs j ≡ Some b → R a b)
     → (i j : ℕ) (a b : X) → i < j → slice_get (filter p xs) i ≡ Some a → slice_get (filter p xs) j ≡ Some b → R a b
 pairs_kept R p [] all i j a b l at_a at_b = absurd (cc)
@@ -91,7 +91,7 @@ pairs_kept {X} R p (y ∷ ys) all i j a b l at_a at_b = one (p y) i j l at_a at_
     one true (suc i) (suc j) l at_a at_b h = h i j a b (omega arith) at_a at_b
     one false i j l at_a at_b h = h i j a b l at_a at_b
 
--- what stands in a list of names
+-- what is in a list of names
 named : (ks : List EventKey) (i : ℕ) (a : EventId) → slice_get (map At ks) i ≡ Some a → (k : EventKey) × (a ≡ At k) × (slice_get ks i ≡ Some k)
 named [] i a at = absurd (cc)
 named (k ∷ ks) zero a at = (k, sym (same_Some (At k) a at), refl)
@@ -151,7 +151,7 @@ module _ (run : LoggedRun) (keys : HasKeys run.log) (agrees : KeepsOrder (execut
       let l = event_among run keys t p v q.0 (says.there v q.1) (says.passes v q.1) in
       (l.0, ⊎_elim (λ (h : l.0 < n). absurd (turn.fails l.0 (At v) h l.1 (says.holds v q.1))) (λ (h : n ≤ l.0). h) (cases_lt l.0 n), l.1)
 
-  -- where there is none, P holds of none
+  -- if there is none, P holds of none
   pub none_in_thread : slice_get (thread_ids run keys t p) n ≡ None → FindsInThread (execution run) t P None
   none_in_thread past v q =
       let m = among v q in
@@ -165,7 +165,7 @@ module _ (run : LoggedRun) (keys : HasKeys run.log) (agrees : KeepsOrder (execut
       shorter (x ∷ xs) (suc n) (suc i) none l inside = shorter xs n i none (omega arith) (omega arith)
 
   module _ (key : EventKey) (at : slice_get (thread_ids run keys t p) n ≡ Some (At key)) where
-    -- each of which P holds stands no earlier, and then P holds of the first too
+    -- each one that P holds of is no earlier, and then P holds of the first too
     no_earlier : (v : EventKey) → IsInThread t P v → P key × (place (execution run) (At key) ≤ place (execution run) (At v))
     no_earlier v q =
         let m = among v q in
@@ -262,7 +262,7 @@ module _ (x : Execution) (P : EventKey → Type 0) (t : ℕ) where
             λ v p. split v p (place x (At a) ≤ place x (At v)) (below.1 v) (λ q. let o = here.1 v q in omega (arith, l, o)),
           )
 
--- the one that stands first is the first listed
+-- the one that comes first is the first listed
 pub earliest_listed : (run : LoggedRun) → ListsEachOnce run.log run.witness.order → (P : EventKey → Type 0) → ((v : EventKey) → P v → IsSome (event_in run.log v)) → (r : Option EventKey)
     → FindsBelow (execution run) (length run.log) P r → FindsListed run.witness.order P r
 earliest_listed run once P there None none = λ n key at p. none key (thread_inside run.log key (once.events n key at), p)

@@ -1,4 +1,4 @@
--- The event that the order lists first among those of which something holds.
+-- The event that the order lists first among those with some property.
 use Rattle.std.specs.Prelude.{◌≡◌, ℕ, ◌<◌, ◌≤◌, List, Option, None, Some, ltb, slice_get, if◌then◌else◌}
 use Rattle.wm_event.specs.declared.event.EventKey.{EventKey}
 use Rattle.wm_event.specs.declared.event.EventId.{EventId}
@@ -10,27 +10,27 @@ use Rattle.wm_event.specs.HappensBefore.{HappensBefore}
 abbrev pub AreInSequence : Execution → List EventId → Type 0
 AreInSequence x ids = (i j : ℕ) (a b : EventId) → i < j → slice_get ids i ≡ Some a → slice_get ids j ≡ Some b → HappensBefore x a b
 
--- of the ids T holds from the n-th on, and of none before it
+-- among the ids, T holds from the n-th on, and of none before it
 pub record HoldsFrom (T : EventId → Type 0) (ids : List EventId) (n : ℕ) : Type 0 where
   pub fails : (i : ℕ) (v : EventId) → i < n → slice_get ids i ≡ Some v → T v → ⊥
   pub holds : (i : ℕ) (v : EventId) → n ≤ i → slice_get ids i ≡ Some v → T v
 
--- of the events of which P holds the one that the order lists first, or None if it holds of no event
+-- among the events that P holds of, the one that the order lists first, or None if there is no such event
 abbrev pub FindsEarliest : Execution → (EventKey → Type 0) → Option EventKey → Type 0
 FindsEarliest x P None = (v : EventKey) → P v → ⊥
 FindsEarliest x P (Some key) = P key × ((v : EventKey) → P v → place x (At key) ≤ place x (At v))
 
--- the one of two that the order lists first
+-- whichever of two the order lists first
 abbrev pub earlier_of : Execution → Option EventKey → Option EventKey → Option EventKey
 earlier_of x None second = second
 earlier_of x (Some a) None = Some a
 earlier_of x (Some a) (Some b) = if ltb (place x (At b)) (place x (At a)) then Some b else Some a
 
--- v is an event of thread t of which P holds
+-- v is an event of thread t that P holds of
 abbrev pub IsInThread : ℕ → (EventKey → Type 0) → EventKey → Type 0
 IsInThread t P v = (v.thread ≡ t) × P v
 
--- of thread t's events of which P holds the one that the order lists first
+-- among thread t's events that P holds of, the one that the order lists first
 abbrev pub FindsInThread : Execution → ℕ → (EventKey → Type 0) → Option EventKey → Type 0
 FindsInThread x t P result = FindsEarliest x (IsInThread t P) result
 
@@ -38,6 +38,6 @@ FindsInThread x t P result = FindsEarliest x (IsInThread t P) result
 abbrev pub IsBelow : ℕ → (EventKey → Type 0) → EventKey → Type 0
 IsBelow n P v = (v.thread < n) × P v
 
--- of the first n threads' events of which P holds the one that the order lists first
+-- among the first n threads' events that P holds of, the one that the order lists first
 abbrev pub FindsBelow : Execution → ℕ → (EventKey → Type 0) → Option EventKey → Type 0
 FindsBelow x n P result = FindsEarliest x (IsBelow n P) result

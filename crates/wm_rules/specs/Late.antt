@@ -11,6 +11,6 @@ late_number Coherence = 3
 late_number NoTearing = 4
 late_number SequentialConsistency = 5
 
--- b is false only where the event has no fault of the rule
+-- b is false only if the event has no fault of the rule
 abbrev pub IsFaulty : Execution → ℕ → Event → Bool → Type 0
 IsFaulty x rule e b = b ≡ false → Finds x (rule ∷ e.thread ∷ e.number ∷ []) None

@@ -1,4 +1,4 @@
--- Where the writes of a thread begin that can overtake a writer.
+-- The start of the writes of a thread that can overtake a writer.
 use Rattle.std.specs.Prelude.{◌≡◌, ℕ, ◌<◌, List, map}
 use Rattle.wm_event.specs.declared.event.EventId.{EventId}
 use Rattle.wm_event.specs.declared.log.ThreadLog.{ThreadLog}

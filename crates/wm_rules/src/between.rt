@@ -24,7 +24,7 @@ fn count_before(writes: &[ByteWrite], place: usize) -> usize
     )
 }
 
-/// The writes from one place on and before another.
+/// The writes from one place up to but not including another.
 pub fn part_between(writes: &[ByteWrite], start: usize, end: usize) -> &[ByteWrite]
     requires { Rises writes.now }
     ensures { result.now ≡ filter (stands_between start end) writes.now }

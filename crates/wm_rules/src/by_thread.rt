@@ -58,7 +58,7 @@ fn first_in_thread(
     }
 }
 
-/// The one of two events that the order lists first.
+/// Whichever of two events comes first in the order.
 pub fn earlier(
     candidate: &Candidate,
     first: Option<EventKey>,

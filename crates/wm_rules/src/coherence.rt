@@ -18,10 +18,10 @@ use crate::writers::only_writer;
 use wm_event::{Event, EventId, EventKey, Rule, RuleFault};
 use wm_hb::HappensBefore;
 
-/// How many writes are looked at one after the other; among more of them each thread's are searched.
+/// Up to this number, writes are looked at one after the other; if there are more, each thread's are searched.
 const FEW: usize = 64;
 
-/// How many events between a read and its writer are looked at before the writes of each byte are.
+/// If at most this number of events lie between a read and its writer, they are checked before the writes of each byte.
 const NEAR: usize = 32;
 
 /// Whether an event writes a byte of a read and happens between it and the byte's writer.
@@ -40,7 +40,7 @@ pub fn is_written_between(
         && relation.before(other, EventId::At(event.key()))
 }
 
-/// The event at a place of the order, where it writes a byte of a read and happens between it and the byte's writer.
+/// The event at a place of the order, if it writes a byte of a read and happens between it and the byte's writer.
 fn written_between_at(
     relation: &HappensBefore,
     event: &Event,
@@ -194,7 +194,7 @@ fn may_be_incoherent(relation: &HappensBefore, event: &Event, writer: EventId) -
     end - first > NEAR || is_any_between(relation, event, writer, start, first, end)
 }
 
-/// Whether a quick look tells that a read has no fault.
+/// Whether a quick check shows that a read has no fault.
 fn is_surely_coherent(relation: &HappensBefore, event: &Event) -> bool
     requires { IsEventOf (execution relation.now) event.now }
     ensures { IsTrue result → Finds (execution relation.now) (3 ∷ event.now.thread ∷ event.now.number ∷ []) None }

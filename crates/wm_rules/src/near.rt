@@ -67,7 +67,7 @@ fn is_between_at(
         && overlaps(relation.candidate(), event, place)
 }
 
-/// Whether one of the events from a place on and before a read's place does.
+/// Whether this holds for one of the events from a place up to but not including a read's place.
 pub fn is_any_between(
     relation: &HappensBefore,
     event: &Event,

@@ -38,7 +38,7 @@ fn is_tear_free_like(candidate: &Candidate, event: &Event, id: EventId) -> bool
     }
 }
 
-/// Whether a byte before this one of a read has that writer.
+/// Whether an earlier byte of a read has that writer.
 pub fn has_earlier(candidate: &Candidate, event: &Event, byte: u8, id: EventId) -> bool
     ensures { IsTrue result ↔ ((j : ℕ) × (j < byte) × ReadsFrom (execution candidate.now) (key_of event.now) j id) }
 {

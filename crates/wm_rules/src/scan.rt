@@ -1,4 +1,4 @@
-//! The scan of all events, by one rule after the other.
+//! The scan of all events, one rule after the other.
 ghost use Rattle.std.specs.Prelude.{◌≡◌, ◌<◌, ◌≤◌, [], ◌∷◌, All, Bool, IfOk, List, length};
 ghost use Rattle.std.specs.List.{AllZip};
 ghost use Rattle.rayon.specs.Lists.{first_true};
@@ -47,7 +47,7 @@ pub(crate) fn first_value_fault(candidate: &Candidate) -> Option<RuleFault>
     None
 }
 
-/// The rules that speak of an order that agrees with happens-before.
+/// The rules that assume an order that agrees with happens-before.
 #[derive(Clone, Copy)]
 pub(crate) enum LateRule {
     Coherence,
@@ -82,7 +82,7 @@ fn is_faulty(relation: &HappensBefore, rule: LateRule, event: &Event) -> bool
     fault_at_event(relation, rule, event).is_some()
 }
 
-/// The place among events of the first with a fault by a rule, looked for in parallel.
+/// The place, among events, of the first event with a fault by a rule, searched for in parallel.
 fn first_faulty(
     rt: &(impl Threads + Sync),
     relation: &HappensBefore,
@@ -120,7 +120,7 @@ pub(crate) fn fault_in_thread(
     None
 }
 
-/// The first fault in a thread by a rule. It looks in parallel whether there is any.
+/// The first fault in a thread by a rule. It first checks in parallel whether there is any.
 fn fault_of_thread(
     rt: &(impl Threads + Sync),
     relation: &HappensBefore,
@@ -154,7 +154,7 @@ fn fault_by_rule(
     None
 }
 
-/// The first fault, where none is of the first two rules.
+/// The first fault, given that none is of the first two rules.
 fn first_fault(rt: &(impl Threads + Sync), relation: &HappensBefore) -> Option<RuleFault>
     requires { (f : RuleFault) → Breaks (execution relation.now) f → 3 ≤ rule_number f.rule }
     ensures { Finds (execution relation.now) [] result }
@@ -182,10 +182,10 @@ pub(crate) fn fault_of_edge(edge: Edge) -> RuleFault
     }
 }
 
-/// Whether the memory rules permit a run: Valid where all five hold, else the first fault, which is the
-/// least by rule, event, byte, case and the place of the other write in the order.
+/// Whether the memory rules permit a run: Valid if all five hold, otherwise the first fault, which is the least by
+/// rule, event, byte, case and the place of the other write in the order.
 ///
-/// An error comes only where memory was refused.
+/// The only error is an allocation failure.
 pub fn judge(
     rt: &(impl AllocGlobal + Threads + Sync),
     candidate: &Candidate,

@@ -1,4 +1,4 @@
-//! The judgement of [`judge`](crate::judge) by one thread, for callers that judge many runs at the same time.
+//! The judgement of [`judge`](crate::judge) on one thread, for callers that judge many runs at the same time.
 ghost use Rattle.std.specs.Prelude.{◌≤◌, [], ◌∷◌, IfOk};
 ghost use Rattle.wm_event.specs.declared.rule.RuleFault.{RuleFault};
 ghost use Rattle.wm_event.specs.Faults.{Breaks, Judges, rule_number};
@@ -24,7 +24,7 @@ fn fault_by_rule(relation: &HappensBefore, rule: LateRule) -> Option<RuleFault>
     None
 }
 
-/// The first fault, where none is of the first two rules.
+/// The first fault, given that none is of the first two rules.
 fn first_fault(relation: &HappensBefore) -> Option<RuleFault>
     requires { (f : RuleFault) → Breaks (execution relation.now) f → 3 ≤ rule_number f.rule }
     ensures { Finds (execution relation.now) [] result }

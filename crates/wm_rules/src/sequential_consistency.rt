@@ -57,7 +57,7 @@ fn is_synchronized(candidate: &Candidate, event: &Event, writer: EventId, other:
     }
 }
 
-/// The second case: both writes happen before the read, and the writer is atomic with the other's range.
+/// The second case: both writes happen before the read, and the writer is atomic with the other write's range.
 fn is_written_over(relation: &HappensBefore, event: &Event, writer: EventId, other: EventId) -> bool
     ensures { IsTrue result ↔ Overtakes (execution relation.now) writer other (key_of event.now) event.now 2 }
 {
@@ -82,7 +82,7 @@ fn is_read_past(relation: &HappensBefore, event: &Event, writer: EventId, other:
         && relation.before(writer, other)
 }
 
-/// Whether a write may not be between a read and its writer, by a case of the rule.
+/// Whether a case of the rule forbids that a write is between a read and its writer.
 fn overtakes(
     relation: &HappensBefore,
     event: &Event,
@@ -100,7 +100,7 @@ fn overtakes(
     }
 }
 
-/// Whether an atomic write is between a read and its writer where it may not be, by a case of the rule.
+/// Whether an atomic write is between a read and its writer although a case of the rule forbids it.
 pub fn is_out_of_order(
     relation: &HappensBefore,
     event: &Event,
@@ -139,7 +139,7 @@ fn may_be_overtaken(relation: &HappensBefore, event: &Event, writer: EventId, ca
     }
 }
 
-/// The range that the other write has, by a case of the rule.
+/// The range that the other write has in a case of the rule.
 pub fn range_by_case(candidate: &Candidate, event: &Event, writer: EventId, case: u8) -> Range
     ensures second { case ≡ 2 → (f : Event) → event_at (execution candidate.now) writer ≡ Some f → result ≡ range_of f }
     ensures others { case ≢ 2 → result ≡ range_of event.now }
@@ -153,7 +153,7 @@ pub fn range_by_case(candidate: &Candidate, event: &Event, writer: EventId, case
     }
 }
 
-/// The first listed write that is between a read and its writer where it may not be, by a case of the rule.
+/// The first listed write that is between a read and its writer although a case of the rule forbids it.
 fn first_out_of_order(
     relation: &HappensBefore,
     event: &Event,
@@ -220,7 +220,7 @@ fn consistency_fault_at(
     None
 }
 
-/// Whether a read or its writer is atomic. Else no write overtakes it.
+/// Whether a read or its writer is atomic. If neither is, no write overtakes the writer.
 fn can_be_overtaken(candidate: &Candidate, event: &Event, writer: EventId) -> bool
     ensures { (v : EventId) (c : ℕ) → Overtakes (execution candidate.now) writer v (key_of event.now) event.now c → IsTrue result }
 {
@@ -266,7 +266,7 @@ fn may_be_inconsistent(relation: &HappensBefore, event: &Event, writer: EventId)
     !part_between(writes, first, end).is_empty()
 }
 
-/// Whether a quick look tells that a read has no fault.
+/// Whether a quick check shows that a read has no fault.
 fn is_surely_consistent(relation: &HappensBefore, event: &Event) -> bool
     requires { IsEventOf (execution relation.now) event.now }
     ensures { IsTrue result → Finds (execution relation.now) (5 ∷ event.now.thread ∷ event.now.number ∷ []) None }
@@ -277,7 +277,7 @@ fn is_surely_consistent(relation: &HappensBefore, event: &Event) -> bool
     }
 }
 
-/// The first fault of an event. A writer of several bytes is looked at once.
+/// The first fault of an event. A writer of several bytes is checked only once.
 pub fn consistency_fault(relation: &HappensBefore, event: &Event) -> Option<RuleFault>
     requires { IsEventOf (execution relation.now) event.now }
     ensures { Finds (execution relation.now) (5 ∷ event.now.thread ∷ event.now.number ∷ []) result }

@@ -1,4 +1,4 @@
-//! V1: each byte read is one that its writer wrote.
+//! V1: each byte read has the value that its writer wrote there.
 ghost use Rattle.std.specs.Prelude.{◌<◌, [], ◌∷◌, Some};
 ghost use Rattle.wm_event.specs.First.{FindsFirst};
 ghost use Rattle.wm_event.specs.Event.{key_of};

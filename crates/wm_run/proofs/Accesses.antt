@@ -88,7 +88,7 @@ added_by : (initial : List ℕ) (h : List HistoryStep) (t : ℕ) (op : OpFields)
 added_by initial h t op true = ap (steps initial) (reverse-append h (Drain t ∷ Access t op ∷ []))
 added_by initial h t op false = ap (steps initial) (reverse-append h (Access t op ∷ []))
 
--- what an access adds to the steps, behind the drain that a full buffer forces
+-- what an access adds to the steps, after the drain that a full buffer forces
 pub added : (initial : List ℕ) (h : List HistoryStep) (t : ℕ) (op : OpFields)
     → let s = steps initial (reverse h) in
     steps initial (reverse (h ++ access_items (drains_first s t op) t op)) ≡ step_of initial (ready s t op) (Access t op) ∷ ready s t op

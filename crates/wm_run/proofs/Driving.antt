@@ -139,7 +139,7 @@ logged_at starts ys r logs t log same are at =
     let runner = get_some ys t in_ys in
     record { start = start.0; runner = runner.0; at = runner.1; is = same_Some (log_of r t start.0 runner.0) log (sym (are.each t start.0 runner.0 start.1 runner.1) ∙ at) }
 
--- at most so many threads and steps as the plan has
+-- at most the number of threads and steps of the plan
 pub is_within : (m : Module) (plan : Plan) (turns : List Turn) (xs : List Runner) (r : Recording) (ys : List Runner) (r' : Recording) (run : Record) → IsPlan plan turns → Drives m plan turns xs r ys r' run → IsWithinPlan run
 is_within m plan turns xs r ys r' run is d =
     let g : Setting = setting_of m r plan.steps in

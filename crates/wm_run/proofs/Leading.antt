@@ -39,7 +39,7 @@ one_read_more : (b : Bool) (r : ℕ) (xs ys behind : List ℕ) (later : List ℕ
 one_read_more true r xs ys behind later same = ap (λ l. r ∷ l) same
 one_read_more false r xs ys behind later same = same
 
--- what one event more read stands before the values behind
+-- what one more event read comes before the remaining values
 reads_of-more : (es : List Event) (e : Event) (behind : List ℕ) → reads_of (es ++ e ∷ []) ++ behind ≡ reads_of es ++ cond (reads e) (e.read ∷ behind) behind
 reads_of-more [] e behind = last_read (reads e) e.read behind
 reads_of-more (f ∷ es) e behind = one_read_more (reads f) f.read (reads_of (es ++ e ∷ [])) (reads_of es) behind (cond (reads e) (e.read ∷ behind) behind) (reads_of-more es e behind)
@@ -115,7 +115,7 @@ leads_by_reply s k first new es fs n a reply e read so asks answers is made more
     subst (λ xs. LeadsTo m k first xs (n + 1) new) (sym more)
     (leads_by_access m k first (config_of s) new es n a e so again fits (access_of_need s 0 a (asks 0)) stepped (ap (λ (x : Event). x.thread) event) (ap (λ (x : Event). x.number) event))
 
--- ---- where it stands
+-- ---- the next access
 
 pub before_access : (s : State) (a : OpFields) → ((r : ℕ) → need_of r s ≡ need.Access a) → is_before_access s.module (config_of s) ≡ true
 before_access s a asks = ap is_access (access_of_need s 0 a (asks 0))

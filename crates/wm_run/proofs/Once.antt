@@ -51,7 +51,7 @@ no_rest g h t old _ _ (access {op = op} lt few asks leads) (ended end over) = no
 no_rest g h t old _ _ (access lt few asks leads) (spent all) = omega (arith, lt, all)
 no_rest g h t old _ _ (access lt few asks leads) (full op asks' much) = omega (arith, few, much)
 
--- the state behind a step of thread t
+-- the state after a step of thread t
 abbrev pub behind : ScriptState → ℕ → ThreadState → List HistoryStep → ScriptState
 behind old t next items = record { threads = slice_set old.threads t next; history = old.history ++ items }
 
@@ -75,7 +75,7 @@ rest_turn g old _ t thread at rest (rests at' rest') = refl
 rest_turn g old _ t thread at rest (drains {drain = drain} is may) = absurd (none-some drain is)
 rest_turn g old _ t thread at rest (keeps {drain = drain} is cannot) = absurd (none-some drain is)
 
--- the state behind a drain
+-- the state after a drain
 abbrev pub drained : ScriptState → HistoryStep → ScriptState
 drained old drain = record { threads = old.threads; history = old.history ++ drain ∷ [] }
 

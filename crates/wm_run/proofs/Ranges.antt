@@ -105,7 +105,7 @@ pages_small (Some memory) good = let low = good.0 in let high = good.1 in omega 
 memory_small : (m : Module) → Valid m → memory_size m ≤ 2 ^ 32
 memory_small m valid = let few = pages_small m.memory valid.limits in omega (arith, few)
 
--- an event that is there stands below the numbers of threads and of events
+-- an event that exists is below the numbers of threads and of events
 pub record IsBelow (log : List ThreadLog) (key : EventKey) : Type 0 where
   pub thread : key.thread < length log
   pub number : key.number < event_count log

@@ -24,7 +24,7 @@ use Rattle.wm_valid.specs.Valid.{IsInit}
 
 -- ---- the ends of a round's workers are one for each thread
 
--- each end stands at its thread's number, behind n others
+-- each end is at its thread's number, after n others
 abbrev pub StandBehind : ℕ → List ThreadEnd → Type 0
 StandBehind n ends = (k : ℕ) (e : ThreadEnd) → slice_get ends k ≡ Some e → e.thread ≡ n + k
 

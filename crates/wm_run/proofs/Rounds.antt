@@ -48,7 +48,7 @@ no_start = record { name = []; args = [] }
 pub programs_from : (is_open : Bool) (m : Module) (starts : List Start) (limit : ℕ) (ends : List ThreadEnd) → AreEndsOf is_open m starts limit ends → All (λ (e : ThreadEnd). e.program.value ≡ m) ends
 programs_from is_open m starts limit ends are = λ k d below. (let lt : k < length starts = omega (arith, are.0) in (are.1 k no_start d lt).of_module)
 
--- ---- the end of a thread stands at its number
+-- ---- the end of a thread is at its number
 
 record IsEndAt (is_open : Bool) (m : Module) (starts : List Start) (limit : ℕ) (ends : List ThreadEnd) (t : ℕ) : Type 0 where
   pub end : ThreadEnd
@@ -70,7 +70,7 @@ end_at is_open m starts limit ends t are lt =
       is_end = is;
     }
 
--- an end stands at its thread's number
+-- an end is at its thread's number
 pub own_place : (is_open : Bool) (m : Module) (starts : List Start) (limit : ℕ) (ends : List ThreadEnd) (k : ℕ) (e : ThreadEnd) → AreEndsOf is_open m starts limit ends → slice_get ends k ≡ Some e → e.thread ≡ k
 own_place is_open m starts limit ends k e are is =
     let within : k < length ends = slice_get_within ends k e is in
@@ -97,7 +97,7 @@ as_many is_open m starts limit ends r run are g = elim (cases_lt (threads_of r) 
 
 -- ---- each thread
 
--- what the log of a thread says of it
+-- what the log of a thread states about it
 record IsThread (is_open : Bool) (m : Module) (starts : List Start) (limit : ℕ) (run : Record) (t : ℕ) (log : ThreadLog) : Type 0 where
   pub is_start : slice_get starts t ≡ Some log.start
   pub within : log.steps ≤ limit
@@ -162,7 +162,7 @@ starts_from is_open m starts limit run are = same_lists (map (λ (log : ThreadLo
         let here : slice_get (map (λ (x : ThreadLog). x.start) run.log) t ≡ Some log.start = slice_get-map (λ (x : ThreadLog). x.start) run.log t ∙ ap (option_map (λ (x : ThreadLog). x.start)) at in
         get_or_from_slice_get (map (λ (x : ThreadLog). x.start) run.log) t log.start d here ∙ sym (get_or_from_slice_get starts t log.start d (are.each t log at).is_start)
 
--- at most so many threads and steps as the plan has
+-- at most the number of threads and steps of the plan
 pub within_from : (is_open : Bool) (m : Module) (plan : Plan) (ends : List ThreadEnd) (r : Recording) (run : Record) → IsRoundPlan plan → AreEndsOf is_open m plan.starts plan.steps ends → IsGathered m r ends run → IsWithinPlan run
 within_from is_open m plan ends r run is are g =
     let threads = threads_from is_open m plan.starts plan.steps ends r run are g in

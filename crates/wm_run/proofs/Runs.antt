@@ -33,7 +33,8 @@ use Rattle.wm_run.proofs.Accesses.{added, finds, fits_after, made_again, no_read
 
 -- ---- one thread
 
--- thread t has run from its start to where it stands, on the values that these events read, whatever would be read next
+-- thread t has run from its start to its current state, on the values that these events read, whatever would be read
+-- next
 pub record HasRun (m : Module) (t : ℕ) (start : Start) (thread : ThreadState) (es : List Event) : Type 0 where
   pub first : Config
   pub is_first : started m start.name start.args ≡ Ok first

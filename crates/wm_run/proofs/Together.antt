@@ -53,7 +53,7 @@ logged_events r ends logs k one_each agrees are = same_lists (map (λ (log : Thr
         let has = some_end ends t (one_each.each t there) in
         item t d has.0 in_events there has.1
 
--- ---- what the parts of a gathering say
+-- ---- what the parts of a gathering state
 
 pub record IsWhole (r : Recording) (ends : List ThreadEnd) (logs : List ThreadLog) : Type 0 where
   pub one_each : HasOneEach (threads_of r) ends

@@ -17,12 +17,12 @@ HasEnd ends t = (e : ThreadEnd) × IsEndIn ends t e
 abbrev pub AreBelow : ℕ → List ThreadEnd → Type 0
 AreBelow threads ends = (k : ℕ) (e : ThreadEnd) → slice_get ends k ≡ Some e → e.thread < threads
 
--- one end for each of this number of threads, and no other
+-- exactly one end for each of this number of threads, and no other
 pub record HasOneEach (threads : ℕ) (ends : List ThreadEnd) : Type 0 where
   pub each : (t : ℕ) → t < threads → ends_of ends t ≡ 1
   pub others : AreBelow threads ends
 
--- t isn't one of this number of threads and has an end, and it is the least of those
+-- t isn't one of this number of threads and has an end, and it is the least such thread
 pub record IsLeastStray (threads : ℕ) (ends : List ThreadEnd) (t : ℕ) : Type 0 where
   pub stray : threads ≤ t
   pub listed : HasEnd ends t

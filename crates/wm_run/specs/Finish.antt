@@ -1,4 +1,4 @@
--- What is made of the threads and of what they recorded.
+-- The result of the threads and of what they recorded.
 use Rattle.std.specs.Prelude.{◌≡◌, ℕ, List, [], length, unwrap_or, Some, slice_get}
 use Rattle.wm_event.specs.declared.log.Start.{Start}
 use Rattle.wm_event.specs.declared.log.ThreadLog.{ThreadLog}
@@ -9,7 +9,7 @@ use Rattle.wm_recorder.specs.Recorder.{IsRecording, Recording}
 use Rattle.wm_run.specs.declared.runner.Runner.{Runner}
 use Rattle.wm_run.specs.Run.{Record}
 
--- what is logged of thread t
+-- what is logged for thread t
 abbrev pub log_of : Recording → ℕ → Start → Runner → ThreadLog
 log_of recorder t start runner =
     record { start = start; end = end_of (config_of runner.thread); steps = runner.made; events = unwrap_or (slice_get recorder.events t) [] }

@@ -1,4 +1,4 @@
--- What the ends of all threads and the recorder that they shared make together.
+-- The combined result of the ends of all threads and the recorder that they shared.
 use Rattle.std.specs.Prelude.{◌≡◌, ℕ, ◌<◌, List, [], length, map, Some, slice_get, unwrap_or, ⊤}
 use Rattle.wm_ast.specs.declared.module.Module.{Module}
 use Rattle.wm_event.specs.declared.log.ThreadLog.{ThreadLog}
@@ -12,7 +12,7 @@ use Rattle.wm_run.specs.Ends.{HasOneEach, IsEndIn, IsEndsFault}
 use Rattle.wm_run.specs.Reached.{thread_log}
 use Rattle.wm_run.specs.Run.{Record}
 
--- what is logged of a thread by its end
+-- what is logged for a thread, by its end
 abbrev pub log_by : ThreadEnd → ThreadLog
 log_by e = thread_log e.start e.end e.steps e.events
 
@@ -21,24 +21,24 @@ pub record AreLogsBy (threads : ℕ) (ends : List ThreadEnd) (logs : List Thread
   pub count : length logs ≡ threads
   pub each : (t : ℕ) (e : ThreadEnd) → t < threads → IsEndIn ends t e → slice_get logs t ≡ Some (log_by e)
 
--- the events of the end are those that were recorded of its thread
+-- the events of the end are the ones recorded for its thread
 abbrev pub HasItsEvents : Recording → ThreadEnd → Type 0
 HasItsEvents r e = unwrap_or (slice_get r.events e.thread) [] ≡ e.events
 
--- a recorder that stopped the thread is full
+-- the recorder is full if the memory stopped the thread
 abbrev pub StopsWhereFull : Recording → ThreadEnd → Type 0
 StopsWhereFull r e = e.stop ≡ Memory → IsFull r
 
--- the end and the recorder say the same of the thread
+-- the end and the recorder agree on the thread
 pub record Agrees (r : Recording) (e : ThreadEnd) : Type 0 where
   pub events : HasItsEvents r e
   pub full : StopsWhereFull r e
 
--- they say the same of all threads
+-- they agree on all threads
 abbrev pub AllAgree : Recording → List ThreadEnd → Type 0
 AllAgree r ends = (t : ℕ) (e : ThreadEnd) → t < threads_of r → IsEndIn ends t e → Agrees r e
 
--- t is the first thread of which they don't
+-- t is the first thread on which they disagree
 pub record IsFirstSplit (r : Recording) (ends : List ThreadEnd) (t : ℕ) : Type 0 where
   pub there : t < threads_of r
   pub split : (e : ThreadEnd) × IsEndIn ends t e × (Agrees r e → ⊥)
@@ -56,7 +56,7 @@ pub record IsGathered (m : Module) (r : Recording) (ends : List ThreadEnd) (run 
   pub recording : IsRecording r
   pub valid : RecordsValid r
 
--- why they make none: first Init, then the ends, then what they say of their threads
+-- why they make no run: first Init, then the ends, then disagreements on threads
 abbrev pub IsGatherFault : Module → Recording → List ThreadEnd → RunFault → Type 0
 IsGatherFault m r ends run.Foreign = IsInit m (initial_of r) → ⊥
 IsGatherFault m r ends (run.Ends t) = IsInit m (initial_of r) × IsEndsFault (threads_of r) ends t

@@ -1,4 +1,4 @@
--- How the threads of a plan begin.
+-- The starts of a plan's threads.
 use Rattle.std.specs.Prelude.{◌≡◌, ℕ, List, length, Some, slice_get, ⊤}
 use Rattle.wm_ast.specs.declared.module.Module.{Module}
 use Rattle.wm_event.specs.declared.log.Start.{Start}
@@ -14,7 +14,7 @@ pub record IsLaunched (m : Module) (start : Start) (runner : Runner) : Type 0 wh
   pub program : runner.thread.module ≡ m
   pub begins : Begins m start (runner_state runner)
 
--- one for each start
+-- a thread for each start
 pub record AreLaunched (m : Module) (starts : List Start) (runners : List Runner) : Type 0 where
   pub count : length runners ≡ length starts
   pub each : (t : ℕ) (start : Start) (runner : Runner) → slice_get starts t ≡ Some start → slice_get runners t ≡ Some runner → IsLaunched m start runner

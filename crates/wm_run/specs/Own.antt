@@ -1,4 +1,4 @@
--- A log of the module's own threads over this memory, whichever way they took turns.
+-- A log of the module's own threads over this memory, in whichever order they took turns.
 use Rattle.std.specs.Prelude.{◌≡◌, ℕ, ◌<◌, ◌≤◌, List, length, All, Some, slice_get}
 use Rattle.wm_ast.specs.declared.module.Module.{Module}
 use Rattle.wm_event.specs.Limits.{max_steps, max_threads}
@@ -15,7 +15,7 @@ use Rattle.wm_replay.specs.Replay.{AreRuns}
 use Rattle.wm_valid.specs.Valid.{IsInit, Valid}
 use Rattle.wm_run.specs.Run.{Record, over}
 
--- each thread is its run, and log and witness are what one legal history over the initial memory records
+-- each thread is its run, and the log and the witness are what one legal history over the initial memory records
 pub record IsOwnRun (m : Module) (run : Record) : Type 0 where
   pub initial : List ℕ
   pub is_init : IsInit m initial
@@ -25,7 +25,7 @@ pub record IsOwnRun (m : Module) (run : Record) : Type 0 where
   pub records : Records (length run.log) initial (steps initial history) (over initial run)
   pub runs : AreRuns m run.log
 
--- at most this number of threads and steps as a document has, and results of 64 bits
+-- at most the threads and steps of a document, and 64-bit results
 pub record IsWithinPlan (run : Record) : Type 0 where
   pub threads : length run.log ≤ max_threads
   pub steps : (t : ℕ) (thread : ThreadLog) → slice_get run.log t ≡ Some thread → thread.steps ≤ max_steps

@@ -1,4 +1,4 @@
--- What a plan keeps with the turns of its script, and what is wrong with one that doesn't.
+-- The requirements on a plan with the turns of its script, and the faults of a plan that violates them.
 use Rattle.std.specs.Prelude.{◌≡◌, ℕ, ◌<◌, ◌≤◌, List, length, Some, slice_get}
 use Rattle.wm_event.specs.Limits.{max_steps, max_threads}
 use Rattle.wm_run.specs.Limits.{max_turns}
@@ -19,11 +19,11 @@ pub record HasThreads (plan : Plan) : Type 0 where
   pub some : 0 < length plan.starts
   pub few : length plan.starts ≤ max_threads
 
--- each turn is that of one of this number of threads
+-- each turn is for one of this number of threads
 abbrev pub AreTurnsOf : ℕ → List Turn → Type 0
 AreTurnsOf threads turns = (k : ℕ) (turn : Turn) → slice_get turns k ≡ Some turn → thread_of turn < threads
 
--- some turn is that of thread t, which isn't among this number of threads, and t is the least of those
+-- some turn is for thread t, which isn't among this number of threads, and t is the least such thread
 pub record IsLeastAbsent (threads : ℕ) (turns : List Turn) (t : ℕ) : Type 0 where
   pub absent : threads ≤ t
   pub listed : (k : ℕ) × ((turn : Turn) × (slice_get turns k ≡ Some turn) × (thread_of turn ≡ t))
@@ -36,7 +36,7 @@ pub record IsPlan (plan : Plan) (turns : List Turn) : Type 0 where
   pub few : length turns ≤ max_turns
   pub there : AreTurnsOf (length plan.starts) turns
 
--- the first thing that is wrong with a plan and its turns
+-- the first fault of a plan and its turns
 abbrev pub IsPlanFault : Plan → List Turn → PlanFault → Type 0
 IsPlanFault plan turns fault.Threads = HasThreads plan → ⊥
 IsPlanFault plan turns fault.Steps = HasThreads plan × (max_steps < plan.steps)

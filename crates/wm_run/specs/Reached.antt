@@ -1,4 +1,4 @@
--- Where a thread is after some of its steps.
+-- The state of a thread after some of its steps.
 use Rattle.std.specs.Prelude.{◌≡◌, ◌+◌, ℕ, List, ◌++◌, Bool, true, false, Result, Ok, Err, Option, Some, None}
 use Rattle.wm_ast.specs.declared.module.Module.{Module}
 use Rattle.wm_event.specs.declared.event.Event.{Event}
@@ -21,7 +21,7 @@ abbrev pub ran_from : Module → ℕ → Result Config StartFault → List ℕ �
 ran_from m k (Err fault) reads n = None
 ran_from m k (Ok first) reads n = steps m k first reads n
 
--- how far thread k is after the steps of its log, on the values that its events read
+-- the state of thread k after the steps of its log, on the values that its events read
 abbrev pub ran_by : Module → ℕ → ThreadLog → Option Ran
 ran_by m k t = ran_from m k (started m t.start.name t.start.args) (reads_of t.events) t.steps
 
@@ -29,7 +29,7 @@ abbrev pub is_access : Option OpFields → Bool
 is_access None = false
 is_access (Some op) = true
 
--- the next step from there makes an access; which one doesn't depend on the value read
+-- the next step from there makes an access, which doesn't depend on the value read
 abbrev pub is_before_access : Module → Config → Bool
 is_before_access m c = is_access (access_of (step m 0 c))
 
@@ -41,7 +41,7 @@ ran_before_access m (Some ran) = is_before_access m ran.config
 abbrev pub stands_before_access : Module → ℕ → ThreadLog → Bool
 stands_before_access m k t = ran_before_access m (ran_by m k t)
 
--- n steps of thread k make these events, on the values that they read, and lead to there, whatever values come after
+-- n steps of thread k make these events, on the values that they read, and lead there, whatever values come after
 abbrev pub LeadsTo : Module → ℕ → Config → List Event → ℕ → Config → Type 0
 LeadsTo m k first events n c =
     (behind : List ℕ) → steps m k first (reads_of events ++ behind) n ≡ Some (record { events = events; config = c; reads = behind })
@@ -51,6 +51,6 @@ abbrev pub LeadsOn : ℕ → State → List Event → State → List Event → T
 LeadsOn k old events new more =
     (first : Config) (n : ℕ) → LeadsTo old.module k first events n (config_of old) → LeadsTo old.module k first more (n + 1) (config_of new)
 
--- the same from a start that is good
+-- the same from a valid start
 abbrev pub HasRun : Module → ℕ → Start → List Event → ℕ → Config → Type 0
 HasRun m k start events n c = (first : Config) × (started m start.name start.args ≡ Ok first) × LeadsTo m k first events n c

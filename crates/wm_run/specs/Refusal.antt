@@ -22,7 +22,7 @@ pub record IsFirstRefused (m : Module) (starts : List Start) (t : ℕ) (fault : 
 abbrev pub AllStart : Module → List Start → Type 0
 AllStart m starts = (t : ℕ) (start : Start) → slice_get starts t ≡ Some start → (c : Config) × (started m start.name start.args ≡ Ok c)
 
--- why a script isn't played: first what is wrong with the plan, then the first thread that doesn't start
+-- why a script isn't played: first the fault of the plan, then the first thread that doesn't start
 abbrev pub IsScriptFault : Module → Plan → List Turn → RunFault → Type 0
 IsScriptFault m plan turns (run.Plan fault) = IsPlanFault plan turns fault
 IsScriptFault m plan turns (run.Start t fault) = IsPlan plan turns × IsFirstRefused m plan.starts t fault

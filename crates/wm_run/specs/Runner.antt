@@ -1,4 +1,4 @@
--- What the threads of a script are seen as, with the memory that they share.
+-- The views of a script's threads, with the memory that they share.
 use Rattle.std.specs.Prelude.{◌≡◌, ℕ, suc, ◌≤◌, List, [], ◌∷◌, length, map, All}
 use Rattle.wm_ast.specs.declared.module.Module.{Module}
 use Rattle.wm_machine.specs.State.{State, config_of}
@@ -24,47 +24,47 @@ setting_of m recorder limit = record { program = m; initial = initial_of recorde
 abbrev pub script_state : List Runner → Recording → ScriptState
 script_state runners recorder = record { threads = map runner_state runners; history = recorder.history }
 
--- the threads are of the module, and the recorder is of as many over its initial memory
+-- the threads are of the module, and the recorder has as many threads and the module's initial memory
 pub record IsSet (m : Module) (runners : List Runner) (recorder : Recording) : Type 0 where
   pub programs : All (λ (runner : Runner). runner.thread.module ≡ m) runners
   pub count : threads_of recorder ≡ length runners
   pub initial : IsInit m (initial_of recorder)
 
--- a step of thread t, from the one state to the other
+-- a step of thread t, from one state to the other
 pub record RunnerStep (m : Module) (t limit : ℕ) (old : ThreadState) (recorder : Recording) (new : ThreadState) (recorder' : Recording) : Type 0 where
   pub items : List HistoryStep
   pub steps : StepsTo (setting_of m recorder limit) recorder.history t old new items
   pub adds : Adds items recorder recorder'
 
--- whatever limit it is below, and however many steps it made
+-- for any limit above the number of steps, and any number of steps made so far
 abbrev pub Advances : ℕ → State → Recording → State → Recording → Moved → Type 0
 Advances t old recorder new recorder' Stepped =
     (made limit : ℕ) → suc made ≤ limit → RunnerStep old.module t limit (thread_state old made) recorder (thread_state new (suc made)) recorder'
 Advances t old recorder new recorder' Rested =
     (new ≡ old) × (recorder' ≡ recorder) × ((made limit : ℕ) → Rests (setting_of old.module recorder limit) recorder.history (thread_state old made))
 
--- a step of thread t; or it rests, and is as it was
+-- a step of thread t; or the thread makes no step, and is unchanged
 pub data Moves (t limit : ℕ) (old : Runner) (recorder : Recording) (new : Runner) (recorder' : Recording) : Type 0 where
   steps_on : RunnerStep old.thread.module t limit (runner_state old) recorder (runner_state new) recorder' → Moves t limit old recorder new recorder'
   rests : new ≡ old → recorder' ≡ recorder → Rests (setting_of old.thread.module recorder limit) recorder.history (runner_state old) → Moves t limit old recorder new recorder'
 
--- the drain may follow what the recorder holds
+-- the drain may follow the recorder's history
 abbrev pub MayDrainFrom : Recording → HistoryStep → Type 0
 MayDrainFrom recorder drain = MayFollow (threads_of recorder) (length (initial_of recorder)) (steps_of recorder) drain
 
--- the drain was added where it may follow, else nothing changed
+-- the drain was added if it may follow, otherwise nothing changed
 pub data DrainsBy (drain : HistoryStep) (old new : Recording) : Type 0 where
   drains : MayDrainFrom old drain → Adds (drain ∷ []) old new → DrainsBy drain old new
   keeps : (MayDrainFrom old drain → ⊥) → new ≡ old → DrainsBy drain old new
 
--- the turn was taken, by as many threads over the same memory
+-- the turn was taken, with the same number of threads and the same memory
 pub record TakesTurn (m : Module) (limit : ℕ) (turn : Turn) (old : List Runner) (recorder : Recording) (new : List Runner) (recorder' : Recording) : Type 0 where
   pub takes : TurnLeads (setting_of m recorder limit) (script_state old recorder) turn (script_state new recorder')
   pub set : IsSet m new recorder'
   pub count : length new ≡ length old
   pub initial : initial_of recorder' ≡ initial_of recorder
 
--- the same of turns one after the other
+-- the same for turns one after the other
 pub record PlaysTurns (m : Module) (limit : ℕ) (turns : List Turn) (old : List Runner) (recorder : Recording) (new : List Runner) (recorder' : Recording) : Type 0 where
   pub plays : TurnsLead (setting_of m recorder limit) (script_state old recorder) turns (script_state new recorder')
   pub set : IsSet m new recorder'

@@ -1,4 +1,4 @@
--- What the turns of a script do, one after the other.
+-- The effects of a script's turns, one after the other.
 use Rattle.std.specs.Prelude.{◌≡◌, ℕ, suc, ◌<◌, ◌≤◌, List, [], ◌∷◌, ◌++◌, length, reverse, slice_get, slice_set, Option, Some, None}
 use Rattle.wm_ast.specs.declared.module.Module.{Module}
 use Rattle.wm_event.specs.Limits.{max_events}
@@ -15,13 +15,13 @@ use Rattle.wm_recorder.specs.Transcript.{access_items}
 use Rattle.wm_run.specs.declared.turn.Turn.{Turn}
 use Rattle.wm_run.specs.declared.turn.Turn.TheVariants.{Step, Drain, DrainAt}
 
--- the module, its initial memory, and how many steps each thread makes at most
+-- the module, its initial memory, and the most steps of each thread
 pub record Setting : Type 0 where
   pub program : Module
   pub initial : List ℕ
   pub limit : ℕ
 
--- where a thread is, after this number of steps
+-- the state of a thread, after this number of steps
 pub record ThreadState : Type 0 where
   pub config : Config
   pub made : ℕ
@@ -35,7 +35,7 @@ pub record ScriptState : Type 0 where
 abbrev pub done : Setting → List HistoryStep → List Done
 done g history = steps g.initial (reverse history)
 
--- the thread makes no further step: it has ended, has made its steps, or is before an access where the log is full
+-- the thread makes no further step: it has ended, has made its steps, or is before an access while the log is full
 pub data Rests (g : Setting) (history : List HistoryStep) (thread : ThreadState) : Type 0 where
   ended : (end : End) → thread.config ≡ Over end → Rests g history thread
   spent : g.limit ≤ thread.made → Rests g history thread
@@ -46,7 +46,7 @@ pub data Rests (g : Setting) (history : List HistoryStep) (thread : ThreadState)
 abbrev pub value_read : Setting → List HistoryStep → ℕ → OpFields → ℕ
 value_read g history t op = (made_after g.initial (ready (done g history) t op) t op).read
 
--- the next step of thread t leads to there, and adds these items to the history
+-- the next step of thread t leads there, and adds these items to the history
 pub data StepsTo (g : Setting) (history : List HistoryStep) (t : ℕ) (thread : ThreadState) : ThreadState → List HistoryStep → Type 0 where
   local : {next : Config} → thread.made < g.limit → step g.program 0 thread.config ≡ ReducesTo None next
       → StepsTo g history t thread (record { config = next; made = suc thread.made }) []
@@ -68,7 +68,7 @@ MayDrain g state drain = MayFollow (length state.threads) (length g.initial) (do
 pub data TurnLeads (g : Setting) (old : ScriptState) : Turn → ScriptState → Type 0 where
   steps_on : {t : ℕ} {thread next : ThreadState} {items : List HistoryStep} → slice_get old.threads t ≡ Some thread → StepsTo g old.history t thread next items
       → TurnLeads g old (Step t) (record { threads = slice_set old.threads t next; history = old.history ++ items })
-  -- a step of a thread that rests does nothing
+  -- a step of an idle thread does nothing
   rests : {t : ℕ} {thread : ThreadState} → slice_get old.threads t ≡ Some thread → Rests g old.history thread → TurnLeads g old (Step t) old
   drains : {turn : Turn} {drain : HistoryStep} → drain_of turn ≡ Some drain → MayDrain g old drain
       → TurnLeads g old turn (record { threads = old.threads; history = old.history ++ drain ∷ [] })

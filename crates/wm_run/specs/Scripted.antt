@@ -1,4 +1,4 @@
--- The scripted run: what a module's threads do through the turns of a script.
+-- The scripted run: what a module's threads do in the turns of a script.
 use Rattle.std.specs.Prelude.{◌≡◌, ℕ, List, [], length, Ok, Some, slice_get}
 use Rattle.wm_ast.specs.declared.module.Module.{Module}
 use Rattle.wm_event.specs.declared.log.Start.{Start}
@@ -20,13 +20,13 @@ pub record Begins (m : Module) (start : Start) (thread : ThreadState) : Type 0 w
   pub config : started m start.name start.args ≡ Ok thread.config
   pub made : thread.made ≡ 0
 
--- each thread begins with its start, and nothing was done to memory
+-- each thread begins with its start, and memory is untouched
 pub record IsFirstState (m : Module) (starts : List Start) (state : ScriptState) : Type 0 where
   pub count : length state.threads ≡ length starts
   pub each : (t : ℕ) (start : Start) (thread : ThreadState) → slice_get starts t ≡ Some start → slice_get state.threads t ≡ Some thread → Begins m start thread
   pub history : state.history ≡ []
 
--- what is logged of thread t: its events are those of the steps, the newest first, and it is cut where it hasn't ended
+-- what is logged for thread t: its events are those of the steps, the newest first, and it is cut if it hasn't ended
 abbrev pub thread_log : List Step → ℕ → Start → ThreadState → ThreadLog
 thread_log s t start thread = record { start = start; end = end_of thread.config; steps = thread.made; events = events_of s t }
 
@@ -53,6 +53,6 @@ pub record IsScripted (m : Module) (plan : Plan) (turns : List Turn) (run : Reco
 abbrev pub OneScriptedRun : Type 0
 OneScriptedRun = (m : Module) (plan : Plan) (turns : List Turn) (run other : Record) → IsScripted m plan turns run → IsScripted m plan turns other → run ≡ other
 
--- and they have one, where the module is valid, the plan can be followed through the turns, and its threads start
+-- they have one if the module is valid, the plan can be followed through the turns, and its threads start
 abbrev pub HasScriptedRun : Type 0
 HasScriptedRun = (m : Module) (plan : Plan) (turns : List Turn) → Valid m → IsPlan plan turns → AllStart m plan.starts → (run : Record) × IsScripted m plan turns run

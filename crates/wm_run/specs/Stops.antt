@@ -14,12 +14,12 @@ is_own Own = true
 is_own Gate = false
 is_own Memory = false
 
--- why a thread that is there makes no step under a gate that is open or not
+-- why a thread in this configuration makes no step, under a gate that is open or not
 abbrev pub StopsFor : Bool → Module → Config → Stop → Type 0
 StopsFor is_open m c Own = HasEnded c
 StopsFor is_open m c Gate = (is_before_access m c ≡ true) × (is_open ≡ false)
 StopsFor is_open m c Memory = is_before_access m c ≡ true
 
--- the thread stopped for this, as it was, with no further event
+-- the thread stopped for this reason, unchanged, without a further event
 abbrev pub StopsAs : Bool → State → List Event → State → List Event → Stop → Type 0
 StopsAs is_open old events new more stop = (more ≡ events) × (new ≡ old) × StopsFor is_open old.module (config_of old) stop

@@ -1,4 +1,4 @@
--- What each turn of a script did.
+-- The effect of each turn of a script.
 use Rattle.std.specs.Prelude.{◌≡◌, ℕ, ◌<◌, ◌≤◌, List, [], ◌∷◌, length, map, reverse, slice_get, Option, None, Some, if◌then◌else◌}
 use Rattle.wm_ast.specs.declared.module.Module.{Module}
 use Rattle.wm_event.specs.declared.event.EventKey.{EventKey}
@@ -24,7 +24,7 @@ use Rattle.wm_run.specs.Run.{Record}
 use Rattle.wm_run.specs.Script.{ScriptState, Setting, ThreadState, TurnLeads, done}
 use Rattle.wm_run.specs.Scripted.{IsFirstState, IsLogOf}
 
--- the stores in the buffer of thread t by their events, the oldest first
+-- the events of the stores in the buffer of thread t, the oldest first
 abbrev pub pending : List Done → ℕ → List EventKey
 pending s t = map key_of (reverse (waiting s t))
 
@@ -40,8 +40,8 @@ event_of g s t op = key_of (made_after g.initial (ready s t op) t op)
 abbrev pub Asks : Setting → ThreadState → OpFields → Type 0
 Asks g thread op = (read : ℕ) → access_of (step g.program read thread.config) ≡ Some op
 
--- what a step of thread t does: of a thread that has ended, else has made all its steps, else is before an access, nothing, if
--- the log is full
+-- what a step of thread t does: nothing if the thread has ended, else if it has made all its steps, else if it is
+-- before an access and the log is full
 pub data StepDoes (g : Setting) (s : List Done) (t : ℕ) (thread : ThreadState) : TurnDone → Type 0 where
   ended : HasEnded thread.config → StepDoes g s t thread (Rested Ended)
   spent : (HasEnded thread.config → ⊥) → g.limit ≤ thread.made → StepDoes g s t thread (Rested Spent)
@@ -50,7 +50,7 @@ pub data StepDoes (g : Setting) (s : List Done) (t : ℕ) (thread : ThreadState)
       → StepDoes g s t thread (Accessed (event_of g s t op) (store_before s t op))
   stepped : (HasEnded thread.config → ⊥) → thread.made < g.limit → access_of (step g.program 0 thread.config) ≡ None → StepDoes g s t thread Stepped
 
--- what a drain of the store of thread t does that has k older ones
+-- what a drain of the store of thread t that has k older ones does
 pub data DrainDoes (s : List Done) (t k : ℕ) : TurnDone → Type 0 where
   drained : (store : EventKey) → slice_get (pending s t) k ≡ Some store → Passes k (waiting s t) → DrainDoes s t k (Drained store)
   held : k < length (waiting s t) → (Passes k (waiting s t) → ⊥) → DrainDoes s t k Held
@@ -79,7 +79,7 @@ pub record IsTracedTurn (g : Setting) (old : ScriptState) (turn : Turn) (entry :
   pub at : IsAt g old (thread_of turn) entry.position
   pub left : entry.pending ≡ pending (done g new.history) (thread_of turn)
 
--- the same of turns one after the other, an entry for each
+-- the same for turns one after the other, with an entry for each
 abbrev pub TracesTurns : Setting → ScriptState → List Turn → List TracedTurn → ScriptState → Type 0
 TracesTurns g first [] [] last = first ≡ last
 TracesTurns g first (turn ∷ turns) (entry ∷ entries) last =
@@ -87,7 +87,7 @@ TracesTurns g first (turn ∷ turns) (entry ∷ entries) last =
 TracesTurns g first [] (entry ∷ entries) last = ⊥
 TracesTurns g first (turn ∷ turns) [] last = ⊥
 
--- the entries say what each turn did of the scripted run that was recorded so
+-- the entries state what each turn did in the scripted run that was recorded this way
 pub record IsTraced (m : Module) (plan : Plan) (turns : List Turn) (run : Record) (entries : List TracedTurn) : Type 0 where
   pub setting : Setting
   pub program : setting.program ≡ m

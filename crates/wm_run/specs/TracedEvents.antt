@@ -21,7 +21,7 @@ IsLogged run key = (e : Event) × (event_in run.log key ≡ Some e) × (key_of e
 abbrev pub NamesEventsOf : Record → List TracedTurn → Type 0
 NamesEventsOf run entries = (k : ℕ) (entry : TracedTurn) (key : EventKey) (store : Option EventKey) → slice_get entries k ≡ Some entry → entry.done ≡ Accessed key store → IsLogged run key
 
--- so it is in each trace
+-- this holds for each trace
 abbrev pub TracedAccessesAreLogged : Type 0
 TracedAccessesAreLogged = (m : Module) (plan : Plan) (turns : List Turn) (run : Record) (entries : List TracedTurn) → IsTraced m plan turns run entries → NamesEventsOf run entries
 
@@ -42,6 +42,6 @@ store_of Held = None
 abbrev pub NamesWritesOf : Record → List TracedTurn → Type 0
 NamesWritesOf run entries = (k : ℕ) (entry : TracedTurn) (store : EventKey) → slice_get entries k ≡ Some entry → store_of entry.done ≡ Some store → IsLoggedWrite run store
 
--- so it is in each trace
+-- this holds for each trace
 abbrev pub TracedStoresAreLogged : Type 0
 TracedStoresAreLogged = (m : Module) (plan : Plan) (turns : List Turn) (run : Record) (entries : List TracedTurn) → IsTraced m plan turns run entries → NamesWritesOf run entries

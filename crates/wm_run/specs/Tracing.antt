@@ -1,4 +1,4 @@
--- The trace of a script as its threads and their recorder are seen.
+-- The trace of a script, in the views of its threads and their recorder.
 use Rattle.std.specs.Prelude.{ℕ, List}
 use Rattle.wm_ast.specs.declared.module.Module.{Module}
 use Rattle.wm_recorder.specs.Recorder.{Recording, steps_of}
@@ -16,12 +16,12 @@ TurnDoes runner recorder limit (Step t) what = StepDoes (setting_of runner.threa
 TurnDoes runner recorder limit (Drain t) what = DrainDoes (steps_of recorder) t 0 what
 TurnDoes runner recorder limit (DrainAt t k) what = DrainDoes (steps_of recorder) t k what
 
--- the turn was taken, and the entry says what it did
+-- the turn was taken, and the entry states what it did
 pub record TakesTraced (m : Module) (limit : ℕ) (turn : Turn) (old : List Runner) (recorder : Recording) (entry : TracedTurn) (new : List Runner) (recorder' : Recording) : Type 0 where
   pub takes : TakesTurn m limit turn old recorder new recorder'
   pub traced : IsTracedTurn (setting_of m recorder limit) (script_state old recorder) turn entry (script_state new recorder')
 
--- the same of turns one after the other
+-- the same for turns one after the other
 pub record PlaysTraced (m : Module) (limit : ℕ) (turns : List Turn) (old : List Runner) (recorder : Recording) (entries : List TracedTurn) (new : List Runner) (recorder' : Recording) : Type 0 where
   pub plays : PlaysTurns m limit turns old recorder new recorder'
   pub traces : TracesTurns (setting_of m recorder limit) (script_state old recorder) turns entries (script_state new recorder')

@@ -1,4 +1,4 @@
--- What a worker says of its thread.
+-- The result of a worker for its thread.
 use Rattle.std.specs.Prelude.{◌≡◌, ℕ, ◌≤◌, Bool, false, Result, Ok, Err, ⊤}
 use Rattle.wm_ast.specs.declared.module.Module.{Module}
 use Rattle.wm_event.specs.declared.log.End.TheVariants.{Cut}
@@ -11,8 +11,8 @@ use Rattle.wm_run.specs.declared.ended.ThreadEnd.{ThreadEnd}
 use Rattle.wm_run.specs.declared.fault.RunFault.{RunFault}
 use Rattle.wm_run.specs.declared.fault.RunFault.TheVariants as run
 
--- a run of at most this number of steps of this thread and start, which is cut by itself only after all of them, and by the
--- gate only where that isn't open; its result is of 64 bits
+-- a run of this thread and start of at most this number of steps: unless it was stopped, it is cut only after all of
+-- them; the gate stops it only if the gate isn't open; its result has 64 bits
 pub record IsEndOf (is_open : Bool) (m : Module) (thread : ℕ) (start : Start) (steps : ℕ) (e : ThreadEnd) : Type 0 where
   pub of_module : e.program.value ≡ m
   pub of_thread : e.thread ≡ thread
@@ -22,11 +22,11 @@ pub record IsEndOf (is_open : Bool) (m : Module) (thread : ℕ) (start : Start) 
   pub held : e.stop ≡ Gate → is_open ≡ false
   pub fits : EndFits e.end
 
--- what a worker has of its thread
+-- what a worker knows about its thread
 abbrev pub IsGiven : Module → ℕ → Start → ℕ → Stop → ThreadEnd → Type 0
 IsGiven m thread start steps stop e = (e.program.value ≡ m) × (e.thread ≡ thread) × (e.start ≡ start) × (e.steps ≡ steps) × (e.stop ≡ stop)
 
--- the fault was met: the thread doesn't start so, or memory was refused
+-- the fault occurred: the thread doesn't start, for this reason, or an allocation failed
 abbrev pub IsWorkFault : Module → ℕ → Start → RunFault → Type 0
 IsWorkFault m thread start (run.Start t fault) = (t ≡ thread) × (started m start.name start.args ≡ Err fault)
 IsWorkFault m thread start run.OutOfMemory = ⊤

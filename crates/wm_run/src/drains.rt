@@ -20,13 +20,13 @@ fn drainer_turn(threads: u32, number: u32) -> Turn
     }
 }
 
-/// Takes `drains` turns over the buffers of `threads` threads, one thread after the other: a drain of the oldest store in
-/// one pass, of the store after it in the next pass. It ends when the gate answers false; the gate is asked before each
-/// turn while no lock is held.
+/// Takes `drains` turns over the buffers of `threads` threads, one thread after the other. The passes alternate between
+/// draining the oldest store and draining the one after it. The drainer ends when the gate answers false; the gate is
+/// asked before each turn while no lock is held.
 ///
 /// # Errors
 ///
-/// Only if memory was refused.
+/// Only if an allocation fails.
 pub fn drainer<S: Shared, G: Gate>(
     shared: &S,
     threads: u32,

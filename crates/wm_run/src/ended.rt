@@ -1,4 +1,4 @@
-//! What a worker made of its thread.
+//! The result of a worker.
 ghost use Rattle.std.specs.Prelude.{◌≡◌, true, ◌||◌};
 ghost use Rattle.std.proofs.Props.{props};
 ghost use Rattle.wm_replay.specs.Replay.{IsRun};
@@ -16,14 +16,14 @@ use wm_valid::ValidModule;
 pub enum Stop {
     /// The thread ended, or made all steps that it may make.
     Own,
-    /// The gate held it back before an access.
+    /// The gate stopped it before an access.
     Gate,
-    /// The memory refused its access, for another cause than a refused allocation.
+    /// The memory refused its access, for a cause other than an allocation failure.
     Memory,
 }
 
-/// A run of a thread of the module `program`: its events and its end are those of the steps from its start, on the values
-/// that the events read. Where the gate or the memory stopped it, it is before an access.
+/// A run of a thread of the module `program`: its events and its end are the result of its steps from its start, on the
+/// values that the events read. If the gate or the memory stopped it, it is before an access.
 #[derive(Drop)]
 pub struct ThreadEnd {
     /// The module, which only contracts see.

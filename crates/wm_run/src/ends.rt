@@ -1,4 +1,4 @@
-//! Which ends are missing, there several times, or of no thread.
+//! Which ends are missing, duplicate, or of a thread that doesn't exist.
 ghost use Rattle.std.specs.Prelude.{◌≡◌, ◌≤◌, ◌⊎◌, IfNone, IfSome, Some};
 ghost use Rattle.wm_run.specs.Ends.{AreBelow, HasOneEach, IsEndIn, IsEndsFault, IsLeastStray, ends_of};
 
@@ -13,7 +13,7 @@ fn count_of(ends: &[ThreadEnd], thread: usize) -> usize
         .count()
 }
 
-/// The lesser of two numbers, the first of which may be missing.
+/// The lesser of two numbers, or the second if there is no first.
 fn lesser(least: Option<usize>, number: usize) -> usize
     ensures at_most { result ≤ number }
     ensures or_less { IfSome least (λ other. result ≤ other) }
@@ -25,7 +25,7 @@ fn lesser(least: Option<usize>, number: usize) -> usize
     }
 }
 
-/// The least thread from `threads` on that has an end.
+/// The least thread not below `threads` that has an end.
 fn least_stray(ends: &[ThreadEnd], threads: usize) -> Option<usize>
     ensures none { IfNone result (AreBelow threads ends.now) }
     ensures some { IfSome result (IsLeastStray threads ends.now) }

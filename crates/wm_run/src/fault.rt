@@ -7,7 +7,7 @@ use std::fmt;
 use thiserror::Error;
 use wm_machine::StartFault;
 
-/// What of a plan or of its script is past a limit or missing.
+/// Which part of a plan or of its script is over a limit or missing.
 #[derive(Clone, Copy, Debug, PartialEq, Eq, Error)]
 pub enum PlanFault {
     /// It starts no thread, or more than [`wm_event::MAX_THREADS`].
@@ -16,7 +16,7 @@ pub enum PlanFault {
     Steps,
     /// There are more than [`crate::MAX_TURNS`] turns.
     Turns,
-    /// It is the turn of this thread, which the plan doesn't start: the least of those.
+    /// A turn is for this thread, which the plan doesn't start: the least such thread.
     Turn(u32),
 }
 
@@ -25,13 +25,13 @@ pub enum PlanFault {
 pub enum RunFault {
     /// The thread doesn't start.
     Start(usize, StartFault),
-    /// The thread's events aren't those that were recorded of it, or the memory stopped it though it could have gone on.
+    /// The thread's events aren't the ones recorded for it, or the memory stopped it though it could have gone on.
     Split(usize),
     /// The plan or its script can't be followed.
     Plan(PlanFault),
-    /// Memory was refused.
+    /// An allocation failed.
     OutOfMemory,
-    /// The thread has no end, or several, or is none of the run.
+    /// The thread has no end, or several, or isn't a thread of the run.
     Ends(usize),
     /// What was recorded isn't over the initial memory of the module.
     Foreign,

@@ -1,21 +1,21 @@
 //! What holds threads back.
 ghost use Rattle.std.specs.Prelude.{◌≡◌, Bool, true};
 
-/// Is asked by each worker before each access, and by the drainer before each of its turns, while no lock is held.
+/// Each worker asks it before each access, and the drainer before each of its turns, while no lock is held.
 pub trait Gate {
     /// Whether the gate is open. An open gate always answers true.
     ghost is_open: { Self → Bool };
 
-    /// Whether a thread may make its access after this number of events; if not, the thread is cut there.
+    /// Whether a thread that has made this number of events may make its access; if not, the thread is cut there.
     fn before(&self, thread: u32, event_number: usize) -> bool
         ensures { is_open self.now ≡ true → result ≡ true };
 
-    /// Whether the drainer may take this turn; where not, it ends there.
+    /// Whether the drainer may take this turn; if not, it ends there.
     fn before_drain(&self, turn: u32) -> bool
         ensures { is_open self.now ≡ true → result ≡ true };
 }
 
-/// The gate that is open.
+/// The gate that is always open.
 #[derive(Clone, Copy, Debug)]
 pub struct OpenGate;
 

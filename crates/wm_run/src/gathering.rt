@@ -1,4 +1,4 @@
-//! What the threads of a round and the recorder that they shared make together.
+//! What the threads of a round and the recorder that they shared yield together.
 ghost use Rattle.std.specs.Prelude.{◌≡◌, ◌↔◌, ◌<◌, ◌≤◌, All, IfErr, IfNone, IfOk, IfSome, IsTrue, length};
 ghost use Rattle.wm_recorder.specs.Recorder.{threads_of};
 ghost use Rattle.wm_run.specs.Ends.{HasOneEach, ends_of};
@@ -31,28 +31,28 @@ fn same_events(events: &[Event], others: &[Event]) -> bool
     true
 }
 
-/// Whether the events of an end are those that were recorded of its thread.
+/// Whether the events of an end are the ones recorded for its thread.
 fn has_its_events(recorder: &Recorder, end: &ThreadEnd) -> bool
     ensures { IsTrue result ↔ HasItsEvents recorder.now end.now }
 {
     same_events(recorder.events(end.thread), end.events.as_slice())
 }
 
-/// Whether a recorder that stopped the thread is full.
+/// Whether the recorder is full if the memory stopped the thread.
 fn stops_where_full(recorder: &Recorder, end: &ThreadEnd) -> bool
     ensures { IsTrue result ↔ StopsWhereFull recorder.now end.now }
 {
     end.stop != Stop::Memory || recorder.order().len() >= MAX_EVENTS
 }
 
-/// Whether an end and the recorder say the same of its thread.
+/// Whether an end and the recorder agree on its thread.
 fn agrees(recorder: &Recorder, end: &ThreadEnd) -> bool
     ensures { IsTrue result ↔ Agrees recorder.now end.now }
 {
     has_its_events(recorder, end) && stops_where_full(recorder, end)
 }
 
-/// The first thread of which its end and the recorder say different things.
+/// The first thread on which its end and the recorder disagree.
 fn first_split(recorder: &Recorder, ends: &[ThreadEnd], threads: usize) -> Option<usize>
     requires threads { threads ≡ threads_of recorder.now }
     requires ends { HasOneEach threads ends.now }
@@ -67,7 +67,7 @@ fn first_split(recorder: &Recorder, ends: &[ThreadEnd], threads: usize) -> Optio
     None
 }
 
-/// What is logged of a thread by its end.
+/// What is logged for a thread, by its end.
 fn log_by(alloc: Global, end: &ThreadEnd) -> Result<ThreadLog, AllocError>
     ensures { IfOk result (λ log. log ≡ log_by end.now) }
 {
@@ -79,7 +79,7 @@ fn log_by(alloc: Global, end: &ThreadEnd) -> Result<ThreadLog, AllocError>
     })
 }
 
-/// What is logged of each thread by its end.
+/// What is logged for each thread, by its end.
 fn logs_by(alloc: Global, ends: &[ThreadEnd], threads: usize) -> Result<List<ThreadLog>, AllocError>
     requires { HasOneEach threads ends.now }
     ensures { IfOk result (AreLogsBy threads ends.now) }
@@ -91,15 +91,15 @@ fn logs_by(alloc: Global, ends: &[ThreadEnd], threads: usize) -> Result<List<Thr
     Ok(List::from_vec(logs))
 }
 
-/// The run whose threads came to these ends over this recorder, an own run of the module. The ends are of this module, in
-/// any order.
+/// The run whose threads came to these ends over this recorder, an own run of the module. The ends are for this module,
+/// in any order.
 ///
 /// # Errors
 ///
-/// In this order: `Foreign` where the recorder isn't over the module's initial memory; `Ends` with the least thread of which
-/// an end is missing or there several times, else with the least that is none of the recorder; `Split` with the first thread
-/// whose events aren't those that were recorded of it, or which the memory stopped though it isn't full; `OutOfMemory` where
-/// memory was refused.
+/// In this order: `Foreign` if the recorder isn't over the module's initial memory; `Ends` with the least thread that
+/// has no end or several, else with the least thread that has an end and isn't in the recorder; `Split` with the first
+/// thread whose events aren't the ones recorded for it, or which the memory stopped though it isn't full; `OutOfMemory`
+/// if an allocation fails.
 pub fn gather(
     alloc: Global,
     module: &ValidModule,

@@ -1,4 +1,4 @@
-//! How the threads of a plan begin.
+//! The starts of a plan's threads.
 ghost use Rattle.std.specs.Prelude.{◌≡◌, ◌≢◌, IfErr, IfOk, length};
 ghost use Rattle.wm_run.specs.Launch.{AreLaunched, IsLaunchFault};
 
@@ -14,7 +14,7 @@ use wm_valid::ValidModule;
 ///
 /// # Errors
 ///
-/// `Start` with the first thread that doesn't start, `OutOfMemory` if memory was refused.
+/// `Start` with the first thread that doesn't start, `OutOfMemory` if an allocation fails.
 pub fn launch<'m>(
     alloc: Global,
     module: &'m ValidModule,

@@ -34,5 +34,5 @@ pub use tracing::{trace, traced_accesses_are_logged, traced_stores_are_logged};
 pub use turn::Turn;
 pub use worker::work;
 
-/// How many turns a script has at most, and the drainer of a round.
+/// The most turns of a script, and of the drainer of a round.
 pub const MAX_TURNS: usize = 1_000_000;

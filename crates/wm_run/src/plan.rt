@@ -1,4 +1,4 @@
-//! What a run starts, and how far it goes.
+//! What a run starts, and how long it may run.
 ghost use Rattle.std.specs.Prelude.{◌≡◌, ◌≤◌, ◌⊎◌, length, IfErr, IfNone, IfSome, OnOk, Some};
 ghost use Rattle.wm_run.specs.Plan.{AreTurnsOf, HasThreads, IsLeastAbsent, IsPlan, IsPlanFault};
 
@@ -8,14 +8,14 @@ use crate::turn::Turn;
 use wm_event::{MAX_STEPS, MAX_THREADS, Start};
 use wm_list::List;
 
-/// What a run starts, and how far it goes.
+/// What a run starts, and how long it may run.
 #[derive(Drop)]
 pub struct Plan {
-    /// What each thread starts with, for 1 to 16 threads.
+    /// The start of each thread, for 1 to 16 threads.
     pub starts: List<Start>,
-    /// How many steps each thread makes at most, up to 1,000,000.
+    /// The most steps of each thread, up to 1,000,000.
     pub steps: u32,
-    /// How many turns the drainer of a round takes, up to 1,000,000. A script has its own drains, and doesn't look at it.
+    /// How many turns the drainer of a round takes, up to 1,000,000. A script has its own drains and ignores this.
     pub drains: u32,
 }
 
@@ -24,9 +24,9 @@ impl Plan {
     ///
     /// # Errors
     ///
-    /// In this order: `Threads` where it starts none or more than 16, `Steps` where it lets a thread make more than
-    /// 1,000,000, `Turns` where there are more than 1,000,000, `Turn` where it is the turn of a thread that isn't started,
-    /// with the least of these threads.
+    /// In this order: `Threads` if it starts none or more than 16, `Steps` if it lets a thread make more than
+    /// 1,000,000, `Turns` if there are more than 1,000,000, `Turn` with the least thread that has a turn and isn't
+    /// started.
     pub fn follows(&self, turns: &[Turn]) -> Result<(), PlanFault>
         ensures ok { OnOk result (IsPlan self.now turns.now) }
         ensures fault { IfErr result (IsPlanFault self.now turns.now) }
@@ -48,7 +48,7 @@ impl Plan {
     }
 }
 
-/// The least thread of all turns that is not below `threads`, None if each is.
+/// The least thread of all turns that is not below `threads`; None if all are.
 fn least_absent(turns: &[Turn], threads: usize) -> Option<u32>
     ensures none { IfNone result (AreTurnsOf threads turns.now) }
     ensures some { IfSome result (IsLeastAbsent threads turns.now) }
@@ -64,7 +64,7 @@ fn least_absent(turns: &[Turn], threads: usize) -> Option<u32>
     least
 }
 
-/// The lesser of the two threads, where there is a first one.
+/// The lesser of the two threads, or the second if there is no first.
 fn lesser(first: Option<u32>, thread: u32) -> u32
     ensures below { result ≤ thread }
     ensures below_first { IfSome first (λ other. result ≤ other) }

@@ -28,7 +28,7 @@ use wm_event::Start;
 use wm_recorder::{LockedMemory, Over, Recorder, Shared};
 use wm_valid::ValidModule;
 
-/// What a worker promises of its result: that it is [`work`]'s of this thread.
+/// What a worker promises of its result: that it is the result of [`work`] for this thread.
 pub struct WorkPromise<G> {
     program: Snapshot<ValidModule>,
     thread: u32,
@@ -84,7 +84,7 @@ fn start_one<'s, E: 's, S: Shared + Sync, G: Gate + Sync>(
     )?)
 }
 
-/// Joins threads whose results nobody wants.
+/// Joins threads whose results are discarded.
 fn join_all<R: Threads, G: Gate>(
     rt: &R,
     workers: Vec<PromisedHandle<Result<ThreadEnd, RunFault>, WorkPromise<G>>>,
@@ -94,7 +94,7 @@ fn join_all<R: Threads, G: Gate>(
     }
 }
 
-/// Starts a worker for each thread, and joins them. Where one doesn't start, those that run are joined.
+/// Starts a worker for each thread, and joins them. If one doesn't start, those that run are joined.
 fn run_workers<'s, E: 's, R: Threads, S: Shared + Sync, G: Gate + Sync>(
     rt: &R,
     scope: &'s Scope<'s, E>,
@@ -175,7 +175,7 @@ fn run_shared<R: Threads + Wait + Sync, S: Shared + Sync, G: Gate + Sync>(
     )
 }
 
-/// Runs the threads over a recorder under a lock. The recorder comes back over the same Init, and of as many threads.
+/// Runs the threads over a recorder under a lock. The recorder comes back with the same Init and number of threads.
 fn run_locked<N: Over + Send + Sync, R: Threads + Wait + Sync, G: Gate + Sync>(
     rt: &R,
     alloc: Global,
@@ -197,7 +197,7 @@ fn run_locked<N: Over + Send + Sync, R: Threads + Wait + Sync, G: Gate + Sync>(
     (shared.into_recorder(), results)
 }
 
-/// The ends of the threads. Each thread starts, so a worker's only fault can be `OutOfMemory`.
+/// The ends of the threads. Each thread starts, so the only fault of a worker can be `OutOfMemory`.
 fn all_ends(
     alloc: Global,
     results: Vec<Result<ThreadEnd, RunFault>>,
@@ -226,16 +226,16 @@ fn check_plan(plan: &Plan) -> Result<(), PlanFault>
     Ok(())
 }
 
-/// Runs each thread of the plan in a worker of its own over one locked memory, beside a drainer that takes the plan's
-/// drains. The gate is asked before each access and each drainer turn, while no lock is held; it may cut threads.
+/// Runs each thread of the plan in its own worker over one locked memory, with a drainer that takes the plan's drains.
+/// The gate is asked before each access and each drainer turn, while no lock is held; it may cut threads.
 ///
 /// # Errors
 ///
-/// `Plan` with the first fault of the plan: `Threads` where it starts none or more than 16, `Steps` where it lets a thread
-/// make more than 1,000,000, `Turns` where it has more than 1,000,000 drains; else `Start` with the first thread that
-/// doesn't start. Then no worker is started. `OutOfMemory` where memory was refused, or a thread of the system. `Split` with
-/// a thread of the plan of which its worker and the recorder say different things, as [`gather`] finds it, where nothing is
-/// wrong with the plan and all its threads start. `Foreign` and `Ends` never come.
+/// `Plan` with the first fault of the plan: `Threads` if it starts none or more than 16, `Steps` if it lets a thread
+/// make more than 1,000,000, `Turns` if it has more than 1,000,000 drains; else `Start` with the first thread that
+/// doesn't start. In these cases no worker is started. `OutOfMemory` if an allocation fails or the system refuses a
+/// thread. `Split` with a thread of the plan on which its worker and the recorder disagree, as [`gather`] finds it, if
+/// the plan has no fault and all its threads start. `Foreign` and `Ends` never come.
 pub fn run_round<R: Threads + Wait + Sync, G: Gate + Sync>(
     rt: &R,
     alloc: Global,

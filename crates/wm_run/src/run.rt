@@ -10,7 +10,7 @@ use std::marker::Model;
 use wm_event::{Log, Witness};
 use wm_logfile::write_document;
 
-/// The log of a run, with its witness, which has the writers of each byte read where the log has the event.
+/// The log of a run with its witness. For each event of the log, the witness has the writer of each byte read.
 #[derive(Drop)]
 pub struct Run {
     log: Log,
@@ -45,7 +45,7 @@ impl Run {
         &self.log
     }
 
-    /// Where each byte read comes from, and in which order the events took effect.
+    /// The writer of each byte read, and the order in which the events took effect.
     pub fn witness(&self) -> &Witness
         ensures same { result.now ≡ self.now.witness }
         ensures fits { FitsLog self.now.log self.now.witness }
@@ -58,11 +58,11 @@ impl Run {
 ///
 /// # Errors
 ///
-/// Only if memory was refused.
+/// Only if an allocation fails.
 pub fn write_run(alloc: Global, run: &Run) -> Result<String, AllocError>
     ensures text { IfOk result (λ s. string_bytes s ≡ compact_text (document_2 run.now.log run.now.witness)) }
 
-    // Within the limits it is read as the same pair.
+    // Within the limits it reads back as the same pair.
     ensures again { IfOk result (λ s. IsReadAs (string_bytes s) run.now) }
 {
     write_document(alloc, run.log(), run.witness())

@@ -32,7 +32,7 @@ pub enum Moved {
     Rested,
 }
 
-/// How a thread ends that makes no further step. Its result fits a document.
+/// The end of a thread that makes no further step. Its result fits a document.
 pub fn end_of(thread: &Thread) -> End
     ensures end { result ≡ config_end (config_of thread.now) }
     ensures fits { EndFits result }
@@ -40,7 +40,7 @@ pub fn end_of(thread: &Thread) -> End
     wm_replay::end_of(thread)
 }
 
-/// Makes the access that a thread needs, where the log isn't full.
+/// Makes the access that a thread needs, if the log isn't full.
 fn access(
     thread: &mut Thread,
     number: u32,
@@ -66,8 +66,8 @@ fn access(
     }
 }
 
-/// Makes the next step of a thread, where it has one: not where it has ended, nor where it is before an access and the
-/// log is full.
+/// Makes the next step of a thread if it has one: not if it has ended, nor if it is before an access and the log is
+/// full.
 fn advance(thread: &mut Thread, number: u32, recorder: &mut Recorder) -> Result<Moved, AllocError>
     requires there { number < threads_of recorder.old }
     requires memory { IsInit thread.old.module (initial_of recorder.old) }
@@ -85,7 +85,7 @@ fn advance(thread: &mut Thread, number: u32, recorder: &mut Recorder) -> Result<
     }
 }
 
-/// A step of a thread that makes at most `limit`.
+/// Makes a step of a thread that makes at most `limit` steps.
 fn step(
     runner: &mut Runner,
     number: u32,
@@ -107,7 +107,7 @@ fn step(
     Ok(())
 }
 
-/// The oldest store that waits in a thread's buffer leaves it, where there is one.
+/// The oldest waiting store leaves the thread's buffer, if there is one.
 fn drain(recorder: &mut Recorder, thread: u32) -> Result<(), AllocError>
     ensures { OnOk result (DrainsBy (HistoryStep.Drain thread) recorder.old recorder.new) }
 {
@@ -117,7 +117,7 @@ fn drain(recorder: &mut Recorder, thread: u32) -> Result<(), AllocError>
     Ok(())
 }
 
-/// The store that has `index` older ones before it leaves a thread's buffer, if there is one and it may.
+/// The store at `index`, counted from 0 at the oldest, leaves the thread's buffer if it exists and may leave.
 fn drain_at(recorder: &mut Recorder, thread: u32, index: u32) -> Result<(), AllocError>
     ensures { OnOk result (DrainsBy (HistoryStep.DrainAt thread index) recorder.old recorder.new) }
 {

@@ -38,7 +38,7 @@ fn play(
     Ok(())
 }
 
-/// What is logged of each thread.
+/// What is logged for each thread.
 fn logs_of(
     alloc: Global,
     starts: &[Start],
@@ -85,15 +85,15 @@ pub(crate) fn finish(
     Ok(Run::new(Log::new(logs), witness))
 }
 
-/// The scripted run: the threads of the plan take the turns over one memory, whose store buffers drain where the script
-/// says so. A step of a thread that has ended, has made its steps, or is before an access where the log holds 16,384
-/// events does nothing; a drain does nothing where no such store waits, or where it would pass an older one that it
-/// overlaps. A thread that hasn't ended after the last turn is cut.
+/// The scripted run: the threads of the plan take the turns over one memory, whose store buffers drain when the script
+/// says so. A step of a thread does nothing if the thread has ended, has made its steps, or is before an access while
+/// the log holds 16,384 events. A drain does nothing if there is no such store, or if the store would pass an older one
+/// that it overlaps. A thread that hasn't ended after the last turn is cut.
 ///
 /// # Errors
 ///
 /// `Plan` with the first fault of the plan ([`Plan::follows`]); else `Start` with the first thread that doesn't start;
-/// `OutOfMemory` where memory was refused. A refused plan starts nothing.
+/// `OutOfMemory` if an allocation fails. A refused plan starts nothing.
 pub fn drive(
     alloc: Global,
     module: &ValidModule,
@@ -117,7 +117,7 @@ pub fn drive(
     Ok(run)
 }
 
-/// A module, a plan and turns have at most one scripted run; and they have one, where the module is valid, the plan can be
+/// A module, a plan and turns have at most one scripted run. They have one if the module is valid, the plan can be
 /// followed through the turns, and its threads start.
 pub fn one_scripted_run()
     ensures one { OneScriptedRun }

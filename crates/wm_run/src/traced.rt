@@ -1,4 +1,4 @@
-//! What the turns of a script did.
+//! The effects of a script's turns.
 
 use crate::run::Run;
 use crate::turn::Turn;
@@ -6,12 +6,12 @@ use wm_event::EventKey;
 use wm_list::List;
 use wm_machine::CodePosition;
 
-/// Why a thread makes no step. The first that applies is named.
+/// Why a thread makes no step. The first reason that applies is named.
 #[derive(Clone, Copy, Debug, PartialEq, Eq)]
 pub enum Rest {
     /// It has ended.
     Ended,
-    /// It has made as many steps as its plan lets it make.
+    /// It has made all the steps that its plan allows.
     Spent,
     /// It is before an access, and the log has [`wm_event::MAX_EVENTS`] events.
     Full,
@@ -33,7 +33,7 @@ pub enum TurnDone {
     Rested(Rest),
     /// The store that made this event left the thread's buffer.
     Drained(EventKey),
-    /// No such store is in the buffer.
+    /// The buffer has no such store.
     Absent,
     /// The store overlaps an older one in the buffer, and stays there.
     Held,
@@ -43,14 +43,14 @@ pub enum TurnDone {
 #[derive(Drop)]
 pub struct TracedTurn {
     pub turn: Turn,
-    /// Where the thread is before the turn. A thread that has ended is where it made its last step.
+    /// The position of the thread before the turn. A thread that has ended is at its last step.
     pub position: CodePosition,
     pub done: TurnDone,
-    /// The stores in the thread's buffer after the turn by their events, the oldest first.
+    /// The events of the stores in the thread's buffer after the turn, the oldest first.
     pub pending: List<EventKey>,
 }
 
-/// A scripted run with what each of its turns did, in their order.
+/// A scripted run with the effect of each of its turns, in their order.
 #[derive(Drop)]
 pub struct Trace {
     pub run: Run,

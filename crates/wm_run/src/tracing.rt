@@ -1,4 +1,4 @@
-//! Scripted runs with what each turn did.
+//! Scripted runs with the effect of each turn.
 ghost use Rattle.std.specs.Prelude.{◌≡◌, ◌<◌, ℕ, Some, length, map, slice_get, IfErr, IfOk, OnOk};
 ghost use Rattle.wm_event.specs.Event.{key_of};
 ghost use Rattle.wm_machine.specs.declared.thread.Need.TheVariants as Need;
@@ -27,7 +27,7 @@ use wm_machine::Need;
 use wm_recorder::Recorder;
 use wm_valid::ValidModule;
 
-/// The event of the store that has `index` older ones among these, if there is one.
+/// The event of the store at `index` among these, counted from 0 at the oldest, if there is one.
 fn key_at(stores: &[Event], index: usize) -> Option<EventKey>
     ensures { result ≡ slice_get (map key_of stores.now) index }
 {
@@ -37,7 +37,7 @@ fn key_at(stores: &[Event], index: usize) -> Option<EventKey>
     }
 }
 
-/// The event of the store that has `index` older ones in the buffer of a thread, if there is one.
+/// The event of the store at `index` in a thread's buffer, counted from 0 at the oldest, if there is one.
 fn pending_key(recorder: &Recorder, thread: u32, index: u32) -> Option<EventKey>
     requires there { thread < threads_of recorder.now }
     ensures { result ≡ slice_get (pending (steps_of recorder.now) thread) index }
@@ -58,7 +58,7 @@ fn store_before(recorder: &Recorder, thread: u32, op: Op) -> Option<EventKey>
     pending_key(recorder, thread, 0)
 }
 
-/// What a step of a thread is about to do that may make one, which needs this access.
+/// What a step of a thread will do if the thread has steps left and needs this access.
 fn access_ahead(runner: &Runner, number: u32, recorder: &Recorder, op: Op) -> TurnDone
     requires there { number < threads_of recorder.now }
     requires needed { (read : ℕ) → Need.Access op ≡ need_of read runner.now.thread }
@@ -78,7 +78,7 @@ fn access_ahead(runner: &Runner, number: u32, recorder: &Recorder, op: Op) -> Tu
     TurnDone::Accessed { event, drained }
 }
 
-/// What a step of a thread is about to do that makes at most `limit`.
+/// What a step of a thread that makes at most `limit` steps will do.
 fn step_ahead(runner: &Runner, number: u32, recorder: &Recorder, limit: u32) -> TurnDone
     requires there { number < threads_of recorder.now }
     ensures { StepDoes (setting_of runner.now.thread.module recorder.now limit) (steps_of recorder.now) number
@@ -93,7 +93,7 @@ fn step_ahead(runner: &Runner, number: u32, recorder: &Recorder, limit: u32) -> 
     }
 }
 
-/// What a drain of this store, which has `index` older ones, is about to do.
+/// What a drain of this store, the one at `index`, will do.
 fn store_ahead(recorder: &Recorder, thread: u32, index: u32, store: EventKey) -> TurnDone
     requires there { thread < threads_of recorder.now }
     requires listed { slice_get (pending (steps_of recorder.now) thread) index ≡ Some store }
@@ -106,7 +106,7 @@ fn store_ahead(recorder: &Recorder, thread: u32, index: u32, store: EventKey) ->
     TurnDone::Drained(store)
 }
 
-/// What a drain of the store that has `index` older ones is about to do.
+/// What a drain of the store at `index` will do.
 fn drain_ahead(recorder: &Recorder, thread: u32, index: u32) -> TurnDone
     requires there { thread < threads_of recorder.now }
     ensures { DrainDoes (steps_of recorder.now) thread index result }
@@ -117,7 +117,7 @@ fn drain_ahead(recorder: &Recorder, thread: u32, index: u32) -> TurnDone
     }
 }
 
-/// What a turn is about to do.
+/// What a turn will do.
 fn turn_ahead(runner: &Runner, recorder: &Recorder, limit: u32, turn: Turn) -> TurnDone
     requires there { thread_of turn < threads_of recorder.now }
     ensures { TurnDoes runner.now recorder.now limit turn result }
@@ -140,7 +140,7 @@ fn keys_of(alloc: Global, stores: &[Event]) -> Result<List<EventKey>, AllocError
     Ok(List::from_vec(keys))
 }
 
-/// What is in the buffer of a thread.
+/// The events of the stores in a thread's buffer.
 fn pending_of(alloc: Global, recorder: &Recorder, thread: u32) -> Result<List<EventKey>, AllocError>
     requires there { thread < threads_of recorder.now }
     ensures { IfOk result (λ keys. keys ≡ pending (steps_of recorder.now) thread) }
@@ -149,7 +149,7 @@ fn pending_of(alloc: Global, recorder: &Recorder, thread: u32) -> Result<List<Ev
     keys_of(alloc, recorder.memory().stores(thread))
 }
 
-/// Takes a turn of a script, and tells what it did.
+/// Takes a turn of a script, and reports what it did.
 fn take_traced(
     alloc: Global,
     module: &ValidModule,
@@ -177,7 +177,7 @@ fn take_traced(
     })
 }
 
-/// Takes the turns of a script, one after the other, and tells what each did.
+/// Takes the turns of a script, one after the other, and reports what each did.
 fn play_traced(
     alloc: Global,
     module: &ValidModule,
@@ -199,11 +199,11 @@ fn play_traced(
     Ok(List::from_vec(entries))
 }
 
-/// The scripted run, as [`crate::drive`] makes it, with what each turn did.
+/// The scripted run that [`crate::drive`] makes, with the effect of each turn.
 ///
 /// # Errors
 ///
-/// Those of [`crate::drive`].
+/// The errors of [`crate::drive`].
 pub fn trace(
     alloc: Global,
     module: &ValidModule,

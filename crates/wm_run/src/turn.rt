@@ -7,9 +7,9 @@ ghost use Rattle.wm_run.specs.Plan.{thread_of};
 pub enum Turn {
     /// The thread makes its next step.
     Step(u32),
-    /// The oldest store that waits in the thread's buffer leaves it.
+    /// The oldest waiting store leaves the thread's buffer.
     Drain(u32),
-    /// The store that has this number of older ones before it leaves the thread's buffer.
+    /// The store at this index, counted from 0 at the oldest, leaves the thread's buffer.
     DrainAt(u32, u32),
 }
 

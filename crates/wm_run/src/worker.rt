@@ -22,7 +22,7 @@ use wm_machine::{AdvanceFault, StartFault, Stepped, Thread};
 use wm_recorder::{AccessFault, Shared};
 use wm_valid::ValidModule;
 
-/// Makes one access of a thread, or tells why it makes none. The gate is asked first.
+/// Makes one access of a thread, or reports why it doesn't. The gate is asked first.
 fn access<S: Shared, G: Gate>(
     running: &mut Thread,
     events: &mut Growing<Event>,
@@ -60,7 +60,7 @@ fn access<S: Shared, G: Gate>(
     }
 }
 
-/// Makes the next step of a thread, or tells why it makes none.
+/// Makes the next step of a thread, or reports why it doesn't.
 fn step<S: Shared, G: Gate>(
     running: &mut Thread,
     events: &mut Growing<Event>,
@@ -86,7 +86,7 @@ fn step<S: Shared, G: Gate>(
     }
 }
 
-/// What a thread has come to after this number of steps.
+/// The result of a thread after this number of steps.
 fn finished(
     module: &ValidModule,
     thread: u32,
@@ -114,12 +114,12 @@ fn finished(
     }
 }
 
-/// Runs one thread of a module over a shared memory, until it ends, has made its steps, or is cut: if the gate answers
-/// false, or if the memory refuses its access. The gate is asked before each access, while no lock is held.
+/// Runs one thread of a module over a shared memory, until it ends, has made its steps, or is cut because the gate
+/// answers false or the memory refuses its access. The gate is asked before each access, while no lock is held.
 ///
 /// # Errors
 ///
-/// `Start` if the thread doesn't start, `OutOfMemory` if memory was refused.
+/// `Start` if the thread doesn't start, `OutOfMemory` if an allocation fails.
 pub fn work<S: Shared, G: Gate>(
     alloc: Global,
     module: &ValidModule,

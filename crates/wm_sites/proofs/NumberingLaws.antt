@@ -38,7 +38,7 @@ pub instruction_at : (blocks : List (List Instr)) (q : BlockPosition) (k : ℕ) 
     → (labels : Labels) → (under : Labels) × At blocks labels [] n.body k i under
 instruction_at blocks q k own i is at n labels = at_from n.numbered n.body n.is_body refl own i is at labels
 
--- behind the last instruction of a block the opcode is its `else` or `end`
+-- after the last instruction of a block the opcode is its `else` or `end`
 end_from : {blocks : List (List Instr)} {p q : BlockPosition} {ps : List Part} {rest : List Instr} {k : ℕ} → IsNumberedFrom blocks p ps rest q k → (own : List Instr) → slice_get blocks p.block ≡ Some own
     → rest ≡ drop p.at own → (mine : List Instr) → slice_get blocks q.block ≡ Some mine → length mine ≤ q.at → IsEnd blocks ps rest k
 end_from {blocks} (here {p = p}) own is rest_is mine mine_is past =

@@ -16,7 +16,7 @@ pub data IsLeft (blocks : List (List Instr)) : List BlockPosition → BlockPosit
   below_top : {p q : BlockPosition} {stack : List BlockPosition} {j k : ℕ} (body : List Instr) → slice_get blocks p.block ≡ Some body
       → Opcodes blocks [] (drop p.at body) j → IsLeft blocks stack q k → IsLeft blocks (p ∷ stack) q (j + 1 + k)
 
--- opcode k is behind the parts and the instructions
+-- opcode k is after the parts and the instructions
 record Behind (blocks : List (List Instr)) (ps : List Part) (rest : List Instr) (stack : List BlockPosition) (q : BlockPosition) (k : ℕ) : Type 0 where
   pub count : ℕ
   pub opcodes : Opcodes blocks ps rest count
@@ -64,7 +64,7 @@ drop_at body k i is =
 one_behind : (c m k : ℕ) → k ≡ c + 1 + m → 1 + c + 1 + m ≡ 1 + k
 one_behind c m k e = omega arith
 
--- the stack behind an instruction numbers what is behind it
+-- the stack after an instruction numbers what comes after it
 pub left_behind : {blocks : List (List Instr)} {stack : List BlockPosition} {q : BlockPosition} {k : ℕ} (p : BlockPosition) (body : List Instr) (i : Instr) → slice_get blocks p.block ≡ Some body
     → slice_get body p.at ≡ Some i → IsLeft blocks (map (λ (x : Part). begin_of x.block) (parts i) ++ next_of p ∷ stack) q k → IsLeft blocks (p ∷ stack) q (1 + k)
 left_behind {blocks} {stack} {q} {k} p body i is at left = either (split (parts i) (next_of p) body is q k left)
@@ -78,7 +78,7 @@ left_behind {blocks} {stack} {q} {k} p body i is at left = either (split (parts 
         subst (λ (n : ℕ). IsLeft blocks (p ∷ stack) q n) (one_behind b.count b.more k b.sum)
         (below_top body is (subst (λ (xs : List Instr). Opcodes blocks [] xs (1 + b.count)) (sym opened) (instr b.opcodes)) b.left)
 
--- the stack behind the end of a block numbers what is behind it
+-- the stack after the end of a block numbers what comes after it
 pub left_past : {blocks : List (List Instr)} {stack : List BlockPosition} {q : BlockPosition} {k : ℕ} (p : BlockPosition) (body : List Instr) → slice_get blocks p.block ≡ Some body
     → drop p.at body ≡ [] → IsLeft blocks stack q k → IsLeft blocks (p ∷ stack) q (1 + k)
 left_past {blocks} p body is ended left = below_top body is (subst (λ (xs : List Instr). Opcodes blocks [] xs 0) (sym ended) none) left

@@ -76,11 +76,11 @@ pub record Notes (old new : List (Vec (Option ℕ) Global)) (p : BlockPosition) 
 
 -- ---- what is left to number
 
--- where the blocks of an instruction begin
+-- the starts of an instruction's blocks
 abbrev pub begins_of : Instr → List BlockPosition
 begins_of i = map (λ (part : Part). begin_of part.block) (parts i)
 
--- where an opcode's followers stand, up to the end of its block: in the blocks of an instruction first
+-- the positions after an opcode, up to the end of its block: in the blocks of an instruction first
 abbrev pub followers : Option Instr → BlockPosition → List BlockPosition
 followers None p = []
 followers (Some i) p = begins_of i ++ next_of p ∷ []

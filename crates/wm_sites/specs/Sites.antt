@@ -32,7 +32,7 @@ pub record IsOpcodeAt (m : Module) (p : CodePosition) (n : ℕ) : Type 0 where
   pub is_func : slice_get m.funcs p.func ≡ Some func
   pub numbered : IsNumbered func.blocks (in_function p) n
 
--- a number as 32 bits give it: from 2 to the power 32 on, 1 less than that
+-- a number in 32 bits: 2 to the power 32 minus 1 if it is greater
 abbrev pub in_32_bits : ℕ → ℕ
 in_32_bits n = min n (2 ^ 32 - 1)
 
@@ -83,32 +83,32 @@ pub record PutsMap (old new : List (Option FunctionMap)) (f : ℕ) (read : Optio
   pub count : length new ≡ length old
   pub puts : f < length old → slice_get new f ≡ Some read
 
--- ---- where the events of a log are made
+-- ---- the positions of a log's events
 
--- where thread k makes the events of its log, as `follow` gives it; none if the thread doesn't start
+-- the positions at which thread k makes the events of its log, as `follow` gives them; none if the thread doesn't start
 pub data ArePositionsOf (m : Module) (k : ℕ) (t : ThreadLog) : List CodePosition → Type 0 where
   unstarted : {fault : StartFault} → start_of m t ≡ Err fault → ArePositionsOf m k t []
   ran : {c : Config} {j n : ℕ} {positions : List CodePosition} → RunsByLog m k t t.steps c j n → ArePositions m k t n positions → ArePositionsOf m k t positions
 
--- those of thread k of the log
+-- the positions of thread k of the log
 abbrev pub IsFollowedAt : Module → List ThreadLog → ℕ → List CodePosition → Type 0
 IsFollowedAt m log k positions = (t : ThreadLog) → slice_get log k ≡ Some t → ArePositionsOf m k t positions
 
--- those of these threads of the log
+-- the positions of these threads of the log
 abbrev pub ArePositionsIn : Module → List ThreadLog → List (List CodePosition) → Type 0
 ArePositionsIn m log table = (k : ℕ) (positions : List CodePosition) → slice_get table k ≡ Some positions → IsFollowedAt m log k positions
 
--- those of each thread of the log, but where memory was refused
+-- the positions of each thread of the log, unless an allocation fails
 pub record AreFollowed {E : Type 0} (m : Module) (log : List ThreadLog) (answers : List (Result (List CodePosition) E)) : Type 0 where
   pub count : length answers ≡ length log
   pub each : (k : ℕ) (positions : List CodePosition) → slice_get answers k ≡ Some (Ok positions) → IsFollowedAt m log k positions
 
--- those of all threads of the log
+-- the positions of all threads of the log
 pub record AreLogPositions (m : Module) (log : List ThreadLog) (table : List (List CodePosition)) : Type 0 where
   pub count : length table ≡ length log
   pub each : ArePositionsIn m log table
 
--- where an event is made, by its thread and its number
+-- the position at which an event is made, by its thread and its number
 abbrev pub position_in : List (List CodePosition) → EventKey → Option CodePosition
 position_in table key = option_and_then (λ thread. slice_get thread key.number) (slice_get table key.thread)
 
@@ -117,7 +117,7 @@ abbrev pub IsSiteAt : Module → Option CodePosition → Site → Type 0
 IsSiteAt m None site = site ≡ first_site
 IsSiteAt m (Some p) site = IsSiteOrFirst m p site
 
--- the site is that of the position where the event is made
+-- the site is the one at the position where the event is made
 abbrev pub IsSiteMade : Module → List (List CodePosition) → EventKey → Site → Type 0
 IsSiteMade m table key site = (p : CodePosition) × (position_in table key ≡ Some p) × IsSiteOf m p site
 
@@ -129,7 +129,7 @@ IsMadeNowhere m table key = (p : CodePosition) → position_in table key ≡ Som
 abbrev pub AreThreadSites : Module → List (List CodePosition) → List Event → List Site → Type 0
 AreThreadSites m table events sites = (i : ℕ) (site : Site) → slice_get sites i ≡ Some site → (e : Event) → slice_get events i ≡ Some e → IsSiteAt m (position_in table (key_of e)) site
 
--- the threads make the events of the log at these positions, and each site is that of its event's position
+-- the threads make the events of the log at these positions, and each site is the one at its event's position
 pub record AreEventSites (m : Module) (log : List ThreadLog) (sites : List (List Site)) : Type 0 where
   pub table : List (List CodePosition)
   pub positions : AreLogPositions m log table

@@ -16,7 +16,7 @@ use wm_races::Site;
 /// The number of the code section (Core 1.0, section 5.5.2).
 const CODE_SECTION: u8 = 10;
 
-/// Where the contents of the code section begin.
+/// The start of the contents of the code section.
 fn code_section(bytes: &[u8]) -> Option<usize> {
     let mut reader = ByteReader::at_sections(bytes);
     for _ in 0..bytes.len() {
@@ -28,7 +28,7 @@ fn code_section(bytes: &[u8]) -> Option<usize> {
     None
 }
 
-/// Where the body of each function begins among the bytes of a module, after its size; as many as can be read.
+/// The byte offset in a module of each function's body, after its size, for as many as can be read.
 fn body_offsets(alloc: Global, bytes: &[u8]) -> Result<Vec<usize>, AllocError> {
     let mut bodies = Vec::new(alloc);
     let Some(start) = code_section(bytes) else {
@@ -44,7 +44,7 @@ fn body_offsets(alloc: Global, bytes: &[u8]) -> Result<Vec<usize>, AllocError> {
     Ok(bodies)
 }
 
-/// Leaves out the declarations of a body's locals (Core 1.0, section 5.4.9).
+/// Skips the declarations of a body's locals (Core 1.0, section 5.4.9).
 fn skip_locals(reader: &mut ByteReader) -> Option<()> {
     let count = reader.number()?;
     for _ in 0..count {
@@ -54,14 +54,14 @@ fn skip_locals(reader: &mut ByteReader) -> Option<()> {
     Some(())
 }
 
-/// Leaves out an instruction, without the blocks in it.
+/// Skips an instruction, without the blocks in it.
 fn skip_instruction(reader: &mut ByteReader) -> Option<()> {
     let opcode = Opcode::read(reader)?;
     let immediates = immediates_of(opcode)?;
     skip_immediates(reader, immediates)
 }
 
-/// Where each of so many opcodes of a body begins among the bytes of its module; as many as can be read.
+/// The byte offset in the module of each of `count` opcodes of a body, for as many as can be read.
 fn opcode_offsets(
     alloc: Global,
     bytes: &[u8],
@@ -86,7 +86,7 @@ fn opcode_offsets(
 #[derive(Drop)]
 struct FunctionMap {
     numbers: OpcodeNumbers,
-    /// By its number where an opcode begins among the bytes of the module.
+    /// The byte offset of each opcode in the module, by the opcode's number.
     offsets: Vec<usize>,
 }
 
@@ -102,7 +102,7 @@ impl FunctionMap {
     }
 }
 
-/// No function read yet.
+/// A table in which no function has been read yet.
 fn unread(alloc: Global, module: &Module) -> Result<Vec<Option<FunctionMap>>, AllocError>
     ensures { IfOk result (λ maps. AreFunctionMaps «module».now maps.items) }
 {
@@ -113,7 +113,7 @@ fn unread(alloc: Global, module: &Module) -> Result<Vec<Option<FunctionMap>>, Al
     Ok(functions)
 }
 
-/// Puts down what a function is read as.
+/// Stores the map of a function that was read.
 fn put(functions: &mut Vec<Option<FunctionMap>>, function: usize, read: Option<FunctionMap>)
     ensures { PutsMap functions.old.items functions.new.items function read }
 {
@@ -122,7 +122,7 @@ fn put(functions: &mut Vec<Option<FunctionMap>>, function: usize, read: Option<F
     }
 }
 
-/// A number, or the greatest of 32 bits.
+/// A number, or the greatest 32-bit number if it is larger.
 fn in_32_bits(number: usize) -> u32
     ensures { result ≡ in_32_bits number }
 {
@@ -135,7 +135,7 @@ struct FunctionReader<'m> {
     alloc: Global,
     module: &'m Module,
     bytes: &'m [u8],
-    /// Where the body of each function begins among the bytes.
+    /// The byte offset of each function's body.
     bodies: Vec<usize>,
 }
 

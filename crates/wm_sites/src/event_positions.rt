@@ -1,4 +1,4 @@
-//! Where in the code the threads of a log make its events.
+//! The positions in the code at which the threads of a log make its events.
 ghost use Rattle.std.specs.Prelude.{◌<◌, IfOk, length};
 ghost use Rattle.wm_event.specs.Log.{HasKeys};
 ghost use Rattle.wm_sites.specs.Sites.{AreFollowed, AreLogPositions, ArePositionsOf, IsFollowedAt};
@@ -13,10 +13,10 @@ use wm_machine::CodePosition;
 use wm_replay::follow;
 use wm_valid::ValidModule;
 
-/// From this number of steps on a thread is worth a processor of its own.
+/// A thread with at least this number of steps is worth its own processor.
 const LONG_STEPS: u32 = 20_000;
 
-/// Where a thread makes the events of its log; as many as it makes.
+/// The positions at which a thread makes the events of its log, for as many as it makes.
 fn positions_of(
     alloc: Global,
     module: &ValidModule,
@@ -32,7 +32,8 @@ fn positions_of(
     }
 }
 
-/// By thread where it makes the events of its log; as many as it makes. The threads are followed one after the other.
+/// For each thread, the positions at which it makes the events of its log, for as many as it makes. The threads are
+/// followed one after the other.
 ///
 /// # Errors
 ///
@@ -51,7 +52,8 @@ pub(crate) fn positions_in_order(
     Ok(positions)
 }
 
-/// Where each thread makes the events of its log, or that an allocation failed. The threads are followed at the same time.
+/// The positions at which each thread makes the events of its log, or that an allocation failed. The threads are
+/// followed at the same time.
 fn followed_at_once<R: AllocGlobal + Threads + Sync>(
     rt: &R,
     module: &ValidModule,
@@ -72,7 +74,7 @@ fn followed_at_once<R: AllocGlobal + Threads + Sync>(
     )
 }
 
-/// The same as [`positions_in_order`]. The threads are followed at the same time.
+/// The same as [`positions_in_order`], but the threads are followed at the same time.
 fn positions_at_once<R: AllocGlobal + Threads + Sync>(
     rt: &R,
     module: &ValidModule,
@@ -87,7 +89,7 @@ fn positions_at_once<R: AllocGlobal + Threads + Sync>(
     Ok(positions)
 }
 
-/// By thread where it makes the events of its log; as many as it makes.
+/// For each thread, the positions at which it makes the events of its log, for as many as it makes.
 ///
 /// # Errors
 ///

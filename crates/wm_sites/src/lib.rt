@@ -1,5 +1,5 @@
-//! Which instructions of a module make the events of a log: their functions, their numbers in the text of the function,
-//! and where they begin among the module's bytes.
+//! The instructions of a module that make the events of a log: their functions, their numbers in code order, and their
+//! byte offsets in the module.
 #![tactic(auto)]
 
 mod code_map;

@@ -13,7 +13,7 @@ pub(crate) struct BlockPosition {
     pub at: usize,
 }
 
-/// Goes into the blocks of an instruction, the first of them on top.
+/// Enters the blocks of an instruction, the first of them on top.
 fn open(blocks: &mut Vec<BlockPosition>, instr: &Instr) -> Result<(), AllocError>
     ensures { IfOk result (λ _. blocks.new.items ≡ blocks.old.items ++ reverse (begins_of instr.now)) }
 {
@@ -46,7 +46,7 @@ fn open(blocks: &mut Vec<BlockPosition>, instr: &Instr) -> Result<(), AllocError
     Ok(())
 }
 
-/// Goes past an instruction of a block, into its own blocks first; past the block's end where there is none.
+/// Goes past an instruction of a block, into its own blocks first; past the block's end if there is no instruction.
 fn go_past(
     open_blocks: &mut Vec<BlockPosition>,
     here: BlockPosition,
@@ -99,7 +99,7 @@ fn note(table: &mut Vec<Vec<Option<usize>>>, here: BlockPosition, number: usize)
 /// The opcodes of a function.
 #[derive(Drop)]
 pub(crate) struct OpcodeNumbers {
-    /// By block and place in it the number of the opcode, that of the `else` or `end` after the block last.
+    /// The number of each opcode, by block and place in it; last the number of the `else` or `end` after the block.
     numbers: Vec<Vec<Option<usize>>>,
     /// How many opcodes there are.
     pub count: usize,
@@ -114,8 +114,8 @@ impl OpcodeNumbers {
     }
 }
 
-/// The numbers of the opcodes of a function in the order of the text, from 0. Each opcode takes a byte of the module, so
-/// there are at most [`MAX_MODULE_BYTES`].
+/// The numbers of the opcodes of a function in code order, from 0. Each opcode takes a byte of the module, so there are
+/// at most [`MAX_MODULE_BYTES`].
 ///
 /// # Errors
 ///

@@ -19,7 +19,7 @@ use wm_valid::ValidModule;
 pub struct RunSites<'m> {
     /// The instructions of the module.
     pub map: CodeMap<'m>,
-    /// By thread where it makes its events, as many as it makes.
+    /// For each thread, the positions at which it makes its events, for as many as it makes.
     pub positions: Vec<List<CodePosition>>,
 }
 
@@ -58,7 +58,7 @@ impl<'m> RunSites<'m> {
         Ok(RunSites { map, positions })
     }
 
-    /// Where an event is made.
+    /// The position at which an event is made.
     fn position(&self, key: EventKey) -> Option<CodePosition>
         ensures { result ≡ position_in self.now.positions.items key }
     {
@@ -109,8 +109,8 @@ fn thread_sites(
     Ok(sites)
 }
 
-/// For each event of a log, by thread and number, the instruction of the module that makes it, if the log is that of runs
-/// of the module. `module_bytes` spell the module.
+/// For each event of a log, by thread and number, the instruction of the module that makes it, if the threads of the
+/// log are runs of the module. `module_bytes` spell the module.
 ///
 /// # Errors
 ///
@@ -137,8 +137,8 @@ pub fn event_sites(
     Ok(sites)
 }
 
-/// For each of these positions, in their order, the instruction of the module there; a position that the module doesn't
-/// have gets the first instruction of function 0. `module_bytes` spell the module.
+/// For each of these positions, in order, the instruction of the module there; a position that the module doesn't have
+/// gets the first instruction of function 0. `module_bytes` spell the module.
 ///
 /// # Errors
 ///

@@ -44,7 +44,7 @@ goes_on a b c text left n h more = record {
 pub stays : (a b c : Option (List ℕ)) (text left : List ℕ) → HasFront a b text left → Keeps b c → HasFront a c text left
 stays a b c text left h same = record { count = h.count; rest = h.rest; gained = kept a b c (take h.count text) h.gained same }
 
--- where nothing is behind the first bytes, they are all
+-- if nothing comes after the first bytes, they are all
 take_whole : (count : ℕ) (text : List ℕ) → length (drop count text) ≡ 0 → take count text ≡ text
 take_whole count text none = take_all count text (omega (arith, length-drop count text))
 

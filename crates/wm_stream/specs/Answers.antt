@@ -41,7 +41,7 @@ abbrev pub text_of : List Answered → List ℕ
 text_of [] = []
 text_of (answer ∷ answers) = answer.text ++ text_of answers
 
--- an answer has the texts of all of these, in their order, and the status of all
+-- an answer has the texts of all of these, in their order, and their combined status
 pub record Joins (answers : List Answered) (all : LineAnswer) : Type 0 where
   pub text_is : string_bytes all.text ≡ text_of answers
   pub status_is : all.status ≡ overall answers
@@ -50,13 +50,13 @@ pub record Joins (answers : List Answered) (all : LineAnswer) : Type 0 where
 abbrev pub AreAnswers : (List ℕ → LineStatus → List ℕ → Type 0) → List (List ℕ) → List Answered → Type 0
 AreAnswers says lines answers = AllZip (λ line answer. says line answer.status answer.text) lines answers
 
--- the answers to these lines, in their order, as one
+-- the answers to these lines, in their order, combined
 pub record AnswersTogether (says : List ℕ → LineStatus → List ℕ → Type 0) (lines : List (List ℕ)) (all : LineAnswer) : Type 0 where
   pub answers : List Answered
   pub are_answers : AreAnswers says lines answers
   pub joins : Joins answers all
 
--- the lines are cut into chunks, and each answer is that to the chunk at its place
+-- the lines are divided into chunks, and each answer is the answer to the chunk at its place
 pub record AnswersByChunks (says : List ℕ → LineStatus → List ℕ → Type 0) (lines : List (List ℕ)) (answers : List LineAnswer) : Type 0 where
   pub chunks : List (List (List ℕ))
   pub are_all : flat_map (λ chunk. chunk) chunks ≡ lines
@@ -69,7 +69,7 @@ pub record Prints (says : List ℕ → LineStatus → List ℕ → Type 0) (line
   pub status_is : status ≡ overall answers
   pub gains : Appends old new (text_of answers)
 
--- the writer gains a front of the answers to the first of these lines
+-- the writer gains a prefix of the answers to the first of these lines
 pub record PrintsFront (says : List ℕ → LineStatus → List ℕ → Type 0) (lines : List (List ℕ)) (old new : Option (List ℕ)) : Type 0 where
   pub count : ℕ
   pub answers : List Answered

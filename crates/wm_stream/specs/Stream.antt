@@ -5,7 +5,7 @@ use Rattle.wm_stream.specs.declared.answer.LineStatus.{LineStatus}
 use Rattle.wm_stream.specs.Answers.{Prints, PrintsFront}
 use Rattle.wm_stream.specs.Lines.{SplitsOn, cut_lines}
 
--- the first `count` bytes of the buffer are the next ones of the reader; it has none if this is 0
+-- the first `count` bytes of the buffer are the next bytes of the reader, which has none left if this is 0
 pub record Reads (old new : Option (List ℕ)) (buffer : List ℕ) (count : ℕ) : Type 0 where
   pub within : count ≤ length buffer
   pub consumes : Consumes old new (take count buffer)
@@ -17,7 +17,7 @@ pub record AnswersPart (says : List ℕ → LineStatus → List ℕ → Type 0) 
   pub are_lines : SplitsOn limit begun part lines next
   pub prints : Prints says lines status old new
 
--- the writer gains a front of the answers to the lines that a part ends, if it follows `begun`
+-- the writer gains a prefix of the answers to the lines that a part ends, if it follows `begun`
 pub record AnswersPartFirst (says : List ℕ → LineStatus → List ℕ → Type 0) (limit : ℕ) (begun part : List ℕ) (old new : Option (List ℕ)) : Type 0 where
   pub lines : List (List ℕ)
   pub next : List ℕ
@@ -30,7 +30,7 @@ pub record AnswersAll (says : List ℕ → LineStatus → List ℕ → Type 0) (
   pub are_lines : IfSome known (λ all. lines ≡ cut_lines limit all)
   pub prints : Prints says lines status old new
 
--- the writer gains a front of the answers to the first lines that the reader had
+-- the writer gains a prefix of the answers to the first lines that the reader had
 pub record AnswersFirst (says : List ℕ → LineStatus → List ℕ → Type 0) (limit : ℕ) (known : Option (List ℕ)) (old new : Option (List ℕ)) : Type 0 where
   pub lines : List (List ℕ)
   pub are_lines : IfSome known (λ all. (others : List (List ℕ)) × (cut_lines limit all ≡ lines ++ others))

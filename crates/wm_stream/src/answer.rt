@@ -5,7 +5,7 @@ ghost use Rattle.wm_stream.specs.Answers.{status_code, worse};
 
 use std::alloc::{AllocError, Global};
 
-/// What kind of answer a line got.
+/// The kind of answer to a line.
 #[derive(Clone, Copy, Debug, PartialEq, Eq)]
 pub enum LineStatus {
     Allowed,
@@ -25,7 +25,7 @@ impl LineStatus {
         }
     }
 
-    /// The status of two answers together: broken if one of them is, else refused if one of them is.
+    /// The combined status of two answers: broken if one of them is, else refused if one of them is.
     pub(crate) fn worse(self, other: LineStatus) -> LineStatus
         ensures { result ≡ worse self other }
     {
@@ -45,19 +45,19 @@ pub struct LineAnswer {
     pub status: LineStatus,
 }
 
-/// What answers lines, each by itself.
+/// Something that answers lines independently of one another.
 pub trait AnswersLines: Sync {
-    /// Room that an answer takes, which serves one line after the other.
+    /// Memory that an answer uses, reused from one line to the next.
     type Room: Drop + Send;
 
-    // Whether a status and a text answer a line.
+    // Whether a status and a text are an answer to a line.
     ghost says: { Self → List ℕ → LineStatus → List ℕ → Type 0 };
 
-    /// Room for any line.
+    /// A room for any line.
     fn room(&self, alloc: Global) -> Self::Room;
 
-    /// The answer to a line, which is given without its newline. Lines are answered at the same time, each by one thread, in
-    /// room in which others may have been answered.
+    /// The answer to a line, given without its newline. Lines are answered at the same time, each by one thread, with a
+    /// room that may have been used for other lines.
     ///
     /// # Errors
     ///

@@ -10,13 +10,13 @@ use std::alloc::{AllocError, AllocGlobal, Global};
 use std::io::Write;
 use std::thread::Threads;
 
-/// How many chunks the lines are cut into, each answered by one thread, if there are as many lines.
+/// How many chunks the lines are divided into, each answered by one thread, if there are at least as many lines.
 const CHUNKS: usize = 256;
 
-/// How many chunks a thread takes at least. A line costs a thread's start a hundred times over, or a tenth of it.
+/// The fewest chunks of a thread. Answering a line takes from a tenth to a hundred times as long as starting a thread.
 const CHUNKS_OF_A_THREAD: usize = 4;
 
-/// The answers to lines as one: their texts in the order of the lines, and the status of all.
+/// The combined answer to lines: their texts in the order of the lines, and the status of all.
 fn answer_chunk<J: AnswersLines>(
     judge: &J,
     alloc: Global,
@@ -35,7 +35,7 @@ fn answer_chunk<J: AnswersLines>(
     Ok(LineAnswer { text, status })
 }
 
-/// The answers to lines by chunks, in their order; they are found on as many threads as there are processors.
+/// The answers to lines by chunks, in order; they are computed on as many threads as there are processors.
 fn answers_by_chunks<R: AllocGlobal + Threads + Sync, J: AnswersLines>(
     rt: &R,
     judge: &J,
@@ -55,7 +55,7 @@ fn answers_by_chunks<R: AllocGlobal + Threads + Sync, J: AnswersLines>(
         .collect::<Result<Vec<LineAnswer>, AllocError>>(rt, alloc)?
 }
 
-/// The texts of answers as one, in their order, with the status of all.
+/// The texts of answers joined in their order, with the status of all.
 fn joined(alloc: Global, answers: &[LineAnswer]) -> Result<LineAnswer, AllocError>
     ensures { IfOk result (Joins (map answered answers.now)) }
 {
@@ -68,11 +68,11 @@ fn joined(alloc: Global, answers: &[LineAnswer]) -> Result<LineAnswer, AllocErro
     Ok(LineAnswer { text, status })
 }
 
-/// Prints the answers to lines, in their order and by one write if the writer takes it, and returns their status together.
+/// Prints the answers to lines, in order and with one write if the writer takes it, and returns their combined status.
 ///
 /// # Errors
 ///
-/// If an allocation or a write fails; the writer has then gained a front of the answers.
+/// If an allocation or a write fails; the writer has then gained a prefix of the answers.
 pub(crate) fn print_answers<R: AllocGlobal + Threads + Sync, O: Write, J: AnswersLines>(
     rt: &R,
     judge: &J,

@@ -1,4 +1,4 @@
-//! Bytes that come in parts, as lines.
+//! Bytes that come in parts, split into lines.
 ghost use Rattle.std.specs.Prelude.{◌≡◌, IfOk, OnOk, take};
 ghost use Rattle.wm_stream.specs.Answers.{texts_of};
 ghost use Rattle.wm_stream.specs.Lines.{AreLines, EndsLine, extended, last_line};
@@ -6,10 +6,10 @@ ghost use Rattle.wm_stream.specs.Lines.{AreLines, EndsLine, extended, last_line}
 use memchr::memchr;
 use std::alloc::{AllocError, Global};
 
-/// What ends a line.
+/// The end of a line.
 const NEWLINE: u8 = b'\n';
 
-/// Adds bytes to a line that has begun, of which `limit` bytes are kept.
+/// Appends bytes to a line that has begun, of which at most `limit` bytes are kept.
 fn extend_cut(begun: &mut Vec<u8>, limit: usize, bytes: &[u8]) -> Result<(), AllocError>
     ensures { OnOk result (begun.new.items ≡ extended limit begun.old.items bytes.now) }
 {
@@ -17,7 +17,7 @@ fn extend_cut(begun: &mut Vec<u8>, limit: usize, bytes: &[u8]) -> Result<(), All
     begun.extend_from_slice(&bytes[..room.min(bytes.len())])
 }
 
-/// Begins a line with these bytes, of which `limit` are kept, in the room of the line before.
+/// Begins a line with these bytes, of which at most `limit` are kept, reusing the memory of the line before.
 pub(crate) fn begin_line(begun: &mut Vec<u8>, limit: usize, bytes: &[u8]) -> Result<(), AllocError>
     ensures { OnOk result (begun.new.items ≡ take limit bytes.now) }
 {
@@ -25,8 +25,8 @@ pub(crate) fn begin_line(begun: &mut Vec<u8>, limit: usize, bytes: &[u8]) -> Res
     extend_cut(begun, limit, bytes)
 }
 
-/// Adds to a line that has begun what precedes the first newline of a part, and gives what follows that newline. With no
-/// newline, the whole part is added. Of the line the first `limit` bytes are kept.
+/// Appends to a line that has begun what comes before the first newline of a part, and returns what comes after it.
+/// Without a newline, the whole part is appended. Only the first `limit` bytes of the line are kept.
 pub(crate) fn end_line<'a>(
     begun: &mut Vec<u8>,
     limit: usize,
@@ -46,16 +46,17 @@ pub(crate) fn end_line<'a>(
     }
 }
 
-/// Lines that have ended, and what begins the next line.
+/// Lines that have ended, and the beginning of the next line.
 #[derive(Drop)]
 pub(crate) struct Lines<'a, 'b> {
     /// Without their newlines.
     pub(crate) ended: Vec<&'a [u8]>,
-    /// What follows the last newline.
+    /// What comes after the last newline.
     pub(crate) left: &'b [u8],
 }
 
-/// The line `first`, and then the lines that a part of a text ends. Of each of these the first `limit` bytes are kept.
+/// The line `first`, and then the lines that a part of a text ends. Only the first `limit` bytes of each of these are
+/// kept.
 pub(crate) fn lines_in<'a, 'b: 'a>(
     alloc: Global,
     limit: usize,
@@ -74,7 +75,7 @@ pub(crate) fn lines_in<'a, 'b: 'a>(
     Ok(Lines { ended, left })
 }
 
-/// What follows the last newline, as a line; no line if nothing does.
+/// What comes after the last newline, as a line; no line if it is empty.
 pub(crate) fn last_line<'a>(alloc: Global, begun: &'a [u8]) -> Result<Vec<&'a [u8]>, AllocError>
     ensures { IfOk result (λ lines. texts_of lines.items ≡ last_line begun.now) }
 {

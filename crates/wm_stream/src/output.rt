@@ -1,4 +1,4 @@
-//! Writing of a text.
+//! Writing a text.
 ghost use Rattle.std.specs.Prelude.{OnErr, OnOk};
 ghost use Rattle.std.specs.Io.KnownBytes.{Appends};
 ghost use Rattle.wm_stream.specs.Output.{AppendsFront};
@@ -6,11 +6,11 @@ ghost use Rattle.wm_stream.specs.Output.{AppendsFront};
 use std::io;
 use std::io::{ErrorKind, Write};
 
-/// Writes a text whole, and flushes the writer. An interrupted write is made again.
+/// Writes a text completely, and flushes the writer. An interrupted write is repeated.
 ///
 /// # Errors
 ///
-/// The first write that fails or takes nothing, and a failed flush; the writer has then gained a front of the text.
+/// The first write that fails or takes nothing, and a failed flush; the writer has then gained a prefix of the text.
 pub fn write_text<W: Write>(out: &mut W, text: &str) -> io::Result<()>
     ensures written { OnOk result (Appends (W.contents out.old) (W.contents out.new) text.now) }
     ensures stopped { OnErr result (AppendsFront (W.contents out.old) (W.contents out.new) text.now) }

@@ -11,7 +11,7 @@ use std::alloc::{AllocError, AllocGlobal};
 use std::io::{ErrorKind, Read, Write};
 use std::thread::Threads;
 
-/// How many bytes a read asks for at most. The lines that end among them are answered at the same time.
+/// The most bytes that a read asks for. The lines that end among them are answered at the same time.
 const PART: usize = 1 << 24;
 
 /// Why a stream was not answered to its end.
@@ -33,7 +33,7 @@ impl From<AllocError> for StreamFault {
     }
 }
 
-/// The next bytes of the input, none at its end. An interrupted read is made again.
+/// The next bytes of the input; none at its end. An interrupted read is repeated.
 fn read_part<I: Read>(input: &mut I, buffer: &mut [u8]) -> Result<usize, StreamFault>
     requires { 0 < length buffer.old }
     ensures read { IfOk result (λ count. Reads (I.remaining input.old) (I.remaining input.new) buffer.new count) }
@@ -50,12 +50,12 @@ fn read_part<I: Read>(input: &mut I, buffer: &mut [u8]) -> Result<usize, StreamF
     Err(StreamFault::Read)
 }
 
-/// Answers the lines that a part of the input ends. `begun` is what precedes the part in its line, and afterwards what begins
-/// the next line.
+/// Answers the lines that a part of the input ends. `begun` is what comes before the part in its line, and afterwards
+/// the beginning of the next line.
 ///
 /// # Errors
 ///
-/// If an allocation or a write fails; the writer has then gained a front of the answers.
+/// If an allocation or a write fails; the writer has then gained a prefix of the answers.
 fn answer_part<R: AllocGlobal + Threads + Sync, O: Write, J: AnswersLines>(
     rt: &R,
     begun: &mut Vec<u8>,
@@ -80,13 +80,13 @@ fn answer_part<R: AllocGlobal + Threads + Sync, O: Write, J: AnswersLines>(
     Ok(status)
 }
 
-/// Answers each line of the input, in their order, and returns the status of all answers together. What a read returned is
-/// answered and printed before the next read. Of each line the first `limit` bytes count. What follows the last newline
-/// is a line too, if it is not empty.
+/// Answers each line of the input, in order, and returns the combined status of all answers. The bytes of a read are
+/// answered and printed before the next read. Only the first `limit` bytes of each line count. What comes after the
+/// last newline is also a line, if it is not empty.
 ///
 /// # Errors
 ///
-/// At the first read, write or allocation that fails; the writer has then gained a front of the answers.
+/// At the first read, write or allocation that fails; the writer has then gained a prefix of the answers.
 pub fn answer_lines<R: AllocGlobal + Threads + Sync, I: Read, O: Write, J: AnswersLines>(
     rt: &R,
     input: &mut I,

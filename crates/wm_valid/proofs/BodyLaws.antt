@@ -1,4 +1,4 @@
--- The lists that the typing allows after the instructions so far are exactly those that the stack stands for.
+-- The lists that the typing allows after the instructions so far are exactly those that the stack represents.
 use Rattle.std.proofs.Common.{◌≡◌, ℕ, List, [], ◌∷◌, ◌++◌, Option, Some, None, refl, sym, subst, ◌∙◌, ◌⊎◌, inl, inr, slice_get, Result, Ok, Err}
 use Rattle.wm_ast.specs.declared.types.ValType.{ValType}
 use Rattle.wm_ast.specs.declared.types.ValType.TheVariants.{I32}
@@ -154,7 +154,8 @@ if_first_refused C n one other part labels t s not ts vs rest m d = elim (apart 
 pub if_other_refused : (C : Context) (n one other : ℕ) (part : Else) (labels : Labels) (t : Option ValType) (s : Stack) → (ElsePart C n other labels t part → ⊥) → Rejects C n labels (If t one other part) s
 if_other_refused C n one other part labels t s not ts vs rest m d = elim (apart d) [ inl p ↦ absurd (cc p.is_type) | inr f ↦ not f.3 ]
 
--- how far a block was read: the rest is typed from a list that the stack stands for exactly where the whole is from nothing
+-- how far a block was read: the rest is typed from a list that the stack represents exactly if the whole is typed from
+-- no operands
 pub record SoFar (C : Context) (n : ℕ) (labels : Labels) (whole rest : List Instr) (s : Stack) : Type 0 where
   pub back : (us vs : List ValType) → Matches s us → Typed C n labels rest us vs → Typed C n labels whole [] vs
   pub forth : (vs : List ValType) → Typed C n labels whole [] vs → (us : List ValType) × Matches s us × Typed C n labels rest us vs
@@ -172,7 +173,7 @@ goes_on C n labels whole rest i s s1 so turned = record {
   forth = λ vs d. let r = so.forth vs d in turned.forth r.0 vs rest r.1 r.2;
 }
 
--- the instruction that was refused stack_polymorphic the block without a type
+-- the refused instruction leaves the block without a type
 pub refuses : (C : Context) (b : ℕ) (labels : Labels) (whole rest : List Instr) (i : Instr) (s : Stack) (result : Option ValType) → slice_get C.blocks b ≡ Some whole → SoFar C b labels whole (i ∷ rest) s → Rejects C b labels i s → TypedBlock C b labels result → ⊥
 refuses C b labels whole rest i s result there so refused t =
     let same-is : t.body ≡ whole = some_is t.body whole (sym t.is_there ∙ there) in

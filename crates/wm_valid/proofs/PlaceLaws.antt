@@ -23,7 +23,7 @@ one_plus k l = omega arith
 regroup : (j k l : ℕ) → j + 1 + (k + l) ≡ j + 1 + k + l
 regroup j k l = omega arith
 
--- an instruction behind others
+-- an instruction after others
 past : {blocks : List (List Instr)} {ps : List Part} {is : List Instr} {k : ℕ} (labels under : Labels) (rest : List Instr) (l : ℕ) (i : Instr) → Opcodes blocks ps is k → At blocks labels [] rest l i under
     → At blocks labels ps (is ++ rest) (k + l) i under
 past {blocks} labels under rest l i none a = subst (λ (n : ℕ). At blocks labels [] rest n i under) (zero_plus l) a
@@ -32,7 +32,7 @@ past {blocks} labels under rest l i (instr {i = first} {rest = is} {k = k} ops) 
 past {blocks} labels under rest l i (part {p = p} {ps = ps} {rest = is} {j = j} {k = k} body there inner ops) a =
     subst (λ (n : ℕ). At blocks labels (p ∷ ps) (is ++ rest) n i under) (regroup j k l) (past_part body there inner (past labels under rest l i ops a))
 
--- an `else` or an `end` behind others
+-- an `else` or an `end` after others
 end_past : {blocks : List (List Instr)} {ps : List Part} {is : List Instr} {k : ℕ} (rest : List Instr) (l : ℕ) → Opcodes blocks ps is k → IsEnd blocks [] rest l → IsEnd blocks ps (is ++ rest) (k + l)
 end_past {blocks} rest l none a = subst (λ (n : ℕ). IsEnd blocks [] rest n) (zero_plus l) a
 end_past {blocks} rest l (instr {i = first} {rest = is} {k = k} ops) a =
@@ -40,7 +40,7 @@ end_past {blocks} rest l (instr {i = first} {rest = is} {k = k} ops) a =
 end_past {blocks} rest l (part {p = p} {ps = ps} {rest = is} {j = j} {k = k} body there inner ops) a =
     subst (λ (n : ℕ). IsEnd blocks (p ∷ ps) (is ++ rest) n) (regroup j k l) (end_past_part body there inner (end_past rest l ops a))
 
--- the `end` behind all that was counted
+-- the `end` after everything that was counted
 end_of : {blocks : List (List Instr)} {ps : List Part} {is : List Instr} {k : ℕ} → Opcodes blocks ps is k → IsEnd blocks ps is k
 end_of none = last
 end_of (instr ops) = end_behind (end_of ops)
@@ -93,7 +93,7 @@ pub located_block : (e : InstrFault) (C : Context) (labels : Labels) (block : �
 located_block OutOfMemory C labels block before after i first mid n there a h = tt
 located_block (Breaks kind) C labels block before after i first mid n there a h = (before ++ i ∷ after, there, faulty_more C labels before (i ∷ after) kind first mid n a (h after))
 
--- what was counted stays so where the refusal is for want of memory
+-- what was counted stays so if the refusal is an allocation failure
 pub counts : {X : Type 0} (r : Result X InstrFault) (C : Context) (labels : Labels) (is : List Instr) (first n : ℕ) → IfErr r (λ e. e ≡ OutOfMemory) → Counted C.blocks is first n → Counts r C labels is first n
 counts (Ok x) C labels is first n kind h = h
 counts (Err e) C labels is first n kind h = subst (Located C labels is first n) (sym kind) tt
@@ -220,7 +220,7 @@ inside_second C labels t one other kind first mid n body after h there (inr r) =
   },
 )
 
--- a fault at the opcode behind an instruction's first block
+-- a fault at the opcode after an instruction's first block
 stops_behind : (e : InstrFault) (C : Context) (labels : Labels) (i : Instr) (t : Option ValType) (b : ℕ) (ps : List Part) (first mid n : ℕ) → parts i ≡ record { label = t; block = b } ∷ ps
     → CountedBlock C b (number_of (first + 1)) mid → StopsAt e mid n → Located C labels (i ∷ []) first n e
 stops_behind OutOfMemory C labels i t b ps first mid n is h stop = tt

@@ -1,4 +1,5 @@
--- The lists that a stack stands for after an instruction are exactly those that the instruction makes of those before.
+-- The lists that a stack represents after an instruction are exactly those that the instruction makes from those
+-- before.
 use Rattle.std.proofs.Common.{◌≡◌, Bool, true, false, List, [], ◌∷◌, ◌++◌, Option, Some, None, refl, sym, ap, subst, ◌∙◌}
 use Rattle.wm_ast.specs.declared.types.ValType.{ValType}
 use Rattle.wm_ast.specs.declared.types.ValType.TheVariants.{I32, I64}
@@ -132,7 +133,7 @@ select_back s s1 us e m =
         let three = pop_back s2.known s2.open_below a t (t ∷ ts) ea both.0 two in
         (t, ts, back (t ∷ t ∷ ts) ec three, refl)
 
--- what the typing allows after the instruction, the stack after it stands for
+-- what the typing allows after the instruction, the stack after it represents
 pub made_forth : (ty : InstrType) (s : Stack) (ts us : List ValType) → Matches s ts → Makes ty ts us → (s1 : Stack) × (made_by ty s ≡ Some s1) × Matches s1 us
 made_forth (maps takes gives) s ts us m h =
     let one = take_forth takes s h.0 (subst (λ (l : List ValType). Matches s l) h.1 m) in (
@@ -150,7 +151,7 @@ made_forth (stack_polymorphic takes) s ts us m h =
     let one = take_forth takes s h.0 (subst (λ (l : List ValType). Matches s l) h.1 m) in
     (opened, then_some (take_all takes s) (λ (s1 : Stack). Some opened) one.0 opened one.1 refl, tt)
 
--- what the stack after the instruction stands for, the typing allows after it
+-- what the stack after the instruction represents, the typing allows after it
 pub made_back : (ty : InstrType) (s s1 : Stack) (us : List ValType) → made_by ty s ≡ Some s1 → Matches s1 us → (ts : List ValType) × Matches s ts × Makes ty ts us
 made_back (maps takes gives) s s1 us e m =
     let one = bind_some (take_all takes s) (λ (s2 : Stack). Some (give_all gives s2)) s1 e in

@@ -22,7 +22,7 @@ made {ts = ts} ty is p = (p.us, subst (λ (t : InstrType). Makes t ts p.us) (som
 constant : {C : Context} {n : ℕ} {labels : Labels} (x : ℕ) (ts : List ValType) → Typed C n labels (I32Const x ∷ []) ts (I32 ∷ ts)
 constant x ts = plain (maps [] (I32 ∷ [])) refl (ts, refl, refl) none
 
--- the last instruction, behind all the others
+-- the last instruction, after all the others
 last : {C : Context} {before : List Instr} {i : Instr} {k : ℕ} → Opcodes C.blocks [] before k → StandsBehind C (before ++ i ∷ []) before i k
 last ops = record { after = []; is = refl; are_opcodes = ops }
 

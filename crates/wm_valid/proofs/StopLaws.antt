@@ -21,7 +21,7 @@ use Rattle.wm_valid.proofs.BodyLaws.{IsPlain, Framed, apart, if_typed}
 use Rattle.wm_valid.proofs.LoopLaws.{split_item}
 use Rattle.wm_valid.proofs.Laid.{taken_more}
 
--- instructions behind others
+-- instructions after others
 pub typed_both : {C : Context} {n : ℕ} {labels : Labels} {xs : List Instr} {ts us : List ValType} (ys : List Instr) (vs : List ValType) → Typed C n labels xs ts us → Typed C n labels ys us vs → Typed C n labels (xs ++ ys) ts vs
 typed_both ys vs none e = e
 typed_both ys vs (plain ty is makes d) e = plain ty is makes (typed_both ys vs d e)
@@ -92,7 +92,7 @@ plain_with C n labels before _ p h = h
 pub unless_untyped : {P : Type 0} (e : InstrFault) → e ≡ Breaks BadType → Unless e P → P
 unless_untyped {P} e is h = subst (λ (q : InstrFault). Unless q P) is h
 
--- an instruction behind those that were counted
+-- an instruction after those that were counted
 stands : (C : Context) (before after : List Instr) (i : Instr) (start first : ℕ) → (counted : Counted C.blocks before start first) → StandsBehind C (before ++ i ∷ after) before i counted.opcodes
 stands C before after i start first counted = record { after = after; is = refl; are_opcodes = counted.are_opcodes }
 
@@ -164,7 +164,7 @@ number_behind m start j first l mid e f = omega arith
 number_in_second : (m start j first l mid k next : ℕ) → first ≡ min (start + j) m → mid ≡ min (min (first + 1) m + l) m → next ≡ min (min (mid + 1) m + k) m → next ≡ min (start + (j + (1 + (l + 1 + k)))) m
 number_in_second m start j first l mid k next e f g = omega arith
 
--- a fault at the opcode behind the first block of an `if`
+-- a fault at the opcode after the first block of an `if`
 stops_past_first : (C : Context) (n : ℕ) (labels : Labels) (result : Option ValType) (before after : List Instr) (t : Option ValType) (one other : ℕ) (part : Else) (start first mid next : ℕ)
     → Counted C.blocks before start first → (h : CountedBlock C one (number_of (first + 1)) mid) → PastFirst C n labels before t one h.2.opcodes → (GoesOn C n other t part → ⊥) → next ≡ mid
     → TypingStopsAt C n labels result (before ++ If t one other part ∷ after) start next
@@ -220,7 +220,7 @@ end_stops (Err e) C labels b result items before s s1 first next there whole so 
       },
     )
 
--- a refusal for want of memory stops nowhere
+-- a refusal for an allocation failure stops nowhere
 pub given_stops : {X : Type 0} (r : Result X InstrFault) (C : Context) (n : ℕ) (labels : Labels) (i : Instr) (s : Stack) (first next : ℕ) → IfErr r (λ e. e ≡ OutOfMemory) → IfErr r (StopsInstr C n labels i s first next)
 given_stops (Ok x) C n labels i s first next h = tt
 given_stops (Err e) C n labels i s first next h = λ bad. absurd (cc (bad, h))

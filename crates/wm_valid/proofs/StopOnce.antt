@@ -43,7 +43,7 @@ framed_all C n labels before (If t one other part) rest ts vs d f = record {
 }
 framed_all C n labels before _ rest ts vs d f = absurd f
 
--- what a typing says of an instruction in the middle
+-- what a typing means for an instruction in the middle
 pub typed_all : (C : Context) (n : ℕ) (labels : Labels) (before after : List Instr) (i : Instr) (vs : List ValType) → Typed C n labels (before ++ i ∷ after) [] vs → TypedAll C n labels before i
 typed_all C n labels before after i vs d =
     let q = parted C n labels before (i ∷ after) [] vs d in
@@ -113,7 +113,7 @@ compared (w ∷ xs) x xs2 (z ∷ ys) y bs e = compared_more w z xs ys x y (first
     compared_more w z xs ys x y e (inr (inl h)) = inr (inl (h.0, cc (e, h.1)))
     compared_more w z xs ys x y e (inr (inr h)) = inr (inr (h.0, cc (e, h.1)))
 
--- where typing stops in an instruction behind others, counted from its own opcode
+-- where typing stops in an instruction after others, counted from its own opcode
 pub data ItemStop (C : Context) (n : ℕ) (labels : Labels) (before : List Instr) (i : Instr) : ℕ → Type 0 where
   itself : HasTyping C n labels before → (HasTypingWith C n labels before i → ⊥) → ItemStop C n labels before i 0
   inside : {k : ℕ} (p : Part) (ps : List Part) (body : List Instr) → HasTypingWith C n labels before i → parts i ≡ p ∷ ps → slice_get C.blocks p.block ≡ Some body

@@ -1,4 +1,4 @@
--- What a refusal says of the module.
+-- The meaning of a refusal.
 use Rattle.std.specs.Prelude.{ℕ, ◌≡◌, ◌+◌, ◌<◌, ◌⊎◌, List, [], ◌∷◌, Some, None, Result, Ok, Err, length, slice_get, All}
 use Rattle.wm_ast.specs.declared.types.FuncType.{FuncType}
 use Rattle.wm_ast.specs.declared.types.ValType.TheVariants as value
@@ -21,22 +21,22 @@ use Rattle.wm_valid.specs.declared.fault.ValidFault.TheVariants.{At, OutOfMemory
 use Rattle.wm_valid.specs.declared.fault.InstrFault.{InstrFault}
 use Rattle.wm_valid.specs.declared.fault.InstrFault.TheVariants as refusal
 
--- one of these items is so
+-- one of these items has this property
 abbrev pub SomeOf : {X : Type 0} → List X → (X → Type 0) → Type 0
 SomeOf {X} xs P = (k : ℕ) × (x : X) × (slice_get xs k ≡ Some x) × P x
 
--- item k, if there is one, is so
+-- item k, if there is one, has this property
 abbrev pub IsGoodAt : {X : Type 0} → (X → Type 0) → List X → ℕ → Type 0
 IsGoodAt {X} P xs k = (x : X) → slice_get xs k ≡ Some x → P x
 
--- the function's type isn't there
+-- the function's type doesn't exist
 abbrev pub HasNoType : Module → Func → Type 0
 HasNoType m f = slice_get m.types f.type_index ≡ None
 
 abbrev pub HasType : Module → Func → Type 0
 HasType m f = (type : FuncType) × (slice_get m.types f.type_index ≡ Some type)
 
--- all is as it should be but the functions' instructions
+-- everything but the functions' instructions is as required
 pub record GoodSections (m : Module) : Type 0 where
   pub limits : GoodLimits m.memory
   pub types : All (HasType m) m.funcs
@@ -44,17 +44,18 @@ pub record GoodSections (m : Module) : Type 0 where
   pub exports : All (GoodExport m) m.exports
   pub segments : All (GoodData m) m.data
 
--- opcode n of the function is an instruction that breaks this rule and, where the rule is that of types, no other; or an `else` or an `end`, where the rule is that of types. Where it is, typing stops at opcode n
+-- opcode n of the function is an instruction that breaks this rule and, if the rule is that of types, no other; or, if
+-- the rule is that of types, an `else` or an `end`. Then typing stops at opcode n
 pub record BreaksIn (m : Module) (f : Func) (kind : FaultKind) (n : ℕ) : Type 0 where
   pub type : FuncType
   pub is_type : slice_get m.types f.type_index ≡ Some type
   pub body : List Instr
   pub is_body : slice_get f.blocks 0 ≡ Some body
   pub faulty : FaultyAt (context m f type) (type.result ∷ []) body kind 0 n
-  -- what precedes opcode n has a typing, and with it there is none
+  -- the opcodes before n have a typing, but not together with it
   pub stops : kind ≡ BadType → TypingStopsAt (context m f type) 0 (type.result ∷ []) type.result body 0 n
 
--- the data segment, at an i32, ends past the memory as it is at first
+-- the data segment, at an i32, ends past the initial memory
 pub record IsOutOfRange (m : Module) (d : DataSegment) : Type 0 where
   pub memory : HasMemory m.memory
   pub offset : IsConstant value.I32 d.offset
@@ -87,7 +88,7 @@ abbrev pub BreaksAt : Module → FaultKind → Location → Type 0
 BreaksAt m kind place.Module = BreaksModule m kind
 BreaksAt m kind (place.Instr func n) = (f : Func) × (slice_get m.funcs func ≡ Some f) × BreaksFunc m f kind n
 
--- memory was refused, or the fault is right
+-- an allocation failed, or the fault is right
 abbrev pub Breaks : Module → ValidFault → Type 0
 Breaks m OutOfMemory = Unit {0}
 Breaks m (At kind place) = BreaksAt m kind place
@@ -97,13 +98,13 @@ abbrev pub placed : InstrFault → ℕ → ℕ → ValidFault
 placed refusal.OutOfMemory func n = OutOfMemory
 placed (refusal.Breaks kind) func n = At kind (place.Instr func n)
 
--- memory was refused, or the function, of which there are so many before, breaks the rule at the place
+-- an allocation failed, or the function, the one after `number` others, breaks the rule at the place
 abbrev pub RefusesFunc : Module → Func → ℕ → ValidFault → Type 0
 RefusesFunc m f number OutOfMemory = Unit {0}
 RefusesFunc m f number (At kind place.Module) = ⊥
 RefusesFunc m f number (At kind (place.Instr func n)) = (func ≡ number) × BreaksFunc m f kind n
 
--- the function is typed, or the fault is right of it
+-- the function is typed, or the fault is right for it
 abbrev pub JudgesFunc : {X : Type 0} → Result X ValidFault → Module → Func → ℕ → Type 0
 JudgesFunc (Ok x) m f number = TypedFunc m f
 JudgesFunc (Err e) m f number = RefusesFunc m f number e

@@ -1,4 +1,4 @@
--- What a function answers, seen by what it had to find.
+-- The answers of a function, in terms of what it had to find.
 use Rattle.std.specs.Prelude.{◌≡◌, ◌<◌, ◌⊎◌, ℕ, ◌+◌, List, [], ◌∷◌, ◌++◌, Option, Some, None, Result, Ok, Err, slice_get}
 use Rattle.wm_ast.specs.declared.types.ValType.{ValType}
 use Rattle.wm_ast.specs.declared.instr.Instr.{Instr}
@@ -13,7 +13,7 @@ use Rattle.wm_valid.specs.declared.fault.FaultKind.TheVariants.{BadType, Index, 
 use Rattle.wm_valid.specs.declared.fault.InstrFault.{InstrFault}
 use Rattle.wm_valid.specs.declared.fault.InstrFault.TheVariants.{Breaks, OutOfMemory}
 
--- the refusal is for want of memory, or this holds
+-- the refusal is an allocation failure, or this holds
 abbrev pub Unless : InstrFault → Type 0 → Type 0
 Unless OutOfMemory P = Unit {0}
 Unless (Breaks kind) P = P
@@ -22,22 +22,22 @@ abbrev pub Implements : {X Y : Type 0} → (X → Y) → Result X InstrFault →
 Implements view (Ok x) read = read ≡ Some (view x)
 Implements view (Err e) read = Unless e (read ≡ None)
 
--- a yes or a no to P
+-- it decides P
 abbrev pub Decides : {X : Type 0} → Result X InstrFault → Type 0 → Type 0
 Decides (Ok x) P = P
 Decides (Err e) P = Unless e (P → ⊥)
 
--- what is on the stack afterwards
+-- the contents of the stack afterwards
 abbrev pub LeavesStack : {X : Type 0} → Result X InstrFault → Option Stack → Stack → Type 0
 LeavesStack (Ok x) after new = after ≡ Some new
 LeavesStack (Err e) after new = Unless e (after ≡ None)
 
--- after the instruction, the new stack stands for the lists that the typing allows
+-- after the instruction, the new stack represents the lists that the typing allows
 pub record MapsStack (C : Context) (n : ℕ) (labels : Labels) (i : Instr) (old new : Stack) : Type 0 where
   pub back : (us vs : List ValType) (rest : List Instr) → Matches new us → Typed C n labels rest us vs → (ts : List ValType) × Matches old ts × Typed C n labels (i ∷ rest) ts vs
   pub forth : (ts vs : List ValType) (rest : List Instr) → Matches old ts → Typed C n labels (i ∷ rest) ts vs → (us : List ValType) × Matches new us × Typed C n labels rest us vs
 
--- none of the lists that the stack stands for is allowed before the instruction
+-- none of the lists that the stack represents is allowed before the instruction
 abbrev pub Rejects : Context → ℕ → Labels → Instr → Stack → Type 0
 Rejects C n labels i old = (ts vs : List ValType) (rest : List Instr) → Matches old ts → Typed C n labels (i ∷ rest) ts vs → ⊥
 
@@ -45,21 +45,21 @@ abbrev pub Checked : {X : Type 0} → Result X InstrFault → Context → ℕ �
 Checked (Ok x) C n labels i old new = MapsStack C n labels i old new
 Checked (Err e) C n labels i old new = Unless e (Rejects C n labels i old)
 
--- the refusal is for want of memory, or the instruction breaks the rule
+-- the refusal is an allocation failure, or the instruction breaks the rule
 abbrev pub BrokenBy : Context → Labels → Instr → InstrFault → Type 0
 BrokenBy C labels i OutOfMemory = Unit {0}
 BrokenBy C labels i (Breaks kind) = BreaksRule C labels i kind
 
--- no rule but those of types is broken
+-- no rule but that of types is broken
 abbrev pub IsUntyped : InstrFault → Type 0
 IsUntyped OutOfMemory = Unit {0}
 IsUntyped (Breaks kind) = kind ≡ BadType
 
--- label k is there
+-- label k exists
 abbrev pub IsLabel : Labels → ℕ → Type 0
 IsLabel labels k = slice_get labels k ≡ None → ⊥
 
--- some label of a table isn't there, or all are and have no one type
+-- some label of a table doesn't exist, or all exist and don't have the same type
 abbrev pub TableFault : Labels → List ℕ → ℕ → InstrFault → Type 0
 TableFault labels ks l OutOfMemory = Unit {0}
 TableFault labels ks l (Breaks BadType) = NoSuchLabelIn labels ks l → ⊥
@@ -72,7 +72,7 @@ pub record Counted (blocks : List (List Instr)) (instrs : List Instr) (first nex
   pub are_opcodes : Opcodes blocks [] instrs opcodes
   pub is_next : next ≡ number_of (first + opcodes)
 
--- the refusal is for want of memory, or this opcode is at fault, whatever stands behind the instructions
+-- the refusal is an allocation failure, or this opcode is at fault, whatever comes after the instructions
 abbrev pub Located : Context → Labels → List Instr → ℕ → ℕ → InstrFault → Type 0
 Located C labels instrs first n OutOfMemory = Unit {0}
 Located C labels instrs first n (Breaks kind) = (after : List Instr) → FaultyAt C labels (instrs ++ after) kind first n
@@ -82,7 +82,7 @@ abbrev pub Counts : {X : Type 0} → Result X InstrFault → Context → Labels 
 Counts (Ok x) C labels instrs first n = Counted C.blocks instrs first n
 Counts (Err e) C labels instrs first n = Located C labels instrs first n e
 
--- the same of the instructions of a block
+-- the same for the instructions of a block
 abbrev pub CountedBlock : Context → ℕ → ℕ → ℕ → Type 0
 CountedBlock C block first n = (body : List Instr) × (slice_get C.blocks block ≡ Some body) × Counted C.blocks body first n
 
@@ -100,11 +100,11 @@ IsLabelFault e = e ≡ Breaks Label
 abbrev pub IsIndexFault : InstrFault → Type 0
 IsIndexFault e = e ≡ Breaks Index
 
--- the refusal is for want of memory, or for types at this number
+-- the refusal is an allocation failure, or about types at this number
 abbrev pub StopsAt : InstrFault → ℕ → ℕ → Type 0
 StopsAt e first n = IsUntyped e × (n ≡ first)
 
--- the same of a block and of the opcode in front of it, which is at fault where there is no such block behind it
+-- the same for a block and the opcode before it, which is at fault if there is no such block after it
 abbrev pub LocatedNested : Context → Labels → ℕ → ℕ → ℕ → InstrFault → Type 0
 LocatedNested C labels block first n e = StopsAt e first n ⊎ LocatedBlock C labels block (number_of (first + 1)) n e
 
@@ -112,7 +112,7 @@ abbrev pub CountsNested : {X : Type 0} → Result X InstrFault → Context → L
 CountsNested (Ok x) C labels block first n = CountedBlock C block (number_of (first + 1)) n
 CountsNested (Err e) C labels block first n = LocatedNested C labels block first n e
 
--- the same of the else part of an `if`, whose opcodes begin at its `else`; an absent one has none
+-- the same for the else part of an `if`, whose opcodes begin at its `else`; an absent part has no opcodes
 abbrev pub CountedElse : Context → ℕ → Else → ℕ → ℕ → Type 0
 CountedElse C block Present first n = CountedBlock C block (number_of (first + 1)) n
 CountedElse C block Absent first n = n ≡ first
@@ -125,16 +125,17 @@ abbrev pub CountsElse : {X : Type 0} → Result X InstrFault → Context → Lab
 CountsElse (Ok x) C labels block t part first n = CountedElse C block part first n
 CountsElse (Err e) C labels block t part first n = LocatedElse C labels block t part first n e
 
--- the lists that the first instructions of block n make of nothing are those that the stack stands for
+-- the lists that the first instructions of block n make from no operands are those that the stack represents
 pub record Reaches (C : Context) (n : ℕ) (labels : Labels) (before : List Instr) (s : Stack) : Type 0 where
   pub back : (us : List ValType) → Matches s us → Typed C n labels before [] us
   pub forth : (us : List ValType) → Typed C n labels before [] us → Matches s us
 
--- where the refusal is for types, this holds
+-- if the refusal is about types, this holds
 abbrev pub IfUntyped : InstrFault → Type 0 → Type 0
 IfUntyped e P = e ≡ Breaks BadType → P
 
--- in whatever block this instruction stands after others that make what the stack stands for, typing stops at its opcode `next`
+-- in any block in which this instruction comes after others that make what the stack represents, typing stops at its
+-- opcode `next`
 abbrev pub StopsBehind : Context → ℕ → Labels → Instr → Stack → ℕ → ℕ → Type 0
 StopsBehind C n labels i old first next =
     (before after : List Instr) (result : Option ValType) (start : ℕ) → Reaches C n labels before old → Counted C.blocks before start first
@@ -143,21 +144,21 @@ StopsBehind C n labels i old first next =
 abbrev pub StopsInstr : Context → ℕ → Labels → Instr → Stack → ℕ → ℕ → InstrFault → Type 0
 StopsInstr C n labels i old first next e = IfUntyped e (StopsBehind C n labels i old first next)
 
--- typing stops in block b, which is there
+-- typing stops in block b, which exists
 abbrev pub StopsInside : Context → ℕ → Labels → Option ValType → ℕ → ℕ → Type 0
 StopsInside C b labels result first next = (body : List Instr) × (slice_get C.blocks b ≡ Some body) × TypingStopsAt C b labels result body first next
 
 abbrev pub StopsBlock : Context → ℕ → Labels → Option ValType → ℕ → ℕ → InstrFault → Type 0
 StopsBlock C b labels result first next e = IfUntyped e (StopsInside C b labels result first next)
 
--- typing stops in a block that block n names, or at the opcode in front of it where there is no such block after block n
+-- typing stops in a block that block n names, or at the opcode before it if there is no such block after block n
 abbrev pub StopsAtOrInside : Context → ℕ → ℕ → Labels → Option ValType → ℕ → ℕ → Type 0
 StopsAtOrInside C n b labels result first next = ((IsBehind C n b → ⊥) × (next ≡ first)) ⊎ ((n < b) × StopsInside C b labels result (number_of (first + 1)) next)
 
 abbrev pub StopsNested : Context → ℕ → ℕ → Labels → Option ValType → ℕ → ℕ → InstrFault → Type 0
 StopsNested C n b labels result first next e = IfUntyped e (StopsAtOrInside C n b labels result first next)
 
--- the same of the else part of an `if`
+-- the same for the else part of an `if`
 abbrev pub StopsInElse : Context → ℕ → ℕ → Labels → Option ValType → Else → ℕ → ℕ → Type 0
 StopsInElse C n b labels t Present first next = StopsAtOrInside C n b (t ∷ labels) t first next
 StopsInElse C n b labels t Absent first next = (AbsentElse C b t → ⊥) × (next ≡ first)

@@ -23,7 +23,7 @@ infixl 10 ◌>>=◌
 abbrev pub ◌>>=◌ : {A B : Type 0} → Option A → (A → Option B) → Option B
 o >>= f = option_and_then f o
 
--- what the instructions of a function are typed in, the labels apart
+-- the context in which the instructions of a function are typed, without the labels
 pub record Context : Type 0 where
   pub «module» : Module
   pub locals : List ValType
@@ -40,7 +40,7 @@ pub data InstrType : Type 0 where
   -- t to nothing, and t t i32 to t, for any t
   drops : InstrType
   selects : InstrType
-  -- takes these operands, and then any list may stand
+  -- takes these operands, and then any list is possible
   stack_polymorphic : List ValType → InstrType
 
 abbrev pub listed : Option ValType → List ValType
@@ -56,7 +56,7 @@ same (Some I32) (Some I64) = false
 same (Some I64) (Some I32) = false
 same (Some I64) (Some I64) = true
 
--- t, where each of these labels has the type t
+-- t, if each of these labels has the type t
 abbrev pub all_same : Labels → Option ValType → List ℕ → Option (Option ValType)
 all_same labels t [] = Some t
 all_same labels t (k ∷ ks) = slice_get labels k >>= λ u. if same u t then all_same labels t ks else None
@@ -69,24 +69,24 @@ abbrev pub is_variable : Mutability → Bool
 is_variable Constant = false
 is_variable Variable = true
 
--- the type of the numbers of a width
+-- the type whose values have this width
 abbrev pub type_of : Width → ValType
 type_of W32 = I32
 type_of W64 = I64
 
--- 2 to this power bytes are accessed
+-- the width as an exponent of 2
 abbrev pub exponent_of : AccessWidth → ℕ
 exponent_of One = 0
 exponent_of Two = 1
 exponent_of Four = 2
 exponent_of Eight = 3
 
--- a plain access may be said to be less aligned than it is wide, an atomic one may not
+-- the alignment of a plain access may be less than its width, that of an atomic access may not
 abbrev pub is_aligned : MemoryOrder → AccessWidth → ℕ → Bool
 is_aligned Unordered width exponent = nat_le exponent (exponent_of width)
 is_aligned SeqCst width exponent = nat_eq exponent (exponent_of width)
 
--- an access takes its address, below a value or two, and may give one
+-- an access takes its address, below one or two values, and may give a value
 abbrev pub access_type : AccessKind → InstrType
 access_type (Read s) = maps (I32 ∷ []) (access_operand (Read s) ∷ [])
 access_type (ReadSigned n) = maps (I32 ∷ []) (access_operand (ReadSigned n) ∷ [])
@@ -96,7 +96,7 @@ access_type (AtomicWrite s) = maps (access_operand (AtomicWrite s) ∷ I32 ∷ [
 access_type (Rmw op s) = maps (access_operand (Rmw op s) ∷ I32 ∷ []) (access_operand (Rmw op s) ∷ [])
 access_type (CmpXchg t) = maps (access_operand (CmpXchg t) ∷ access_operand (CmpXchg t) ∷ I32 ∷ []) (access_operand (CmpXchg t) ∷ [])
 
--- None where the instruction has no type here, or has blocks
+-- None if the instruction has no type here, or has blocks
 abbrev pub instr_type : Context → Labels → Instr → Option InstrType
 instr_type C labels Unreachable = Some (stack_polymorphic [])
 instr_type C labels Nop = Some (maps [] [])

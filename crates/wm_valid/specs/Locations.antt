@@ -1,4 +1,4 @@
--- The numbers of a function's instructions, and which rule an instruction breaks where it stands.
+-- The numbers of a function's instructions, and which rule an instruction breaks at its place.
 use Rattle.std.specs.Prelude.{ℕ, ◌≡◌, ◌+◌, ◌-◌, ◌^◌, ◌⊎◌, min, List, [], ◌∷◌, Option, Some, None, slice_get, Contains, false}
 use Rattle.wm_ast.specs.declared.types.ValType.{ValType}
 use Rattle.wm_ast.specs.declared.instr.Else.TheVariants.{Present, Absent}
@@ -15,7 +15,8 @@ pub record Part : Type 0 where
   pub label : Option ValType
   pub block : ℕ
 
--- the blocks whose opcodes follow an instruction's own, in order. Behind each stands one opcode more: `else` between the two of an `if`, else `end`
+-- the blocks whose opcodes follow an instruction's own, in order. After each comes one more opcode: `else` between the
+-- two of an `if`, otherwise `end`
 abbrev pub parts : Instr → List Part
 parts (Block t b) = record { label = t; block = b } ∷ []
 parts (Loop t b) = record { label = None; block = b } ∷ []
@@ -23,14 +24,14 @@ parts (If t one other Present) = record { label = t; block = one } ∷ record { 
 parts (If t one other Absent) = record { label = t; block = one } ∷ []
 parts _ = []
 
--- these blocks and then these instructions have so many opcodes, each `else` and `end` counted
+-- these blocks and then these instructions have this number of opcodes, including each `else` and `end`
 pub data Opcodes (blocks : List (List Instr)) : List Part → List Instr → ℕ → Type 0 where
   none : Opcodes blocks [] [] 0
   instr : {i : Instr} {rest : List Instr} {k : ℕ} → Opcodes blocks (parts i) rest k → Opcodes blocks [] (i ∷ rest) (1 + k)
   part : {p : Part} {ps : List Part} {rest : List Instr} {j k : ℕ} (body : List Instr) → slice_get blocks p.block ≡ Some body → Opcodes blocks [] body j → Opcodes blocks ps rest k
       → Opcodes blocks (p ∷ ps) rest (j + 1 + k)
 
--- in these blocks and then these instructions, opcode k is the instruction i, under these labels at last
+-- in these blocks and then these instructions, opcode k is the instruction i, with these labels around it
 pub data At (blocks : List (List Instr)) : Labels → List Part → List Instr → ℕ → Instr → Labels → Type 0 where
   here : {labels : Labels} {i : Instr} {rest : List Instr} → At blocks labels [] (i ∷ rest) 0 i labels
   behind : {labels under : Labels} {i first : Instr} {rest : List Instr} {k : ℕ} → At blocks labels (parts first) rest k i under → At blocks labels [] (first ∷ rest) (1 + k) i under
@@ -39,7 +40,7 @@ pub data At (blocks : List (List Instr)) : Labels → List Part → List Instr �
   past_part : {labels under : Labels} {i : Instr} {p : Part} {ps : List Part} {rest : List Instr} {j k : ℕ} (body : List Instr) → slice_get blocks p.block ≡ Some body
       → Opcodes blocks [] body j → At blocks labels ps rest k i under → At blocks labels (p ∷ ps) rest (j + 1 + k) i under
 
--- in these blocks and then these instructions, opcode k is an `else` or an `end`, of a block or behind them all
+-- in these blocks and then these instructions, opcode k is an `else` or an `end`, of a block or after all of them
 pub data IsEnd (blocks : List (List Instr)) : List Part → List Instr → ℕ → Type 0 where
   last : IsEnd blocks [] [] 0
   end_behind : {first : Instr} {rest : List Instr} {k : ℕ} → IsEnd blocks (parts first) rest k → IsEnd blocks [] (first ∷ rest) (1 + k)
@@ -47,7 +48,7 @@ pub data IsEnd (blocks : List (List Instr)) : List Part → List Instr → ℕ �
   end_past_part : {p : Part} {ps : List Part} {rest : List Instr} {j k : ℕ} (body : List Instr) → slice_get blocks p.block ≡ Some body → Opcodes blocks [] body j → IsEnd blocks ps rest k
       → IsEnd blocks (p ∷ ps) rest (j + 1 + k)
 
--- an opcode's number as it is given: from 2 to the power 64 on, 1 less than that
+-- an opcode's number as it is reported: 2 to the power 64 minus 1 if it is greater
 abbrev pub number_of : ℕ → ℕ
 number_of k = min k (2 ^ 64 - 1)
 
@@ -60,7 +61,7 @@ NoSuchIndex C (GlobalSet x) = slice_get C.module.globals x ≡ None
 NoSuchIndex C (Call f) = func_type C.module f ≡ None
 NoSuchIndex C _ = ⊥
 
--- one of the labels of a table isn't there
+-- one of the labels of a table doesn't exist
 abbrev pub NoSuchLabelIn : Labels → List ℕ → ℕ → Type 0
 NoSuchLabelIn labels ks l = (k : ℕ) × Contains (l ∷ ks) k × (slice_get labels k ≡ None)
 
@@ -79,11 +80,12 @@ NeedsMemory (Access kind operands) = Unit {0}
 NeedsMemory MemorySize = Unit {0}
 NeedsMemory _ = ⊥
 
--- the instruction keeps the rules but that of types where it stands
+-- the instruction keeps all rules but that of types at its place
 abbrev pub KeepsOthers : Context → Labels → Instr → Type 0
 KeepsOthers C labels i = (NoSuchIndex C i → ⊥) × (NoSuchLabel labels i → ⊥) × (IsMisaligned i → ⊥) × (C.module.memory ≡ None → NeedsMemory i → ⊥)
 
--- the instruction breaks this rule where it stands. BadType says that it breaks no other; that typing stops at it is said of its function
+-- the instruction breaks this rule at its place. BadType means that it breaks no other rule; that typing stops at it is
+-- stated for its function
 abbrev pub BreaksRule : Context → Labels → Instr → FaultKind → Type 0
 BreaksRule C labels i BadType = KeepsOthers C labels i
 BreaksRule C labels i Index = NoSuchIndex C i
@@ -108,6 +110,7 @@ pub record EndsAt (C : Context) (instrs : List Instr) (first n : ℕ) : Type 0 w
   pub end : IsEnd C.blocks [] instrs number
   pub is_number : n ≡ number_of (first + number)
 
--- opcode n of these, counted from `first`, is an instruction that breaks this rule, or an `else` or an `end`, where the rule is that of types
+-- opcode n of these, counted from `first`, is an instruction that breaks this rule, or, if the rule is that of types,
+-- an `else` or an `end`
 abbrev pub FaultyAt : Context → Labels → List Instr → FaultKind → ℕ → ℕ → Type 0
 FaultyAt C labels instrs kind first n = BrokenAt C labels instrs kind first n ⊎ ((kind ≡ BadType) × EndsAt C instrs first n)

@@ -5,7 +5,7 @@ use Rattle.wm_ast.specs.declared.types.ValType.TheVariants.{I32, I64}
 use Rattle.wm_ast.specs.declared.instr.Instr.{Instr}
 use Rattle.wm_valid.specs.InstrTypes.{◌>>=◌, Context, Labels, InstrType, maps, drops, selects, stack_polymorphic, listed, instr_type}
 
--- operands, of which None is of any type, over any others where it is open
+-- operands, of which None has any type, over any others if the stack is open
 pub record Stack : Type 0 where
   pub known : List (Option ValType)
   pub open_below : Bool
@@ -21,7 +21,7 @@ MatchesAll [] false (t ∷ ts) = ⊥
 MatchesAll (o ∷ os) below [] = ⊥
 MatchesAll (o ∷ os) below (t ∷ ts) = IsOf o t × MatchesAll os below ts
 
--- the list is one of those that the stack stands for
+-- the list is one of those that the stack represents
 abbrev pub Matches : Stack → List ValType → Type 0
 Matches s ts = MatchesAll s.known s.open_below ts
 
@@ -46,7 +46,7 @@ pop_from (o ∷ os) below = Some (record { operand = o; under = record { known =
 abbrev pub pop : Stack → Option Popped
 pop s = pop_from s.known s.open_below
 
--- the operand under both views, if they agree
+-- the operand that both describe, if they agree
 abbrev pub joined : Option ValType → Option ValType → Option (Option ValType)
 joined None o = Some o
 joined (Some t) None = Some (Some t)
@@ -69,7 +69,7 @@ give_all (t ∷ ts) s = push (Some t) (give_all ts s)
 abbrev pub select_on : Stack → Option Stack
 select_on s = take_one I32 s >>= λ s1. pop s1 >>= λ a. pop a.under >>= λ b. joined a.operand b.operand >>= λ o. Some (push o b.under)
 
--- what an instruction of this type makes of the stack
+-- the effect of an instruction of this type on the stack
 abbrev pub made_by : InstrType → Stack → Option Stack
 made_by (maps takes gives) s = take_all takes s >>= λ s1. Some (give_all gives s1)
 made_by drops s = pop s >>= λ p. Some p.under

@@ -11,15 +11,15 @@ use Rattle.wm_ast.specs.declared.instr.Instr.{Instr}
 use Rattle.wm_ast.specs.declared.instr.Instr.TheVariants.{Block, Loop, If}
 use Rattle.wm_valid.specs.InstrTypes.{Context, Labels, InstrType, maps, drops, selects, stack_polymorphic, listed, instr_type}
 
--- an instruction of this type makes the second list of the first
+-- an instruction of this type turns the first list into the second
 abbrev pub Makes : InstrType → List ValType → List ValType → Type 0
 Makes (maps takes gives) ts us = (rest : List ValType) × (ts ≡ takes ++ rest) × (us ≡ gives ++ rest)
 Makes drops ts us = (t : ValType) × (ts ≡ t ∷ us)
 Makes selects ts us = (t : ValType) × (rest : List ValType) × (ts ≡ I32 ∷ t ∷ t ∷ rest) × (us ≡ t ∷ rest)
 Makes (stack_polymorphic takes) ts us = (rest : List ValType) × (ts ≡ takes ++ rest)
 
--- In C, under these labels, the instructions of block n make the second list of the first. A block stands behind the block
--- that names it.
+-- In C, under these labels, the instructions of block n turn the first list into the second. A block comes after the
+-- block that names it.
 pub data Typed (C : Context) : ℕ → Labels → List Instr → List ValType → List ValType → Type 0 where
   none : {n : ℕ} {labels : Labels} {ts : List ValType} → Typed C n labels [] ts ts
   plain : {n : ℕ} {labels : Labels} {i : Instr} {rest : List Instr} {ts us vs : List ValType} (ty : InstrType) → instr_type C labels i ≡ Some ty → Makes ty ts us
@@ -38,13 +38,13 @@ pub data Typed (C : Context) : ℕ → Labels → List Instr → List ValType �
 abbrev pub context : Module → Func → FuncType → Context
 context m f ty = record { «module» = m; locals = ty.params ++ f.locals; result = ty.result; blocks = f.blocks }
 
--- block b is there, and from nothing makes the result
+-- block b exists, and turns no operands into the result
 pub record TypedBlock (C : Context) (b : ℕ) (labels : Labels) (result : Option ValType) : Type 0 where
   pub body : List Instr
   pub is_there : slice_get C.blocks b ≡ Some body
   pub typed : Typed C b labels body [] (listed result)
 
--- block b is behind block n too
+-- block b also comes after block n
 pub record Nested (C : Context) (n b : ℕ) (labels : Labels) (result : Option ValType) : Type 0 where
   pub behind : n < b
   pub block : TypedBlock C b labels result
@@ -53,12 +53,12 @@ pub record Nested (C : Context) (n b : ℕ) (labels : Labels) (result : Option V
 abbrev pub AbsentElse : Context → ℕ → Option ValType → Type 0
 AbsentElse C b t = (t ≡ None) × (slice_get C.blocks b ≡ Some [])
 
--- the else part of an `if` of block n: a block as the other part is, or an absent one
+-- the else part of an `if` of block n: a block like the other part, or an absent one
 abbrev pub ElsePart : Context → ℕ → ℕ → Labels → Option ValType → Else → Type 0
 ElsePart C n b labels t Present = Nested C n b (t ∷ labels) t
 ElsePart C n b labels t Absent = AbsentElse C b t
 
--- a function that is typed: its type is there, and its body is a block whose label is the result
+-- a function that is typed: its type exists, and its body is a block whose label is the result
 pub record TypedFunc (m : Module) (f : Func) : Type 0 where
   pub type : FuncType
   pub is_type : slice_get m.types f.type_index ≡ Some type

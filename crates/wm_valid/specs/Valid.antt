@@ -15,7 +15,7 @@ use Rattle.wm_ast.specs.Module.{memory_size}
 use Rattle.wm_valid.specs.Typing.{TypedFunc}
 use Rattle.wm_valid.specs.Memory.{init, Within}
 
--- the memory, if there is one, has at most 65,536 pages, and no fewer than at first
+-- the memory, if there is one, has a maximum of at most 65,536 pages, and no fewer than its initial pages
 abbrev pub GoodLimits : Option Memory → Type 0
 GoodLimits None = Unit {0}
 GoodLimits (Some memory) = (memory.limits.minimum ≤ memory.limits.maximum) × (memory.limits.maximum ≤ 65536)
@@ -31,11 +31,11 @@ IsConstant value.I32 (I64 n) = ⊥
 IsConstant value.I64 (I32 n) = ⊥
 IsConstant value.I64 (I64 n) = Unit {0}
 
--- a global's initialiser is of its type
+-- a global's initial value has its type
 abbrev pub GoodGlobal : Global → Type 0
 GoodGlobal g = IsConstant g.ty g.init
 
--- what is exported is there
+-- what is exported exists
 abbrev pub Exports : Module → ExportKind → ℕ → Type 0
 Exports m kind.Func k = k < length m.funcs
 Exports m kind.Memory k = (k ≡ 0) × HasMemory m.memory
@@ -44,7 +44,7 @@ Exports m kind.Global k = k < length m.globals
 abbrev pub GoodExport : Module → (List ℕ × Export) → Type 0
 GoodExport m e = Exports m e.1.kind e.1.index
 
--- a data segment lies in the memory, at an i32
+-- a data segment is within the memory, at an i32
 pub record GoodData (m : Module) (d : DataSegment) : Type 0 where
   pub memory : HasMemory m.memory
   pub offset : IsConstant value.I32 d.offset
@@ -57,7 +57,7 @@ pub record Valid (m : Module) : Type 0 where
   pub segments : All (GoodData m) m.data
   pub funcs : All (TypedFunc m) m.funcs
 
--- the bytes are those of the initial memory
+-- the bytes are the initial memory
 pub record IsInit (m : Module) (bytes : List ℕ) : Type 0 where
   pub size : length bytes ≡ memory_size m
   pub each : (k : ℕ) → k < memory_size m → slice_index bytes k ≡ init m k

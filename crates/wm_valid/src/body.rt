@@ -12,7 +12,7 @@ use crate::stack::Stack;
 use std::alloc::Global;
 use wm_ast::{BlockType, Else, Instr, ValType};
 
-/// The number after this one, or this one where there is no greater.
+/// The number after this one, or this one if it is the greatest.
 fn next_number(position: usize) -> usize
     ensures { result ≡ number_of (position + 1) }
 {
@@ -20,7 +20,7 @@ fn next_number(position: usize) -> usize
 }
 
 impl Checker<'_> {
-    /// The absent else part of an `if`: an empty block, and there is no result.
+    /// The absent else part of an `if`: its block is empty, and the `if` has no result.
     fn absent_else(&self, block: usize, result_type: BlockType) -> Result<(), InstrFault>
         ensures decides { Decides result (AbsentElse self.now block result_type) }
         ensures kind { IfErr result IsUntyped }
@@ -34,8 +34,8 @@ impl Checker<'_> {
         }
     }
 
-    /// An instruction of block `number`. `position` is its number, and then that of the opcode behind it; on a
-    /// refusal it is the number of the opcode at fault.
+    /// An instruction of block `number`. `position` is its number, and afterwards the number of the opcode after it; on
+    /// a refusal it is the number of the opcode at fault.
     #[cycle(body)]
     fn instr(
         &self,
@@ -51,7 +51,7 @@ impl Checker<'_> {
         ensures place { Counts result self.now labels.old (instr.now ∷ []) position.old position.new }
         ensures stops { IfErr result (StopsInstr self.now number labels.old instr.now stack.old position.old position.new) }
     {
-        // Reading it tells the proof its range.
+        // Reading it gives the proof its range.
         let _first = *position;
         match instr {
             Instr::Block(t, block) => {
@@ -115,7 +115,7 @@ impl Checker<'_> {
         }
     }
 
-    /// A block that block `number` names, from the opcode in front of it to its end.
+    /// A block that block `number` names, from the opcode before it to its end.
     #[cycle(body)]
     fn nested(
         &self,
@@ -142,8 +142,8 @@ impl Checker<'_> {
         Ok(())
     }
 
-    /// A block that is there, from nothing to its result. `position` is the number of its first opcode, and then that of
-    /// its end.
+    /// A block that exists, from no operands to its result. `position` is the number of its first opcode, and
+    /// afterwards the number of its end.
     #[cycle(body)]
     pub(crate) fn block(
         &self,
@@ -163,7 +163,7 @@ impl Checker<'_> {
             unreachable!();
         };
         let mut stack = Stack::new(alloc);
-        // Reading it tells the proof its range.
+        // Reading it gives the proof its range.
         let _first = *position;
         for instr in body.as_slice() {
             self.instr(alloc, number, labels, &mut stack, position, instr)?;

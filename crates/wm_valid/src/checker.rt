@@ -19,7 +19,7 @@ use wm_ast::{
 use wm_list::List;
 use wm_num::{Conversion, Width};
 
-/// What the instructions of a function are checked in, the labels apart.
+/// The context in which the instructions of a function are checked, without the labels.
 #[derive(Drop)]
 pub(crate) struct Checker<'m> {
     pub(crate) module: &'m Module,
@@ -49,7 +49,7 @@ fn type_of_func(module: &Module, func: u32) -> Result<&FuncType, InstrFault>
         .ok_or(InstrFault::Breaks(FaultKind::Index))
 }
 
-/// The type of the numbers of a width.
+/// The type whose values have this width.
 fn value_type(width: Width) -> ValType
     ensures { result ≡ type_of width }
 {
@@ -59,7 +59,7 @@ fn value_type(width: Width) -> ValType
     }
 }
 
-/// The power of 2 that the width is.
+/// The width as an exponent of 2.
 fn exponent(width: AccessWidth) -> u32
     ensures { result ≡ exponent_of width }
 {
@@ -71,7 +71,7 @@ fn exponent(width: AccessWidth) -> u32
     }
 }
 
-/// Whether an access may be said to be so aligned.
+/// Whether an access may have this alignment.
 fn has_good_alignment(kind: AccessKind, alignment: u32) -> bool
     ensures { result ≡ is_aligned (access_order kind) (access_width kind) alignment }
 {
@@ -151,7 +151,7 @@ impl Checker<'_> {
         stack.give(ty.result)
     }
 
-    /// The setting of a global.
+    /// `global.set`.
     fn global_set(&self, stack: &mut Stack, global: u32) -> Result<(), InstrFault>
         ensures maps { LeavesStack result (plain_on self.now [] (GlobalSet global) stack.old) stack.new }
         ensures breaks { IfErr result (BrokenBy self.now [] (GlobalSet global)) }

@@ -11,16 +11,16 @@ use thiserror::Error;
 /// Which rule a module breaks.
 #[derive(Clone, Copy, Debug, PartialEq, Eq)]
 pub enum FaultKind {
-    /// Operands, labels, a global or a data segment's offset aren't of the types that are wanted there, or a
-    /// constant global is set (Core 1.0, section 3.3).
+    /// Operands, labels, a global or a data segment's offset don't have the expected types, or a constant global is set
+    /// (Core 1.0, section 3.3).
     BadType,
-    /// A type, function, local, global or memory of this index isn't there.
+    /// There is no type, function, local, global or memory of this index.
     Index,
-    /// There are fewer blocks around the instruction than its label says.
+    /// Fewer blocks enclose the instruction than its label counts.
     Label,
-    /// A plain access is said to be more aligned than it is wide, or an atomic one to be less or more.
+    /// The alignment of a plain access is more than its width, or that of an atomic access isn't its width.
     Alignment,
-    /// A data segment doesn't lie in the memory as it is at first.
+    /// A data segment isn't within the initial memory.
     DataOutOfRange,
     /// An instruction or a data segment needs a memory, and there is none.
     MemoryAbsent,
@@ -28,13 +28,13 @@ pub enum FaultKind {
     MemoryLimits,
 }
 
-/// Where a rule is broken.
+/// The place where a rule is broken.
 #[derive(Clone, Copy, Debug, PartialEq, Eq)]
 pub enum Location {
     /// Outside the functions' instructions.
     Module,
-    /// At an instruction of a function. Functions count from 0, and so do the instructions of each in the order of
-    /// their opcodes, each `else` and `end` counted; a number past the greatest usize is given as that.
+    /// At an instruction of a function. Functions count from 0, and so do the instructions of each, in the order of
+    /// their opcodes, including each `else` and `end`; a number above the greatest usize is given as that.
     Instr { func: usize, instr: usize },
 }
 
@@ -44,7 +44,7 @@ pub enum Location {
 pub enum ValidFault {
     /// The module breaks this rule at this place.
     At(FaultKind, Location),
-    /// Memory was refused.
+    /// An allocation failed.
     OutOfMemory,
 }
 
@@ -56,12 +56,12 @@ impl From<AllocError> for ValidFault {
     }
 }
 
-/// Why a function is refused, its place apart.
+/// Why a function is refused, without the place.
 #[derive(Clone, Copy, Debug, PartialEq, Eq)]
 pub(crate) enum InstrFault {
     /// It breaks this rule.
     Breaks(FaultKind),
-    /// Memory was refused.
+    /// An allocation failed.
     OutOfMemory,
 }
 

@@ -1,5 +1,4 @@
-//! The bytes that a memory begins with: zeros, over which the data segments are laid in order
-//! (Core 1.0, section 4.5.4).
+//! The initial bytes of a memory: zeros, overwritten by the data segments in order (Core 1.0, section 4.5.4).
 ghost use Rattle.std.specs.Prelude.{◌≡◌, ◌<◌, ◌≤◌, ℕ, IfOk, length, slice_index, All};
 ghost use Rattle.wm_valid.specs.Memory.{Within, over, covered, start};
 
@@ -7,7 +6,7 @@ use std::alloc::{AllocError, Global};
 use wm_ast::{ConstExpr, DataSegment};
 use wm_event::Initial;
 
-/// So many bytes, with the segments laid over them.
+/// This number of bytes, with the segments written over them.
 pub(crate) fn image(
     alloc: Global,
     size: usize,
@@ -25,7 +24,7 @@ pub(crate) fn image(
     Ok(Initial::with_zeros(bytes, size))
 }
 
-/// Where the segments end, of a memory of so many bytes.
+/// The end of the last byte of the segments, in a memory of this number of bytes.
 fn data_end(size: usize, segments: &[DataSegment]) -> usize
     requires { All (Within size) segments.now }
     ensures within { All (Within result) segments.now }
@@ -48,7 +47,7 @@ fn start_of(offset: ConstExpr) -> usize
     }
 }
 
-/// Lays a segment over the bytes.
+/// Writes a segment over the bytes.
 fn lay(bytes: &mut [u8], segment: &DataSegment)
     requires { Within (length bytes.old) segment.now }
     ensures { (k : ℕ) → k < length bytes.new → slice_index bytes.new k ≡ over segment.now (slice_index bytes.old k) k }

@@ -26,7 +26,7 @@ impl Model for Labels {
 }
 
 impl Labels {
-    /// No label.
+    /// Without labels.
     pub(crate) fn new(alloc: Global) -> Labels
         ensures { result ≡ [] }
     {
@@ -35,21 +35,21 @@ impl Labels {
         }
     }
 
-    /// Goes in. An `Err` changes nothing.
+    /// Enters a block. An `Err` changes nothing.
     pub(crate) fn push(&mut self, label: BlockType) -> Result<(), AllocFailed<BlockType>>
         ensures { OnOk result (self.new ≡ label ∷ self.old) }
     {
         self.types.push(label)
     }
 
-    /// Goes out.
+    /// Leaves a block.
     pub(crate) fn pop(&mut self)
         ensures { (t : Option ValType) (ts : List (Option ValType)) → self.old ≡ t ∷ ts → self.new ≡ ts }
     {
         let _ = self.types.pop();
     }
 
-    /// The type of a label, from the innermost on.
+    /// The type of a label, counted from the innermost.
     pub(crate) fn get(&self, label: u32) -> Result<BlockType, InstrFault>
         ensures found { Implements (λ t. t) result (slice_get self.now label) }
         ensures kind { IfErr result IsLabelFault }
@@ -62,7 +62,7 @@ impl Labels {
         }
     }
 
-    /// Whether all these labels are there.
+    /// Whether all these labels exist.
     fn check(&self, labels: &[u32]) -> Result<(), InstrFault>
         ensures there { OnOk result (All (IsLabel self.now) labels.now) }
         ensures found { (last : ℕ) → IfErr result (λ e. Unless e (table_type self.now labels.now last ≡ None)) }
@@ -74,7 +74,7 @@ impl Labels {
         Ok(())
     }
 
-    /// The type of all these labels, each of which has to be there.
+    /// The common type of all these labels, each of which has to exist.
     pub(crate) fn table(&self, labels: &[u32], last: u32) -> Result<BlockType, InstrFault>
         ensures found { Implements (λ t. t) result (table_type self.now labels.now last) }
         ensures there { OnOk result (NoSuchLabelIn self.now labels.now last → ⊥) }

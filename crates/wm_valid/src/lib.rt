@@ -1,5 +1,4 @@
-//! Which modules are valid (Core 1.0, chapter 3, and the threads proposal), and the bytes that their memory
-//! begins with.
+//! Which modules are valid (Core 1.0, chapter 3, and the threads proposal), and the initial bytes of their memory.
 #![tactic(auto)]
 
 mod body;

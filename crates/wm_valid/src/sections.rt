@@ -1,4 +1,4 @@
-//! The rules of a module outside its functions' instructions.
+//! The rules for a module outside its functions' instructions.
 ghost use Rattle.std.specs.Prelude.{◌≡◌, true, false, OnOk, IfErr, All};
 ghost use Rattle.wm_valid.specs.Valid.{GoodLimits, GoodGlobal, GoodExport, GoodData, Exports as IsExported, IsConstant};
 ghost use Rattle.wm_valid.specs.declared.fault.FaultKind.TheVariants.{MemoryLimits};
@@ -8,7 +8,7 @@ use crate::fault::FaultKind;
 use wm_access::PAGE_BYTES;
 use wm_ast::{ConstExpr, DataSegment, Export, ExportKind, Func, Memory, Module, ValType};
 
-/// How many pages a memory may have at most (Core 1.0, section 3.2.4).
+/// The most pages of a memory (Core 1.0, section 3.2.4).
 const MAX_PAGES: u32 = 65_536;
 
 /// The memory's limits.
@@ -48,7 +48,7 @@ fn globals(module: &Module) -> Result<(), FaultKind>
     Ok(())
 }
 
-/// Whether the function's type is there.
+/// Whether the function's type exists.
 fn has_type(module: &Module, func: &Func) -> bool
     ensures good { result ≡ true → HasType «module».now func.now }
     ensures bad { result ≡ false → HasNoType «module».now func.now }
@@ -72,7 +72,7 @@ fn types(module: &Module) -> Result<(), FaultKind>
     Ok(())
 }
 
-/// Whether what is exported is there.
+/// Whether an exported item exists.
 fn is_there(module: &Module, export: Export) -> bool
     ensures good { result ≡ true → IsExported «module».now export.kind export.index }
     ensures bad { result ≡ false → IsExported «module».now export.kind export.index → ⊥ }
@@ -145,7 +145,7 @@ fn segments(module: &Module) -> Result<(), FaultKind>
     Ok(())
 }
 
-/// All that isn't in a function's instructions.
+/// Everything outside the functions' instructions.
 pub(crate) fn sections(module: &Module) -> Result<(), FaultKind>
     ensures good { OnOk result (GoodSections «module».now) }
     ensures bad { IfErr result (BreaksModule «module».now) }

@@ -1,5 +1,5 @@
-//! The operands of a block while it is checked. After an instruction that stack_polymorphic the block, operands of any
-//! type stand below those that are known.
+//! The operands of a block while it is checked. After an instruction that makes the block stack-polymorphic, operands
+//! of any types may be below the known ones.
 ghost use Rattle.std.specs.Prelude.{◌≡◌, [], ◌∷◌, IfErr, Some, OnOk, MatchOption, None, reverse, is_some};
 ghost use Rattle.wm_valid.specs.Stacks.{pop, push, empty, opened, take_one, take_all, give_all, select_on, made_by, ended, joined};
 ghost use Rattle.wm_valid.specs.InstrTypes.{listed, maps, drops, stack_polymorphic};
@@ -12,14 +12,14 @@ use std::alloc::{AllocFailed, Global};
 use std::marker::Model;
 use wm_ast::{BlockType, ValType};
 
-/// The type of an operand, or None where any type may stand.
+/// The type of an operand, or None if it may have any type.
 pub(crate) type Operand = Option<ValType>;
 
 /// The operands of a block, the last on top.
 #[derive(Drop)]
 pub(crate) struct Stack {
     known: Vec<Operand>,
-    /// Whether any operands may stand below those.
+    /// Whether any operands may be below the known ones.
     anything: bool,
 }
 
@@ -33,7 +33,7 @@ impl Model for Stack {
 }
 
 impl Stack {
-    /// No operand.
+    /// The empty stack.
     pub(crate) fn new(alloc: Global) -> Stack
         ensures { result ≡ empty }
     {
@@ -43,7 +43,7 @@ impl Stack {
         }
     }
 
-    /// Any operands.
+    /// Makes the stack polymorphic: any operands.
     pub(crate) fn clear(&mut self)
         ensures { self.new ≡ opened }
     {
@@ -51,14 +51,14 @@ impl Stack {
         self.anything = true;
     }
 
-    /// Puts an operand on top. An `Err` changes nothing.
+    /// Pushes an operand. An `Err` changes nothing.
     pub(crate) fn push(&mut self, operand: Operand) -> Result<(), AllocFailed<Operand>>
         ensures ok { OnOk result (self.new ≡ push operand self.old) }
     {
         self.known.push(operand)
     }
 
-    /// Takes the operand on top.
+    /// Pops an operand.
     pub(crate) fn pop(&mut self) -> Option<Operand>
         ensures { MatchOption result (pop self.old ≡ None) (λ o. pop self.old ≡ Some (record { operand = o; under = self.new })) }
     {
@@ -69,7 +69,7 @@ impl Stack {
         }
     }
 
-    /// Puts a result on top, if there is one.
+    /// Pushes a result, if there is one.
     pub(crate) fn give(&mut self, result_type: BlockType) -> Result<(), InstrFault>
         ensures maps { LeavesStack result (Some (give_all (listed result_type) self.old)) self.new }
         ensures kind { IfErr result IsUntyped }
@@ -81,7 +81,7 @@ impl Stack {
         }
     }
 
-    /// Takes an operand of this type.
+    /// Pops an operand of this type.
     pub(crate) fn take(&mut self, t: ValType) -> Result<(), InstrFault>
         ensures maps { LeavesStack result (take_one t self.old) self.new }
         ensures kind { IfErr result IsUntyped }
@@ -92,7 +92,7 @@ impl Stack {
         }
     }
 
-    /// Takes an operand of whatever type.
+    /// Pops an operand of any type.
     pub(crate) fn take_any(&mut self) -> Result<(), InstrFault>
         ensures maps { LeavesStack result (made_by drops self.old) self.new }
         ensures kind { IfErr result IsUntyped }
@@ -103,7 +103,7 @@ impl Stack {
         }
     }
 
-    /// Takes a result, if there is one.
+    /// Pops a result, if there is one.
     pub(crate) fn take_result(&mut self, result_type: BlockType) -> Result<(), InstrFault>
         ensures maps { LeavesStack result (take_all (listed result_type) self.old) self.new }
         ensures kind { IfErr result IsUntyped }
@@ -114,7 +114,7 @@ impl Stack {
         }
     }
 
-    /// Takes the arguments of a call.
+    /// Pops the arguments of a call.
     pub(crate) fn take_params(&mut self, params: &[ValType]) -> Result<(), InstrFault>
         ensures maps { LeavesStack result (take_all (reverse params.now) self.old) self.new }
         ensures kind { IfErr result IsUntyped }
@@ -127,7 +127,7 @@ impl Stack {
         Ok(())
     }
 
-    /// Takes an operand and gives a result.
+    /// Pops an operand and pushes a result.
     pub(crate) fn unary(&mut self, operand: ValType, result_type: ValType) -> Result<(), InstrFault>
         ensures maps { LeavesStack result (made_by (maps (operand ∷ []) (result_type ∷ [])) self.old) self.new }
         ensures kind { IfErr result IsUntyped }
@@ -136,7 +136,7 @@ impl Stack {
         self.give(Some(result_type))
     }
 
-    /// Takes two operands of one type and gives a result.
+    /// Pops two operands of one type and pushes a result.
     pub(crate) fn binary(
         &mut self,
         operand: ValType,
@@ -150,7 +150,7 @@ impl Stack {
         self.give(Some(result_type))
     }
 
-    /// Takes what a branch takes, and stack_polymorphic the block.
+    /// Pops what a branch takes, and makes the block stack-polymorphic.
     pub(crate) fn branch(&mut self, label: BlockType) -> Result<(), InstrFault>
         ensures maps { LeavesStack result (made_by (stack_polymorphic (listed label)) self.old) self.new }
         ensures kind { IfErr result IsUntyped }
@@ -160,7 +160,7 @@ impl Stack {
         Ok(())
     }
 
-    /// Takes an i32 and what a branch takes, and gives the latter back.
+    /// Pops an i32 and what a branch takes, and pushes the latter back.
     pub(crate) fn branch_if(&mut self, label: BlockType) -> Result<(), InstrFault>
         ensures maps { LeavesStack result (made_by (maps (I32 ∷ listed label) (listed label)) self.old) self.new }
         ensures kind { IfErr result IsUntyped }
@@ -170,7 +170,7 @@ impl Stack {
         self.give(label)
     }
 
-    /// Takes an i32 and what a branch takes, and stack_polymorphic the block.
+    /// Pops an i32 and what a branch takes, and makes the block stack-polymorphic.
     pub(crate) fn branch_table(&mut self, label: BlockType) -> Result<(), InstrFault>
         ensures maps { LeavesStack result (made_by (stack_polymorphic (I32 ∷ listed label)) self.old) self.new }
         ensures kind { IfErr result IsUntyped }
@@ -179,7 +179,7 @@ impl Stack {
         self.branch(label)
     }
 
-    /// Takes t t i32 for a t, and gives t.
+    /// Pops t t i32 for some type t, and pushes t.
     pub(crate) fn select(&mut self) -> Result<(), InstrFault>
         ensures maps { LeavesStack result (select_on self.old) self.new }
         ensures kind { IfErr result IsUntyped }
@@ -198,7 +198,7 @@ impl Stack {
         Ok(())
     }
 
-    /// Takes a result, if there is one, where nothing else is left.
+    /// Pops a result, if there is one, which has to leave nothing else.
     pub(crate) fn end(&mut self, result_type: BlockType) -> Result<(), InstrFault>
         ensures maps { LeavesStack result (ended result_type self.old) empty }
         ensures kind { IfErr result IsUntyped }

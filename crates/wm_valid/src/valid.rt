@@ -18,7 +18,7 @@ use wm_ast::{Func, FuncType, Module, ValType};
 use wm_event::Initial;
 use wm_list::List;
 
-/// A module that is valid, with the bytes that its memory begins with.
+/// A module that is valid, with the initial bytes of its memory.
 #[derive(Drop)]
 pub struct ValidModule {
     module: Module,
@@ -45,21 +45,21 @@ impl ValidModule {
         &self.module
     }
 
-    /// How many pages of 65,536 bytes its memory has at first, 0 without a memory.
+    /// The initial number of pages, of 65,536 bytes each, of its memory; 0 without a memory.
     pub fn pages(&self) -> u32
         ensures { result ≡ pages_of self.now.memory }
     {
         self.module.pages()
     }
 
-    /// The bytes that its memory begins with.
+    /// The initial bytes of its memory.
     pub fn initial(&self) -> &Initial
         ensures { IsInit self.now result.now }
     {
         &self.initial
     }
 
-    /// Byte `k` of its memory at first, None at the length and past it.
+    /// Byte `k` of its initial memory; None if `k` is not below the length.
     pub fn init_byte(&self, k: usize) -> Option<u8>
         ensures within { k < memory_size self.now → result ≡ Some (init self.now k) }
         ensures past { memory_size self.now ≤ k → result ≡ None }
@@ -86,7 +86,8 @@ fn all_locals(
     Ok(locals)
 }
 
-/// The instructions of a function of this type. `position` begins at 0; on a refusal it is the number of the opcode at fault.
+/// The instructions of a function of this type. `position` starts at 0; on a refusal it is the number of the opcode at
+/// fault.
 fn body(
     alloc: Global,
     module: &Module,
@@ -113,7 +114,7 @@ fn body(
     checker.block(alloc, 0, &mut labels, position, ty.result)
 }
 
-/// A function, of which there are `number` before.
+/// A function, after `number` others.
 fn func(alloc: Global, module: &Module, number: usize, func: &Func) -> Result<(), ValidFault>
     requires { HasType «module».now func.now }
     ensures { JudgesFunc result «module».now func.now number }
@@ -142,14 +143,14 @@ fn funcs(alloc: Global, module: &Module) -> Result<(), ValidFault>
     Ok(())
 }
 
-/// Checks a module and makes its memory's first bytes. It ends on every module, also on one whose blocks name one another
-/// in a circle: such a module has no typing.
+/// Checks a module and makes the initial bytes of its memory. It terminates for every module, even if blocks name one
+/// another in a cycle: such a module has no typing.
 ///
-/// A refusal says which rule is broken and where, or that memory was refused; which of several faults is named is
-/// open. At an instruction, its function has no typing, and the instruction breaks the rule; where this is that of types,
-/// it breaks no other, or the opcode is an `else` or an `end`, and the opcodes before it have a typing, but none with it.
-/// A function whose type isn't there and an export of what isn't there are `Index` in the module. The module is given up
-/// on a refusal.
+/// A refusal names the broken rule and its place, or an allocation failure; if there are several faults, any of them
+/// may be named. If it names an opcode of a function, the function has no typing, and the instruction breaks the rule.
+/// For the rule on types, the opcode is that of an instruction that breaks no other rule, or an `else` or an `end`; the
+/// opcodes before it have a typing, but not together with it. A function whose type doesn't exist, and an export of
+/// something that doesn't exist, are `Index` in the module. The module is dropped on a refusal.
 pub fn validate(alloc: Global, module: Module) -> Result<ValidModule, ValidFault>
     ensures found { IfOk result (λ valid. (valid ≡ «module») × Valid «module») }
     ensures breaks { IfErr result (Breaks «module») }

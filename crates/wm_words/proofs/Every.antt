@@ -28,7 +28,7 @@ each_none value [] i x inside at none = absurd (omega arith)
 each_none value (y ∷ ys) zero x inside at none = let is : value y ≡ None = ap value (sym at) ∙ none in rw is refl
 each_none value (y ∷ ys) (suc i) x inside at none = rw (each_none value ys i x (omega arith) at none) (before_none (value y))
 
--- the same of the items up to one, and behind it
+-- the same for the items up to one, and after it
 pub each_next : {A B : Type 0} (value : A → Option B) (xs : List A) (i : ℕ) (all : List B) (x : A) (v : B) → i < length xs → x ≡ get_or xs i x
     → each value (take i xs) ≡ Some all → value x ≡ Some v → each value (take (i + 1) xs) ≡ Some (all ++ v ∷ [])
 each_next value xs i all x v inside at h is =

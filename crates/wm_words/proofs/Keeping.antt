@@ -13,7 +13,7 @@ use Rattle.wm_words.specs.Each.{each}
 use Rattle.wm_words.specs.Turns.{item_turns, kept}
 use Rattle.wm_words.proofs.Every.{each_more}
 
--- ---- an item's turns behind the others
+-- ---- an item's turns after the others
 
 filled : (k times j : ℕ) (turn : Turn) → j ≡ min times k → replicate j turn ≡ take k (replicate times turn)
 filled k times j turn is =

@@ -10,7 +10,7 @@ use Rattle.std.specs.List.{list_all, onto_first, slice_split}
 use Rattle.std.specs.Prelude.{◌==◌, ◌⊎◌, MatchOption}
 use Rattle.wm_words.specs.Numbers.{pieces}
 
--- where a word is not cut, it is the one piece; else the first piece stands before the others
+-- if a word is not cut, it is the only piece; otherwise the first piece comes before the others
 pub cut_once : (code : ℕ) (word : List ℕ) (r : Option (Bor (List ℕ) × Bor (List ℕ))) → IsSplitOnceResult code word r → code < 128
     → MatchOption r (pieces code word ≡ word ∷ []) (λ cut. pieces code word ≡ cut.0.now ∷ pieces code cut.1.now)
 unfolding pieces

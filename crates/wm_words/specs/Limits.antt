@@ -1,14 +1,14 @@
 -- The limits of what words spell.
 use Rattle.std.specs.Prelude.{ℕ}
 
--- rounds
+-- the most rounds
 abbrev pub max_rounds : ℕ
 max_rounds = 10000
 
--- turns of a round's drainer
+-- the turns of a round's drainer
 abbrev pub drainer_turns : ℕ
 drainer_turns = 256
 
--- turns of a word that are kept: one more than a script may have
+-- the most turns of a word that are kept: one more than a script may have
 abbrev pub kept_turns : ℕ
 kept_turns = 1000001

@@ -7,7 +7,7 @@ use Rattle.wm_words.specs.Each.{each}
 use Rattle.wm_words.specs.Limits.{kept_turns}
 use Rattle.wm_words.specs.Numbers.{number_below, pieces}
 
--- a thread, or how many: a number of 32 bits
+-- a thread or a count: a 32-bit number
 abbrev pub small : List ℕ → Option ℕ
 small word = number_below (2 ^ 32) word
 
@@ -15,7 +15,7 @@ abbrev pub drain_at : Option ℕ → Option ℕ → Option Turn
 drain_at (Some thread) (Some index) = Some (DrainAt thread index)
 drain_at _ _ = None
 
--- a drain, by the pieces between slashes: `N` of the oldest store of thread N, `N/I` of the one with I older ones
+-- a drain, by the pieces between slashes: `N` drains the oldest store of thread N, `N/I` the store with I older ones
 abbrev pub drain_of : List (List ℕ) → Option Turn
 drain_of (thread ∷ []) = option_map Drain (small thread)
 drain_of (thread ∷ index ∷ []) = drain_at (small thread) (small index)
@@ -44,6 +44,6 @@ item_turns item = item_of (pieces 42 item)
 unfoldable pub turns_of : List ℕ → Option (List Turn)
 turns_of word = option_map (flat_map (λ turns. turns)) (each item_turns (pieces 44 word))
 
--- the turns of which one more than a script may have are kept, so that it is refused for them
+-- of the turns, one more than a script may have is kept, so that the script is refused for them
 abbrev pub kept : List Turn → List Turn
 kept turns = take kept_turns turns

@@ -36,14 +36,15 @@ pub record IsRoundsOf (count : List ℕ) (starts : List (List ℕ)) (rounds : Ro
   pub count_is : rounds_of count ≡ Some rounds.count
   pub plan_is : IsPlanOf starts drainer_turns rounds.plan
 
--- the words spell no script, since the first or then one of the starts spells nothing. An allocation failure says nothing of them
+-- the words spell no script, because the first of them or then one of the starts spells nothing. An allocation failure
+-- states nothing about them
 abbrev pub SpellNoScript : List ℕ → List (List ℕ) → WordFault → Type 0
 SpellNoScript turns starts fault.Turns = turns_of turns ≡ None
 SpellNoScript turns starts fault.Rounds = ⊥
 SpellNoScript turns starts fault.Start = IsSome (turns_of turns) × (starts_of starts ≡ None)
 SpellNoScript turns starts fault.OutOfMemory = ⊤
 
--- the same of rounds
+-- the same for rounds
 abbrev pub SpellNoRounds : List ℕ → List (List ℕ) → WordFault → Type 0
 SpellNoRounds count starts fault.Turns = ⊥
 SpellNoRounds count starts fault.Rounds = rounds_of count ≡ None

@@ -1,4 +1,4 @@
-//! Why words are no script and no rounds.
+//! Why words are neither a script nor rounds.
 ghost use Rattle.std.specs.Prelude.{◌≡◌};
 
 use std::alloc::{AllocError, AllocFailed};
@@ -10,9 +10,9 @@ pub enum WordFault {
     Turns,
     /// The number of rounds.
     Rounds,
-    /// What a thread starts with.
+    /// The start of a thread.
     Start,
-    /// Memory was refused.
+    /// An allocation failed.
     OutOfMemory,
 }
 

@@ -1,7 +1,7 @@
 //! The words of a script and of rounds: which turns are taken, what threads start with, how many rounds there are.
 //!
-//! What a word spells is a definition of its own (`specs/`), apart from the reading: a script is items between commas, an
-//! item a turn with how often it is taken, a start a name and its arguments between colons, a number decimal digits.
+//! What a word spells is defined separately from the reading (`specs/`): a script is items between commas, an item a
+//! turn with how often it is taken, a start a name and its arguments between colons, a number decimal digits.
 #![tactic(auto)]
 
 mod fault;

@@ -4,14 +4,14 @@ ghost use Rattle.std.specs.Char.{is_ascii_digit};
 ghost use Rattle.std.specs.List.{list_all};
 ghost use Rattle.wm_words.specs.Numbers.{number_below};
 
-/// Whether there are decimal digits alone.
+/// Whether a word has only decimal digits.
 fn is_digits(word: &str) -> bool
     ensures { result ≡ list_all is_ascii_digit word.now }
 {
     word.bytes().all(|byte| byte.is_ascii_digit())
 }
 
-/// The number of 64 bits that a word spells in decimal digits, which may begin with zeros and have no sign.
+/// The 64-bit integer that a word spells in decimal digits; they may begin with zeros and have no sign.
 pub(crate) fn decimal(word: &str) -> Option<u64>
     ensures { result ≡ number_below (2 ^ 64) word.now }
 {
@@ -21,7 +21,7 @@ pub(crate) fn decimal(word: &str) -> Option<u64>
     word.parse().ok()
 }
 
-/// The same of 32 bits.
+/// The same for 32 bits.
 pub(crate) fn small_decimal(word: &str) -> Option<u32>
     ensures { result ≡ number_below (2 ^ 32) word.now }
 {

@@ -1,4 +1,4 @@
-//! What threads start with.
+//! The starts of threads.
 ghost use Rattle.std.specs.Prelude.{◌≡◌, Some, IfErr, IfOk, map};
 ghost use Rattle.wm_words.specs.Each.{each};
 ghost use Rattle.wm_words.specs.Faults.{Misses};
@@ -11,7 +11,7 @@ use std::alloc::{AllocError, Global};
 use wm_event::Start;
 use wm_list::{List, Text};
 
-/// The arguments that colons part.
+/// The arguments separated by colons.
 fn read_arguments(alloc: Global, words: &str) -> Result<List<u64>, WordFault>
     ensures spelled { IfOk result (λ args. each argument_of (pieces 58 words.now) ≡ Some args) }
     ensures fault { IfErr result (Misses WordFault.Start (each argument_of (pieces 58 words.now))) }
@@ -26,7 +26,7 @@ fn read_arguments(alloc: Global, words: &str) -> Result<List<u64>, WordFault>
     Ok(List::from_vec(args))
 }
 
-/// The start of this name.
+/// The start of this name with these arguments.
 fn start_with_args(alloc: Global, name: &str, args: List<u64>) -> Result<Start, AllocError>
     ensures { IfOk result (λ start. start ≡ start_with name.now args) }
 {
@@ -34,12 +34,11 @@ fn start_with_args(alloc: Global, name: &str, args: List<u64>) -> Result<Start, 
     Ok(Start { name, args })
 }
 
-/// The start that a word spells: the name of an export up to the first colon, and an argument of 64 bits after each
-/// colon.
+/// The start that a word spells: the name of an export up to the first colon, and a 64-bit argument after each colon.
 ///
 /// # Errors
 ///
-/// `Start` if it spells none; else `OutOfMemory`.
+/// `Start` if it spells no start; else `OutOfMemory`.
 pub fn read_start(alloc: Global, word: &str) -> Result<Start, WordFault>
     ensures spelled { IfOk result (λ start. start_of word.now ≡ Some start) }
     ensures fault { IfErr result (Misses WordFault.Start (start_of word.now)) }
@@ -57,7 +56,7 @@ pub fn read_start(alloc: Global, word: &str) -> Result<Start, WordFault>
 ///
 /// # Errors
 ///
-/// `Start` if one spells none; else `OutOfMemory`.
+/// `Start` if one of them spells no start; else `OutOfMemory`.
 pub fn read_starts(alloc: Global, words: &[&str]) -> Result<List<Start>, WordFault>
     ensures spelled { IfOk result (λ starts. starts_of (map (λ word. word.now) words.now) ≡ Some starts) }
     ensures fault { IfErr result (Misses WordFault.Start (starts_of (map (λ word. word.now) words.now))) }

@@ -22,8 +22,8 @@ fn read_drain(word: &str) -> Option<Turn>
     }
 }
 
-/// The turn that a word spells: `N` a step of thread N, `dN` a drain of its oldest store, `dN/I` of the store with I older
-/// ones. None where it spells none.
+/// The turn that a word spells: `N` is a step of thread N, `dN` a drain of its oldest store, `dN/I` a drain of the
+/// store with I older ones. None if it spells no turn.
 pub fn read_turn(word: &str) -> Option<Turn>
     ensures { result ≡ turn_of word.now }
 {
@@ -70,12 +70,12 @@ fn push_item(turns: &mut Vec<Turn>, item: Item) -> Result<(), AllocError>
     turns.resize(length, item.turn)
 }
 
-/// The turns that a word spells: those of its items, which commas join. The whole word is read; where it spells more than
-/// 1,000,000 turns, the first 1,000,001 are kept, so that what they are for can refuse them.
+/// The turns that a word spells: those of its items, which are separated by commas. The whole word is read; if it
+/// spells more than 1,000,000 turns, the first 1,000,001 are kept, so that their user can refuse them.
 ///
 /// # Errors
 ///
-/// `Turns` if it spells none; else `OutOfMemory`.
+/// `Turns` if it spells no turns; else `OutOfMemory`.
 pub fn read_turns(alloc: Global, word: &str) -> Result<List<Turn>, WordFault>
     ensures spelled { IfOk result (λ turns. option_map kept (turns_of word.now) ≡ Some turns) }
     ensures fault { IfErr result (Misses WordFault.Turns (turns_of word.now)) }

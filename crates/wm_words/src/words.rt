@@ -1,4 +1,4 @@
-//! Scripts and rounds, as words spell them.
+//! Scripts and rounds, as spelled by words.
 ghost use Rattle.std.specs.Prelude.{◌≡◌, Some, IfErr, IfOk, map};
 ghost use Rattle.wm_words.specs.Faults.{Misses};
 ghost use Rattle.wm_words.specs.Words.{IsRoundsOf, IsScriptOf, SpellNoRounds, SpellNoScript, rounds_of};
@@ -12,16 +12,16 @@ use wm_event::MAX_STEPS;
 use wm_list::List;
 use wm_run::{Plan, Turn};
 
-/// A script: what its threads start with, and the turns that they take.
+/// A script: the starts of its threads, and the turns that they take.
 #[derive(Drop)]
 pub struct Script {
     /// Each thread makes at most 1,000,000 steps.
     pub plan: Plan,
-    /// As many as its word spells, but no more than 1,000,001.
+    /// As many as the script's word spells, but no more than 1,000,001.
     pub turns: List<Turn>,
 }
 
-/// Rounds: what their threads start with, and how many there are.
+/// Rounds: the starts of their threads, and how many rounds there are.
 #[derive(Drop)]
 pub struct Rounds {
     /// Each thread makes at most 1,000,000 steps, and the drainer takes 256 turns.
@@ -33,10 +33,10 @@ pub struct Rounds {
 /// How many turns the drainer of a round takes.
 const DRAINS: u32 = 256;
 
-/// How many rounds there are at most.
+/// The most rounds.
 const MAX_ROUNDS: u32 = 10_000;
 
-/// The script that these words spell, one of its turns and one of each start.
+/// The script that these words spell: a word with its turns, and a word for each start.
 ///
 /// # Errors
 ///
@@ -59,7 +59,7 @@ pub fn read_script(alloc: Global, turns: &str, starts: &[&str]) -> Result<Script
 ///
 /// # Errors
 ///
-/// `Rounds` where it spells none.
+/// `Rounds` if it spells no such number.
 pub fn read_count(word: &str) -> Result<u32, WordFault>
     ensures spelled { IfOk result (λ count. rounds_of word.now ≡ Some count) }
     ensures fault { IfErr result (λ fault. (fault ≡ WordFault.Rounds) × (rounds_of word.now ≡ None)) }
@@ -70,12 +70,12 @@ pub fn read_count(word: &str) -> Result<u32, WordFault>
     }
 }
 
-/// The rounds that these words spell, one of their number and one of each start.
+/// The rounds that these words spell: a word with their number, and a word for each start.
 ///
 /// # Errors
 ///
-/// `Rounds` where the first spells no number of rounds; else `Start` where one of the others spells no start; else want of
-/// memory.
+/// `Rounds` if the first spells no number of rounds; else `Start` if one of the others spells no start; else
+/// `OutOfMemory`.
 pub fn read_rounds(alloc: Global, count: &str, starts: &[&str]) -> Result<Rounds, WordFault>
     ensures spelled { IfOk result (IsRoundsOf count.now (map (λ word. word.now) starts.now)) }
     ensures fault { IfErr result (SpellNoRounds count.now (map (λ word. word.now) starts.now)) }

@@ -80,7 +80,7 @@ module _ (log : List ThreadLog) (initial : List ℕ) (e : Event) (k : ℕ) where
       by None none = absurd (grind (arith, common_steps, gets))
       by (Some thread) at = more_of t thread at
 
--- what stands in a list stands in it with others before or behind
+-- what is in a list is in it with others before or after
 in_first : {X : Type 0} (xs ys : List X) (n : ℕ) (y : X) → slice_get xs n ≡ Some y → (m : ℕ) × (slice_get (xs ++ ys) m ≡ Some y)
 in_first [] ys n y at = absurd (cc)
 in_first (x ∷ xs) ys zero y at = (0, at)

@@ -95,7 +95,7 @@ module _ (run : LoggedRun) (shape : IsWellShaped run) (witness : Witness) (other
   links_kept a (link ∷ links) b chain forced = chain_kept a link links b chain.leads forced
 
   module _ (f : RuleFault) where
-    -- what the fault says of its read holds of the one that is forced
+    -- what the fault states about its read holds of the forced one
     value_stays : (e : Event) → event_in run.log f.event ≡ Some e → BreaksWrittenValues (execution run) f.event e f.byte f.writer f.case → All (IsForced run) (byte_needs f) → ⊥
     value_stays e at breaks forced =
         let k = kept (record { reader = f.event; writer = f.writer; byte = Some f.byte }) (all-head (IsForced run) (record { reader = f.event; writer = f.writer; byte = Some f.byte }) [] forced) in

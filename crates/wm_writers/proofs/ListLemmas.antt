@@ -24,7 +24,7 @@ pub filter-fails : {X : Type 0} (p : X → Bool) (xs : List X) (n : ℕ) (d : X)
 filter-fails p xs n d l is =
     filter-more p xs n d l ∙ ap (λ b. filter p (take n xs) ++ (if b then get_or xs n d ∷ [] else [])) is ∙ append-nil (filter p (take n xs))
 
--- the lists of the items in turn
+-- the lists of the items, one after the other
 pub flat_map-more : {X A : Type 0} (f : X → List A) (xs : List X) (n : ℕ) (d : X) → n < length xs
     → flat_map f (take (n + 1) xs) ≡ flat_map f (take n xs) ++ f (get_or xs n d)
 flat_map-more f xs n d l =
@@ -37,7 +37,7 @@ all-more P xs x all here = All-append P xs (x ∷ []) all (All-cons P x [] here 
 pub all-taken : {X : Type 0} (P : X → Type 0) (xs : List X) (n : ℕ) (d : X) → n < length xs → All P (take n xs) → P (get_or xs n d) → All P (take (n + 1) xs)
 all-taken P xs n d l all here = subst (All P) (sym (take-more xs n d l)) (all-more P (take n xs) (get_or xs n d) all here)
 
--- one stands where it stood, or it's the last
+-- an item is where it was, or it's the last
 pub at-first : {X : Type 0} (xs : List X) (x y : X) (n : ℕ) → slice_get xs n ≡ Some y → slice_get (xs ++ x ∷ []) n ≡ Some y
 at-first [] x y n at = absurd (cc)
 at-first (z ∷ zs) x y zero at = at

@@ -19,7 +19,7 @@ pub record AreBelow (run : LoggedRun) (need : Need) (n : ℕ) (bytes : List Byte
   pub rising : (i j : ℕ) (a b : ByteFit) → i < j → slice_get bytes i ≡ Some a → slice_get bytes j ≡ Some b → a.byte < b.byte
   pub below : (i : ℕ) (a : ByteFit) → slice_get bytes i ≡ Some a → a.byte < n
 
--- what stands in a list with one item more stands in the list, or is the item behind it
+-- what is in a list with one more item is in the list, or is the item after it
 last_or : {X : Type 0} (xs : List X) (x y : X) (n : ℕ) → slice_get (xs ++ x ∷ []) n ≡ Some y → (slice_get xs n ≡ Some y) ⊎ ((n ≡ length xs) × (x ≡ y))
 last_or [] x y zero at = inr (refl, same_Some x y at)
 last_or [] x y (suc n) at = absurd (cc)

@@ -1,4 +1,4 @@
--- What is answered about a fault.
+-- The answer about a fault.
 use Rattle.std.specs.Prelude.{◌≡◌, ℕ, ◌+◌, ◌<◌, ◌⊎◌, List, Some, IsSome, All, map, slice_get}
 use Rattle.wm_event.specs.declared.event.Event.{Event}
 use Rattle.wm_event.specs.declared.rule.RuleFault.{RuleFault}
@@ -22,7 +22,7 @@ pub record IsByteFit (run : LoggedRun) (e : Event) (b : ByteFit) : Type 0 where
   pub address : b.address ≡ e.address + b.byte
   pub fit : b.fit ≡ fitting run.log run.initial e b.byte
 
--- the byte meets the need, and is listed with its address and all ids that fit it
+-- the byte satisfies the need, and is listed with its address and all ids that fit it
 abbrev pub IsByteOf : LoggedRun → Need → ByteFit → Type 0
 IsByteOf run need b = Meets (execution run) need b.byte × ((e : Event) × (event_in run.log need.reader ≡ Some e) × IsByteFit run e b)
 
@@ -30,29 +30,29 @@ IsByteOf run need b = Meets (execution run) need b.byte × ((e : Event) × (even
 abbrev pub HasByte : List ByteFit → ℕ → Type 0
 HasByte bytes k = (n : ℕ) × (b : ByteFit) × (slice_get bytes n ≡ Some b) × (b.byte ≡ k)
 
--- each byte of the read that meets the need, once, the lowest first
+-- each byte of the read that satisfies the need, once, the lowest first
 pub record IsSource (run : LoggedRun) (s : Source) : Type 0 where
   pub each : All (IsByteOf run s.need) s.bytes
   pub all : IsSome (event_in run.log s.need.reader) → (k : ℕ) → Meets (execution run) s.need k → HasByte s.bytes k
   pub rising : (m n : ℕ) (a b : ByteFit) → m < n → slice_get s.bytes m ≡ Some a → slice_get s.bytes n ≡ Some b → a.byte < b.byte
 
--- chains that show the fault, and a source for each thing that the fault needs that they show
+-- chains that show the fault, and a source for each thing that the fault needs, given these chains
 pub record AreWriters (run : LoggedRun) (f : RuleFault) (w : FaultWriters) : Type 0 where
   pub shows : Shows (execution run) f w.chains
   pub needs : map (λ s. s.need) w.sources ≡ needs f w.chains
   pub sources : All (IsSource run) w.sources
 
--- the fault isn't one of the order, and its writers are these
+-- the fault isn't a fault of the order, and its writers are these
 abbrev pub IsFaultOf : LoggedRun → RuleFault → FaultWriters → Type 0
 IsFaultOf run f w = (IsOfOrder f.rule → ⊥) × AreWriters run f w
 
--- Only exactly where these chains show a forced fault; Other only for a fault of the order, or one that isn't the run's first fault
+-- Only exactly if these chains show a forced fault; Other only for a fault of the order, or one that isn't the run's first fault
 abbrev pub IsAnswer : LoggedRun → RuleFault → Writers → Type 0
 IsAnswer run f (Only w) = IsFaultOf run f w × IsForcedFault run f w.chains
 IsAnswer run f (Several w) = IsFaultOf run f w × (IsForcedFault run f w.chains → ⊥)
 IsAnswer run f Other = IsOfOrder f.rule ⊎ (Judges (execution run) (Broken f) → ⊥)
 
--- if a rule is broken as the fault says, and the answer is Only, then no witness mends it
+-- if a rule is broken as the fault states, and the answer is Only, then no witness mends it
 abbrev pub StaysIfOnly : LoggedRun → RuleFault → Writers → Type 0
 StaysIfOnly run f (Only w) = Breaks (execution run) f → IsNeverValid run
 StaysIfOnly run f (Several w) = Unit {0}

@@ -1,4 +1,4 @@
--- Which events fit a byte of a read, by the log and the initial memory alone.
+-- Which events fit a byte of a read, given only the log and the initial memory.
 use Rattle.std.specs.Prelude.{ℕ, ◌+◌, ◌==◌, ◌&&◌, List, ◌∷◌, Bool, false, not, leb, Option, map, flat_map, slice_get, option_and_then}
 use Rattle.std.specs.List.{filter}
 use Rattle.std.specs.Option.{option_map_or}
@@ -11,7 +11,7 @@ use Rattle.wm_event.specs.Byte.{byte_of}
 use Rattle.wm_event.specs.Event.{byte_written, key_of}
 use Rattle.wm_event.specs.Log.{event_in}
 
--- the byte that an event of the log leaves at an address, where it writes there; Init leaves the initial bytes
+-- the byte that an event of the log leaves at an address, if it writes there; Init leaves the initial bytes
 abbrev pub byte_left : List ThreadLog → List ℕ → EventId → ℕ → Option ℕ
 byte_left log initial Init a = slice_get initial a
 byte_left log initial (At key) a = option_and_then (λ e. byte_written e a) (event_in log key)
@@ -20,7 +20,7 @@ byte_left log initial (At key) a = option_and_then (λ e. byte_written e a) (eve
 abbrev pub leaves : List ThreadLog → List ℕ → EventId → ℕ → ℕ → Bool
 leaves log initial w a byte = option_map_or (λ b. b == byte) (byte_left log initial w a) false
 
--- whether an id is the event r or a later one of its thread
+-- whether an id is the event r or a later event of its thread
 abbrev pub is_from : EventKey → EventId → Bool
 is_from r Init = false
 is_from r (At w) = (w.thread == r.thread) && leb r.number w.number
@@ -29,7 +29,7 @@ is_from r (At w) = (w.thread == r.thread) && leb r.number w.number
 abbrev pub fits : List ThreadLog → List ℕ → Event → ℕ → EventId → Bool
 fits log initial e k w = leaves log initial w (e.address + k) (byte_of e.read k) && not (is_from (key_of e) w)
 
--- the ids of a log: Init, then the events of each thread in turn
+-- the ids of a log: Init, then the events of each thread, one thread after the other
 abbrev pub ids : List ThreadLog → List EventId
 ids log = Init ∷ flat_map (λ thread. map At (map key_of thread.events)) log
 

@@ -16,20 +16,20 @@ use Rattle.wm_hb.specs.Premises.{Shows}
 use Rattle.wm_writers.specs.Needs.{IsOfOrder, needs}
 use Rattle.wm_writers.specs.declared.need.Need.{Need}
 
--- byte k is the named one; where none is named it is any
+-- byte k is the named one; if none is named, it is any byte
 abbrev pub IsNamed : Option ℕ → ℕ → Type 0
 IsNamed None k = Unit {0}
 IsNamed (Some byte) k = k ≡ byte
 
--- the bytes that meet a need: those that its read takes from its writer, or of them the one that it names
+-- the bytes that satisfy a need: those that its read takes from its writer, or only the one that it names
 abbrev pub Meets : Execution → Need → ℕ → Type 0
 Meets x need k = ReadsFrom x need.reader k need.writer × IsNamed need.byte k
 
--- no id fits byte k of the read r, which is the event e, but its writer
+-- no id but its writer fits byte k of the read r, which is the event e
 abbrev pub FitsOnly : LoggedRun → Event → ℕ → EventId → Type 0
 FitsOnly run e k w = (v : EventId) → IsTrue (fits run.log run.initial e k v) → v ≡ w
 
--- the read takes a byte that fits its writer alone
+-- the read takes a byte that only its writer fits
 pub record IsForced (run : LoggedRun) (need : Need) : Type 0 where
   pub read : Event
   pub is_read : event_in run.log need.reader ≡ Some read
@@ -37,7 +37,7 @@ pub record IsForced (run : LoggedRun) (need : Need) : Type 0 where
   pub meets : Meets (execution run) need byte
   pub only : FitsOnly run read byte need.writer
 
--- all that the fault needs that these chains show is forced
+-- everything that the fault needs, given these chains, is forced
 abbrev pub IsForcedFault : LoggedRun → RuleFault → List FaultChain → Type 0
 IsForcedFault run f chains = All (IsForced run) (needs f chains)
 

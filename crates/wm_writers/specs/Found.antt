@@ -8,6 +8,6 @@ use Rattle.wm_writers.specs.declared.source.Source.{Source}
 abbrev pub AreOnly : EventId → List EventId → Type 0
 AreOnly writer fit = All (λ (v : EventId). v ≡ writer) fit
 
--- at a byte of the source only its writer fits
+-- the source has a byte that only its writer fits
 abbrev pub HasForcedByte : Source → Type 0
 HasForcedByte s = (n : ℕ) × (b : ByteFit) × (slice_get s.bytes n ≡ Some b) × AreOnly s.need.writer b.fit

@@ -11,7 +11,7 @@ use Rattle.wm_hb.specs.declared.chain.LinkKind.TheVariants.{Initial, Sequenced, 
 use Rattle.wm_hb.specs.declared.fault_chain.FaultChain.{FaultChain}
 use Rattle.wm_writers.specs.declared.need.Need.{Need}
 
--- the rules that speak of the order of the events
+-- the rules about the order of the events
 abbrev pub IsOfOrder : Rule → Type 0
 IsOfOrder WrittenValues = ⊥
 IsOfOrder Order = Unit {0}
@@ -19,7 +19,7 @@ IsOfOrder Coherence = ⊥
 IsOfOrder NoTearing = ⊥
 IsOfOrder SequentialConsistency = Unit {0}
 
--- that any byte of the read where the fault is comes from w
+-- that any byte of the read with the fault comes from w
 abbrev pub any_byte : RuleFault → EventId → Need
 any_byte f w = record { reader = f.event; writer = w; byte = None }
 
@@ -32,7 +32,7 @@ tearing_needs f (Some v) = any_byte f f.writer ∷ any_byte f v ∷ []
 abbrev pub byte_needs : RuleFault → List Need
 byte_needs f = record { reader = f.event; writer = f.writer; byte = Some f.byte } ∷ []
 
--- what a fault needs of the read where it is
+-- what a fault needs for the read where it is
 abbrev pub own_needs_by : Rule → RuleFault → List Need
 own_needs_by WrittenValues f = byte_needs f
 own_needs_by Order f = []
@@ -54,6 +54,6 @@ abbrev pub step_needs : EventId → List Link → List Need
 step_needs a [] = []
 step_needs a (link ∷ links) = link_needs link.kind a link ++ step_needs (At link.event) links
 
--- all that a fault needs that these chains show
+-- everything that a fault needs, given these chains
 abbrev pub needs : RuleFault → List FaultChain → List Need
 needs f chains = own_needs f ++ flat_map (λ chain. step_needs chain.from chain.links) chains

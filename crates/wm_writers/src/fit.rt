@@ -7,7 +7,7 @@ use std::alloc::{AllocError, Global};
 use wm_event::{Candidate, Event, EventId, EventKey, byte_of};
 use wm_list::List;
 
-/// Whether an id is an event or a later one of its thread.
+/// Whether an id is this event or a later one of its thread.
 fn is_from(reader: EventKey, id: EventId) -> bool
     ensures { result ≡ spec_is_from reader id }
 {
@@ -29,7 +29,7 @@ fn fits(candidate: &Candidate, event: &Event, byte: u8, id: EventId) -> bool
     }
 }
 
-/// Adds those of the ids that fit a byte of a read.
+/// Appends the ids that fit a byte of a read.
 fn add_fitting(
     fit: &mut List<EventId>,
     candidate: &Candidate,
@@ -48,7 +48,7 @@ fn add_fitting(
     Ok(())
 }
 
-/// All ids that fit a byte of a read: Init first, then the events of each thread in turn.
+/// All ids that fit a byte of a read: Init first, then the events of each thread, one thread after the other.
 pub(crate) fn fitting_ids(
     alloc: Global,
     candidate: &Candidate,

@@ -1,4 +1,4 @@
-//! Whether a fault of a memory rule is the witness's: which events fit the bytes that the fault rests on.
+//! Whether a fault of a memory rule depends on the witness: which events fit the bytes that the fault rests on.
 #![tactic(auto)]
 
 mod fit;

@@ -12,11 +12,11 @@ use wm_list::List;
 pub struct Need {
     pub reader: EventKey,
     pub writer: EventId,
-    /// The byte of the read, from 0, the one at the lowest address first; None where any byte will do.
+    /// The byte of the read, counted from 0 at the lowest address; None if any byte will do.
     pub byte: Option<u8>,
 }
 
-/// What a fault needs of the read where it is.
+/// What a fault needs for the read where it is.
 fn add_own(needs: &mut List<Need>, fault: &RuleFault) -> Result<(), AllocError>
     ensures { OnOk result (needs.new ≡ needs.old ++ own_needs fault.now) }
 {
@@ -43,7 +43,7 @@ fn add_own(needs: &mut List<Need>, fault: &RuleFault) -> Result<(), AllocError>
     Ok(())
 }
 
-/// What a chain needs: that each write that synchronizes with a read on it is read from.
+/// What a chain needs: for each write on it that synchronizes with a read, that the read reads from the write.
 fn add_steps(needs: &mut List<Need>, chain: &FaultChain) -> Result<(), AllocError>
     ensures { OnOk result (needs.new ≡ needs.old ++ step_needs chain.now.from chain.now.links) }
 {
@@ -61,7 +61,7 @@ fn add_steps(needs: &mut List<Need>, chain: &FaultChain) -> Result<(), AllocErro
     Ok(())
 }
 
-/// What a fault needs that these chains show.
+/// What a fault needs, given these chains.
 pub(crate) fn needs_of(
     alloc: Global,
     fault: &RuleFault,

@@ -13,23 +13,23 @@ use wm_list::List;
 /// A byte of a read, and the events that fit it.
 #[derive(Drop)]
 pub struct ByteFit {
-    /// Which byte of the read, from 0, the one at the lowest address first.
+    /// The byte of the read, counted from 0 at the lowest address.
     pub byte: u8,
     pub address: u64,
-    /// The events that leave the value that was read there, without the read itself and the later events of its thread:
-    /// Init first, then the events of each thread in turn.
+    /// The events that leave there the value that was read, without the read itself and the later events of its thread:
+    /// Init first, then the events of each thread, one thread after the other.
     pub fit: List<EventId>,
 }
 
-/// What a fault needs of the witness, and the bytes by which the witness meets it.
+/// What a fault needs of the witness, and the bytes by which the witness satisfies it.
 #[derive(Drop)]
 pub struct Source {
     pub need: Need,
-    /// The bytes that the read takes from the writer, or of them the one that is needed, the lowest first.
+    /// The bytes that the read takes from the writer, or only the one that is needed; the lowest first.
     pub bytes: List<ByteFit>,
 }
 
-/// Whether a byte meets a need, by its writer.
+/// Whether a byte satisfies a need, by its writer.
 fn meets(need: &Need, byte: u8, writer: EventId) -> bool
     ensures { IsTrue result ↔ ((writer ≡ need.now.writer) × IsNamed need.now.byte byte) }
 {
@@ -56,7 +56,7 @@ fn byte_fit(
     Ok(ByteFit { byte, address, fit })
 }
 
-/// The bytes by which the witness meets a need.
+/// The bytes by which the witness satisfies a need.
 fn source_of(alloc: Global, candidate: &Candidate, need: Need) -> Result<Source, AllocError>
     ensures need { IfOk result (λ s. s.need ≡ need) }
     ensures source { IfOk result (IsSource candidate.now) }
@@ -73,7 +73,7 @@ fn source_of(alloc: Global, candidate: &Candidate, need: Need) -> Result<Source,
     Ok(Source { need, bytes })
 }
 
-/// The bytes by which the witness meets each of the needs.
+/// The bytes by which the witness satisfies each of the needs.
 pub(crate) fn sources_of(
     alloc: Global,
     candidate: &Candidate,
@@ -89,7 +89,7 @@ pub(crate) fn sources_of(
     Ok(sources)
 }
 
-/// Whether all ids are one.
+/// Whether all ids are this writer.
 fn are_only(fit: &[EventId], writer: EventId) -> bool
     ensures { IsTrue result ↔ AreOnly writer fit.now }
 {
@@ -101,7 +101,7 @@ fn are_only(fit: &[EventId], writer: EventId) -> bool
     true
 }
 
-/// Whether at a byte of the source only its writer fits.
+/// Whether the source has a byte that only its writer fits.
 fn has_forced_byte(source: &Source) -> bool
     ensures { IsTrue result ↔ HasForcedByte source.now }
 {
@@ -113,7 +113,7 @@ fn has_forced_byte(source: &Source) -> bool
     false
 }
 
-/// Whether each source has a byte at which only its writer fits.
+/// Whether each source has a byte that only its writer fits.
 pub(crate) fn are_forced(sources: &[Source]) -> bool
     ensures { IsTrue result ↔ All HasForcedByte sources.now }
 {

@@ -13,10 +13,10 @@ use wm_list::List;
 /// What a fault rests on.
 #[derive(Drop)]
 pub struct FaultWriters {
-    /// For each happens-before of the fault a shortest chain of its edges.
+    /// A shortest chain of edges for each happens-before of the fault.
     pub chains: List<FaultChain>,
-    /// What the fault needs of the witness: first of the read where the fault is, then, chain after chain, for each write
-    /// that synchronizes with a read, that the read takes a byte from it.
+    /// What the fault needs of the witness: first for the read with the fault; then, chain after chain, for each write
+    /// that synchronizes with a read, that the read takes a byte from the write.
     pub sources: List<Source>,
 }
 
@@ -26,7 +26,7 @@ pub enum Writers {
     /// Each source has a byte that only the writer of the witness fits. So no witness mends the fault: whatever the writers
     /// and the order, the log breaks a memory rule.
     Only(FaultWriters),
-    /// A source has no such byte: at each of its bytes another event fits.
+    /// A source has no such byte: at each of its bytes another event fits too.
     Several(FaultWriters),
     /// The fault is of a rule that depends on the order, V2 or V5, or isn't the first fault of the run.
     Other,
@@ -42,9 +42,9 @@ fn is_of_order(rule: Rule) -> bool
     }
 }
 
-/// Whether other writers could mend a fault of written values, coherence or tearing, and which events fit the bytes that
-/// it rests on. An event fits a byte of a read if it leaves there the value that was read, and is neither the read nor a
-/// later event of its thread. Chains are shortest ones, and enter each thread once: so few reads are looked at.
+/// Whether other writers could mend a fault of written values, coherence or tearing, and which events fit the bytes
+/// that it rests on. An event fits a byte of a read if it leaves there the value that was read, and is neither the read
+/// nor a later event of its thread. Chains are shortest ones and enter each thread once, so few reads are looked at.
 ///
 /// # Errors
 ///

@@ -6,7 +6,7 @@ use std::fs::Files as FileSystem;
 use std::io::ErrorKind;
 use wm_litmus::{FileFault, Files, read_limited};
 
-/// The system's files, and how many times it failed to give one.
+/// The system's files, and how many times the system failed to read one.
 #[derive(Drop)]
 pub struct Disk<'a, R> {
     rt: &'a R,
@@ -35,7 +35,7 @@ impl<'a, R: FileSystem + AllocGlobal> Disk<'a, R> {
 impl<R: FileSystem + AllocGlobal> Files for Disk<'_, R> {
     ghost failures_of = { λ disk. disk.failures };
 
-    // No clause knows what the system's files hold.
+    // No clause states the contents of the system's files.
     ghost content_of = { λ _ _. None };
 
     fn read(&mut self, name: &str, limit: usize) -> Result<Vec<u8>, FileFault> {

@@ -14,7 +14,7 @@ use std::sync::Wait;
 use std::thread::Threads;
 use wm_litmus::serve;
 
-/// The arguments after the program's name; none where one of them is no text, which no command is.
+/// The arguments after the program's name; none if one of them is not valid text, which no command is.
 fn arguments<R: Env + AllocGlobal>(rt: &R) -> Result<Vec<String>, AllocError> {
     match env::args(rt) {
         Ok(args) => args.skip(1).collect(rt.alloc()),
@@ -23,13 +23,13 @@ fn arguments<R: Env + AllocGlobal>(rt: &R) -> Result<Vec<String>, AllocError> {
     }
 }
 
-/// The texts as words.
+/// The strings as words.
 fn words_of<'a>(alloc: Global, texts: &'a [String]) -> Result<Vec<&'a str>, AllocError> {
     texts.iter().map(|text| text.as_str()).collect(alloc)
 }
 
-/// Answers the arguments over the system's files and these streams, and returns the exit status: 3, and
-/// `out of memory` on `err`, where memory was refused for them.
+/// Answers the arguments over the system's files and these streams, and returns the exit status: 3, and `out of memory`
+/// on `err`, if an allocation for them fails.
 fn run<R: FileSystem + AllocGlobal + Threads + Wait + Sync, I: Read, O: Write, E: Write>(
     rt: &R,
     arguments: Result<Vec<String>, AllocError>,
@@ -53,9 +53,9 @@ fn run<R: FileSystem + AllocGlobal + Threads + Wait + Sync, I: Read, O: Write, E
     }
 }
 
-/// Lets the C library keep what is freed for later use. It gives freed memory back to the system where more than twice the
-/// largest block that was freed lies at the end of its heap; and each round of `run` and each call of many locals would
-/// take it from the system again. The block is freed unused, so it takes no memory.
+/// Makes the C library keep freed memory for later use. It returns freed memory to the system if more than twice the
+/// largest freed block is at the end of its heap; then each round of `run` and each call with many locals would request
+/// it from the system again. The block is freed unused, so it takes no memory.
 fn keep_freed_memory(alloc: Global) {
     let _block: Result<Vec<u8>, AllocError> = Vec::with_capacity(alloc, 1 << 24);
 }

@@ -111,7 +111,7 @@ fn take_second(alloc: Global, reader: &mut Reader<'_>) -> Result<(Log, Witness),
     Ok((Log::new(logs), Witness { writers, order }))
 }
 
-/// Takes what stands behind the version.
+/// Takes what comes after the version.
 fn take_pair(
     alloc: Global,
     version: Version,
@@ -138,7 +138,7 @@ fn take_whole(alloc: Global, reader: &mut Reader<'_>) -> Result<(Log, Witness), 
     Ok((log, witness))
 }
 
-/// The log and the witness that a text spells, where that is seen in one pass over its tokens.
+/// The log and the witness that a text spells, if one pass over its tokens shows that.
 #[tactic(auto, using(crate::proofs::TakingDocuments::text_taken_whole))]
 fn take_text_whole(
     alloc: Global,
@@ -155,11 +155,11 @@ fn take_text_whole(
     Ok((log, witness))
 }
 
-/// The log and the witness that the bytes spell, where that is seen in one pass over the tokens of their text.
+/// The log and the witness that the bytes spell, if one pass over the tokens of their text shows that.
 ///
 /// # Errors
 ///
-/// `Memory` where memory was refused, and `Other` where the bytes spell nothing, or it wasn't seen what.
+/// `Memory` if an allocation fails, and `Other` if the bytes spell nothing, or the pass didn't find out what.
 #[tactic(auto, using(crate::proofs::TakingDocuments::bytes_taken))]
 pub(crate) fn take_document(
     alloc: Global,

@@ -207,7 +207,7 @@ impl ItemTaker<EventId> for WriterTaker {
     }
 }
 
-/// Orders of up to this many names take memory once.
+/// An order of up to this number of names needs one allocation.
 const ORDER_ROOM: usize = 64;
 
 /// Takes the names in an order.
@@ -220,7 +220,7 @@ pub(crate) fn take_order_keys(
     take_list_with_room(alloc, &KeyTaker, ORDER_ROOM, reader)
 }
 
-/// Takes the writers of the bytes of an event. Memory for `room` of them is taken at once.
+/// Takes the writers of the bytes of an event. Capacity for `room` of them is reserved at once.
 pub(crate) fn take_event_writers(
     alloc: Global,
     room: usize,
@@ -231,7 +231,7 @@ pub(crate) fn take_event_writers(
     take_list_with_room(alloc, &WriterTaker, room, reader)
 }
 
-/// Takes the writers behind the values of an event of the kind, and the end of the event. A write has none.
+/// Takes the writers after the values of an event of the kind, and the end of the event. A write has none.
 #[tactic(auto, using(crate::proofs::TakingEvents::no_writers_taken, crate::proofs::TakingEvents::writers_taken))]
 fn take_writers_by(
     alloc: Global,

@@ -37,7 +37,7 @@ fn take_trap(reader: &mut Reader<'_>) -> Result<TrapKind, TakeFault>
     }
 }
 
-/// Takes the result of a function, where it has one, and the end of its list.
+/// Takes the result of a function, if it has one, and the end of its list.
 #[tactic(auto, using(crate::proofs::TakingThreads::no_result_taken, crate::proofs::TakingThreads::result_taken))]
 fn take_result_items(reader: &mut Reader<'_>) -> Result<Option<u64>, TakeFault>
     ensures { IfOk result (λ v. TakenOn 0 result_from reader.old v reader.new) }
@@ -85,7 +85,7 @@ fn take_end(reader: &mut Reader<'_>) -> Result<End, TakeFault>
     }
 }
 
-/// Takes what stands before the events of a thread.
+/// Takes what comes before the events of a thread.
 #[tactic(auto, using(crate::proofs::TakingThreads::head_taken))]
 fn take_head(alloc: Global, reader: &mut Reader<'_>) -> Result<ThreadHead, TakeFault>
     ensures { IfOk result (λ h. TakenHead reader.old h reader.new) }
@@ -101,7 +101,7 @@ fn take_head(alloc: Global, reader: &mut Reader<'_>) -> Result<ThreadHead, TakeF
     })
 }
 
-/// Threads of up to this many events take memory for them once.
+/// A thread of up to this number of events needs one allocation for them.
 const EVENTS_ROOM: usize = 16;
 
 /// Takes the log of a thread.
@@ -177,7 +177,7 @@ impl ItemTaker<(ThreadLog, List<List<EventId>>)> for ThreadByTaker {
     }
 }
 
-/// Takes the threads, where there are not too many.
+/// Takes the threads, if there are not too many.
 #[tactic(auto, using(crate::proofs::TakingThreads::few_taken))]
 pub(crate) fn take_threads<T: Drop, R: ItemTaker<T>>(
     alloc: Global,

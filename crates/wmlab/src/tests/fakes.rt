@@ -1,4 +1,4 @@
-//! Files, a reader and writers that stand in for those of the system.
+//! Files, a reader and writers that replace those of the system.
 ghost use Rattle.std.specs.Prelude.{◌≡◌};
 
 use std::alloc::Global;
@@ -13,7 +13,7 @@ use wm_litmus::{FileFault, Files, serve};
 /// No read or write fails.
 pub(super) const NEVER: u64 = u64::MAX;
 
-/// Gives a text by pieces of so many bytes, and fails at one read.
+/// Gives a text in pieces of at most `piece` bytes, and fails at one read.
 #[derive(Drop)]
 pub(super) struct FakeReader<'a> {
     left: &'a [u8],
@@ -36,7 +36,7 @@ impl Read for FakeReader<'_> {
     }
 }
 
-/// Gives a space at each read, without end.
+/// Gives a space at each read, endlessly.
 #[derive(Drop)]
 pub(super) struct EndlessReader {
     pub reads: u64,
@@ -77,7 +77,7 @@ impl Write for FakeWriter {
     }
 }
 
-/// Keeps what is written, and hands it on only where it is flushed.
+/// Keeps what is written, and passes it on only when it is flushed.
 #[derive(Drop)]
 pub(super) struct HoldingWriter {
     held: Vec<u8>,
@@ -175,12 +175,12 @@ pub(super) fn fake_writer(alloc: Global, fails_at: u64) -> FakeWriter {
     }
 }
 
-/// Stops the test where the two differ. Each `assert_eq!` of a test would lengthen its proof by some seconds.
+/// Stops the test if the two differ. Each `assert_eq!` in a test would lengthen its proof by some seconds.
 pub(super) fn same<R: Abort, T: PartialEq + Debug + Drop>(rt: &R, got: T, wanted: T) {
     assert_eq!(rt; got, wanted);
 }
 
-/// Runs the program over two files of one byte and this input, and looks at its lines and its status.
+/// Runs the program over two files of one byte and this input, and checks its lines and its status.
 pub(super) fn says<R: Abort + AllocGlobal + Threads + Wait + Sync, I: Read>(
     rt: &R,
     words: &[&str],

@@ -13,7 +13,7 @@ use wm_litmus::serve;
 const LOG: &str =
     r#"["wasm-litmus-log",1,[["t",[],["cut"],0,[["w","un",0,4,1],["w","un",4,4,1]]],["t",[],["cut"],0,[["r","un",4,4,1],["r","un",0,4,0]]]],[[[[],[]],[[[0,1],[0,1],[0,1],[0,1]],[[],[],[],[]]]],[[0,0],[0,1],[1,0],[1,1]]]]"#;
 
-/// Runs the program on a log of three pieces, and fails at each of the four reads in turn.
+/// Runs the program on a log of three pieces, and fails at each of the four reads, one after the other.
 fn each_read_fails<R: Abort + AllocGlobal + Threads + Wait + Sync>(rt: &R, words: &[&str]) {
     for number in 0..4u64 {
         let mut input = fake_reader(LOG.as_bytes(), number);
@@ -64,7 +64,7 @@ fn an_endless_input_is_too_large(rt: HostRuntime) {
     same(&rt, input.reads, 8_388_609);
 }
 
-/// Runs the program where a write to `out` and a write to `err` fail, and says how often `out` was written.
+/// Runs the program with failing writes to `out` and `err`, and returns how often `out` was written.
 fn writes<R: Abort + AllocGlobal + Threads + Wait + Sync>(
     rt: &R,
     out_fails: u64,

@@ -26,7 +26,7 @@ returns-in-Some-clause-read c =
       means = rw (← rows_is) means;
     }
 
--- an error of a parse that fails nowhere is want of memory
+-- an error of a parse that doesn't fail is an allocation failure
 no_words : (e : Error) (kinds : Kinds) → kinds ≡ [] → HasKind kinds e → fault_of_kind (kind_of e) ≡ Words → ⊥
 no_words e kinds none (inl memory) words = let wrong = sym (ap fault_of_kind memory) ∙ words in absurd cc
 no_words e kinds none (inr among) words = absurd (subst (IsAmong (kind_of e)) none among)

@@ -1,4 +1,4 @@
--- The bytes of a read in turn.
+-- The bytes of a read, one after the other.
 use Rattle.std.proofs.Common.{rules, arith}
 use Rattle.wm_event.specs.LoggedRun.{execution}
 use Rattle.wm_hb.proofs.Parts.{byte_found, bytes_none}

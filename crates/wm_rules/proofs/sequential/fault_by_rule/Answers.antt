@@ -1,4 +1,4 @@
--- The threads in turn.
+-- The threads, one after the other.
 use Rattle.std.proofs.Common.{◌≡◌, length, rules, arith}
 use Rattle.wm_rules.specs.Late.{late_number}
 use Rattle.wm_event.specs.LoggedRun.{execution}

@@ -1,4 +1,4 @@
--- The rules in turn.
+-- The rules, one after the other.
 use Rattle.std.proofs.Common.{◌+◌, ℕ, [], ◌∷◌, rules, subst}
 use Rattle.wm_event.specs.LoggedRun.{execution}
 use Rattle.wm_hb.specs.Scan.{Finds}

@@ -1,4 +1,4 @@
--- The bytes of a read in turn.
+-- The bytes of a read, one after the other.
 use Rattle.std.proofs.Common.{◌≡◌, ℕ, [], ◌∷◌, List, ◌<◌, Some, subst, get_or, slice_get, rules, arith}
 use Rattle.std.proofs.lemmas.Option.{slice_get-get_or}
 use Rattle.wm_event.specs.declared.event.EventId.{EventId}

@@ -1,4 +1,4 @@
--- A write that stands between the writer and the read.
+-- A write that is between the writer and the read.
 use Rattle.std.proofs.Common.{rules}
 use Rattle.wm_event.specs.Event.{key_of}
 use Rattle.wm_event.specs.LoggedRun.{execution}
