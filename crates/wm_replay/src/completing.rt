@@ -17,7 +17,7 @@ pub(crate) struct LongestRun {
     end: End,
 }
 
-/// A log with the steps and the ends of its runs, or why it has none.
+/// A log with the steps and the ends of its runs, or why there is no such log.
 #[derive(Drop)]
 pub enum Completion {
     /// The log, with each thread's steps and end from its longest run of at most [`MAX_STEPS`] steps.

@@ -129,7 +129,7 @@ fn in_32_bits(number: usize) -> u32
     u32::try_from(number).unwrap_or(u32::MAX)
 }
 
-/// Reads the functions of a module.
+/// The bytes of a module with the offsets of its functions, from which the functions are read.
 #[derive(Drop)]
 struct FunctionReader<'m> {
     alloc: Global,
