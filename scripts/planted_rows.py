@@ -5,6 +5,9 @@ copy, which is built without proof, and at least one row has to fail on it. The 
     scripts/planted_rows.py [NAME..]        those whose name has one of these words in it, or all; minutes for each
     scripts/planted_rows.py --gate          those of tests/planted/gate.txt, each on the row that it names there
     scripts/planted_rows.py --check         asks only whether each can still be applied
+
+With --nice N the programs are built at that niceness, for a gate that proves at the same time. Rows run as always,
+since they have a time limit.
 """
 import argparse
 import concurrent.futures
@@ -34,7 +37,7 @@ def rows_of_gate():
     return {f"tests/planted/{edit}": row for edit, row in lines}
 
 
-def built(edit, folder):
+def built(edit, folder, niceness):
     """The program of a copy with the edit, or nothing if it is not built."""
     for name in ("crates.txt", "HANDLES", "wmlab"):
         shutil.copy(f"{TOP}/{name}", folder)
@@ -43,7 +46,8 @@ def built(edit, folder):
     for path, text in edits.changed_files(edit, folder, f"{TOP}/{edit}").items():
         with open(path, "w", encoding="utf-8") as file:
             file.write(text)
-    ran = subprocess.run([f"{folder}/wmlab", "--which"], stdout=subprocess.PIPE, text=True, check=False)
+    words = ["nice", "-n", str(niceness), f"{folder}/wmlab", "--which"]
+    ran = subprocess.run(words, stdout=subprocess.PIPE, text=True, check=False)
     return ran.stdout.strip() if ran.returncode == 0 else None
 
 
@@ -55,14 +59,14 @@ def red_rows(program, words):
     return re.findall(r"(?m)^FAILED (.*)$", ran.stdout), not ran.stdout.endswith("0 passed, 0 failed\n")
 
 
-def tried(edit, row):
+def tried(edit, row, niceness):
     """Whether rows fail on the planted bug, and what to say of it."""
     if row:
         words = [row]
     else:
         words = ["long.rows"] if NEEDS_LONG in edit else ["--without", "long.rows"]
     with tempfile.TemporaryDirectory() as folder:
-        program = built(edit, folder)
+        program = built(edit, folder, niceness)
         if not program:
             return False, "it is not built"
         red, is_run = red_rows(program, words)
@@ -76,6 +80,7 @@ def main():
     parser.add_argument("--check", action="store_true", help="ask only whether each can still be applied")
     parser.add_argument("--gate", action="store_true", help=f"only those of {LIST}, each on its row")
     parser.add_argument("--jobs", type=int, default=os.cpu_count(), help="bugs that are tried side by side")
+    parser.add_argument("--nice", type=int, default=0, metavar="N", help="the niceness of the builds")
     parser.add_argument("names", nargs="*", metavar="NAME")
     options = parser.parse_args()
     tally = harness.Tally()
@@ -90,7 +95,7 @@ def main():
         if not options.check and not isinstance(changed, str):
             to_try.append(edit)
     with concurrent.futures.ThreadPoolExecutor(options.jobs) as pool:
-        answers = pool.map(lambda edit: tried(edit, rows[edit] if options.gate else None), to_try)
+        answers = pool.map(lambda edit: tried(edit, rows[edit] if options.gate else None, options.nice), to_try)
         for edit, (is_seen, said) in zip(to_try, answers):
             tally.check(is_seen, edit, said)
             print(f"{edit}: {said}", flush=True)
