@@ -125,15 +125,8 @@ fn one_block(alloc: Global, instrs: Vec<Instr>) -> Result<Func, AllocError> {
     })
 }
 
-/// A module of one page and one type, that exports its functions under these names.
-fn one_page(
-    alloc: Global,
-    params: Vec<ValType>,
-    gives: Option<ValType>,
-    funcs: Vec<Func>,
-    names: &[&str],
-) -> Result<Module, AllocError> {
-    let mut exports = Exports::new(alloc);
+/// Exports functions under these names, each of them once.
+fn export_each(alloc: Global, exports: &mut Exports, names: &[&str]) -> Result<(), AllocError> {
     let mut index = 0u32;
     for name in names {
         if exports.get(name).is_none() {
@@ -145,22 +138,68 @@ fn one_page(
         }
         index = index.wrapping_add(1);
     }
-    let params = List::from_vec(params);
+    Ok(())
+}
+
+/// The exports of functions under these names.
+fn exports_of(alloc: Global, names: &[&str]) -> Result<Exports, AllocError> {
+    let mut exports = Exports::new(alloc);
+    match export_each(alloc, &mut exports, names) {
+        Ok(()) => Ok(exports),
+        Err(fault) => {
+            drop(exports);
+            Err(fault)
+        }
+    }
+}
+
+/// One type.
+fn one_type(
+    alloc: Global,
+    params: Vec<ValType>,
+    gives: Option<ValType>,
+) -> Result<List<FuncType>, AllocError> {
+    let types = vec![in alloc;
+        FuncType {
+            params: List::from_vec(params),
+            result: gives,
+        },
+    ]?;
+    Ok(List::from_vec(types))
+}
+
+/// A memory of one page.
+fn one_page_memory() -> Memory {
+    Memory {
+        limits: Limits {
+            minimum: 1,
+            maximum: 1,
+        },
+        import: None,
+    }
+}
+
+/// A module of one page and one type, that exports its functions under these names.
+fn one_page(
+    alloc: Global,
+    params: Vec<ValType>,
+    gives: Option<ValType>,
+    funcs: Vec<Func>,
+    names: &[&str],
+) -> Result<Module, AllocError> {
+    let types = one_type(alloc, params, gives)?;
+    let exports = match exports_of(alloc, names) {
+        Ok(exports) => exports,
+        Err(fault) => {
+            drop(types);
+            drop(funcs);
+            return Err(fault);
+        }
+    };
     Ok(Module {
-        types: List::from_vec(vec![in alloc;
-            FuncType {
-                params,
-                result: gives
-            },
-        ]?),
+        types,
         funcs: List::from_vec(funcs),
-        memory: Some(Memory {
-            limits: Limits {
-                minimum: 1,
-                maximum: 1,
-            },
-            import: None,
-        }),
+        memory: Some(one_page_memory()),
         globals: List::new(alloc),
         exports,
         data: List::new(alloc),
@@ -192,10 +231,9 @@ fn store_buffering(
     store: AccessKind,
     load: AccessKind,
 ) -> Result<Module, AllocError> {
-    let funcs = vec![in alloc;
-        store_and_load(alloc, 0, 4, store, load)?,
-        store_and_load(alloc, 4, 0, store, load)?,
-    ]?;
+    let mut funcs = Vec::new(alloc);
+    funcs.push(store_and_load(alloc, 0, 4, store, load)?)?;
+    funcs.push(store_and_load(alloc, 4, 0, store, load)?)?;
     one_page(
         alloc,
         Vec::new(alloc),
@@ -216,13 +254,19 @@ fn one_load(alloc: Global, from: u32, load: AccessKind) -> Result<Func, AllocErr
 fn decodes(
     alloc: Global,
     bytes: &[u8],
-    wanted: &Module,
+    wanted: Module,
     names: &[&str],
 ) -> Result<bool, AllocError> {
-    match decode(alloc, bytes) {
-        Ok(module) => Ok(same_module(&module, wanted, names)),
-        Err(_) => Ok(false),
-    }
+    let is_same = match decode(alloc, bytes) {
+        Ok(module) => {
+            let is_same = same_module(&module, &wanted, names);
+            drop(module);
+            is_same
+        }
+        Err(_) => false,
+    };
+    drop(wanted);
+    Ok(is_same)
 }
 
 /// Whether the bytes spell store buffering with these accesses.
@@ -233,13 +277,14 @@ fn is_store_buffering(
     load: AccessKind,
 ) -> Result<bool, AllocError> {
     let wanted = store_buffering(alloc, store, load)?;
-    decodes(alloc, bytes, &wanted, &["a", "b"])
+    decodes(alloc, bytes, wanted, &["a", "b"])
 }
 
 fn data_segment_is_decoded(alloc: Global) -> Result<bool, AllocError> {
+    let data = one_byte_at_four(alloc)?;
     let mut wanted = store_buffering(alloc, STORE, LOAD)?;
-    wanted.data = one_byte_at_four(alloc)?;
-    decodes(alloc, &DATA_SEGMENT, &wanted, &["a", "b"])
+    wanted.data = data;
+    decodes(alloc, &DATA_SEGMENT, wanted, &["a", "b"])
 }
 
 /// A store and a load beside one another, in two functions.
@@ -321,25 +366,25 @@ fn traps_is_decoded(alloc: Global) -> Result<bool, AllocError> {
     let names = ["a", "b", "c"];
     let funcs = three_loads(alloc)?;
     let wanted = one_page(alloc, Vec::new(alloc), Some(ValType::I32), funcs, &names)?;
-    decodes(alloc, &TRAPS, &wanted, &names)
+    decodes(alloc, &TRAPS, wanted, &names)
 }
 
 fn overlapping_load_is_decoded(alloc: Global) -> Result<bool, AllocError> {
     let funcs = one_func(alloc, mixed_widths(alloc)?)?;
     let wanted = one_page(alloc, Vec::new(alloc), Some(ValType::I32), funcs, &["a"])?;
-    decodes(alloc, &OVERLAPPING_LOAD, &wanted, &["a"])
+    decodes(alloc, &OVERLAPPING_LOAD, wanted, &["a"])
 }
 
 fn argument_is_decoded(alloc: Global) -> Result<bool, AllocError> {
     let funcs = one_func(alloc, use_of_parameter(alloc)?)?;
     let params = vec![in alloc; ValType::I32]?;
     let wanted = one_page(alloc, params, Some(ValType::I32), funcs, &["f"])?;
-    decodes(alloc, &ARGUMENT, &wanted, &["f"])
+    decodes(alloc, &ARGUMENT, wanted, &["f"])
 }
 
 fn spins_is_decoded(alloc: Global) -> Result<bool, AllocError> {
     let wanted = one_page(alloc, Vec::new(alloc), None, spinning(alloc)?, &["a"])?;
-    decodes(alloc, &SPINS, &wanted, &["a"])
+    decodes(alloc, &SPINS, wanted, &["a"])
 }
 
 #[test]
@@ -354,7 +399,11 @@ fn other_modules_are_decoded(rt: HostRuntime) -> Result<(), Fail> {
 /// How many pages the module has that the bytes spell, None where they spell no valid one.
 fn pages(alloc: Global, bytes: &[u8]) -> Option<u32> {
     match module_of(alloc, bytes) {
-        Ok(Some(module)) => Some(module.pages()),
+        Ok(Some(module)) => {
+            let pages = module.pages();
+            drop(module);
+            Some(pages)
+        }
         _ => None,
     }
 }
@@ -377,7 +426,11 @@ fn six_modules_are_valid(rt: HostRuntime) {
 /// The first byte that the module of a data segment has at an address.
 fn initial_byte(alloc: Global, at: usize) -> Option<u8> {
     match module_of(alloc, &DATA_SEGMENT) {
-        Ok(Some(module)) => module.init_byte(at),
+        Ok(Some(module)) => {
+            let byte = module.init_byte(at);
+            drop(module);
+            byte
+        }
         _ => None,
     }
 }

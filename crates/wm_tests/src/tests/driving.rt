@@ -101,7 +101,11 @@ fn plays_allowed<R: Abort + AllocGlobal + Threads + Sync>(
     turns: &[Turn],
 ) -> Result<bool, AllocError> {
     match driven(rt.alloc(), module, plan, turns) {
-        Some(run) => is_allowed(rt, module_bytes, &run),
+        Some(run) => {
+            let is_allowed = is_allowed(rt, module_bytes, &run);
+            drop(run);
+            is_allowed
+        }
         None => Ok(false),
     }
 }
@@ -135,15 +139,31 @@ fn count_over<R: Abort + AllocGlobal + Threads + Sync>(
     Ok(allowed)
 }
 
+/// The same of both threads from their starts.
+fn count_planned<R: Abort + AllocGlobal + Threads + Sync>(
+    rt: &R,
+    module: &ValidModule,
+    module_bytes: &[u8],
+    in_order: bool,
+) -> Result<u32, AllocError> {
+    let plan = plan(rt.alloc())?;
+    let count = count_over(rt, module, module_bytes, &plan, in_order);
+    drop(plan);
+    count
+}
+
 /// How many of 200 seeds give a run of the module that is allowed; 0 where the bytes spell none.
 fn count_allowed<R: Abort + AllocGlobal + Threads + Sync>(
     rt: &R,
     module_bytes: &[u8],
     in_order: bool,
 ) -> Result<u32, AllocError> {
-    let plan = plan(rt.alloc())?;
     match module_of(rt.alloc(), module_bytes)? {
-        Some(module) => count_over(rt, &module, module_bytes, &plan, in_order),
+        Some(module) => {
+            let count = count_planned(rt, &module, module_bytes, in_order);
+            drop(module);
+            count
+        }
         None => Ok(0),
     }
 }

@@ -55,7 +55,11 @@ fn ends_over<R: AllocGlobal + Threads + Wait + Sync, G: Gate + Sync>(
     gate: &G,
 ) -> [Option<End>; 2] {
     match run_round(rt, rt.alloc(), module, plan, gate) {
-        Ok(run) => ends(&run),
+        Ok(run) => {
+            let ends = ends(&run);
+            drop(run);
+            ends
+        }
         Err(_) => [None, None],
     }
 }
@@ -68,7 +72,11 @@ fn round<R: AllocGlobal + Threads + Wait + Sync, G: Gate + Sync>(
     gate: &G,
 ) -> [Option<End>; 2] {
     match module_of(rt.alloc(), module_bytes) {
-        Ok(Some(module)) => ends_over(rt, &module, plan, gate),
+        Ok(Some(module)) => {
+            let ends = ends_over(rt, &module, plan, gate);
+            drop(module);
+            ends
+        }
         _ => [None, None],
     }
 }
@@ -122,8 +130,10 @@ fn two_workers_meet(rt: HostRuntime) -> Result<(), Fail> {
         second_made_one: AtomicBool::new(false),
     };
     let plan = plan(rt.alloc(), &BOTH, 0)?;
-    for end in round(&rt, &STORE_BUFFERING, &plan, &gate) {
-        assert!(rt; matches!(end, Some(End::Done(Some(_)))));
+    let ends = round(&rt, &STORE_BUFFERING, &plan, &gate);
+    drop(plan);
+    for end in &ends {
+        same(&rt, matches!(end, Some(End::Done(Some(_)))), true);
     }
     Ok(())
 }
@@ -169,11 +179,9 @@ fn the_drainer_drains(rt: HostRuntime) -> Result<(), Fail> {
         drained: AtomicBool::new(false),
     };
     let plan = plan(rt.alloc(), &BOTH, 2)?;
-    same(
-        &rt,
-        round(&rt, &STORE_BUFFERING, &plan, &gate)[1],
-        Some(End::Done(Some(1))),
-    );
+    let ends = round(&rt, &STORE_BUFFERING, &plan, &gate);
+    drop(plan);
+    same(&rt, ends[1], Some(End::Done(Some(1))));
     Ok(())
 }
 
@@ -181,11 +189,9 @@ fn the_drainer_drains(rt: HostRuntime) -> Result<(), Fail> {
 fn a_worker_reads_back_what_it_stored(rt: HostRuntime) -> Result<(), Fail> {
     let plan = plan(rt.alloc(), &[("f", Some(0)), ("f", Some(4))], 256)?;
     for _round in 0..3u32 {
-        same(
-            &rt,
-            round(&rt, &ARGUMENT, &plan, &OpenGate),
-            [Some(End::Done(Some(7))); 2],
-        );
+        let ends = round(&rt, &ARGUMENT, &plan, &OpenGate);
+        same(&rt, ends, [Some(End::Done(Some(7))); 2]);
     }
+    drop(plan);
     Ok(())
 }

@@ -29,7 +29,13 @@ fn refusal(alloc: Global, blocks: Vec<Block>) -> Result<Option<ValidFault>, Fail
         exports: Exports::new(alloc),
         data: List::new(alloc),
     };
-    Ok(validate(alloc, module).err())
+    match validate(alloc, module) {
+        Ok(module) => {
+            drop(module);
+            Ok(None)
+        }
+        Err(fault) => Ok(Some(fault)),
+    }
 }
 
 /// A type fault at an instruction of function 0.
