@@ -15,42 +15,67 @@ use wm_decode::decode;
 use wm_list::List;
 use wm_num::Width;
 
-fn same_instr(one: &Instr, two: &Instr) -> bool {
-    match (one, two) {
-        (Instr::I32Const(a), Instr::I32Const(b)) => *a == *b,
-        (Instr::I64Const(a), Instr::I64Const(b)) => *a == *b,
-        (Instr::LocalGet(a), Instr::LocalGet(b)) => *a == *b,
-        (Instr::BrIf(a), Instr::BrIf(b)) => *a == *b,
-        (Instr::Eqz(a), Instr::Eqz(b)) => *a == *b,
-        (Instr::Loop(t, a), Instr::Loop(u, b)) => *t == *u && *a == *b,
-        (Instr::Access(k, a), Instr::Access(l, b)) => *k == *l && *a == *b,
-        _ => false,
+/// What the modules hold in lists.
+trait Same {
+    fn same(&self, other: &Self) -> bool;
+}
+
+/// Whether there is another item, and it is the same.
+fn is_same<T: Same>(item: &T, other: Option<&T>) -> bool {
+    match other {
+        Some(other) => item.same(other),
+        None => false,
     }
 }
 
-fn same_block(one: &Block, two: &Block) -> bool {
-    let mut pairs = one.as_slice().iter().zip(two.as_slice().iter());
-    one.len() == two.len() && pairs.all(|(a, b)| same_instr(a, b))
+/// Whether two lists have the same items, in the same order.
+fn all_same<T: Same>(one: &[T], two: &[T]) -> bool {
+    let mut are_same = one.len() == two.len();
+    for (position, item) in one.iter().enumerate() {
+        are_same = are_same && is_same(item, two.get(position));
+    }
+    are_same
 }
 
-fn same_func(one: &Func, two: &Func) -> bool {
-    let mut pairs = one
-        .blocks
-        .as_slice()
-        .iter()
-        .zip(two.blocks.as_slice().iter());
-    one.type_index == two.type_index
-        && one.locals.as_slice() == two.locals.as_slice()
-        && one.blocks.len() == two.blocks.len()
-        && pairs.all(|(a, b)| same_block(a, b))
+impl Same for Instr {
+    fn same(&self, other: &Instr) -> bool {
+        match (self, other) {
+            (Instr::I32Const(a), Instr::I32Const(b)) => *a == *b,
+            (Instr::I64Const(a), Instr::I64Const(b)) => *a == *b,
+            (Instr::LocalGet(a), Instr::LocalGet(b)) => *a == *b,
+            (Instr::BrIf(a), Instr::BrIf(b)) => *a == *b,
+            (Instr::Eqz(a), Instr::Eqz(b)) => *a == *b,
+            (Instr::Loop(t, a), Instr::Loop(u, b)) => *t == *u && *a == *b,
+            (Instr::Access(k, a), Instr::Access(l, b)) => *k == *l && *a == *b,
+            _ => false,
+        }
+    }
 }
 
-fn same_type(one: &FuncType, two: &FuncType) -> bool {
-    one.params.as_slice() == two.params.as_slice() && one.result == two.result
+impl Same for Block {
+    fn same(&self, other: &Block) -> bool {
+        all_same(self.as_slice(), other.as_slice())
+    }
 }
 
-fn same_segment(one: &DataSegment, two: &DataSegment) -> bool {
-    one.offset == two.offset && one.bytes.as_slice() == two.bytes.as_slice()
+impl Same for Func {
+    fn same(&self, other: &Func) -> bool {
+        self.type_index == other.type_index
+            && self.locals.as_slice() == other.locals.as_slice()
+            && all_same(self.blocks.as_slice(), other.blocks.as_slice())
+    }
+}
+
+impl Same for FuncType {
+    fn same(&self, other: &FuncType) -> bool {
+        self.params.as_slice() == other.params.as_slice() && self.result == other.result
+    }
+}
+
+impl Same for DataSegment {
+    fn same(&self, other: &DataSegment) -> bool {
+        self.offset == other.offset && self.bytes.as_slice() == other.bytes.as_slice()
+    }
 }
 
 fn same_memory(one: &Option<Memory>, two: &Option<Memory>) -> bool {
@@ -72,29 +97,14 @@ fn same_exports(one: &Exports, two: &Exports, names: &[&str]) -> bool {
     are_same
 }
 
-fn same_types(one: &[FuncType], two: &[FuncType]) -> bool {
-    let mut pairs = one.iter().zip(two.iter());
-    one.len() == two.len() && pairs.all(|(a, b)| same_type(a, b))
-}
-
-fn same_funcs(one: &[Func], two: &[Func]) -> bool {
-    let mut pairs = one.iter().zip(two.iter());
-    one.len() == two.len() && pairs.all(|(a, b)| same_func(a, b))
-}
-
-fn same_data(one: &[DataSegment], two: &[DataSegment]) -> bool {
-    let mut pairs = one.iter().zip(two.iter());
-    one.len() == two.len() && pairs.all(|(a, b)| same_segment(a, b))
-}
-
 /// Whether two modules are the same; their exports have these names, in this order.
 fn same_module(one: &Module, two: &Module, names: &[&str]) -> bool {
-    same_types(one.types.as_slice(), two.types.as_slice())
-        && same_funcs(one.funcs.as_slice(), two.funcs.as_slice())
+    all_same(one.types.as_slice(), two.types.as_slice())
+        && all_same(one.funcs.as_slice(), two.funcs.as_slice())
         && same_memory(&one.memory, &two.memory)
         && one.globals.as_slice() == two.globals.as_slice()
         && same_exports(&one.exports, &two.exports, names)
-        && same_data(one.data.as_slice(), two.data.as_slice())
+        && all_same(one.data.as_slice(), two.data.as_slice())
 }
 
 fn access(kind: AccessKind, alignment: u32) -> Instr {
@@ -389,10 +399,10 @@ fn spins_is_decoded(alloc: Global) -> Result<bool, AllocError> {
 
 #[test]
 fn other_modules_are_decoded(rt: HostRuntime) -> Result<(), Fail> {
-    assert!(rt; traps_is_decoded(rt.alloc())?);
-    assert!(rt; overlapping_load_is_decoded(rt.alloc())?);
-    assert!(rt; argument_is_decoded(rt.alloc())?);
-    assert!(rt; spins_is_decoded(rt.alloc())?);
+    same(&rt, traps_is_decoded(rt.alloc())?, true);
+    same(&rt, overlapping_load_is_decoded(rt.alloc())?, true);
+    same(&rt, argument_is_decoded(rt.alloc())?, true);
+    same(&rt, spins_is_decoded(rt.alloc())?, true);
     Ok(())
 }
 

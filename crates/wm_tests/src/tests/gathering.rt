@@ -53,11 +53,9 @@ fn both_ends(
 ) -> Result<Vec<ThreadEnd>, RunFault>
     ensures { IfOk result (λ ends. All (λ e. e.program.value ≡ «module».now) ends.items) }
 {
-    let first = end(alloc, module, threads[0], "a")?;
-    let second = end(alloc, module, threads[1], "b")?;
     let mut ends = Vec::with_capacity(alloc, 2)?;
-    ends.push_reserved(first);
-    ends.push_reserved(second);
+    ends.push_reserved(end(alloc, module, threads[0], "a")?);
+    ends.push_reserved(end(alloc, module, threads[1], "b")?);
     Ok(ends)
 }
 
