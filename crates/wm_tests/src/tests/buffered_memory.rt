@@ -116,16 +116,22 @@ const FULL_BUFFER: [Step; 8] = [
     Step::Accesses(0, 67),
 ];
 
+/// Makes the stores and then the steps.
+fn store_65<R: Abort>(rt: &R, memory: &mut Memory) -> Result<(), MemFault> {
+    same(rt, memory.threads(), 2);
+    same(rt, memory.initial().len(), 65_536);
+    for address in 0..65u32 {
+        take(rt, memory, 0, Step::StoreByte(0, address, 1))?;
+    }
+    take_all(rt, memory, &FULL_BUFFER)
+}
+
 #[test]
 fn a_full_buffer_drains_its_oldest_store(rt: HostRuntime) -> Result<(), Fail> {
     let mut memory = zeros(rt.alloc(), 2)?;
-    same(&rt, memory.threads(), 2);
-    same(&rt, memory.initial().len(), 65_536);
-    for address in 0..65u32 {
-        take(&rt, &mut memory, 0, Step::StoreByte(0, address, 1))?;
-    }
-    take_all(&rt, &mut memory, &FULL_BUFFER)?;
-    Ok(())
+    let taken = store_65(&rt, &mut memory);
+    drop(memory);
+    Ok(taken?)
 }
 
 /// Stores of which the second overlaps the first.
@@ -149,8 +155,11 @@ const OVERLAPPING: [Step; 14] = [
 #[test]
 fn a_store_leaves_before_older_ones_that_it_does_not_overlap(rt: HostRuntime) -> Result<(), Fail> {
     let mut memory = zeros(rt.alloc(), 2)?;
-    take_all(&rt, &mut memory, &OVERLAPPING)?;
-    same(&rt, reads(&rt, &mut memory, 1, 2), Some(2));
+    let taken = take_all(&rt, &mut memory, &OVERLAPPING);
+    let last = reads(&rt, &mut memory, 1, 2);
+    drop(memory);
+    taken?;
+    same(&rt, last, Some(2));
     Ok(())
 }
 
@@ -165,18 +174,25 @@ fn four_bytes(alloc: Global) -> Result<Memory, Fail> {
     Ok(Memory::new(alloc, &initial, 1)?)
 }
 
+/// An access of no thread and one past the end are refused, and one of the four bytes is made.
+fn refuses_two<R: Abort>(rt: &R, memory: &mut Memory) -> Result<(), MemFault> {
+    let outside = load(1, AccessWidth::Four);
+    let fault = fault_of(rt, memory, 1, outside);
+    same(rt, fault, Some(MemFault::NoThread));
+    let fault = fault_of(rt, memory, 0, outside);
+    same(rt, fault, Some(MemFault::OutOfBounds));
+    let reply = access(rt, memory, 0, load(0, AccessWidth::Four))?;
+    same(rt, reply.read, Some(0x0403_0201));
+    same(rt, accesses(memory, 0), 1);
+    Ok(())
+}
+
 #[test]
 fn accesses_are_refused_in_order(rt: HostRuntime) -> Result<(), Fail> {
     let mut memory = four_bytes(rt.alloc())?;
-    let outside = load(1, AccessWidth::Four);
-    let fault = fault_of(&rt, &mut memory, 1, outside);
-    same(&rt, fault, Some(MemFault::NoThread));
-    let fault = fault_of(&rt, &mut memory, 0, outside);
-    same(&rt, fault, Some(MemFault::OutOfBounds));
-    let reply = access(&rt, &mut memory, 0, load(0, AccessWidth::Four))?;
-    same(&rt, reply.read, Some(0x0403_0201));
-    same(&rt, accesses(&memory, 0), 1);
-    Ok(())
+    let refused = refuses_two(&rt, &mut memory);
+    drop(memory);
+    Ok(refused?)
 }
 
 #[test]
@@ -217,17 +233,34 @@ fn exchanges<R: Abort>(
     Ok(())
 }
 
+/// A store of the second byte, and a load of it and of the byte before it.
+fn own_store_is_named<R: Abort>(rt: &R, memory: &mut Memory) -> Result<(), MemFault> {
+    let mut writers = [EventId::Init; 8];
+    replies(rt, memory, store_byte(1, 7), (true, None), writers)?;
+    writers[1] = own(0);
+    let both = load(0, AccessWidth::Two);
+    replies(rt, memory, both, (false, Some(0x700)), writers)
+}
+
+/// An exchange that finds another value than it expects, and one that finds it.
+fn second_exchanges<R: Abort>(rt: &R, memory: &mut Memory) -> Result<(), MemFault> {
+    exchanges(rt, memory, exchange(1, 2), (false, Some(0x700)))?;
+    same(rt, pending(memory, 0), 0);
+    exchanges(rt, memory, exchange(0x700, 2), (true, Some(0x700)))?;
+    same(rt, reads(rt, memory, 0, 0), Some(2));
+    Ok(())
+}
+
+/// The store with its load, and then the exchanges.
+fn replies_name_writers<R: Abort>(rt: &R, memory: &mut Memory) -> Result<(), MemFault> {
+    own_store_is_named(rt, memory)?;
+    second_exchanges(rt, memory)
+}
+
 #[test]
 fn a_reply_names_the_writers_of_the_bytes_read(rt: HostRuntime) -> Result<(), Fail> {
     let mut memory = zeros(rt.alloc(), 1)?;
-    let mut writers = [EventId::Init; 8];
-    replies(&rt, &mut memory, store_byte(1, 7), (true, None), writers)?;
-    writers[1] = own(0);
-    let both = load(0, AccessWidth::Two);
-    replies(&rt, &mut memory, both, (false, Some(0x700)), writers)?;
-    exchanges(&rt, &mut memory, exchange(1, 2), (false, Some(0x700)))?;
-    same(&rt, pending(&memory, 0), 0);
-    exchanges(&rt, &mut memory, exchange(0x700, 2), (true, Some(0x700)))?;
-    same(&rt, reads(&rt, &mut memory, 0, 0), Some(2));
-    Ok(())
+    let named = replies_name_writers(&rt, &mut memory);
+    drop(memory);
+    Ok(named?)
 }

@@ -42,14 +42,22 @@ fn sizes(candidate: &Candidate) -> [usize; 3] {
     ]
 }
 
+/// The bytes of the initial memory, and the sizes of a candidate over it.
+fn sizes_are<R: Abort + AllocGlobal>(rt: &R, initial: &Initial) -> Result<(), Fail> {
+    same(rt, initial.byte(2), Some(7));
+    same(rt, initial.byte(3), None);
+    let candidate = candidate_of(rt.alloc(), initial)?;
+    same(rt, sizes(&candidate), [1, 2, 3]);
+    drop(candidate);
+    Ok(())
+}
+
 #[test]
 fn a_candidate_gives_what_it_was_made_of(rt: HostRuntime) -> Result<(), Fail> {
     let initial = three_bytes(rt.alloc())?;
-    same(&rt, initial.byte(2), Some(7));
-    same(&rt, initial.byte(3), None);
-    let candidate = candidate_of(rt.alloc(), &initial)?;
-    same(&rt, sizes(&candidate), [1, 2, 3]);
-    Ok(())
+    let given = sizes_are(&rt, &initial);
+    drop(initial);
+    given
 }
 
 /// What an event of a candidate writes.
@@ -77,14 +85,22 @@ fn writes_by_byte<R: Abort>(rt: &R, candidate: &Candidate) {
     same(rt, candidate.writes_to(0).len(), 0);
 }
 
+/// What a candidate over the initial memory has.
+fn parts_are<R: Abort + AllocGlobal>(rt: &R, initial: &Initial) -> Result<(), Fail> {
+    let candidate = candidate_of(rt.alloc(), initial)?;
+    events_and_places(rt, &candidate);
+    writers_and_bytes(rt, &candidate);
+    writes_by_byte(rt, &candidate);
+    drop(candidate);
+    Ok(())
+}
+
 #[test]
 fn a_candidate_gives_its_events_places_and_writers(rt: HostRuntime) -> Result<(), Fail> {
     let initial = three_bytes(rt.alloc())?;
-    let candidate = candidate_of(rt.alloc(), &initial)?;
-    events_and_places(&rt, &candidate);
-    writers_and_bytes(&rt, &candidate);
-    writes_by_byte(&rt, &candidate);
-    Ok(())
+    let given = parts_are(&rt, &initial);
+    drop(initial);
+    given
 }
 
 /// The kind of the event of an access of two bytes that reads `read`, and what it writes.

@@ -1,6 +1,7 @@
 //! Happens-before in bit columns beside the plain closure of its edges.
 use super::calls::{candidate, read};
 use super::documents::{ALLOWED, BROKEN};
+use super::{same, same_in};
 use std::alloc::{AllocError, Global};
 use std::process::Abort;
 use std::test::Fail;
@@ -106,7 +107,7 @@ fn agrees_from<R: Abort>(
 ) {
     for (to, id) in ids.iter().enumerate() {
         let is_before = relation.before(start, *id);
-        assert_eq!(rt; is_before, marks(row, to), "{start} {id}");
+        same_in(rt, &(start, *id), is_before, marks(row, to));
     }
 }
 
@@ -125,19 +126,29 @@ fn agrees<R: Abort + AllocGlobal>(
     Ok(())
 }
 
+/// Compares what happens before what in a candidate with the plain closure.
+fn agrees_over<R: Abort + AllocGlobal>(
+    rt: &R,
+    candidate: &Candidate,
+    relation: &HappensBefore,
+) -> Result<(), AllocError> {
+    let ids = ids_of(rt.alloc(), candidate.witness().order.as_slice())?;
+    let edges = edges_of(rt.alloc(), candidate, ids.as_slice())?;
+    agrees(rt, relation, ids.as_slice(), edges.as_slice())
+}
+
 /// Compares what happens before what in a candidate with the plain closure. Whether the order agrees.
 pub(super) fn compares<R: Abort + AllocGlobal + Threads + Sync>(
     rt: &R,
     candidate: &Candidate,
 ) -> Result<bool, AllocError> {
-    let alloc = rt.alloc();
     let Ok(ordered) = Ordered::of(candidate) else {
         return Ok(false);
     };
-    let relation = HappensBefore::of(alloc, &ordered)?;
-    let ids = ids_of(alloc, candidate.witness().order.as_slice())?;
-    let edges = edges_of(alloc, candidate, ids.as_slice())?;
-    agrees(rt, &relation, ids.as_slice(), edges.as_slice())?;
+    let relation = HappensBefore::of(rt.alloc(), &ordered)?;
+    let compared = agrees_over(rt, candidate, &relation);
+    drop(relation);
+    compared?;
     Ok(true)
 }
 
@@ -153,21 +164,46 @@ pub(super) fn compares_document<R: Abort + AllocGlobal + Threads + Sync>(
     let Ok(candidate) = candidate(rt.alloc(), log, witness, initial) else {
         panic!(rt; "{document}")
     };
-    compares(rt, &candidate)
+    let is_ordered = compares(rt, &candidate);
+    drop(candidate);
+    is_ordered
+}
+
+/// The order of each of these documents agrees.
+fn all_are_ordered<R: Abort + AllocGlobal + Threads + Sync>(
+    rt: &R,
+    documents: &[&str],
+    initial: &Initial,
+) -> Result<(), AllocError> {
+    for document in documents {
+        let is_ordered = compares_document(rt, document, initial)?;
+        same_in(rt, document, is_ordered, true);
+    }
+    Ok(())
+}
+
+/// In how many of these documents the order agrees.
+fn ordered_count<R: Abort + AllocGlobal + Threads + Sync>(
+    rt: &R,
+    documents: &[&str],
+    initial: &Initial,
+) -> Result<u64, AllocError> {
+    let mut ordered = 0u64;
+    for document in documents {
+        if compares_document(rt, document, initial)? {
+            ordered = ordered.wrapping_add(1);
+        }
+    }
+    Ok(ordered)
 }
 
 #[test]
 fn columns_are_the_plain_closure_on_documents(rt: HostRuntime) -> Result<(), Fail> {
     let initial = Initial::zeros(rt.alloc(), 16);
-    let mut ordered = 0u64;
-    for document in ALLOWED {
-        assert!(&rt; compares_document(&rt, document, &initial)?, "{document}");
-    }
-    for document in BROKEN {
-        if compares_document(&rt, document, &initial)? {
-            ordered = ordered.wrapping_add(1);
-        }
-    }
-    assert_eq!(&rt; ordered, 9);
+    let allowed = all_are_ordered(&rt, &ALLOWED, &initial);
+    let ordered = ordered_count(&rt, &BROKEN, &initial);
+    drop(initial);
+    allowed?;
+    same(&rt, ordered?, 9);
     Ok(())
 }

@@ -15,42 +15,67 @@ use wm_decode::decode;
 use wm_list::List;
 use wm_num::Width;
 
-fn same_instr(one: &Instr, two: &Instr) -> bool {
-    match (one, two) {
-        (Instr::I32Const(a), Instr::I32Const(b)) => *a == *b,
-        (Instr::I64Const(a), Instr::I64Const(b)) => *a == *b,
-        (Instr::LocalGet(a), Instr::LocalGet(b)) => *a == *b,
-        (Instr::BrIf(a), Instr::BrIf(b)) => *a == *b,
-        (Instr::Eqz(a), Instr::Eqz(b)) => *a == *b,
-        (Instr::Loop(t, a), Instr::Loop(u, b)) => *t == *u && *a == *b,
-        (Instr::Access(k, a), Instr::Access(l, b)) => *k == *l && *a == *b,
-        _ => false,
+/// What the modules hold in lists.
+trait Same {
+    fn same(&self, other: &Self) -> bool;
+}
+
+/// Whether there is another item, and it is the same.
+fn is_same<T: Same>(item: &T, other: Option<&T>) -> bool {
+    match other {
+        Some(other) => item.same(other),
+        None => false,
     }
 }
 
-fn same_block(one: &Block, two: &Block) -> bool {
-    let mut pairs = one.as_slice().iter().zip(two.as_slice().iter());
-    one.len() == two.len() && pairs.all(|(a, b)| same_instr(a, b))
+/// Whether two lists have the same items, in the same order.
+fn all_same<T: Same>(one: &[T], two: &[T]) -> bool {
+    let mut are_same = one.len() == two.len();
+    for (position, item) in one.iter().enumerate() {
+        are_same = are_same && is_same(item, two.get(position));
+    }
+    are_same
 }
 
-fn same_func(one: &Func, two: &Func) -> bool {
-    let mut pairs = one
-        .blocks
-        .as_slice()
-        .iter()
-        .zip(two.blocks.as_slice().iter());
-    one.type_index == two.type_index
-        && one.locals.as_slice() == two.locals.as_slice()
-        && one.blocks.len() == two.blocks.len()
-        && pairs.all(|(a, b)| same_block(a, b))
+impl Same for Instr {
+    fn same(&self, other: &Instr) -> bool {
+        match (self, other) {
+            (Instr::I32Const(a), Instr::I32Const(b)) => *a == *b,
+            (Instr::I64Const(a), Instr::I64Const(b)) => *a == *b,
+            (Instr::LocalGet(a), Instr::LocalGet(b)) => *a == *b,
+            (Instr::BrIf(a), Instr::BrIf(b)) => *a == *b,
+            (Instr::Eqz(a), Instr::Eqz(b)) => *a == *b,
+            (Instr::Loop(t, a), Instr::Loop(u, b)) => *t == *u && *a == *b,
+            (Instr::Access(k, a), Instr::Access(l, b)) => *k == *l && *a == *b,
+            _ => false,
+        }
+    }
 }
 
-fn same_type(one: &FuncType, two: &FuncType) -> bool {
-    one.params.as_slice() == two.params.as_slice() && one.result == two.result
+impl Same for Block {
+    fn same(&self, other: &Block) -> bool {
+        all_same(self.as_slice(), other.as_slice())
+    }
 }
 
-fn same_segment(one: &DataSegment, two: &DataSegment) -> bool {
-    one.offset == two.offset && one.bytes.as_slice() == two.bytes.as_slice()
+impl Same for Func {
+    fn same(&self, other: &Func) -> bool {
+        self.type_index == other.type_index
+            && self.locals.as_slice() == other.locals.as_slice()
+            && all_same(self.blocks.as_slice(), other.blocks.as_slice())
+    }
+}
+
+impl Same for FuncType {
+    fn same(&self, other: &FuncType) -> bool {
+        self.params.as_slice() == other.params.as_slice() && self.result == other.result
+    }
+}
+
+impl Same for DataSegment {
+    fn same(&self, other: &DataSegment) -> bool {
+        self.offset == other.offset && self.bytes.as_slice() == other.bytes.as_slice()
+    }
 }
 
 fn same_memory(one: &Option<Memory>, two: &Option<Memory>) -> bool {
@@ -72,29 +97,14 @@ fn same_exports(one: &Exports, two: &Exports, names: &[&str]) -> bool {
     are_same
 }
 
-fn same_types(one: &[FuncType], two: &[FuncType]) -> bool {
-    let mut pairs = one.iter().zip(two.iter());
-    one.len() == two.len() && pairs.all(|(a, b)| same_type(a, b))
-}
-
-fn same_funcs(one: &[Func], two: &[Func]) -> bool {
-    let mut pairs = one.iter().zip(two.iter());
-    one.len() == two.len() && pairs.all(|(a, b)| same_func(a, b))
-}
-
-fn same_data(one: &[DataSegment], two: &[DataSegment]) -> bool {
-    let mut pairs = one.iter().zip(two.iter());
-    one.len() == two.len() && pairs.all(|(a, b)| same_segment(a, b))
-}
-
 /// Whether two modules are the same; their exports have these names, in this order.
 fn same_module(one: &Module, two: &Module, names: &[&str]) -> bool {
-    same_types(one.types.as_slice(), two.types.as_slice())
-        && same_funcs(one.funcs.as_slice(), two.funcs.as_slice())
+    all_same(one.types.as_slice(), two.types.as_slice())
+        && all_same(one.funcs.as_slice(), two.funcs.as_slice())
         && same_memory(&one.memory, &two.memory)
         && one.globals.as_slice() == two.globals.as_slice()
         && same_exports(&one.exports, &two.exports, names)
-        && same_data(one.data.as_slice(), two.data.as_slice())
+        && all_same(one.data.as_slice(), two.data.as_slice())
 }
 
 fn access(kind: AccessKind, alignment: u32) -> Instr {
@@ -125,15 +135,8 @@ fn one_block(alloc: Global, instrs: Vec<Instr>) -> Result<Func, AllocError> {
     })
 }
 
-/// A module of one page and one type, that exports its functions under these names.
-fn one_page(
-    alloc: Global,
-    params: Vec<ValType>,
-    gives: Option<ValType>,
-    funcs: Vec<Func>,
-    names: &[&str],
-) -> Result<Module, AllocError> {
-    let mut exports = Exports::new(alloc);
+/// Exports functions under these names, each of them once.
+fn export_each(alloc: Global, exports: &mut Exports, names: &[&str]) -> Result<(), AllocError> {
     let mut index = 0u32;
     for name in names {
         if exports.get(name).is_none() {
@@ -145,22 +148,68 @@ fn one_page(
         }
         index = index.wrapping_add(1);
     }
-    let params = List::from_vec(params);
+    Ok(())
+}
+
+/// The exports of functions under these names.
+fn exports_of(alloc: Global, names: &[&str]) -> Result<Exports, AllocError> {
+    let mut exports = Exports::new(alloc);
+    match export_each(alloc, &mut exports, names) {
+        Ok(()) => Ok(exports),
+        Err(fault) => {
+            drop(exports);
+            Err(fault)
+        }
+    }
+}
+
+/// One type.
+fn one_type(
+    alloc: Global,
+    params: Vec<ValType>,
+    gives: Option<ValType>,
+) -> Result<List<FuncType>, AllocError> {
+    let types = vec![in alloc;
+        FuncType {
+            params: List::from_vec(params),
+            result: gives,
+        },
+    ]?;
+    Ok(List::from_vec(types))
+}
+
+/// A memory of one page.
+fn one_page_memory() -> Memory {
+    Memory {
+        limits: Limits {
+            minimum: 1,
+            maximum: 1,
+        },
+        import: None,
+    }
+}
+
+/// A module of one page and one type, that exports its functions under these names.
+fn one_page(
+    alloc: Global,
+    params: Vec<ValType>,
+    gives: Option<ValType>,
+    funcs: Vec<Func>,
+    names: &[&str],
+) -> Result<Module, AllocError> {
+    let types = one_type(alloc, params, gives)?;
+    let exports = match exports_of(alloc, names) {
+        Ok(exports) => exports,
+        Err(fault) => {
+            drop(types);
+            drop(funcs);
+            return Err(fault);
+        }
+    };
     Ok(Module {
-        types: List::from_vec(vec![in alloc;
-            FuncType {
-                params,
-                result: gives
-            },
-        ]?),
+        types,
         funcs: List::from_vec(funcs),
-        memory: Some(Memory {
-            limits: Limits {
-                minimum: 1,
-                maximum: 1,
-            },
-            import: None,
-        }),
+        memory: Some(one_page_memory()),
         globals: List::new(alloc),
         exports,
         data: List::new(alloc),
@@ -192,10 +241,9 @@ fn store_buffering(
     store: AccessKind,
     load: AccessKind,
 ) -> Result<Module, AllocError> {
-    let funcs = vec![in alloc;
-        store_and_load(alloc, 0, 4, store, load)?,
-        store_and_load(alloc, 4, 0, store, load)?,
-    ]?;
+    let mut funcs = Vec::new(alloc);
+    funcs.push(store_and_load(alloc, 0, 4, store, load)?)?;
+    funcs.push(store_and_load(alloc, 4, 0, store, load)?)?;
     one_page(
         alloc,
         Vec::new(alloc),
@@ -216,13 +264,19 @@ fn one_load(alloc: Global, from: u32, load: AccessKind) -> Result<Func, AllocErr
 fn decodes(
     alloc: Global,
     bytes: &[u8],
-    wanted: &Module,
+    wanted: Module,
     names: &[&str],
 ) -> Result<bool, AllocError> {
-    match decode(alloc, bytes) {
-        Ok(module) => Ok(same_module(&module, wanted, names)),
-        Err(_) => Ok(false),
-    }
+    let is_same = match decode(alloc, bytes) {
+        Ok(module) => {
+            let is_same = same_module(&module, &wanted, names);
+            drop(module);
+            is_same
+        }
+        Err(_) => false,
+    };
+    drop(wanted);
+    Ok(is_same)
 }
 
 /// Whether the bytes spell store buffering with these accesses.
@@ -233,13 +287,14 @@ fn is_store_buffering(
     load: AccessKind,
 ) -> Result<bool, AllocError> {
     let wanted = store_buffering(alloc, store, load)?;
-    decodes(alloc, bytes, &wanted, &["a", "b"])
+    decodes(alloc, bytes, wanted, &["a", "b"])
 }
 
 fn data_segment_is_decoded(alloc: Global) -> Result<bool, AllocError> {
+    let data = one_byte_at_four(alloc)?;
     let mut wanted = store_buffering(alloc, STORE, LOAD)?;
-    wanted.data = one_byte_at_four(alloc)?;
-    decodes(alloc, &DATA_SEGMENT, &wanted, &["a", "b"])
+    wanted.data = data;
+    decodes(alloc, &DATA_SEGMENT, wanted, &["a", "b"])
 }
 
 /// A store and a load beside one another, in two functions.
@@ -321,40 +376,44 @@ fn traps_is_decoded(alloc: Global) -> Result<bool, AllocError> {
     let names = ["a", "b", "c"];
     let funcs = three_loads(alloc)?;
     let wanted = one_page(alloc, Vec::new(alloc), Some(ValType::I32), funcs, &names)?;
-    decodes(alloc, &TRAPS, &wanted, &names)
+    decodes(alloc, &TRAPS, wanted, &names)
 }
 
 fn overlapping_load_is_decoded(alloc: Global) -> Result<bool, AllocError> {
     let funcs = one_func(alloc, mixed_widths(alloc)?)?;
     let wanted = one_page(alloc, Vec::new(alloc), Some(ValType::I32), funcs, &["a"])?;
-    decodes(alloc, &OVERLAPPING_LOAD, &wanted, &["a"])
+    decodes(alloc, &OVERLAPPING_LOAD, wanted, &["a"])
 }
 
 fn argument_is_decoded(alloc: Global) -> Result<bool, AllocError> {
     let funcs = one_func(alloc, use_of_parameter(alloc)?)?;
     let params = vec![in alloc; ValType::I32]?;
     let wanted = one_page(alloc, params, Some(ValType::I32), funcs, &["f"])?;
-    decodes(alloc, &ARGUMENT, &wanted, &["f"])
+    decodes(alloc, &ARGUMENT, wanted, &["f"])
 }
 
 fn spins_is_decoded(alloc: Global) -> Result<bool, AllocError> {
     let wanted = one_page(alloc, Vec::new(alloc), None, spinning(alloc)?, &["a"])?;
-    decodes(alloc, &SPINS, &wanted, &["a"])
+    decodes(alloc, &SPINS, wanted, &["a"])
 }
 
 #[test]
 fn other_modules_are_decoded(rt: HostRuntime) -> Result<(), Fail> {
-    assert!(rt; traps_is_decoded(rt.alloc())?);
-    assert!(rt; overlapping_load_is_decoded(rt.alloc())?);
-    assert!(rt; argument_is_decoded(rt.alloc())?);
-    assert!(rt; spins_is_decoded(rt.alloc())?);
+    same(&rt, traps_is_decoded(rt.alloc())?, true);
+    same(&rt, overlapping_load_is_decoded(rt.alloc())?, true);
+    same(&rt, argument_is_decoded(rt.alloc())?, true);
+    same(&rt, spins_is_decoded(rt.alloc())?, true);
     Ok(())
 }
 
 /// How many pages the module has that the bytes spell, None where they spell no valid one.
 fn pages(alloc: Global, bytes: &[u8]) -> Option<u32> {
     match module_of(alloc, bytes) {
-        Ok(Some(module)) => Some(module.pages()),
+        Ok(Some(module)) => {
+            let pages = module.pages();
+            drop(module);
+            Some(pages)
+        }
         _ => None,
     }
 }
@@ -377,7 +436,11 @@ fn six_modules_are_valid(rt: HostRuntime) {
 /// The first byte that the module of a data segment has at an address.
 fn initial_byte(alloc: Global, at: usize) -> Option<u8> {
     match module_of(alloc, &DATA_SEGMENT) {
-        Ok(Some(module)) => module.init_byte(at),
+        Ok(Some(module)) => {
+            let byte = module.init_byte(at);
+            drop(module);
+            byte
+        }
         _ => None,
     }
 }

@@ -3,14 +3,14 @@
 use super::calls::module_of;
 use super::closure::compares_document;
 use super::modules::{STORE_BUFFERING, STORE_BUFFERING_ATOMIC};
+use super::rounds::{BOTH, plan};
 use super::same;
 use std::alloc::{AllocError, Global};
 use std::process::Abort;
 use std::test::Fail;
 use std::thread::Threads;
 use wm_check::{Verdict, check};
-use wm_event::{Initial, Start};
-use wm_list::{List, Text};
+use wm_event::Initial;
 use wm_run::{Plan, Run, Turn, drive, write_run};
 use wm_valid::ValidModule;
 
@@ -36,26 +36,6 @@ fn turns(alloc: Global, seed: u32, in_order: bool) -> Result<Vec<Turn>, AllocErr
         turns.push(turn(state / 65_536 % kinds))?;
     }
     Ok(turns)
-}
-
-/// What a thread starts with that has no argument.
-fn start(alloc: Global, name: &str) -> Result<Start, AllocError> {
-    Ok(Start {
-        name: Text::from_string(String::from_str(alloc, name)?),
-        args: List::new(alloc),
-    })
-}
-
-/// Two threads that start with `a` and `b`.
-fn plan(alloc: Global) -> Result<Plan, AllocError> {
-    let mut starts = List::new(alloc);
-    starts.push(start(alloc, "a")?)?;
-    starts.push(start(alloc, "b")?)?;
-    Ok(Plan {
-        starts,
-        steps: 1_000_000,
-        drains: 0,
-    })
 }
 
 /// What is written of a run.
@@ -101,7 +81,11 @@ fn plays_allowed<R: Abort + AllocGlobal + Threads + Sync>(
     turns: &[Turn],
 ) -> Result<bool, AllocError> {
     match driven(rt.alloc(), module, plan, turns) {
-        Some(run) => is_allowed(rt, module_bytes, &run),
+        Some(run) => {
+            let is_allowed = is_allowed(rt, module_bytes, &run);
+            drop(run);
+            is_allowed
+        }
         None => Ok(false),
     }
 }
@@ -135,15 +119,31 @@ fn count_over<R: Abort + AllocGlobal + Threads + Sync>(
     Ok(allowed)
 }
 
+/// The same of both threads from their starts.
+fn count_planned<R: Abort + AllocGlobal + Threads + Sync>(
+    rt: &R,
+    module: &ValidModule,
+    module_bytes: &[u8],
+    in_order: bool,
+) -> Result<u32, AllocError> {
+    let plan = plan(rt.alloc(), &BOTH, 0)?;
+    let count = count_over(rt, module, module_bytes, &plan, in_order);
+    drop(plan);
+    count
+}
+
 /// How many of 200 seeds give a run of the module that is allowed; 0 where the bytes spell none.
 fn count_allowed<R: Abort + AllocGlobal + Threads + Sync>(
     rt: &R,
     module_bytes: &[u8],
     in_order: bool,
 ) -> Result<u32, AllocError> {
-    let plan = plan(rt.alloc())?;
     match module_of(rt.alloc(), module_bytes)? {
-        Some(module) => count_over(rt, &module, module_bytes, &plan, in_order),
+        Some(module) => {
+            let count = count_planned(rt, &module, module_bytes, in_order);
+            drop(module);
+            count
+        }
         None => Ok(0),
     }
 }

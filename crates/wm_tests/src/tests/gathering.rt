@@ -53,11 +53,9 @@ fn both_ends(
 ) -> Result<Vec<ThreadEnd>, RunFault>
     ensures { IfOk result (λ ends. All (λ e. e.program.value ≡ «module».now) ends.items) }
 {
-    let first = end(alloc, module, threads[0], "a")?;
-    let second = end(alloc, module, threads[1], "b")?;
     let mut ends = Vec::with_capacity(alloc, 2)?;
-    ends.push_reserved(first);
-    ends.push_reserved(second);
+    ends.push_reserved(end(alloc, module, threads[0], "a")?);
+    ends.push_reserved(end(alloc, module, threads[1], "b")?);
     Ok(ends)
 }
 
@@ -76,7 +74,10 @@ fn fault(
 ) -> Result<(), RunFault> {
     let ends = both_ends(alloc, module, threads)?;
     match gather(alloc, module, recorder(alloc, of_two_pages)?, ends) {
-        Ok(_) => Ok(()),
+        Ok(run) => {
+            drop(run);
+            Ok(())
+        }
         Err(fault) => Err(fault),
     }
 }
@@ -101,7 +102,11 @@ fn gathered(
     threads: [u32; 2],
 ) -> Result<Option<RunFault>, AllocError> {
     match module_of(alloc, &STORE_BUFFERING)? {
-        Some(module) => known(fault(alloc, &module, of_two_pages, threads)),
+        Some(module) => {
+            let answer = fault(alloc, &module, of_two_pages, threads);
+            drop(module);
+            known(answer)
+        }
         None => Ok(None),
     }
 }
@@ -131,7 +136,11 @@ fn stop_of(end: &ThreadEnd) -> (Stop, End, u32) {
 /// Where a worker of the module over a full memory stops.
 fn stopped_over(alloc: Global, module: &ValidModule) -> Option<(Stop, End, u32)> {
     match end(alloc, module, 0, "a") {
-        Ok(end) => Some(stop_of(&end)),
+        Ok(end) => {
+            let stop = stop_of(&end);
+            drop(end);
+            Some(stop)
+        }
         Err(_) => None,
     }
 }
@@ -139,7 +148,11 @@ fn stopped_over(alloc: Global, module: &ValidModule) -> Option<(Stop, End, u32)>
 /// Where a worker of store buffering over a full memory stops.
 fn stopped(alloc: Global) -> Option<(Stop, End, u32)> {
     match module_of(alloc, &STORE_BUFFERING) {
-        Ok(Some(module)) => stopped_over(alloc, &module),
+        Ok(Some(module)) => {
+            let stop = stopped_over(alloc, &module);
+            drop(module);
+            stop
+        }
         _ => None,
     }
 }

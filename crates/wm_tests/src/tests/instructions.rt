@@ -1,6 +1,7 @@
 //! Instructions in the words of the text format.
 use super::same;
 use std::alloc::{AllocError, Global};
+use std::process::Abort;
 use std::test::Fail;
 use wm_access::RmwOperator;
 use wm_ast::{AccessKind, Instr, InstrText, MemArg, Narrow, Storage, ValType};
@@ -96,21 +97,40 @@ fn text_of(alloc: Global, instr: &Instr) -> Result<String, AllocError> {
     format!(in alloc; "{}", InstrText(instr))
 }
 
-#[test]
-fn instructions_have_their_texts(rt: HostRuntime) -> Result<(), Fail> {
-    for (kind, alignment, offset, text) in &ACCESSES {
+/// Compares the text of an instruction.
+fn has_text<R: Abort + AllocGlobal>(rt: &R, instr: Instr, text: &str) -> Result<(), AllocError> {
+    let got = text_of(rt.alloc(), &instr);
+    drop(instr);
+    same(rt, got?.as_str(), text);
+    Ok(())
+}
+
+/// Compares the texts of accesses.
+fn accesses_have_texts<R: Abort + AllocGlobal>(
+    rt: &R,
+    accesses: &[(AccessKind, u32, u32, &str)],
+) -> Result<(), AllocError> {
+    for (kind, alignment, offset, text) in accesses {
         let operands = MemArg {
             alignment: *alignment,
             offset: *offset,
         };
-        let instr = Instr::Access(*kind, operands);
-        let got = text_of(rt.alloc(), &instr)?;
-        same(&rt, got.as_str(), *text);
+        has_text(rt, Instr::Access(*kind, operands), text)?;
     }
-    for (number, text) in OTHERS.iter().enumerate() {
-        let instr = other(rt.alloc(), number)?;
-        let got = text_of(rt.alloc(), &instr)?;
-        same(&rt, got.as_str(), *text);
+    Ok(())
+}
+
+/// Compares the texts of the other instructions.
+fn others_have_texts<R: Abort + AllocGlobal>(rt: &R, texts: &[&str]) -> Result<(), AllocError> {
+    for (number, text) in texts.iter().enumerate() {
+        has_text(rt, other(rt.alloc(), number)?, text)?;
     }
+    Ok(())
+}
+
+#[test]
+fn instructions_have_their_texts(rt: HostRuntime) -> Result<(), Fail> {
+    accesses_have_texts(&rt, &ACCESSES)?;
+    others_have_texts(&rt, &OTHERS)?;
     Ok(())
 }

@@ -61,16 +61,23 @@ fn threads_are_store_buffering<R: Abort>(rt: &R, log: &Log) {
     thread_is(rt, second, ("b", &[]), (End::Done(Some(0)), 6), &events);
 }
 
+/// The witness of store buffering.
+fn witness_is_store_buffering<R: Abort>(rt: &R, witness: &Witness) {
+    same(rt, witness.writers(key(0, 0)).len(), 0);
+    let init = [EventId::Init; 4];
+    same(rt, witness.writers(key(0, 1)), init.as_slice());
+    same(rt, witness.writers(key(1, 1)), init.as_slice());
+    let order = [key(0, 0), key(1, 0), key(0, 1), key(1, 1)];
+    same(rt, witness.order.as_slice(), order.as_slice());
+}
+
 #[test]
 fn store_buffering_is_read(rt: HostRuntime) -> Result<(), Fail> {
     let (log, witness) = read(rt.alloc(), STORE_BUFFERING)?;
     threads_are_store_buffering(&rt, &log);
-    same(&rt, witness.writers(key(0, 0)).len(), 0);
-    let init = [EventId::Init; 4];
-    same(&rt, witness.writers(key(0, 1)), init.as_slice());
-    same(&rt, witness.writers(key(1, 1)), init.as_slice());
-    let order = [key(0, 0), key(1, 0), key(0, 1), key(1, 1)];
-    same(&rt, witness.order.as_slice(), order.as_slice());
+    witness_is_store_buffering(&rt, &witness);
+    drop(log);
+    drop(witness);
     Ok(())
 }
 
@@ -138,6 +145,8 @@ fn each_end_is_read(rt: HostRuntime) -> Result<(), Fail> {
     let (log, witness) = read(rt.alloc(), ENDS)?;
     threads_end(&rt, &log);
     witness_ends(&rt, &witness);
+    drop(log);
+    drop(witness);
     Ok(())
 }
 
@@ -146,7 +155,9 @@ fn version_2_is_read(rt: HostRuntime) -> Result<(), Fail> {
     let (log, witness) = read(rt.alloc(), ENDS_WITH_WRITERS)?;
     threads_end(&rt, &log);
     witness_ends(&rt, &witness);
-    assert!(rt; witness.fits(&log));
+    same(&rt, witness.fits(&log), true);
+    drop(log);
+    drop(witness);
     Ok(())
 }
 
@@ -180,7 +191,9 @@ fn written<R: Abort + AllocGlobal>(
 #[test]
 fn what_is_written_is_read_again(rt: HostRuntime) -> Result<(), Fail> {
     let (log, witness) = read(rt.alloc(), STORE_BUFFERING)?;
-    let text = written(&rt, &log, &witness)?;
-    same(&rt, text.as_str(), STORE_BUFFERING_WITH_WRITERS);
+    let text = written(&rt, &log, &witness);
+    drop(log);
+    drop(witness);
+    same(&rt, text?.as_str(), STORE_BUFFERING_WITH_WRITERS);
     Ok(())
 }

@@ -90,33 +90,43 @@ fn reads<R: Abort>(rt: &R, recorder: &mut Recorder, thread: u32, address: u32) -
     }
 }
 
-#[test]
-fn a_forced_drain_is_a_step_of_its_own(rt: HostRuntime) -> Result<(), Fail> {
-    let mut recorder = two_threads(rt.alloc())?;
-    same(&rt, recorder.threads(), 2);
-    same(&rt, recorder.initial().len(), 65_536);
+/// Stores of thread 0 to the first 65 bytes, of which the last one makes the first one leave.
+fn store_65<R: Abort>(rt: &R, recorder: &mut Recorder) -> Result<(), AccessFault> {
+    same(rt, recorder.threads(), 2);
+    same(rt, recorder.initial().len(), 65_536);
     for address in 0..65u32 {
-        step(&rt, &mut recorder, 0, store_byte(address, 1))?;
+        step(rt, recorder, 0, store_byte(address, 1))?;
     }
-    same(&rt, steps(&recorder), 66);
-    same(&rt, step_at(&recorder, 64), Some(HistoryStep::Drain(0)));
-    same(
-        &rt,
-        step_at(&recorder, 65),
-        Some(HistoryStep::Access(0, store_byte(64, 1))),
-    );
-    same(&rt, pending(&recorder, 0), 64);
     Ok(())
 }
 
-/// A recorder of two threads that made as many accesses as it may, the first a store of thread 0 that waits.
-fn full<R: Abort>(rt: &R, alloc: Global) -> Result<Recorder, Fail> {
-    let mut recorder = two_threads(alloc)?;
-    step(rt, &mut recorder, 0, store_byte(0, 1))?;
-    for _made in 1..MAX_EVENTS {
-        step(rt, &mut recorder, 1, load_byte(0))?;
+/// What the 65 stores left.
+fn first_left<R: Abort>(rt: &R, recorder: &Recorder) {
+    same(rt, steps(recorder), 66);
+    same(rt, step_at(recorder, 64), Some(HistoryStep::Drain(0)));
+    let last = HistoryStep::Access(0, store_byte(64, 1));
+    same(rt, step_at(recorder, 65), Some(last));
+    same(rt, pending(recorder, 0), 64);
+}
+
+#[test]
+fn a_forced_drain_is_a_step_of_its_own(rt: HostRuntime) -> Result<(), Fail> {
+    let mut recorder = two_threads(rt.alloc())?;
+    let stored = store_65(&rt, &mut recorder);
+    if stored.is_ok() {
+        first_left(&rt, &recorder);
     }
-    Ok(recorder)
+    drop(recorder);
+    Ok(stored?)
+}
+
+/// Makes as many accesses as a recorder may, the first a store of thread 0 that waits.
+fn fill<R: Abort>(rt: &R, recorder: &mut Recorder) -> Result<(), AccessFault> {
+    step(rt, recorder, 0, store_byte(0, 1))?;
+    for _made in 1..MAX_EVENTS {
+        step(rt, recorder, 1, load_byte(0))?;
+    }
+    Ok(())
 }
 
 /// Why an access is refused, None where it is made.
@@ -127,20 +137,28 @@ fn fault_of(recorder: &mut Recorder, thread: u32, op: Op) -> Option<AccessFault>
     }
 }
 
-#[test]
-fn a_full_recorder_refuses_accesses(rt: HostRuntime) -> Result<(), Fail> {
-    let mut recorder = full(&rt, rt.alloc())?;
+/// A full recorder refuses each access, and makes no step.
+fn refuses<R: Abort>(rt: &R, recorder: &mut Recorder) -> Result<(), AccessFault> {
+    fill(rt, recorder)?;
     let refused = [
         (2, 0, AccessFault::NoThread),
         (0, 65_536, AccessFault::OutOfBounds),
         (0, 0, AccessFault::Full),
     ];
     for (thread, address, fault) in refused {
-        let found = fault_of(&mut recorder, thread, load_byte(address));
-        same(&rt, found, Some(fault));
+        let found = fault_of(recorder, thread, load_byte(address));
+        same(rt, found, Some(fault));
     }
-    same(&rt, steps(&recorder), MAX_EVENTS);
+    same(rt, steps(recorder), MAX_EVENTS);
     Ok(())
+}
+
+#[test]
+fn a_full_recorder_refuses_accesses(rt: HostRuntime) -> Result<(), Fail> {
+    let mut recorder = two_threads(rt.alloc())?;
+    let refused = refuses(&rt, &mut recorder);
+    drop(recorder);
+    Ok(refused?)
 }
 
 #[test]
@@ -150,14 +168,22 @@ fn a_fault_has_its_name(rt: HostRuntime) -> Result<(), Fail> {
     Ok(())
 }
 
+/// The store that waits in a full recorder leaves, as a step of its own, and nothing else does.
+fn drains_once<R: Abort>(rt: &R, recorder: &mut Recorder) -> Result<(), Fail> {
+    fill(rt, recorder)?;
+    same(rt, drain(recorder, 0)?, true);
+    same(rt, steps(recorder), MAX_EVENTS + 1);
+    same(rt, drain(recorder, 0)?, false);
+    same(rt, steps(recorder), MAX_EVENTS + 1);
+    Ok(())
+}
+
 #[test]
 fn a_full_recorder_drains(rt: HostRuntime) -> Result<(), Fail> {
-    let mut recorder = full(&rt, rt.alloc())?;
-    same(&rt, drain(&mut recorder, 0)?, true);
-    same(&rt, steps(&recorder), MAX_EVENTS + 1);
-    same(&rt, drain(&mut recorder, 0)?, false);
-    same(&rt, steps(&recorder), MAX_EVENTS + 1);
-    Ok(())
+    let mut recorder = two_threads(rt.alloc())?;
+    let drained = drains_once(&rt, &mut recorder);
+    drop(recorder);
+    drained
 }
 
 /// Stores 1 at 0, 2 at 2 and 3 at 8, each of four bytes.
@@ -178,15 +204,22 @@ fn third_leaves<R: Abort>(rt: &R, recorder: &mut Recorder) -> Result<(), AllocEr
     Ok(())
 }
 
+/// Three stores, of which the other thread sees the third alone.
+fn third_is_seen<R: Abort>(rt: &R, recorder: &mut Recorder) -> Result<(), Fail> {
+    store_three(rt, recorder)?;
+    third_leaves(rt, recorder)?;
+    same(rt, reads(rt, recorder, 1, 8), Some(3));
+    same(rt, reads(rt, recorder, 1, 0), Some(0));
+    same(rt, drain_at(recorder, 0, 2)?, false);
+    Ok(())
+}
+
 #[test]
 fn a_store_leaves_before_older_ones_that_it_does_not_overlap(rt: HostRuntime) -> Result<(), Fail> {
     let mut recorder = two_threads(rt.alloc())?;
-    store_three(&rt, &mut recorder)?;
-    third_leaves(&rt, &mut recorder)?;
-    same(&rt, reads(&rt, &mut recorder, 1, 8), Some(3));
-    same(&rt, reads(&rt, &mut recorder, 1, 0), Some(0));
-    same(&rt, drain_at(&mut recorder, 0, 2)?, false);
-    Ok(())
+    let seen = third_is_seen(&rt, &mut recorder);
+    drop(recorder);
+    seen
 }
 
 /// The value that an event read.
@@ -199,15 +232,26 @@ fn writer_of(parts: &Parts, thread: usize, number: usize) -> Option<EventId> {
     parts.writers.get(thread)?.get(number)?.get(0).copied()
 }
 
-/// What thread 0 recorded that read a byte before and after a store of thread 1 to it was drained.
+/// Thread 0 reads a byte before and after a store of thread 1 to it is drained.
+fn read_twice<R: Abort>(rt: &R, recorder: &mut Recorder) -> Result<(), Fail> {
+    step(rt, recorder, 1, store_byte(3, 9))?;
+    step(rt, recorder, 0, load_byte(3))?;
+    drain(recorder, 1)?;
+    step(rt, recorder, 0, load_byte(3))?;
+    recorder.recorded_log_is_valid();
+    Ok(())
+}
+
+/// What is recorded of the two reads.
 fn two_reads<R: Abort>(rt: &R, alloc: Global) -> Result<Parts, Fail> {
     let mut recorder = two_threads(alloc)?;
-    step(rt, &mut recorder, 1, store_byte(3, 9))?;
-    step(rt, &mut recorder, 0, load_byte(3))?;
-    drain(&mut recorder, 1)?;
-    step(rt, &mut recorder, 0, load_byte(3))?;
-    recorder.recorded_log_is_valid();
-    Ok(parts_of(recorder)?)
+    match read_twice(rt, &mut recorder) {
+        Ok(()) => Ok(parts_of(recorder)?),
+        Err(fault) => {
+            drop(recorder);
+            Err(fault)
+        }
+    }
 }
 
 fn parts_of(recorder: Recorder) -> Result<Parts, AllocError> {
@@ -226,12 +270,18 @@ fn reads_are<R: Abort>(rt: &R, parts: &Parts) {
     same(rt, writer_of(parts, 0, 1), Some(EventId::At(key(1, 0))));
 }
 
+/// How many steps there are, and the order of the events.
+fn order_is<R: Abort>(rt: &R, parts: &Parts) {
+    same(rt, parts.history.len(), 4);
+    let order = [key(1, 0), key(0, 0), key(0, 1)];
+    same(rt, parts.order.as_slice(), order.as_slice());
+}
+
 #[test]
 fn what_is_recorded_is_given_as_lists(rt: HostRuntime) -> Result<(), Fail> {
     let parts = two_reads(&rt, rt.alloc())?;
-    same(&rt, parts.history.len(), 4);
-    let order = [key(1, 0), key(0, 0), key(0, 1)];
-    same(&rt, parts.order.as_slice(), order.as_slice());
+    order_is(&rt, &parts);
     reads_are(&rt, &parts);
+    drop(parts);
     Ok(())
 }

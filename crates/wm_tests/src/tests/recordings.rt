@@ -137,25 +137,44 @@ fn run_of(alloc: Global, recorder: Recorder) -> Result<(Log, Witness), AllocErro
     Ok((log, witness))
 }
 
+/// Makes a random step of a thread.
+fn step(recorder: &mut Recorder, random: &mut Random, thread: u32) -> Result<(), Fail> {
+    match random.below(5) {
+        0 => {
+            recorder.step_drain(thread)?;
+        }
+        1 => {
+            recorder.step_drain_at(thread, random.below(4))?;
+        }
+        _ => {
+            let _reply = recorder.step_access(thread, random.op())?;
+        }
+    }
+    Ok(())
+}
+
+/// Makes at most 200 random steps of the first threads.
+fn steps(recorder: &mut Recorder, random: &mut Random, threads: u32) -> Result<(), Fail>
+    requires { 0 < threads }
+{
+    for _step in 0..random.below(201) {
+        let thread = random.below(threads);
+        step(recorder, random, thread)?;
+    }
+    Ok(())
+}
+
 /// A recorder that made a random history of at most 200 steps over 1 to 4 threads.
 fn recorded(alloc: Global, initial: &Initial, random: &mut Random) -> Result<Recorder, Fail> {
     let threads = random.below(4) + 1;
     let mut recorder = Recorder::new(alloc, initial, threads as usize)?;
-    for _step in 0..random.below(201) {
-        let thread = random.below(threads);
-        match random.below(5) {
-            0 => {
-                recorder.step_drain(thread)?;
-            }
-            1 => {
-                recorder.step_drain_at(thread, random.below(4))?;
-            }
-            _ => {
-                let _reply = recorder.step_access(thread, random.op())?;
-            }
+    match steps(&mut recorder, random, threads) {
+        Ok(()) => Ok(recorder),
+        Err(fault) => {
+            drop(recorder);
+            Err(fault)
         }
     }
-    Ok(recorder)
 }
 
 /// A recorded history, as a candidate.

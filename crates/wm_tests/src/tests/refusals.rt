@@ -7,6 +7,7 @@ ghost use Rattle.wm_access.specs.declared.MemoryOrder.TheVariants as MemoryOrder
 
 use super::calls::two_threads;
 use super::same;
+use std::process::Abort;
 use std::test::Fail;
 use wm_access::{AccessWidth, MemoryOrder, RmwOperator};
 use wm_event::{Op, OpFields, OpKind};
@@ -108,16 +109,19 @@ fn digest(recorder: &Recorder, thread: u32) -> u64 {
     sum
 }
 
+/// Records the steps, and compares what was recorded.
+fn records<R: Abort>(rt: &R, recorder: &mut Recorder) {
+    same(rt, record(recorder), true);
+    let wanted = [536, 150, 300, 150, 300, 450, 64];
+    same(rt, counts(recorder).as_slice(), wanted.as_slice());
+    same(rt, digest(recorder, 0), 16_029_121_844_371_414_091);
+    same(rt, digest(recorder, 1), 268_154_834_597_599_936);
+}
+
 #[test]
 fn refused_steps_change_nothing(rt: HostRuntime) -> Result<(), Fail> {
     let mut recorder = two_threads(rt.alloc())?;
-    same(&rt, record(&mut recorder), true);
-    same(
-        &rt,
-        counts(&recorder).as_slice(),
-        [536, 150, 300, 150, 300, 450, 64].as_slice(),
-    );
-    same(&rt, digest(&recorder, 0), 16_029_121_844_371_414_091);
-    same(&rt, digest(&recorder, 1), 268_154_834_597_599_936);
+    records(&rt, &mut recorder);
+    drop(recorder);
     Ok(())
 }

@@ -17,16 +17,31 @@ use wm_valid::ValidModule;
 /// How often a gate looks whether another thread has come.
 const MAX_LOOKS: u32 = 20_000_000;
 
+/// The arguments of a function that takes one, or none.
+fn args_of(alloc: Global, arg: Option<u64>) -> Result<List<u64>, AllocError> {
+    let mut args = List::new(alloc);
+    if let Some(arg) = arg {
+        args.push(arg)?;
+    }
+    Ok(args)
+}
+
+/// A thread that starts with this function.
+fn start(alloc: Global, name: &str, arg: Option<u64>) -> Result<Start, AllocError> {
+    let name = Text::from_string(String::from_str(alloc, name)?);
+    let args = args_of(alloc, arg)?;
+    Ok(Start { name, args })
+}
+
 /// Threads that start with these functions of one argument each, or none.
-fn plan(alloc: Global, starts: &[(&str, Option<u64>)], drains: u32) -> Result<Plan, AllocError> {
+pub(super) fn plan(
+    alloc: Global,
+    starts: &[(&str, Option<u64>)],
+    drains: u32,
+) -> Result<Plan, AllocError> {
     let mut list = List::new(alloc);
     for (name, arg) in starts {
-        let mut args = List::new(alloc);
-        if let Some(arg) = arg {
-            args.push(*arg)?;
-        }
-        let name = Text::from_string(String::from_str(alloc, name)?);
-        list.push(Start { name, args })?;
+        list.push(start(alloc, name, *arg)?)?;
     }
     Ok(Plan {
         starts: list,
@@ -36,15 +51,19 @@ fn plan(alloc: Global, starts: &[(&str, Option<u64>)], drains: u32) -> Result<Pl
 }
 
 /// The two threads of store buffering.
-const BOTH: [(&str, Option<u64>); 2] = [("a", None), ("b", None)];
+pub(super) const BOTH: [(&str, Option<u64>); 2] = [("a", None), ("b", None)];
+
+/// How a thread of a run ended.
+fn end_of(run: &Run, thread: usize) -> Option<End> {
+    match run.log().threads().get(thread) {
+        Some(thread) => Some(thread.end),
+        None => None,
+    }
+}
 
 /// How the threads of a run ended, of at most two.
 fn ends(run: &Run) -> [Option<End>; 2] {
-    let mut found = [None, None];
-    for (end, thread) in found.iter_mut().zip(run.log().threads()) {
-        *end = Some(thread.end);
-    }
-    found
+    [end_of(run, 0), end_of(run, 1)]
 }
 
 /// How the two threads of a round of a module ended, and nothing where no round is made.
@@ -55,7 +74,11 @@ fn ends_over<R: AllocGlobal + Threads + Wait + Sync, G: Gate + Sync>(
     gate: &G,
 ) -> [Option<End>; 2] {
     match run_round(rt, rt.alloc(), module, plan, gate) {
-        Ok(run) => ends(&run),
+        Ok(run) => {
+            let ends = ends(&run);
+            drop(run);
+            ends
+        }
         Err(_) => [None, None],
     }
 }
@@ -68,7 +91,11 @@ fn round<R: AllocGlobal + Threads + Wait + Sync, G: Gate + Sync>(
     gate: &G,
 ) -> [Option<End>; 2] {
     match module_of(rt.alloc(), module_bytes) {
-        Ok(Some(module)) => ends_over(rt, &module, plan, gate),
+        Ok(Some(module)) => {
+            let ends = ends_over(rt, &module, plan, gate);
+            drop(module);
+            ends
+        }
         _ => [None, None],
     }
 }
@@ -122,8 +149,10 @@ fn two_workers_meet(rt: HostRuntime) -> Result<(), Fail> {
         second_made_one: AtomicBool::new(false),
     };
     let plan = plan(rt.alloc(), &BOTH, 0)?;
-    for end in round(&rt, &STORE_BUFFERING, &plan, &gate) {
-        assert!(rt; matches!(end, Some(End::Done(Some(_)))));
+    let ends = round(&rt, &STORE_BUFFERING, &plan, &gate);
+    drop(plan);
+    for end in &ends {
+        same(&rt, matches!(end, Some(End::Done(Some(_)))), true);
     }
     Ok(())
 }
@@ -169,11 +198,9 @@ fn the_drainer_drains(rt: HostRuntime) -> Result<(), Fail> {
         drained: AtomicBool::new(false),
     };
     let plan = plan(rt.alloc(), &BOTH, 2)?;
-    same(
-        &rt,
-        round(&rt, &STORE_BUFFERING, &plan, &gate)[1],
-        Some(End::Done(Some(1))),
-    );
+    let ends = round(&rt, &STORE_BUFFERING, &plan, &gate);
+    drop(plan);
+    same(&rt, ends[1], Some(End::Done(Some(1))));
     Ok(())
 }
 
@@ -181,11 +208,9 @@ fn the_drainer_drains(rt: HostRuntime) -> Result<(), Fail> {
 fn a_worker_reads_back_what_it_stored(rt: HostRuntime) -> Result<(), Fail> {
     let plan = plan(rt.alloc(), &[("f", Some(0)), ("f", Some(4))], 256)?;
     for _round in 0..3u32 {
-        same(
-            &rt,
-            round(&rt, &ARGUMENT, &plan, &OpenGate),
-            [Some(End::Done(Some(7))); 2],
-        );
+        let ends = round(&rt, &ARGUMENT, &plan, &OpenGate);
+        same(&rt, ends, [Some(End::Done(Some(7))); 2]);
     }
+    drop(plan);
     Ok(())
 }

@@ -5,7 +5,7 @@ ghost use Rattle.wm_event.specs.Reply.{ReadAnswers};
 
 use super::accesses::atomic_load;
 use super::same;
-use std::alloc::Global;
+use std::alloc::{AllocError, Global};
 use std::process::Abort;
 use std::test::Fail;
 use wm_access::AccessWidth;
@@ -18,6 +18,18 @@ use wm_list::List;
 use wm_machine::{CodePosition, Need, StartFault, Stepped, Thread, never_stuck};
 use wm_num::{BinaryOperator, Width, low_bytes};
 use wm_valid::{ValidModule, validate};
+
+/// The type of the function of the module below.
+fn types(alloc: Global) -> Result<List<FuncType>, AllocError> {
+    let params = vec![in alloc; ValType::I32]?;
+    let types = vec![in alloc;
+        FuncType {
+            params: List::from_vec(params),
+            result: Some(ValType::I32),
+        },
+    ]?;
+    Ok(List::from_vec(types))
+}
 
 /// The functions of the module below.
 fn funcs(alloc: Global) -> Result<Vec<Func>, Fail> {
@@ -40,20 +52,36 @@ fn funcs(alloc: Global) -> Result<Vec<Func>, Fail> {
     Ok(vec![in alloc; func]?)
 }
 
+/// Exports the first function or the memory under a name, unless the name is taken.
+fn export(
+    alloc: Global,
+    exports: &mut Exports,
+    name: &str,
+    kind: ExportKind,
+) -> Result<(), AllocError> {
+    if exports.get(name).is_none() {
+        let export = Export { kind, index: 0 };
+        exports.push(String::from_str(alloc, name)?, export)?;
+    }
+    Ok(())
+}
+
+/// Exports the function and the memory of the module below.
+fn export_both(alloc: Global, exports: &mut Exports) -> Result<(), AllocError> {
+    export(alloc, exports, "load", ExportKind::Func)?;
+    export(alloc, exports, "memory", ExportKind::Memory)
+}
+
 /// The exports of the module below.
-fn exports(alloc: Global) -> Result<Exports, Fail> {
+fn exports(alloc: Global) -> Result<Exports, AllocError> {
     let mut exports = Exports::new(alloc);
-    let load = Export {
-        kind: ExportKind::Func,
-        index: 0,
-    };
-    exports.push(String::from_str(alloc, "load")?, load)?;
-    let memory = Export {
-        kind: ExportKind::Memory,
-        index: 0,
-    };
-    exports.push(String::from_str(alloc, "memory")?, memory)?;
-    Ok(exports)
+    match export_both(alloc, &mut exports) {
+        Ok(()) => Ok(exports),
+        Err(fault) => {
+            drop(exports);
+            Err(fault)
+        }
+    }
 }
 
 /// The module
@@ -68,16 +96,12 @@ fn exports(alloc: Global) -> Result<Exports, Fail> {
 ///     i32.add))
 /// ```
 fn loads_and_adds(alloc: Global) -> Result<ValidModule, Fail> {
-    let params = vec![in alloc; ValType::I32]?;
-    let types = vec![in alloc;
-        FuncType {
-            params: List::from_vec(params),
-            result: Some(ValType::I32),
-        },
-    ]?;
+    let types = types(alloc)?;
+    let funcs = funcs(alloc)?;
+    let exports = exports(alloc)?;
     let module = Module {
-        types: List::from_vec(types),
-        funcs: List::from_vec(funcs(alloc)?),
+        types,
+        funcs: List::from_vec(funcs),
         memory: Some(Memory {
             limits: Limits {
                 minimum: 1,
@@ -86,10 +110,13 @@ fn loads_and_adds(alloc: Global) -> Result<ValidModule, Fail> {
             import: None,
         }),
         globals: List::new(alloc),
-        exports: exports(alloc)?,
+        exports,
         data: List::new(alloc),
     };
-    Ok(validate(alloc, module).ok().ok_or("valid")?)
+    match validate(alloc, module) {
+        Ok(module) => Ok(module),
+        Err(_) => Err(Fail::from("valid")),
+    }
 }
 
 // Each call of a thread stands in a function of its own, which hands none of its contract on: so a test is proved in
@@ -97,17 +124,29 @@ fn loads_and_adds(alloc: Global) -> Result<ValidModule, Fail> {
 
 /// A thread that loads at this address.
 fn started<'m>(alloc: Global, module: &'m ValidModule, address: u64) -> Result<Thread<'m>, Fail> {
-    Ok(
-        Thread::start(alloc, module, "load", &[address])
-            .ok()
-            .ok_or("starts")?,
-    )
+    match Thread::start(alloc, module, "load", &[address]) {
+        Ok(thread) => Ok(thread),
+        Err(_) => Err(Fail::from("starts")),
+    }
+}
+
+/// Why a thread of a module doesn't start, None where it does.
+fn fault_over(alloc: Global, module: &ValidModule, name: &str, args: &[u64]) -> Option<StartFault> {
+    match Thread::start(alloc, module, name, args) {
+        Ok(thread) => {
+            drop(thread);
+            None
+        }
+        Err(fault) => Some(fault),
+    }
 }
 
 /// Why a thread doesn't start, None where it does.
 fn refusal(alloc: Global, name: &str, args: &[u64]) -> Result<Option<StartFault>, Fail> {
     let module = loads_and_adds(alloc)?;
-    Ok(Thread::start(alloc, &module, name, args).err())
+    let fault = fault_over(alloc, &module, name, args);
+    drop(module);
+    Ok(fault)
 }
 
 fn stepped(thread: &mut Thread) -> Option<Stepped> {
@@ -162,10 +201,11 @@ fn load(address: u32) -> Op {
 
 /// From the start to the access, which reads 7.
 fn reads_seven<R: Abort>(rt: &R, thread: &mut Thread) {
+    let access = load(8);
     same(rt, position(thread), body_at(0));
     same(rt, stepped(thread), Some(Stepped::Local));
-    same(rt, next(thread), Need::Access(load(8)));
-    same(rt, stepped(thread), Some(Stepped::Access(load(8))));
+    same(rt, next(thread), Need::Access(access));
+    same(rt, stepped(thread), Some(Stepped::Access(access)));
     same(rt, position(thread), body_at(1));
     same(rt, advanced(thread, 7), true);
     same(rt, position(thread), body_at(2));
@@ -182,29 +222,47 @@ fn returns_twelve<R: Abort>(rt: &R, thread: &mut Thread) {
     same(rt, stepped(thread), Some(Stepped::Ended(end)));
 }
 
+/// A thread of a module from its start to its end.
+fn runs_to_twelve<R: Abort + AllocGlobal>(rt: &R, module: &ValidModule) -> Result<(), Fail> {
+    let mut thread = started(rt.alloc(), module, 8)?;
+    reads_seven(rt, &mut thread);
+    returns_twelve(rt, &mut thread);
+    drop(thread);
+    Ok(())
+}
+
 #[test]
 fn a_thread_returns_what_it_read_and_five(rt: HostRuntime) -> Result<(), Fail> {
     never_stuck();
     let module = loads_and_adds(rt.alloc())?;
-    let mut thread = started(rt.alloc(), &module, 8)?;
-    reads_seven(&rt, &mut thread);
-    returns_twelve(&rt, &mut thread);
+    let run = runs_to_twelve(&rt, &module);
+    drop(module);
+    run
+}
+
+/// From the start to the trap.
+fn traps_unaligned<R: Abort>(rt: &R, thread: &mut Thread) {
+    same(rt, stepped(thread), Some(Stepped::Local));
+    same(rt, next(thread), Need::Local);
+    same(rt, stepped(thread), Some(Stepped::Local));
+    let end = End::Trap(TrapKind::Unaligned);
+    same(rt, next(thread), Need::Ended(end));
+}
+
+/// A thread of a module that loads at an unaligned address.
+fn runs_to_trap<R: Abort + AllocGlobal>(rt: &R, module: &ValidModule) -> Result<(), Fail> {
+    let mut thread = started(rt.alloc(), module, 2)?;
+    traps_unaligned(rt, &mut thread);
+    drop(thread);
     Ok(())
 }
 
 #[test]
 fn an_unaligned_access_needs_no_reply(rt: HostRuntime) -> Result<(), Fail> {
     let module = loads_and_adds(rt.alloc())?;
-    let mut thread = started(rt.alloc(), &module, 2)?;
-    same(&rt, stepped(&mut thread), Some(Stepped::Local));
-    same(&rt, next(&thread), Need::Local);
-    same(&rt, stepped(&mut thread), Some(Stepped::Local));
-    same(
-        &rt,
-        next(&thread),
-        Need::Ended(End::Trap(TrapKind::Unaligned)),
-    );
-    Ok(())
+    let run = runs_to_trap(&rt, &module);
+    drop(module);
+    run
 }
 
 #[test]

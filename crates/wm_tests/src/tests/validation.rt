@@ -1,6 +1,6 @@
 //! Modules by hand that no decoder makes: blocks that name one another.
 use super::same;
-use std::alloc::Global;
+use std::alloc::{AllocError, Global};
 use std::test::Fail;
 use wm_ast::{Block, Exports, Func, FuncType, Instr, Module};
 use wm_list::List;
@@ -29,7 +29,13 @@ fn refusal(alloc: Global, blocks: Vec<Block>) -> Result<Option<ValidFault>, Fail
         exports: Exports::new(alloc),
         data: List::new(alloc),
     };
-    Ok(validate(alloc, module).err())
+    match validate(alloc, module) {
+        Ok(module) => {
+            drop(module);
+            Ok(None)
+        }
+        Err(fault) => Ok(Some(fault)),
+    }
 }
 
 /// A type fault at an instruction of function 0.
@@ -38,14 +44,31 @@ fn bad_type_at(instr: usize) -> Option<ValidFault> {
     Some(ValidFault::At(FaultKind::BadType, place))
 }
 
+/// A block of one instruction.
+fn block_of(alloc: Global, instr: Instr) -> Result<Block, AllocError> {
+    Ok(List::from_vec(vec![in alloc; instr]?))
+}
+
+/// A block with a loop that names itself as its body.
+fn loop_in_itself(alloc: Global) -> Result<Vec<Block>, AllocError> {
+    let mut blocks = Vec::new(alloc);
+    blocks.push(block_of(alloc, Instr::Block(None, 1))?)?;
+    blocks.push(block_of(alloc, Instr::Loop(None, 1))?)?;
+    Ok(blocks)
+}
+
+/// A function's body that holds itself as a block.
+fn body_in_itself(alloc: Global) -> Result<Vec<Block>, AllocError> {
+    let mut blocks = Vec::new(alloc);
+    blocks.push(block_of(alloc, Instr::Block(None, 0))?)?;
+    Ok(blocks)
+}
+
 #[test]
 fn blocks_that_name_one_another_are_refused(rt: HostRuntime) -> Result<(), Fail> {
-    let body = vec![in rt.alloc(); Instr::Block(None, 1)]?;
-    let inner = vec![in rt.alloc(); Instr::Loop(None, 1)]?;
-    let blocks = vec![in rt.alloc(); List::from_vec(body), List::from_vec(inner)]?;
-    same(&rt, refusal(rt.alloc(), blocks)?, bad_type_at(1));
-    let body = vec![in rt.alloc(); Instr::Block(None, 0)]?;
-    let blocks = vec![in rt.alloc(); List::from_vec(body)]?;
-    same(&rt, refusal(rt.alloc(), blocks)?, bad_type_at(0));
+    let found = refusal(rt.alloc(), loop_in_itself(rt.alloc())?)?;
+    same(&rt, found, bad_type_at(1));
+    let found = refusal(rt.alloc(), body_in_itself(rt.alloc())?)?;
+    same(&rt, found, bad_type_at(0));
     Ok(())
 }

@@ -48,16 +48,24 @@ fn drain_second<R: Abort, S: Shared>(rt: &R, shared: &S) -> Result<(), AccessFau
     Ok(())
 }
 
+/// Both of these drains.
+fn drain_both<R: Abort, S: Shared>(rt: &R, shared: &S) -> Result<(), AccessFault> {
+    drain_first(rt, shared)?;
+    drain_second(rt, shared)
+}
+
 /// Three stores of two threads, of which a drain shows the oldest of each to the other.
 fn drain_and_read<N: Over, R: Abort + Wait>(rt: &R, recorder: Recorder) -> Result<(), Fail>
     requires { IsOver N.initial N.threads recorder }
 {
     let shared = LockedMemory::<R, N>::new(rt, recorder);
-    drain_first(rt, &shared)?;
-    drain_second(rt, &shared)?;
+    let drained = drain_both(rt, &shared);
     let recorder = shared.into_recorder();
-    same(rt, sizes(&recorder), [8, 6, 1]);
-    Ok(())
+    if drained.is_ok() {
+        same(rt, sizes(&recorder), [8, 6, 1]);
+    }
+    drop(recorder);
+    Ok(drained?)
 }
 
 #[test]
@@ -89,6 +97,29 @@ fn read_often<S: Shared>(shared: &S) -> Result<(), AccessFault> {
     Ok(())
 }
 
+/// What one thread drained while the other read, and what is read then.
+fn third_is_seen<R: Abort, S: Shared>(
+    rt: &R,
+    shared: &S,
+    drained: Result<[bool; 2], AccessFault>,
+    seen: Result<(), AccessFault>,
+) -> Result<(), AccessFault> {
+    let drained = drained?;
+    seen?;
+    same(rt, drained, [false, true]);
+    same(rt, read(shared, 1, 8)?, Some(3));
+    same(rt, read(shared, 1, 0)?, Some(0));
+    Ok(())
+}
+
+/// What both threads recorded.
+fn both_recorded<R: Abort>(rt: &R, recorder: &Recorder) {
+    recorder.recorded_log_is_valid();
+    same(rt, event_count(recorder, 0), 3);
+    same(rt, event_count(recorder, 1), 32);
+    same(rt, sizes(recorder), [36, 35, 2]);
+}
+
 /// One thread stores and drains while another reads.
 fn drain_beside_reads<N: Over + Send + Sync, R: Abort + Threads + Wait + Sync>(
     rt: &R,
@@ -98,17 +129,13 @@ fn drain_beside_reads<N: Over + Send + Sync, R: Abort + Threads + Wait + Sync>(
 {
     let shared = LockedMemory::<R, N>::new(rt, recorder);
     let (drained, seen) = thread::join(rt, || store_three(&shared), || read_often(&shared));
-    let drained = drained?;
-    seen?;
-    same(rt, drained, [false, true]);
-    same(rt, read(&shared, 1, 8)?, Some(3));
-    same(rt, read(&shared, 1, 0)?, Some(0));
+    let made = third_is_seen(rt, &shared, drained, seen);
     let recorder = shared.into_recorder();
-    recorder.recorded_log_is_valid();
-    same(rt, event_count(&recorder, 0), 3);
-    same(rt, event_count(&recorder, 1), 32);
-    same(rt, sizes(&recorder), [36, 35, 2]);
-    Ok(())
+    if made.is_ok() {
+        both_recorded(rt, &recorder);
+    }
+    drop(recorder);
+    Ok(made?)
 }
 
 #[test]
