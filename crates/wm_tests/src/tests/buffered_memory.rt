@@ -1,4 +1,4 @@
-//! Rows of buffered memory, with values from outside, and each call once where it succeeds.
+//! Rows of buffered memory, with values from outside, and each call once on its happy path.
 ghost use Rattle.std.specs.Prelude.{◌<◌, ◌≤◌, ◌^◌};
 
 use super::accesses::{atomic_load, exchange, load, load_byte, store_byte, store_word};
@@ -10,7 +10,7 @@ use wm_access::AccessWidth;
 use wm_event::{EventId, EventKey, Initial, Op, Reply};
 use wm_memory::{MemFault, Memory};
 
-// Each call of a memory stands in a function of its own, which hands none of its contract on, so that a test is proved in
+// Each call of a memory is in a function of its own, which hands none of its contract on, so a test is proved in
 // seconds.
 
 /// A memory of a page of zeros.
@@ -67,11 +67,11 @@ enum Step {
     Accesses(u32, u32),
     /// A drain of the oldest store, and whether there was one.
     Drain(u32, bool),
-    /// A drain of the store with so many older ones, and whether it left.
+    /// A drain of the store at an index, counted from 0 at the oldest, and whether it left.
     DrainAt(u32, u32, bool),
 }
 
-/// Makes the step with so many earlier ones.
+/// Makes the step at an index.
 fn take<R: Abort>(rt: &R, memory: &mut Memory, number: usize, step: Step) -> Result<(), MemFault> {
     match step {
         Step::StoreByte(thread, address, value) => {
@@ -163,7 +163,7 @@ fn a_store_leaves_before_older_ones_that_it_does_not_overlap(rt: HostRuntime) ->
     Ok(())
 }
 
-/// Why an access is refused, None where it is made.
+/// Why an access is refused; None if it is made.
 fn fault_of<R: Abort>(rt: &R, memory: &mut Memory, thread: u32, op: Op) -> Option<MemFault> {
     access(rt, memory, thread, op).err()
 }
@@ -202,7 +202,7 @@ fn a_fault_has_its_name(rt: HostRuntime) -> Result<(), Fail> {
     Ok(())
 }
 
-/// The store of thread 0 with so many earlier accesses.
+/// The store of thread 0 with this number.
 fn own(number: u32) -> EventId {
     EventId::At(EventKey { thread: 0, number })
 }

@@ -22,11 +22,11 @@ pub(super) fn candidate(
     Candidate::new(alloc, log, witness, initial)
 }
 
-/// The module that the bytes spell, None where they spell no valid one.
+/// The module that the bytes spell; None if they spell no valid module.
 ///
 /// # Errors
 ///
-/// Only where memory was refused.
+/// Only if an allocation fails.
 pub(super) fn module_of(alloc: Global, bytes: &[u8]) -> Result<Option<ValidModule>, AllocError> {
     match read_module(alloc, bytes) {
         Ok(module) => Ok(Some(module)),

@@ -406,7 +406,7 @@ fn other_modules_are_decoded(rt: HostRuntime) -> Result<(), Fail> {
     Ok(())
 }
 
-/// How many pages the module has that the bytes spell, None where they spell no valid one.
+/// How many pages the module has that the bytes spell; None if they spell no valid module.
 fn pages(alloc: Global, bytes: &[u8]) -> Option<u32> {
     match module_of(alloc, bytes) {
         Ok(Some(module)) => {

@@ -14,7 +14,7 @@ use wm_event::Initial;
 use wm_run::{Plan, Run, Turn, drive, write_run};
 use wm_valid::ValidModule;
 
-/// A step, a drain of the oldest store, or a drain of the store behind it.
+/// A step, a drain of the oldest store, or a drain of the store after it.
 fn turn(number: u64) -> Turn {
     match number {
         0 => Turn::Step(0),
@@ -26,7 +26,7 @@ fn turn(number: u64) -> Turn {
     }
 }
 
-/// 40 turns that are drawn from a seed; the last two kinds are left out where stores leave in their order.
+/// 40 turns that are drawn from a seed; the last two kinds are left out if stores leave in their order.
 fn turns(alloc: Global, seed: u32, in_order: bool) -> Result<Vec<Turn>, AllocError> {
     let kinds = if in_order { 4 } else { 6 };
     let mut state = seed as u64;
@@ -67,7 +67,7 @@ fn is_allowed<R: Abort + AllocGlobal + Threads + Sync>(
     Ok(allows(rt, module_bytes, document.as_str())? && is_compared)
 }
 
-/// The run of these turns, None where there is none.
+/// The run of these turns; None if there is no such run.
 fn driven(alloc: Global, module: &ValidModule, plan: &Plan, turns: &[Turn]) -> Option<Run> {
     drive(alloc, module, plan, turns).ok()
 }
@@ -132,7 +132,7 @@ fn count_planned<R: Abort + AllocGlobal + Threads + Sync>(
     count
 }
 
-/// How many of 200 seeds give a run of the module that is allowed; 0 where the bytes spell none.
+/// How many of 200 seeds give a run of the module that is allowed; 0 if the bytes spell no module.
 fn count_allowed<R: Abort + AllocGlobal + Threads + Sync>(
     rt: &R,
     module_bytes: &[u8],

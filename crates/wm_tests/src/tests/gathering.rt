@@ -65,7 +65,7 @@ fn recorder(alloc: Global, of_two_pages: bool) -> Result<Recorder, AllocError> {
     Recorder::new(alloc, &initial, 2)
 }
 
-/// Why these ends make no run with a recorder of two threads and no event over so many pages.
+/// Why these ends make no run with a recorder of two threads without an event, over one page or two.
 fn fault(
     alloc: Global,
     module: &ValidModule,
@@ -82,7 +82,7 @@ fn fault(
     }
 }
 
-/// What is left of an answer where want of memory is set apart.
+/// An answer, with an allocation failure split off.
 fn known(answer: Result<(), RunFault>) -> Result<Option<RunFault>, AllocError> {
     match answer {
         Ok(()) => Ok(None),
@@ -91,11 +91,11 @@ fn known(answer: Result<(), RunFault>) -> Result<Option<RunFault>, AllocError> {
     }
 }
 
-/// The same over store buffering, None where there is no fault.
+/// The same over store buffering; None if there is no fault.
 ///
 /// # Errors
 ///
-/// Only where memory was refused.
+/// Only if an allocation fails.
 fn gathered(
     alloc: Global,
     of_two_pages: bool,
@@ -111,7 +111,7 @@ fn gathered(
     }
 }
 
-/// `bench/refusals` runs this with each allocation refused in turn.
+/// `bench/refusals` runs this once for each allocation, and makes it fail.
 #[test]
 fn what_does_not_belong_together_is_not_gathered(rt: HostRuntime) -> Result<(), Fail> {
     let cases = [
@@ -163,7 +163,7 @@ fn a_full_memory_stops_a_worker_before_its_access(rt: HostRuntime) -> Result<(),
     Ok(())
 }
 
-/// Makes a drainer take so many turns over two threads.
+/// Makes a drainer take `turns` turns over two threads.
 fn take<S: Shared>(shared: &S, turns: u32) -> Result<(), Fail> {
     Ok(drainer(shared, 2, turns, &OpenGate)?)
 }
@@ -183,7 +183,7 @@ fn take_turns<R: Abort, S: Shared>(rt: &R, shared: &S) -> Result<(), Fail> {
     Ok(())
 }
 
-/// Three stores of thread 0, of which a drainer of three turns makes the first leave and then the one behind the second.
+/// Three stores of thread 0, of which a drainer of three turns makes the first leave and then the one after the second.
 fn pass_one<R: Abort, S: Shared>(rt: &R, shared: &S) -> Result<(), Fail> {
     write(shared, 0, 0, 1)?;
     write(shared, 0, 4, 1)?;
@@ -216,7 +216,7 @@ fn the_drainer_takes_turns(rt: HostRuntime) -> Result<(), Fail> {
     take_locked_turns::<Brand, _>(&rt, two_threads(rt.alloc())?)
 }
 
-/// The second time round the drainer takes the store behind the oldest one.
+/// The second time round the drainer takes the store after the oldest one.
 #[test]
 fn the_drainer_passes_the_oldest_store(rt: HostRuntime) -> Result<(), Fail> {
     pass_one_locked::<Brand, _>(&rt, two_threads(rt.alloc())?)

@@ -1,4 +1,4 @@
-//! Rows of recorded histories, with values from outside, and each call once where it succeeds.
+//! Rows of recorded histories, with values from outside, and each call once on its happy path.
 mod locked;
 
 ghost use Rattle.std.specs.Prelude.{◌<◌, ◌^◌};
@@ -13,7 +13,7 @@ use wm_event::{EventId, EventKey, MAX_EVENTS, Op, Reply};
 use wm_memory::HistoryStep;
 use wm_recorder::{AccessFault, Parts, Recorder};
 
-// Each call of a recorder stands in a function of its own, which hands none of its contract on: so a test is proved in
+// Each call of a recorder is in a function of its own, which hands none of its contract on, so a test is proved in
 // seconds, and not in a minute.
 
 fn access(recorder: &mut Recorder, thread: u32, op: Op) -> Result<Reply, AccessFault> {
@@ -33,7 +33,7 @@ fn steps(recorder: &Recorder) -> usize {
     recorder.history().len()
 }
 
-/// The step with so many earlier ones.
+/// The step at an index.
 fn step_at(recorder: &Recorder, place: usize) -> Option<HistoryStep> {
     recorder.history().get(place).copied()
 }
@@ -66,7 +66,7 @@ fn counts(recorder: &Recorder, thread: u32) -> [usize; 5] {
     ]
 }
 
-/// A step that is made again where memory was refused, after a look at what was recorded.
+/// A step that is repeated if an allocation fails, after a look at what was recorded.
 fn step<R: Abort>(
     rt: &R,
     recorder: &mut Recorder,
@@ -129,7 +129,7 @@ fn fill<R: Abort>(rt: &R, recorder: &mut Recorder) -> Result<(), AccessFault> {
     Ok(())
 }
 
-/// Why an access is refused, None where it is made.
+/// Why an access is refused; None if it is made.
 fn fault_of(recorder: &mut Recorder, thread: u32, op: Op) -> Option<AccessFault> {
     match access(recorder, thread, op) {
         Ok(_) => None,

@@ -21,7 +21,7 @@ use wm_rules::judge;
 /// So many bytes has the memory of a history.
 const BYTES: usize = 24;
 
-/// One of so many histories is compared with the plain closure, which takes long.
+/// One history of this many is compared with the plain closure, which takes long.
 const COMPARED: u32 = 100;
 
 /// Numbers from a seed.
@@ -207,7 +207,7 @@ fn counting(alloc: Global) -> Result<Initial, AllocError> {
     Initial::of(alloc, &bytes)
 }
 
-/// Records so many histories from a seed, and judges each.
+/// Records `count` histories from a seed, and judges each.
 fn all_are_valid<R: Abort + AllocGlobal + Threads + Sync>(
     rt: &R,
     seed: u64,

@@ -1,6 +1,6 @@
-//! Steps of a recorder that are made again where memory was refused for them. `bench/refusals` runs the test with each
-//! allocation refused in turn: where that is one of a step the test has to pass, since a refused step changes nothing and
-//! the same step then succeeds; where it stands before the steps the test ends with want of memory.
+//! Steps of a recorder that are repeated if an allocation fails. `bench/refusals` runs the test once for each allocation
+//! and makes it fail. If a step made that allocation, the test has to pass, since a failed step changes nothing and the
+//! same step then succeeds. If it was made before the steps, the test ends with the allocation failure.
 ghost use Rattle.std.specs.Prelude.{◌≡◌};
 ghost use Rattle.wm_access.specs.declared.AccessWidth.TheVariants as AccessWidth;
 ghost use Rattle.wm_access.specs.declared.MemoryOrder.TheVariants as MemoryOrder;
@@ -26,7 +26,7 @@ fn counts(recorder: &Recorder) -> [usize; 7] {
     ]
 }
 
-/// Makes an access, and makes it again where memory was refused; false where something changed meanwhile or it was refused
+/// Makes an access, and repeats it if an allocation fails; false if something changed meanwhile or it failed
 /// again.
 fn access(recorder: &mut Recorder, thread: u32, op: Op) -> bool {
     let before = counts(recorder);
@@ -48,7 +48,7 @@ fn drain(recorder: &mut Recorder, thread: u32) -> bool {
     }
 }
 
-/// The same of a drain of the store behind the oldest one.
+/// The same for a drain of the store after the oldest one.
 fn drain_at(recorder: &mut Recorder, thread: u32) -> bool {
     let before = counts(recorder);
     match recorder.step_drain_at(thread, 1) {
@@ -73,8 +73,8 @@ fn store(address: u32, value: u8) -> Op {
     Op::new(plain(OpKind::Write(u64::from(value)), address))
 }
 
-/// 150 stores of thread 0, each at an address of its own, with an update and a load of thread 1 behind each, and two drains
-/// behind each eighth.
+/// 150 stores of thread 0, each at its own address, with an update and a load of thread 1 after each, and two drains after
+/// each eighth.
 fn record(recorder: &mut Recorder) -> bool {
     for number in 0..150u32 {
         let address = number * 300;

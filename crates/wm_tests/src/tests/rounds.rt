@@ -66,7 +66,7 @@ fn ends(run: &Run) -> [Option<End>; 2] {
     [end_of(run, 0), end_of(run, 1)]
 }
 
-/// How the two threads of a round of a module ended, and nothing where no round is made.
+/// How the two threads of a round of a module ended; None if no round is made.
 fn ends_over<R: AllocGlobal + Threads + Wait + Sync, G: Gate + Sync>(
     rt: &R,
     module: &ValidModule,
@@ -100,7 +100,7 @@ fn round<R: AllocGlobal + Threads + Wait + Sync, G: Gate + Sync>(
     }
 }
 
-/// Whether a flag is set within so many looks.
+/// Whether a flag is set within [`MAX_LOOKS`] looks.
 fn comes(flag: &AtomicBool) -> bool {
     for _look in 0..MAX_LOOKS {
         if flag.load(Ordering::SeqCst) {

@@ -1,4 +1,4 @@
-//! A small module by hand: each public call once where it succeeds, and each refusal of a start.
+//! A small module by hand: each public call once on its happy path, and each refusal of a start.
 ghost use Rattle.std.specs.Prelude.{◌≡◌};
 ghost use Rattle.wm_event.specs.Op.{kind_finds};
 ghost use Rattle.wm_event.specs.Reply.{ReadAnswers};
@@ -119,7 +119,7 @@ fn loads_and_adds(alloc: Global) -> Result<ValidModule, Fail> {
     }
 }
 
-// Each call of a thread stands in a function of its own, which hands none of its contract on: so a test is proved in
+// Each call of a thread is in a function of its own, which hands none of its contract on, so a test is proved in
 // seconds, and not in a minute.
 
 /// A thread that loads at this address.
@@ -130,7 +130,7 @@ fn started<'m>(alloc: Global, module: &'m ValidModule, address: u64) -> Result<T
     }
 }
 
-/// Why a thread of a module doesn't start, None where it does.
+/// Why a thread of a module doesn't start; None if it does.
 fn fault_over(alloc: Global, module: &ValidModule, name: &str, args: &[u64]) -> Option<StartFault> {
     match Thread::start(alloc, module, name, args) {
         Ok(thread) => {
@@ -141,7 +141,7 @@ fn fault_over(alloc: Global, module: &ValidModule, name: &str, args: &[u64]) -> 
     }
 }
 
-/// Why a thread doesn't start, None where it does.
+/// Why a thread doesn't start; None if it does.
 fn refusal(alloc: Global, name: &str, args: &[u64]) -> Result<Option<StartFault>, Fail> {
     let module = loads_and_adds(alloc)?;
     let fault = fault_over(alloc, &module, name, args);
@@ -176,7 +176,7 @@ fn reply(op: &Op, value: u64) -> Reply
     }
 }
 
-/// Makes a step, whose access reads this value where it makes one. False where none is made.
+/// Makes a step, whose access reads this value if it makes one. False if no step is made.
 fn advanced(thread: &mut Thread, value: u64) -> bool {
     match thread.next() {
         Need::Ended(_) => false,
@@ -211,7 +211,7 @@ fn reads_seven<R: Abort>(rt: &R, thread: &mut Thread) {
     same(rt, position(thread), body_at(2));
 }
 
-/// From behind the access to the end.
+/// From after the access to the end.
 fn returns_twelve<R: Abort>(rt: &R, thread: &mut Thread) {
     same(rt, advanced(thread, 0), true);
     same(rt, stepped(thread), Some(Stepped::Local));

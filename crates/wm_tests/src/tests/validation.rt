@@ -6,7 +6,7 @@ use wm_ast::{Block, Exports, Func, FuncType, Instr, Module};
 use wm_list::List;
 use wm_valid::{FaultKind, Location, ValidFault, validate};
 
-/// Why a module of one function of these blocks, from nothing to nothing, is refused; None where it is valid.
+/// Why a module of one function of these blocks, from nothing to nothing, is refused; None if it is valid.
 fn refusal(alloc: Global, blocks: Vec<Block>) -> Result<Option<ValidFault>, Fail> {
     let types = vec![in alloc;
         FuncType {

@@ -14,7 +14,7 @@ use std::thread;
 use std::thread::Threads;
 use wm_recorder::{AccessFault, LockedMemory, Over, Recorder, Shared};
 
-/// Why a load is refused, None where it is made.
+/// Why a load is refused; None if it is made.
 fn refusal<S: Shared>(shared: &S, thread: u32) -> Option<AccessFault> {
     shared.access(thread, load_byte(0)).err()
 }
@@ -73,7 +73,7 @@ fn a_drain_shows_the_oldest_store_to_the_others(rt: HostRuntime) -> Result<(), F
     drain_and_read::<Brand, _>(&rt, two_threads(rt.alloc())?)
 }
 
-/// Whether the store of thread 0 with so many older ones left its buffer.
+/// Whether the store of thread 0 at this index, counted from 0 at the oldest, left its buffer.
 fn drain_at<S: Shared>(shared: &S, index: u32) -> Result<bool, AccessFault> {
     match shared.drain_at(0, index) {
         Ok(drained) => Ok(drained),
