@@ -6,12 +6,12 @@
 Each is valid, so that every rule is judged to its end.
   old          a thread reads again and again the first of another's many writes
   bytes        eight threads wrote one byte each of what is read, and a ninth writes all of it many times
-  own          the reader itself wrote many times behind the writers
+  own          the reader itself wrote many times after the writers
   widths       writes of 1, 2, 4 and 8 bytes overlap
   plain_past   a reader's own many plain writes stand before it synchronizes with the writers
   atomic_past  another thread's many atomic writes do
   late         atomic reads of a first write, past many plain ones
-  one_thread, sixteen  so many threads on one address
+  one_thread, sixteen  this many threads on one address
   atomic       two threads, all of whose accesses are atomic on one address
 """
 import argparse

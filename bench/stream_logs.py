@@ -84,7 +84,7 @@ def store_buffering(chance):
 
 
 def in_turns(turns):
-    """What makes logs of four threads with four events in each of so many turns."""
+    """What makes logs of four threads with four events in each of this many turns."""
 
     def make(chance):
         starts, programs = [], []

@@ -393,7 +393,7 @@ def recordings(tally, room, cluster):
 # ---- failures
 
 
-# How a process fails that reads a line with so many spaces at its end, and what is reported.
+# How a process fails that reads a line with this many spaces at its end, and what is reported.
 FAILURES = (
     ("dies", "kill -9 $$", "was ended by SIGKILL"),
     ("fails", "echo 'cannot read -' >&2; exit 3", "ended with status 3 on "),

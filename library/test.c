@@ -111,7 +111,7 @@ int main(int argc, char **argv)
     wrong += ask_on_threads(&task);
     empty = wmlab_module_new(NULL, 0);
     wrong += wmlab_verify(empty, NULL, 0, line, sizeof line) != WMLAB_REFUSED || strcmp(line, "refused decode Truncated at 0") != 0;
-    /* An empty log is none, unless the module is refused first. */
+    /* An empty log is not a log, unless the module is refused first. */
     wrong += wmlab_verify(module, NULL, 0, line, sizeof line) != WMLAB_REFUSED;
     wrong += strcmp(line, "refused document NotJson") != 0 && strncmp(line, "refused decode ", 15) != 0;
     wmlab_module_free(empty);

@@ -1,8 +1,8 @@
 #!/usr/bin/env python3
 """Hostile input through the built program, each with its exact line and status: modules and logs cut at each length,
 each limit at its value and one past it, values and addresses changed, inputs that never end or come byte by byte, and
-devices, streams and files that fail. What has to be answered stands here, from README.md and docs/, and not from the
-program.
+devices, streams and files that fail. The answers are written here from README.md and docs/,
+and not from the program.
 
     scripts/hostile.py [--wmlab PATH]
 
@@ -42,7 +42,7 @@ def wanted(text, error="", status=None):
 
 
 def told(words, got):
-    """What is compared of what came: of sentences that stand behind the line of a check only that they are there."""
+    """What is compared of what came: of the sentences after the line of a check only that there are some."""
     text, error, status = got
     line, _, sentences = text.partition("\n")
     if words[0] == "explain" and status < 3 and sentences.endswith("\n"):
@@ -119,7 +119,7 @@ def cut_documents():
 def line_of_cut(sections, end, length):
     """The line of `check` on a module of a type section, functions, code and more that is cut. Bytes that are missing
     are missed where the first one would stand; a section that is absent is missed at the end, where counts have to
-    agree. What is left behind a whole section may be a module: without a memory it has no place for the log's first
+    agree. What is left after a whole section may be a module: without a memory it has no place for the log's first
     event."""
     starts = [8] + [start for start, _ in sections] + [end]
     if length not in starts:
@@ -165,7 +165,7 @@ def document_limits():
         ):
             answers(f"16,385 events, {words[0]}, {says}", words, "refused shape TooManyEvents", more)
         # The loop, two constants and the store for the first event; then the branch before each of the four again. The
-        # thread is cut behind the branch, the loop and the two constants.
+        # thread is cut after the branch, the loop and the two constants.
         steps = 4 + 5 * 16_383 + 4
         completed = one_thread(stores(16_384), steps=steps)
         answers(f"16,384 events, complete, {says}", ["complete", storing, "-"], completed.decode(), most)
@@ -285,7 +285,7 @@ def module_limits():
     allowed = "allowed threads=1 events=0"
     plain = module_of([(0, b"")])
     for size in (1_048_576, 1_048_577):
-        # A custom section with an empty name behind the code, whose size takes three bytes.
+        # A custom section with an empty name after the code, whose size takes three bytes.
         padding = section(0, b"\0" * (size - len(plain) - 4))
         assert len(plain + padding) == size
         line = allowed if size == 1_048_576 else "refused decode Limit ModuleBytes at 1048576"

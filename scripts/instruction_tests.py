@@ -19,7 +19,7 @@ from wmlabtools import generated
 
 
 def f(signature, text, *arguments, local="", steps=None, trap=None):
-    """A function and a call of it. `steps` stands where its code isn't a straight line. `trap` stands where two rules
+    """A function and a call of it. `steps` is given if its code isn't a straight line. `trap` is given if two rules
     of a trap apply, an atomic access that is unaligned and past the memory: node names the other one, and logs name
     this."""
     return signature, text, arguments, local, steps, trap

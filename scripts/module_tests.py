@@ -102,7 +102,7 @@ def body(text, memory="(memory 1 1 shared)", more=""):
 
 
 def waits_for_the_other(access, tries):
-    """Two threads that each store 1, and load what the other stores so many times, with 400 steps before each load;
+    """Two threads that each store 1, and load what the other stores this many times, with 400 steps before each load;
     the result is whether it was seen."""
     return f"""
 (module

@@ -260,7 +260,7 @@ def lines_of(data):
 
 
 def fits(wanted, got):
-    """Whether the lines are those that are wanted. `...` alone stands for one or more lines, at the end of a line for
+    """Whether the lines are those that are wanted. `...` alone means one or more lines, at the end of a line for
     the rest of it, and a line `counts of N: A, B` for a table of outcomes among these, sorted, whose counts add up to
     N."""
     if not wanted:
@@ -297,7 +297,7 @@ def difference(row, got):
 
 
 def update(row, got):
-    """Writes what came into the row's file, in the place of the lines behind its command."""
+    """Writes what came into the row's file, in place of the lines after its command."""
     path = f"{TOP}/{row.source}"
     with open(path, encoding="utf-8") as file:
         lines = file.read().split("\n")

@@ -18,7 +18,7 @@ except ImportError:  # before Python 3.14
 
 # The most bytes of a document. The program reads one more of a line, and refuses it.
 DOCUMENT_BYTES = 8_388_608
-# A batch has at most so many bytes of logs, unless one log alone has more.
+# A batch has at most this many bytes of logs, unless one log alone has more.
 BATCH_BYTES = 4 * 2**20
 LOG_ENDINGS = (".json", ".jsonl", ".ndjson")
 OPENERS = {".gz": gzip.open, ".xz": lzma.open, ".bz2": bz2.open, ".zst": zstd and zstd.open}

@@ -10,6 +10,6 @@ class Fault(Exception):
 
 
 class WrongWords(Fault):
-    """The command line, or a folder that it names, is none for a campaign."""
+    """The command line, or a folder that it names, is not one for a campaign."""
 
     status = REFUSED

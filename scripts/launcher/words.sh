@@ -15,7 +15,7 @@ usage_of() {
     done <"$help"
 }
 
-# The same for so many words, the command among them: with the word in brackets, if there is room for it, or without.
+# The same for several words, the command among them: with the word in brackets if there is room for it, or without.
 usage_for() {
     local usage words
     usage=$(usage_of "$1")

@@ -18,7 +18,7 @@ def dependencies():
 
 
 def below(crate, used):
-    """The crates that a crate stands on, each once."""
+    """The crates that a crate uses, directly or not, each once."""
     found = []
     for name in used[crate]:
         for each in [*(below(name, used) if name in used else []), name]:

@@ -27,7 +27,7 @@ def best(runs):
 
 
 def measure_both(ours, theirs, runs, stdin=None):
-    """The best of some runs of each, one of each in turn, so that what else runs on the machine slows down either."""
+    """The best of some runs of each, alternately, so that what else runs on the machine slows down either."""
     pairs = [(measure(ours, 1, stdin), measure(theirs, 1, stdin)) for _ in range(runs)]
     return best([pair[0] for pair in pairs]), best([pair[1] for pair in pairs])
 
