@@ -106,8 +106,8 @@ def ending_of(process):
 
 
 def streamed(program, module, lines, count):
-    """The answers of `wmlab stream` to `count` lines. They are in a file, of which the program reads more at once than of
-    a pipe."""
+    """The answers of `wmlab stream` to `count` lines. They are in a file, of which the program reads more at once
+    than of a pipe."""
     with tempfile.TemporaryFile() as given:
         given.write(lines)
         given.seek(0)
