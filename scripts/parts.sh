@@ -4,7 +4,18 @@ passed=0
 failed=0
 seconds_of_parts=()
 last_lines=$(mktemp)
-trap 'rm -f "$last_lines"' EXIT
+beside=
+trap leave EXIT
+
+# Ends the part that is still running beside others, as after an interruption, and removes what was printed.
+leave() {
+    if [ -n "$beside" ]; then
+        kill -INT -- "-$beside" 2>/dev/null
+        wait "$beside" 2>/dev/null
+        rm -f "$beside_lines" "$beside_lines.seconds"
+    fi
+    rm -f "$last_lines"
+}
 
 # Adds the numbers of a part's last line. A part that ends otherwise, or that tried nothing, has failed.
 count_part() {
@@ -29,12 +40,13 @@ part() {
     seconds_of_parts+=("$name $((SECONDS - start)) s")
 }
 
-# Starts a part that takes one processor, beside the parts after it. `end_beside` waits for it, prints what it printed,
-# and counts it. There is one such part at a time.
+# Starts a part beside the parts after it. `end_beside` waits for it, prints what it printed, and counts it. There is
+# one such part at a time, in a process group of its own, so that it can be ended as a whole.
 begin_beside() {
     beside_name=$1
     beside_lines=$(mktemp)
     shift
+    set -m
     (
         start=$SECONDS
         "$@" >"$beside_lines" 2>&1
@@ -43,11 +55,13 @@ begin_beside() {
         exit "$status"
     ) &
     beside=$!
+    set +m
 }
 
 end_beside() {
     local status=0
     wait "$beside" || status=$?
+    beside=
     tee "$last_lines" <"$beside_lines"
     count_part "$beside_name" "$status"
     seconds_of_parts+=("$beside_name, beside others, $(cat "$beside_lines.seconds") s")
