@@ -1,5 +1,6 @@
 -- The results of the parts of a check.
-use Rattle.std.specs.Prelude.{◌≡◌, ℕ, List, Option, Some, None, length, ⊤}
+use Rattle.std.specs.Prelude.{◌≡◌, ℕ, List, Option, Some, None, Vec, length, ⊤}
+use Rattle.std.specs.declared.alloc.Global.{Global}
 use Rattle.wm_ast.specs.declared.module.Module.{Module}
 use Rattle.wm_event.specs.declared.log.ThreadLog.{ThreadLog}
 use Rattle.wm_event.specs.declared.misshapen.Misshapen.{Misshapen}
@@ -13,9 +14,12 @@ use Rattle.wm_check.specs.declared.checker.Unread.TheVariants.{Refused, OutOfMem
 use Rattle.wm_check.specs.declared.verdict.Refusal.{Refusal}
 use Rattle.wm_check.specs.declared.verdict.Refusal.TheVariants as refusal
 use Rattle.wm_check.specs.declared.verdict.Breach.{Breach}
+use Rattle.wm_check.specs.declared.verdict.Breach.TheVariants as breach
 use Rattle.wm_check.specs.declared.verdict.Certificate.{Certificate}
 use Rattle.wm_check.specs.declared.verdict.Verdict.{Verdict}
 use Rattle.wm_check.specs.declared.verdict.Verdict.TheVariants as verdict
+use Rattle.wm_machine.specs.declared.thread.CodePosition.{CodePosition}
+use Rattle.wm_replay.specs.Positions.{AreLogPositions}
 use Rattle.wm_valid.specs.Valid.{IsInit}
 use Rattle.wm_check.specs.Run.{IsCandidateOf, IsModuleOf}
 use Rattle.wm_check.specs.Verdicts.{IsInvalid, IsNoModule, Says}
@@ -101,3 +105,14 @@ KeepsMisshapen P (verdict.Refused (refusal.Document fault)) kept = kept ≡ None
 KeepsMisshapen P (verdict.Refused (refusal.Shape fault)) kept = (m : Misshapen) × (kept ≡ Some m) × (m.fault ≡ fault) × P m.log m.witness
 KeepsMisshapen P (verdict.Allowed certificate) kept = kept ≡ None
 KeepsMisshapen P (verdict.Broken breach) kept = kept ≡ None
+
+-- the positions at which the threads make the events of the log are kept
+abbrev pub HasKept : Module → List ThreadLog → Option (Vec (List CodePosition) Global) → Type 0
+HasKept «module» log kept = (table : Vec (List CodePosition) Global) × (kept ≡ Some table) × AreLogPositions «module» log table.items
+
+-- the positions at which the threads make the events of the log are kept, unless they don't run as it states
+abbrev pub KeepsPositions : Module → List ThreadLog → Verdict → Option (Vec (List CodePosition) Global) → Type 0
+KeepsPositions «module» log (verdict.Allowed certificate) kept = HasKept «module» log kept
+KeepsPositions «module» log (verdict.Broken (breach.Rule fault)) kept = HasKept «module» log kept
+KeepsPositions «module» log (verdict.Broken (breach.Replay answer)) kept = kept ≡ None
+KeepsPositions «module» log (verdict.Refused refusal) kept = kept ≡ None

@@ -5,7 +5,7 @@ ghost use Rattle.wm_event.specs.Shape.{event_count};
 ghost use Rattle.wm_event.specs.Shape.{IsWellShaped};
 ghost use Rattle.wm_logfile.specs.DocumentBytes.{IsDocumentOf};
 ghost use Rattle.wm_check.specs.Run.{IsModuleOf};
-ghost use Rattle.wm_check.specs.Reading.{ComparesLog, ComparesOver, HasCandidate, IsCandidateOver, IsCertified, IsJudged, IsRecordedOver, IsUnreadDocument, IsUnreadModule, KeepsMisshapen, SaysOver};
+ghost use Rattle.wm_check.specs.Reading.{ComparesLog, ComparesOver, HasCandidate, IsCandidateOver, IsCertified, IsJudged, IsRecordedOver, IsUnreadDocument, IsUnreadModule, KeepsMisshapen, KeepsPositions, SaysOver};
 ghost use Rattle.wm_check.specs.Checked.{RefusesShape};
 ghost use Rattle.wm_check.specs.Verdicts.{IfAllowed, IfBroken, IfRefused, IsAllowed, IsBrokenBy, IsRefusedFor, Says};
 ghost use Rattle.wm_check.specs.declared.checker.Unread.TheVariants.{OutOfMemory};
@@ -15,8 +15,10 @@ use std::alloc::{AllocError, Global};
 use std::thread::Threads;
 use wm_decode::{DecodeFault, decode};
 use wm_event::{Candidate, Judgement, Log, Misshapen, ShapeFault, ThreadLog, Witness};
+use wm_list::List;
 use wm_logfile::{DocFault, ReadingRoom, read_document_in};
-use wm_replay::{ReplayAnswer, replay};
+use wm_machine::CodePosition;
+use wm_replay::{Replayed, ReplayAnswer, replay_with_positions};
 use wm_rules::judge;
 use wm_valid::{ValidFault, ValidModule, validate};
 
@@ -73,28 +75,47 @@ pub fn count_events(threads: &[ThreadLog]) -> usize
     events
 }
 
+/// A verdict on a candidate.
+#[derive(Drop)]
+struct CheckedRun {
+    verdict: Verdict,
+    /// The positions in the code at which the threads make the candidate's events; None if they don't run as it states.
+    positions: Option<Vec<List<CodePosition>>>,
+}
+
 /// The verdict on a candidate.
 fn compare<R: AllocGlobal + Threads + Sync>(
     rt: &R,
     module: &ValidModule,
     candidate: &Candidate,
-) -> Result<Verdict, AllocError>
-    ensures says { IfOk result (ComparesLog «module».now candidate.now) }
-    ensures judged { IfOk result IsJudged }
-    ensures certified { IfOk result (IsCertified candidate.now) }
+) -> Result<CheckedRun, AllocError>
+    ensures says { IfOk result (λ checked. ComparesLog «module».now candidate.now checked.verdict) }
+    ensures judged { IfOk result (λ checked. IsJudged checked.verdict) }
+    ensures certified { IfOk result (λ checked. IsCertified candidate.now checked.verdict) }
+    ensures positions { IfOk result (λ checked. KeepsPositions «module».now candidate.now.log checked.verdict checked.positions) }
 {
-    let answer = replay(rt, module, candidate.log())?;
+    let Replayed { answer, positions } = replay_with_positions(rt, module, candidate.log())?;
     if answer != ReplayAnswer::Same {
-        return Ok(Verdict::Broken(Breach::Replay(answer)));
+        return Ok(CheckedRun {
+            verdict: Verdict::Broken(Breach::Replay(answer)),
+            positions: None,
+        });
     }
     match judge(rt, candidate)? {
-        Judgement::Broken(fault) => Ok(Verdict::Broken(Breach::Rule(fault))),
+        Judgement::Broken(fault) => Ok(CheckedRun {
+            verdict: Verdict::Broken(Breach::Rule(fault)),
+            positions: Some(positions),
+        }),
         Judgement::Valid => {
             let threads = candidate.log().threads();
-            Ok(Verdict::Allowed(Certificate {
+            let certificate = Certificate {
                 threads: threads.len(),
                 events: count_events(threads),
-            }))
+            };
+            Ok(CheckedRun {
+                verdict: Verdict::Allowed(certificate),
+                positions: Some(positions),
+            })
         }
     }
 }
@@ -107,6 +128,9 @@ pub struct CheckedLog<'m> {
     pub candidate: Option<Candidate<'m>>,
     /// The log with its witness and its fault, if their shape is refused.
     pub misshapen: Option<Misshapen>,
+    /// For each thread of the candidate, the positions in the code at which it makes its events, in order; None if there is
+    /// no candidate, or if its threads don't run as it states.
+    pub positions: Option<Vec<List<CodePosition>>>,
 }
 
 /// The refusal of a log with a witness that are not a candidate; an allocation failure is not a refusal.
@@ -119,6 +143,7 @@ fn refuse_shape<'m>(misshapen: Misshapen) -> Result<CheckedLog<'m>, AllocError>
             verdict: Verdict::Refused(Refusal::Shape(misshapen.fault)),
             candidate: None,
             misshapen: Some(misshapen),
+            positions: None,
         }),
     }
 }
@@ -136,13 +161,19 @@ fn compare_log<'m, R: AllocGlobal + Threads + Sync>(
     ensures refused { IfOk result (λ checked. HasCandidate checked.verdict checked.candidate) }
     ensures misshapen { IfOk result (λ checked.
         KeepsMisshapen (λ l w. (l ≡ log) × (w ≡ witness)) checked.verdict checked.misshapen) }
+    ensures positions { IfOk result (λ checked. IfSome checked.candidate (λ run.
+        KeepsPositions «module».now run.log checked.verdict checked.positions)) }
 {
     match Candidate::of(rt.alloc(), log, witness, module.initial()) {
-        Ok(candidate) => Ok(CheckedLog {
-            verdict: compare(rt, module, &candidate)?,
-            candidate: Some(candidate),
-            misshapen: None,
-        }),
+        Ok(candidate) => {
+            let CheckedRun { verdict, positions } = compare(rt, module, &candidate)?;
+            Ok(CheckedLog {
+                verdict,
+                candidate: Some(candidate),
+                misshapen: None,
+                positions,
+            })
+        }
         Err(misshapen) => refuse_shape(misshapen),
     }
 }
@@ -164,6 +195,8 @@ pub fn check_log<'m, R: AllocGlobal + Threads + Sync>(
     ensures refused { IfOk result (λ checked. HasCandidate checked.verdict checked.candidate) }
     ensures misshapen { IfOk result (λ checked.
         KeepsMisshapen (IsDocumentOf document_bytes.now) checked.verdict checked.misshapen) }
+    ensures positions { IfOk result (λ checked. IfSome checked.candidate (λ run.
+        KeepsPositions «module».now run.log checked.verdict checked.positions)) }
 {
     let mut room = ReadingRoom::new(rt.alloc());
     match read_log(rt.alloc(), &mut room, document_bytes) {
@@ -172,6 +205,7 @@ pub fn check_log<'m, R: AllocGlobal + Threads + Sync>(
             verdict: Verdict::Refused(refusal),
             candidate: None,
             misshapen: None,
+            positions: None,
         }),
         Err(Unread::OutOfMemory) => Err(AllocError),
     }

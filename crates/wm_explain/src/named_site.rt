@@ -5,9 +5,10 @@ use std::alloc::{AllocError, Global};
 use std::fmt;
 use std::thread::Threads;
 use wm_event::{EventKey, Log, ThreadLog};
+use wm_list::List;
+use wm_machine::CodePosition;
 use wm_races::Site;
 use wm_sites::{ModuleCode, RunSites};
-use wm_valid::ValidModule;
 
 /// An instruction with the name of its function.
 #[derive(Clone, Copy)]
@@ -40,7 +41,7 @@ pub(crate) struct NamedSites<'a> {
 }
 
 impl<'a> NamedSites<'a> {
-    /// The instructions that make the events of a log.
+    /// The instructions that make the events of a log. Without their positions, the threads are followed to find them.
     ///
     /// # Errors
     ///
@@ -49,12 +50,14 @@ impl<'a> NamedSites<'a> {
         rt: &R,
         code: ModuleCode<'a>,
         log: &'a Log,
+        positions: Option<Vec<List<CodePosition>>>,
     ) -> Result<Self, AllocError> {
-        Ok(NamedSites {
-            log,
-            sites: RunSites::of(rt, code, log)?,
-            names: FunctionNames::of(rt.alloc(), code)?,
-        })
+        let sites = match positions {
+            Some(positions) => RunSites::at(rt.alloc(), code, positions)?,
+            None => RunSites::of(rt, code, log)?,
+        };
+        let names = FunctionNames::of(rt.alloc(), code)?;
+        Ok(NamedSites { log, sites, names })
     }
 
     /// The instruction that makes an event; None if its thread doesn't make it.
@@ -93,23 +96,20 @@ fn thread_places(
 }
 
 /// For each event of a log, by thread and number, the instruction that makes it, as `at 0x2e, instruction 2 of "a"`.
-/// The string is empty if the thread doesn't make the event. `module_bytes` spell the module.
+/// The string is empty if the thread doesn't make the event. `positions` are those at which the threads make the events,
+/// if they are known; otherwise the threads are followed to find them.
 ///
 /// # Errors
 ///
 /// Only if an allocation fails.
 pub fn event_places<R: AllocGlobal + Threads + Sync>(
     rt: &R,
-    module: &ValidModule,
-    module_bytes: &[u8],
+    code: ModuleCode,
     log: &Log,
+    positions: Option<Vec<List<CodePosition>>>,
 ) -> Result<Vec<Vec<String>>, AllocError> {
     let alloc = rt.alloc();
-    let code = ModuleCode {
-        module,
-        bytes: module_bytes,
-    };
-    let mut sites = NamedSites::of(rt, code, log)?;
+    let mut sites = NamedSites::of(rt, code, log, positions)?;
     let mut places = Vec::new(alloc);
     for thread in log.threads() {
         places.push(thread_places(alloc, &mut sites, thread)?)?;

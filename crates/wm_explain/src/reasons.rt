@@ -8,9 +8,10 @@ use std::alloc::{AllocError, Global};
 use std::thread::Threads;
 use wm_check::{Breach, Refusal, Verdict};
 use wm_event::{Candidate, Judgement, Misshapen};
+use wm_list::List;
+use wm_machine::CodePosition;
 use wm_refusal::{decode_reason, document_reason, shape_reason, valid_reason};
 use wm_sites::ModuleCode;
-use wm_valid::ValidModule;
 
 /// Why the bytes of a module or of a document are refused: where the fault is, what was found and what was expected.
 /// Each line ends with a newline. The text is empty for a refused shape: [`explain_shape`] has its reason.
@@ -46,30 +47,26 @@ pub fn explain_shape(
     shape_reason(alloc, misshapen, memory_bytes)
 }
 
-/// Why a check gave its verdict on a candidate over the initial memory of a module, in sentences and a table.
-/// `module_bytes` spell the module: events are shown with the byte offsets of the instructions that make them. Each
-/// line ends with a newline. The text is empty for a refusal, which has no candidate: [`explain_refusal`] has its
-/// reason.
+/// Why a check gave its verdict on a candidate over the initial memory of a module, in sentences and a table. Events are
+/// shown with the byte offsets of the instructions that make them; `positions` are those at which the threads make the
+/// events, if they are known, otherwise the threads are followed to find them. Each line ends with a newline. The text is
+/// empty for a refusal, which has no candidate: [`explain_refusal`] has its reason.
 ///
 /// # Errors
 ///
 /// Only if an allocation fails.
 pub fn explain_run<R: AllocGlobal + Threads + Sync>(
     rt: &R,
+    code: ModuleCode,
     verdict: &Verdict,
-    module: &ValidModule,
-    module_bytes: &[u8],
     candidate: &Candidate,
+    positions: Option<Vec<List<CodePosition>>>,
 ) -> Result<String, AllocError> {
-    let code = ModuleCode {
-        module,
-        bytes: module_bytes,
-    };
     match verdict {
         Verdict::Refused(_) => Ok(String::new(rt.alloc())),
-        Verdict::Allowed(_) => allowed_reason(EventTables::over(rt, code, candidate)?),
+        Verdict::Allowed(_) => allowed_reason(EventTables::over(rt, code, candidate, positions)?),
         Verdict::Broken(Breach::Rule(fault)) => {
-            rule_reason(EventTables::over(rt, code, candidate)?, fault)
+            rule_reason(EventTables::over(rt, code, candidate, positions)?, fault)
         }
         Verdict::Broken(Breach::Replay(answer)) => replay_reason(rt, code, candidate, *answer),
     }

@@ -221,7 +221,7 @@ fn add_fault_table<R: AllocGlobal + Threads + Sync>(
     fault: &RuleFault,
 ) -> Result<(), AllocError> {
     text.push_str("The events of the violation, with their places in the order:\n")?;
-    let mut tables = EventTables::over(rt, code, candidate)?;
+    let mut tables = EventTables::over(rt, code, candidate, None)?;
     add_fault_events(text, &mut tables, fault, &[])
 }
 

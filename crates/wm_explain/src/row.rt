@@ -6,6 +6,8 @@ use std::fmt;
 use std::thread::Threads;
 use wm_event::{Candidate, Event, EventId, EventKey};
 use wm_hb::{WriterRun, writer_runs};
+use wm_list::List;
+use wm_machine::CodePosition;
 use wm_phrase::{EventPhrase, ValueForm, WritersPhrase};
 use wm_sites::ModuleCode;
 
@@ -110,7 +112,8 @@ impl<'a> EventTables<'a> {
         }
     }
 
-    /// Tables of a candidate's events, with the instructions of a module that make them.
+    /// Tables of a candidate's events, with the instructions of a module that make them. Without their positions, the
+    /// threads are followed to find them.
     ///
     /// # Errors
     ///
@@ -119,8 +122,9 @@ impl<'a> EventTables<'a> {
         rt: &R,
         code: ModuleCode<'a>,
         candidate: &'a Candidate<'a>,
+        positions: Option<Vec<List<CodePosition>>>,
     ) -> Result<Self, AllocError> {
-        let sites = NamedSites::of(rt, code, candidate.log())?;
+        let sites = NamedSites::of(rt, code, candidate.log(), positions)?;
         Ok(EventTables {
             alloc: rt.alloc(),
             candidate,

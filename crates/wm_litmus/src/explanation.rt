@@ -13,21 +13,26 @@ use wm_check::{CheckedLog, Refusal, Unread, Verdict, check_log, read_module};
 use wm_event::Candidate;
 use wm_explain::{event_places, explain_refusal, explain_run, explain_shape, module_does};
 use wm_graph::{Caption, draw};
+use wm_list::List;
+use wm_machine::CodePosition;
+use wm_sites::ModuleCode;
 use wm_valid::ValidModule;
 
 /// The explanation of the verdict on a document, by its candidate or by what was refused.
 fn reasons_of<R: AllocGlobal + Threads + Sync>(
     rt: &R,
-    module: &ValidModule,
+    code: ModuleCode,
     checked: &CheckedLog,
-    module_bytes: &[u8],
+    positions: Option<Vec<List<CodePosition>>>,
     document_bytes: &[u8],
 ) -> Result<String, AllocError> {
     match (&checked.candidate, &checked.misshapen, &checked.verdict) {
-        (Some(candidate), _, verdict) => explain_run(rt, verdict, module, module_bytes, candidate),
-        (None, Some(misshapen), _) => explain_shape(rt.alloc(), misshapen, module.initial().len()),
+        (Some(candidate), _, verdict) => explain_run(rt, code, verdict, candidate, positions),
+        (None, Some(misshapen), _) => {
+            explain_shape(rt.alloc(), misshapen, code.module.initial().len())
+        }
         (None, None, Verdict::Refused(refusal)) => {
-            explain_refusal(rt.alloc(), refusal, module_bytes, document_bytes)
+            explain_refusal(rt.alloc(), refusal, code.bytes, document_bytes)
         }
         (None, None, _) => Ok(String::new(rt.alloc())),
     }
@@ -36,14 +41,14 @@ fn reasons_of<R: AllocGlobal + Threads + Sync>(
 /// The line of the verdict on a document, and its explanation.
 fn explain_checked<R: AllocGlobal + Threads + Sync>(
     rt: &R,
-    module: &ValidModule,
-    checked: &CheckedLog,
-    module_bytes: &[u8],
+    code: ModuleCode,
+    mut checked: CheckedLog,
     document_bytes: &[u8],
 ) -> Result<Answer, AllocError>
-    ensures { IfOk result (Explains checked.now.verdict) }
+    ensures { IfOk result (Explains checked.entry.verdict) }
 {
-    let reasons = reasons_of(rt, module, checked, module_bytes, document_bytes)?;
+    let positions = checked.positions.take();
+    let reasons = reasons_of(rt, code, &checked, positions, document_bytes)?;
     Answer::explained(rt.alloc(), &checked.verdict, reasons.as_str())
 }
 
@@ -57,7 +62,11 @@ fn explain_log<R: AllocGlobal + Threads + Sync>(
     ensures { IfOk result (ExplainsOver «module».now document_bytes.now) }
 {
     let checked = check_log(rt, module, document_bytes)?;
-    explain_checked(rt, module, &checked, module_bytes, document_bytes)
+    let code = ModuleCode {
+        module,
+        bytes: module_bytes,
+    };
+    explain_checked(rt, code, checked, document_bytes)
 }
 
 /// The answer to the bytes of a refused module.
@@ -98,15 +107,15 @@ pub(crate) fn explain_answer<R: AllocGlobal + Threads + Sync>(
 /// The picture of a candidate with this verdict, with the places of its events in the module.
 fn picture_of<R: AllocGlobal + Threads + Sync>(
     rt: &R,
-    module: &ValidModule,
-    module_bytes: &[u8],
+    code: ModuleCode,
     verdict: &Verdict,
     candidate: &Candidate,
+    positions: Option<Vec<List<CodePosition>>>,
 ) -> Result<String, AllocError> {
     let alloc = rt.alloc();
     let title = verdict_line(alloc, verdict)?;
-    let places = event_places(rt, module, module_bytes, candidate.log())?;
-    let does = module_does(alloc, module, verdict, candidate)?;
+    let places = event_places(rt, code, candidate.log(), positions)?;
+    let does = module_does(alloc, code.module, verdict, candidate)?;
     let caption = Caption {
         title: title.as_str(),
         places: places.as_slice(),
@@ -118,16 +127,16 @@ fn picture_of<R: AllocGlobal + Threads + Sync>(
 /// The picture of what was checked; if that is refused, the line of the refusal.
 fn show_checked<R: AllocGlobal + Threads + Sync>(
     rt: &R,
-    module: &ValidModule,
-    module_bytes: &[u8],
-    checked: &CheckedLog,
+    code: ModuleCode,
+    mut checked: CheckedLog,
 ) -> Result<Answer, AllocError>
-    requires { HasCandidate checked.now.verdict checked.now.candidate }
-    ensures { IfOk result (Shows checked.now.verdict) }
+    requires { HasCandidate checked.verdict checked.candidate }
+    ensures { IfOk result (Shows checked.entry.verdict) }
 {
+    let positions = checked.positions.take();
     match &checked.candidate {
         Some(candidate) => {
-            let picture = picture_of(rt, module, module_bytes, &checked.verdict, candidate)?;
+            let picture = picture_of(rt, code, &checked.verdict, candidate, positions)?;
             Ok(Answer::pictured(&checked.verdict, picture))
         }
         None => Answer::of_verdict(rt.alloc(), &checked.verdict),
@@ -144,7 +153,11 @@ fn show_log<R: AllocGlobal + Threads + Sync>(
     ensures { IfOk result (GraphsOver «module».now document_bytes.now) }
 {
     let checked = check_log(rt, module, document_bytes)?;
-    show_checked(rt, module, module_bytes, &checked)
+    let code = ModuleCode {
+        module,
+        bytes: module_bytes,
+    };
+    show_checked(rt, code, checked)
 }
 
 /// The execution that these bytes record, for Graphviz; if they are refused, the line of the refusal.

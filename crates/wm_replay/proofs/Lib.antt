@@ -6,6 +6,7 @@ pub mod Needs
 pub mod Comparing
 pub mod Stopping
 pub mod Logs
+pub mod LogPositions
 pub mod Longest
 pub mod Completions
 pub mod Comparisons

@@ -1,16 +1,18 @@
 -- The threads of a log, one after the other.
-use Rattle.std.proofs.Common.{◌≡◌, ℕ, ◌+◌, ◌<◌, ◌≤◌, inl, inr, List, length, get_or, Some, refl, sym, ap, subst, ◌∙◌, arith}
+use Rattle.std.proofs.Common.{◌≡◌, ℕ, ◌+◌, ◌<◌, ◌≤◌, inl, inr, List, length, get_or, Some, Err, refl, sym, ap, subst, ◌∙◌, arith}
 use Rattle.std.specs.Prelude.{◌⊎◌, option_and_then, slice_get}
 use Rattle.std.proofs.Math.Nat.{eq-or-lt_of_le}
-use Rattle.std.proofs.lemmas.Option.{same_Some, slice_get_read, slice_get_within}
+use Rattle.std.proofs.lemmas.Option.{none-some, same_Some, slice_get_read, slice_get_within}
 use Rattle.wm_ast.specs.declared.module.Module.{Module}
 use Rattle.wm_event.specs.declared.log.ThreadLog.{ThreadLog}
 use Rattle.wm_event.specs.Log.{HasKeys}
 use Rattle.wm_replay.specs.declared.answer.ReplayAnswer.{ReplayAnswer}
 use Rattle.wm_replay.specs.declared.answer.ReplayAnswer.TheVariants.{Same, StartRefused, Differs}
-use Rattle.wm_replay.specs.Comparison.{IsFirstOther, IsOther, Replays}
-use Rattle.wm_replay.specs.Following.{HasPlaces}
-use Rattle.wm_replay.specs.Replay.{AreRuns, IsRun}
+use Rattle.wm_machine.specs.declared.fault.StartFault.{StartFault}
+use Rattle.wm_machine.specs.Run.{run_from}
+use Rattle.wm_replay.specs.Comparison.{ComparesThread, IsFirstOther, IsOther, Replays}
+use Rattle.wm_replay.specs.Following.{FollowsLog, HasPlaces}
+use Rattle.wm_replay.specs.Replay.{AreRuns, IsRun, reads_of}
 
 -- the events of a log's thread are there
 pub places_in : (log : List ThreadLog) (k : ℕ) (t : ThreadLog) → HasKeys log → slice_get log k ≡ Some t → HasPlaces k t.events
@@ -53,3 +55,11 @@ all_below m log items n same all below k t at =
     let lt = slice_get_within log k t at in
     let count : length items ≡ length log = ap length same in
     below k t (let before : k < n = omega (arith, lt, count, all) in before) at
+
+-- a thread that doesn't start isn't its run
+pub unstarted_other : (m : Module) (k : ℕ) (t : ThreadLog) (fault : StartFault) → FollowsLog m k t t.steps (Err fault) → ComparesThread m k t (Some (StartRefused k fault))
+unstarted_other m k t fault refused = (
+  (refl, refused.0, refused.1),
+  λ runs.
+      none-some record { events = t.events; end = t.end } (subst (λ r. run_from m k r (reads_of t.events) t.steps ≡ Some record { events = t.events; end = t.end }) refused.0 runs),
+)

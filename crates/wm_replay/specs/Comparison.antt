@@ -7,6 +7,8 @@ use Rattle.wm_replay.specs.declared.answer.Place.{Place}
 use Rattle.wm_replay.specs.declared.answer.Place.TheVariants as place
 use Rattle.wm_replay.specs.declared.answer.ReplayAnswer.{ReplayAnswer}
 use Rattle.wm_replay.specs.declared.answer.ReplayAnswer.TheVariants.{Same, StartRefused, Differs}
+use Rattle.wm_replay.specs.declared.compare.ThreadReplay.{ThreadReplay}
+use Rattle.wm_replay.specs.Positions.{ArePositionsOf}
 use Rattle.wm_replay.specs.Replay.{AreRuns, DiffersAt, IsRun, start_of}
 
 -- ---- a thread
@@ -31,14 +33,18 @@ ComparesThread m k t (Some answer) = IsOther m k t answer × (¬ IsRun m k t)
 
 -- ---- the log
 
--- how thread k of the log compares with its run
-abbrev pub ComparesAt : Module → List ThreadLog → ℕ → Option ReplayAnswer → Type 0
-ComparesAt m log k answer = (t : ThreadLog) → slice_get log k ≡ Some t → ComparesThread m k t answer
+-- how thread k of the log compares with its run, and the positions at which it makes its events
+pub record ReplaysThread (m : Module) (k : ℕ) (t : ThreadLog) (replay : ThreadReplay) : Type 0 where
+  pub compares : ComparesThread m k t replay.difference
+  pub positions : ArePositionsOf m k t replay.positions
 
--- the comparison of each thread, unless an allocation fails
-pub record ComparesEach {E : Type 0} (m : Module) (log : List ThreadLog) (answers : List (Result (Option ReplayAnswer) E)) : Type 0 where
+abbrev pub ReplaysAt : Module → List ThreadLog → ℕ → ThreadReplay → Type 0
+ReplaysAt m log k replay = (t : ThreadLog) → slice_get log k ≡ Some t → ReplaysThread m k t replay
+
+-- the replay of each thread, unless an allocation fails
+pub record ReplaysEach {E : Type 0} (m : Module) (log : List ThreadLog) (answers : List (Result ThreadReplay E)) : Type 0 where
   pub size : length answers ≡ length log
-  pub each : (k : ℕ) (answer : Option ReplayAnswer) → slice_get answers k ≡ Some (Ok answer) → ComparesAt m log k answer
+  pub each : (k : ℕ) (replay : ThreadReplay) → slice_get answers k ≡ Some (Ok replay) → ReplaysAt m log k replay
 
 -- thread k is the first whose log isn't its run, for this reason
 pub record IsFirstOther (m : Module) (log : List ThreadLog) (k : ℕ) (answer : ReplayAnswer) : Type 0 where

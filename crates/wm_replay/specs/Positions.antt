@@ -1,4 +1,4 @@
--- The positions in the code at which a thread makes the events of its log.
+-- The positions in the code at which the threads of a log make its events.
 use Rattle.std.specs.Prelude.{◌≡◌, ◌⊎◌, ◌+◌, ℕ, List, [], ◌∷◌, ◌++◌, length, take, drop, Some, Result, Ok, Err, slice_get, ⊤}
 use Rattle.wm_ast.specs.declared.module.Module.{Module}
 use Rattle.wm_event.specs.declared.log.ThreadLog.{ThreadLog}
@@ -10,7 +10,9 @@ use Rattle.wm_machine.specs.Term.{Config}
 use Rattle.wm_replay.specs.declared.by_log.Followed.{Followed}
 use Rattle.wm_replay.specs.declared.by_log.StepByLog.{StepByLog}
 use Rattle.wm_replay.specs.declared.by_log.StepByLog.TheVariants as by_log
-use Rattle.wm_replay.specs.Following.{Accesses}
+use Rattle.wm_replay.specs.declared.answer.ReplayAnswer.{ReplayAnswer}
+use Rattle.wm_replay.specs.declared.answer.ReplayAnswer.TheVariants.{Same, StartRefused, Differs}
+use Rattle.wm_replay.specs.Following.{Accesses, RunsByLog}
 use Rattle.wm_replay.specs.Replay.{reads_of, start_of}
 
 -- thread k makes event n of its log by a step from this position: it is there after some steps, which made the events below n
@@ -40,3 +42,29 @@ abbrev pub NotesPosition : State → ℕ → List CodePosition → List CodePosi
 NotesPosition s n old new (by_log.Stepped now) = ((now ≡ n) × (new ≡ old)) ⊎ ((now ≡ n + 1) × (new ≡ old ++ position_of s ∷ []))
 NotesPosition s n old new by_log.OtherAccess = new ≡ old
 NotesPosition s n old new by_log.Ended = new ≡ old
+
+-- ---- the threads of a log
+
+-- the positions at which thread k makes the events of its log, for as many as it makes; none if the thread doesn't start
+pub data ArePositionsOf (m : Module) (k : ℕ) (t : ThreadLog) : List CodePosition → Type 0 where
+  unstarted : {fault : StartFault} → start_of m t ≡ Err fault → ArePositionsOf m k t []
+  ran : {c : Config} {j n : ℕ} {positions : List CodePosition} → RunsByLog m k t t.steps c j n → ArePositions m k t n positions → ArePositionsOf m k t positions
+
+-- the positions of thread k of the log
+abbrev pub ArePositionsAt : Module → List ThreadLog → ℕ → List CodePosition → Type 0
+ArePositionsAt m log k positions = (t : ThreadLog) → slice_get log k ≡ Some t → ArePositionsOf m k t positions
+
+-- the positions of these threads of the log
+abbrev pub ArePositionsIn : Module → List ThreadLog → List (List CodePosition) → Type 0
+ArePositionsIn m log table = (k : ℕ) (positions : List CodePosition) → slice_get table k ≡ Some positions → ArePositionsAt m log k positions
+
+-- the positions of all threads of the log
+pub record AreLogPositions (m : Module) (log : List ThreadLog) (table : List (List CodePosition)) : Type 0 where
+  pub count : length table ≡ length log
+  pub each : ArePositionsIn m log table
+
+-- if the threads run as the log states, these are the positions of all of them
+abbrev pub HasLogPositions : Module → List ThreadLog → ReplayAnswer → List (List CodePosition) → Type 0
+HasLogPositions m log Same table = AreLogPositions m log table
+HasLogPositions m log (StartRefused k fault) table = ⊤
+HasLogPositions m log (Differs k place) table = ⊤

@@ -10,5 +10,5 @@ mod parallel;
 
 pub use answer::{Place, ReplayAnswer};
 pub use by_log::{Followed, end_of, follow};
-pub use compare::replay;
+pub use compare::{Replayed, replay, replay_with_positions};
 pub use completing::{Completion, complete, without_run};

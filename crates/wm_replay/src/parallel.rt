@@ -1,18 +1,16 @@
 //! Parallel replay of long threads.
 ghost use Rattle.std.specs.Prelude.{◌<◌, IfOk, length};
 ghost use Rattle.wm_event.specs.Log.{HasKeys};
-ghost use Rattle.wm_replay.specs.Comparison.{ComparesAt, ComparesEach, Replays};
+ghost use Rattle.wm_replay.specs.Comparison.{ReplaysAt, ReplaysEach, Replays};
+ghost use Rattle.wm_replay.specs.Positions.{HasLogPositions};
 
 use crate::answer::ReplayAnswer;
-use crate::compare::difference;
+use crate::compare::{Replayed, ThreadReplay, replay_thread};
 use std::alloc::AllocError;
 use std::thread;
 use std::thread::Threads;
 use wm_event::{Log, ThreadLog};
 use wm_valid::ValidModule;
-
-/// How a thread compares with its log, or that an allocation failed.
-type Comparison = Result<Option<ReplayAnswer>, AllocError>;
 
 /// A thread with at least this number of steps is worth its own processor.
 const LONG_STEPS: u32 = 20_000;
@@ -22,24 +20,24 @@ pub(crate) fn is_long(threads: &[ThreadLog]) -> bool {
     threads.iter().any(|stated: &ThreadLog| -> bool { stated.steps >= LONG_STEPS })
 }
 
-/// How each thread compares with its log.
-fn comparisons<R: AllocGlobal + Threads + Sync>(
+/// How each thread compares with its log, or that an allocation failed.
+fn replay_threads<R: AllocGlobal + Threads + Sync>(
     rt: &R,
     module: &ValidModule,
     log: &Log,
-) -> Result<Vec<Comparison>, AllocError>
-    ensures { IfOk result (λ answers. ComparesEach «module».now log.now answers.items) }
+) -> Result<Vec<Result<ThreadReplay, AllocError>>, AllocError>
+    ensures { IfOk result (λ answers. ReplaysEach «module».now log.now answers.items) }
 {
     let threads = log.threads();
     thread::map_indices(
         rt,
         rt.alloc(),
         threads.len(),
-        &|number: usize| -> Comparison
+        &|number: usize| -> Result<ThreadReplay, AllocError>
             requires keys { HasKeys threads.now }
             requires there { number < length threads.now }
-            ensures { IfOk result (ComparesAt «module».entry.now threads.entry.now number) }
-        { difference(rt.alloc(), module, &threads[number], number) },
+            ensures { IfOk result (ReplaysAt «module».entry.now threads.entry.now number) }
+        { replay_thread(rt.alloc(), module, &threads[number], number) },
     )
 }
 
@@ -48,14 +46,23 @@ pub(crate) fn replay_in_parallel<R: AllocGlobal + Threads + Sync>(
     rt: &R,
     module: &ValidModule,
     log: &Log,
-) -> Result<ReplayAnswer, AllocError>
-    ensures { IfOk result (Replays «module».now log.now) }
+) -> Result<Replayed, AllocError>
+    ensures answer { IfOk result (λ replay. Replays «module».now log.now replay.answer) }
+    ensures positions { IfOk result (λ replay. HasLogPositions «module».now log.now replay.answer replay.positions.items) }
 {
-    let answers = comparisons(rt, module, log)?;
-    for number in 0..answers.len() {
-        if let Some(answer) = answers[number]? {
-            return Ok(answer);
+    let mut positions = Vec::new(rt.alloc());
+    for replayed in replay_threads(rt, module, log)? {
+        let ThreadReplay {
+            difference,
+            positions: own,
+        } = replayed?;
+        positions.push(own)?;
+        if let Some(answer) = difference {
+            return Ok(Replayed { answer, positions });
         }
     }
-    Ok(ReplayAnswer::Same)
+    Ok(Replayed {
+        answer: ReplayAnswer::Same,
+        positions,
+    })
 }

@@ -13,21 +13,9 @@ use Rattle.wm_event.proofs.WritesLemmas.{each_more}
 use Rattle.wm_machine.specs.declared.thread.CodePosition.{CodePosition}
 use Rattle.wm_races.specs.declared.site.Site.{Site}
 use Rattle.wm_races.specs.Report.{site_in}
-use Rattle.wm_sites.specs.Sites.{AreFollowed, AreLogPositions, ArePositionsOf, ArePositionsIn, AreSitesOf, AreThreadSites, IsMadeNowhere, IsNoOpcode, IsSiteAt, IsSiteMade, IsSiteOf, IsSiteOrFirst, first_site, position_in}
-
-pub one_more : {X : Type 0} (n : ℕ) (xs new : List X) (x : X) → length xs ≡ n → new ≡ xs ++ x ∷ [] → length new ≡ n + 1
-one_more n xs new x count is = ap length is ∙ length-append xs (x ∷ []) ∙ ap (λ (k : ℕ). k + 1) count
-
-pub positions_more : (m : Module) (log : List ThreadLog) (table new : List (List CodePosition)) (n : ℕ) (t : ThreadLog) (positions : List CodePosition) → length table ≡ n → ArePositionsIn m log table
-    → slice_get log n ≡ Some t → ArePositionsOf m n t positions → new ≡ table ++ positions ∷ [] → (length new ≡ n + 1) × ArePositionsIn m log new
-positions_more m log table new n t positions count each is one more = (
-  one_more n table new positions count more,
-  subst (ArePositionsIn m log) (sym more)
-      (each_more (λ k found. (u : ThreadLog) → slice_get log k ≡ Some u → ArePositionsOf m k u found) table positions each
-      (λ u at.
-      let at_n : slice_get log n ≡ Some u = ap (slice_get log) (sym count) ∙ at in
-      subst (λ k. ArePositionsOf m k u positions) (sym count) (subst (λ v. ArePositionsOf m n v positions) (same_Some t u (sym is ∙ at_n)) one))),
-)
+use Rattle.wm_sites.specs.Sites.{AreFollowed, AreSitesOf, AreThreadSites, IsMadeNowhere, IsNoOpcode, IsSiteAt, IsSiteMade, IsSiteOf, IsSiteOrFirst, first_site, position_in}
+use Rattle.wm_replay.proofs.LogPositions.{one_more}
+use Rattle.wm_replay.specs.Positions.{AreLogPositions}
 
 -- the sites of the first threads
 abbrev pub AreSitesIn : Module → List (List CodePosition) → List ThreadLog → List (List Site) → Type 0
@@ -82,9 +70,6 @@ event_site m table log sites keys each key e site at is =
     same : key_of e ≡ key
     same =
         ap (λ (x : ℕ). record { thread = x; number = e.number }) (keys key e at).0 ∙ ap (λ (x : ℕ). record { thread = key.thread; number = x }) (keys key e at).1
-
-pub all_counted : {X : Type 0} (log items : List ThreadLog) (table : List X) (n : ℕ) → items ≡ log → length items ≤ n → n ≤ length items → length table ≡ n → length table ≡ length log
-all_counted log items table n is past within count = let same : length items ≡ length log = ap length is in omega (arith, same)
 
 -- the event whose key is asked for
 pub event_at : (events items : List Event) (n : ℕ) (d : Event) (key : EventKey) → items ≡ events → n < length items → key ≡ key_of (get_or items n d) → (e : Event) × (slice_get events n ≡ Some e) × (key ≡ key_of e)

@@ -9,14 +9,10 @@ use Rattle.wm_event.specs.declared.log.ThreadLog.{ThreadLog}
 use Rattle.wm_event.specs.Event.{key_of}
 use Rattle.wm_event.specs.Log.{event_in}
 use Rattle.wm_decode.specs.Bounds.{max_module_bytes}
-use Rattle.wm_machine.specs.declared.fault.StartFault.{StartFault}
 use Rattle.wm_machine.specs.declared.thread.CodePosition.{CodePosition}
-use Rattle.wm_machine.specs.Term.{Config}
 use Rattle.wm_races.specs.declared.site.Site.{Site}
 use Rattle.wm_races.specs.Report.{site_in}
-use Rattle.wm_replay.specs.Following.{RunsByLog}
-use Rattle.wm_replay.specs.Positions.{ArePositions}
-use Rattle.wm_replay.specs.Replay.{start_of}
+use Rattle.wm_replay.specs.Positions.{ArePositionsAt, AreLogPositions}
 use Rattle.wm_sites.specs.declared.code_map.FunctionMap.{FunctionMap}
 use Rattle.wm_sites.specs.declared.opcode_numbers.BlockPosition.{BlockPosition}
 use Rattle.wm_sites.specs.Numbering.{AreNumbers, IsNumbered, number_at}
@@ -85,28 +81,10 @@ pub record PutsMap (old new : List (Option FunctionMap)) (f : ℕ) (read : Optio
 
 -- ---- the positions of a log's events
 
--- the positions at which thread k makes the events of its log, as `follow` gives them; none if the thread doesn't start
-pub data ArePositionsOf (m : Module) (k : ℕ) (t : ThreadLog) : List CodePosition → Type 0 where
-  unstarted : {fault : StartFault} → start_of m t ≡ Err fault → ArePositionsOf m k t []
-  ran : {c : Config} {j n : ℕ} {positions : List CodePosition} → RunsByLog m k t t.steps c j n → ArePositions m k t n positions → ArePositionsOf m k t positions
-
--- the positions of thread k of the log
-abbrev pub IsFollowedAt : Module → List ThreadLog → ℕ → List CodePosition → Type 0
-IsFollowedAt m log k positions = (t : ThreadLog) → slice_get log k ≡ Some t → ArePositionsOf m k t positions
-
--- the positions of these threads of the log
-abbrev pub ArePositionsIn : Module → List ThreadLog → List (List CodePosition) → Type 0
-ArePositionsIn m log table = (k : ℕ) (positions : List CodePosition) → slice_get table k ≡ Some positions → IsFollowedAt m log k positions
-
 -- the positions of each thread of the log, unless an allocation fails
 pub record AreFollowed {E : Type 0} (m : Module) (log : List ThreadLog) (answers : List (Result (List CodePosition) E)) : Type 0 where
   pub count : length answers ≡ length log
-  pub each : (k : ℕ) (positions : List CodePosition) → slice_get answers k ≡ Some (Ok positions) → IsFollowedAt m log k positions
-
--- the positions of all threads of the log
-pub record AreLogPositions (m : Module) (log : List ThreadLog) (table : List (List CodePosition)) : Type 0 where
-  pub count : length table ≡ length log
-  pub each : ArePositionsIn m log table
+  pub each : (k : ℕ) (positions : List CodePosition) → slice_get answers k ≡ Some (Ok positions) → ArePositionsAt m log k positions
 
 -- the position at which an event is made, by its thread and its number
 abbrev pub position_in : List (List CodePosition) → EventKey → Option CodePosition

@@ -1,7 +1,8 @@
 //! The positions in the code at which the threads of a log make its events.
 ghost use Rattle.std.specs.Prelude.{◌<◌, IfOk, length};
 ghost use Rattle.wm_event.specs.Log.{HasKeys};
-ghost use Rattle.wm_sites.specs.Sites.{AreFollowed, AreLogPositions, ArePositionsOf, IsFollowedAt};
+ghost use Rattle.wm_sites.specs.Sites.{AreFollowed};
+ghost use Rattle.wm_replay.specs.Positions.{AreLogPositions, ArePositionsOf, ArePositionsAt};
 ghost use Rattle.wm_replay.specs.Following.{HasPlaces};
 
 use std::alloc::{AllocError, Global};
@@ -69,7 +70,7 @@ fn followed_at_once<R: AllocGlobal + Threads + Sync>(
         &|number: usize| -> Result<List<CodePosition>, AllocError>
             requires keys { HasKeys threads.now }
             requires there { number < length threads.now }
-            ensures { IfOk result (IsFollowedAt «module».entry.now threads.entry.now number) }
+            ensures { IfOk result (ArePositionsAt «module».entry.now threads.entry.now number) }
         { positions_of(rt.alloc(), module, &threads[number], number) },
     )
 }

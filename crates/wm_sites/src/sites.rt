@@ -1,6 +1,7 @@
 //! The instructions that make the events of a log.
 ghost use Rattle.std.specs.Prelude.{◌≡◌, IfOk, IfSome, None, length};
-ghost use Rattle.wm_sites.specs.Sites.{AreEventSites, AreLogPositions, AreSitesOf, AreThreadSites, IsMadeNowhere, IsSiteMade, position_in};
+ghost use Rattle.wm_sites.specs.Sites.{AreEventSites, AreSitesOf, AreThreadSites, IsMadeNowhere, IsSiteMade, position_in};
+ghost use Rattle.wm_replay.specs.Positions.{AreLogPositions};
 ghost use Rattle.wm_races.specs.Report.{HasSites};
 
 use crate::code_map::CodeMap;
@@ -38,15 +39,15 @@ impl<'m> RunSites<'m> {
         ensures positions { IfOk result (λ run. AreLogPositions code.exit.module.now log.now run.positions.items) }
     {
         let positions = log_positions(rt, code.module, log)?;
-        RunSites::new(rt.alloc(), code, positions)
+        RunSites::at(rt.alloc(), code, positions)
     }
 
-    /// The instructions of a module at these positions.
+    /// The instructions of a module at the positions at which the threads of a log make its events.
     ///
     /// # Errors
     ///
     /// Only if an allocation fails.
-    fn new(
+    pub fn at(
         alloc: Global,
         code: ModuleCode<'m>,
         positions: Vec<List<CodePosition>>,
@@ -129,7 +130,7 @@ pub fn event_sites(
         bytes: module_bytes,
     };
     let positions = positions_in_order(alloc, module, log)?;
-    let mut run = RunSites::new(alloc, code, positions)?;
+    let mut run = RunSites::at(alloc, code, positions)?;
     let mut sites = Vec::new(alloc);
     for thread in log.threads() {
         sites.push(thread_sites(alloc, &mut run, thread)?)?;

@@ -1,4 +1,4 @@
-use Rattle.std.proofs.Common.{◌≡◌, ◌+◌, ◌∙◌, arith, refl, subst}
+use Rattle.std.proofs.Common.{◌+◌, ◌∙◌, arith, refl, subst}
 use Rattle.wm_machine.specs.State.{config_of}
 use Rattle.wm_replay.specs.declared.by_log.StepByLog.TheVariants.{Stepped}
 use Rattle.wm_replay.proofs.Comparing.{followed, follows_in, runs_in, steps_as}

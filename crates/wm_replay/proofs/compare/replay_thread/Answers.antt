@@ -1,16 +1,29 @@
-use Rattle.std.proofs.Common.{refl, subst}
-use Rattle.wm_replay.specs.Comparison.{IsDifference}
+use Rattle.std.proofs.Common.{subst, sym}
 use Rattle.wm_replay.specs.Following.{FollowsLog}
-use Rattle.wm_replay.specs.Replay.{DiffersAt}
-use Rattle.wm_replay.proofs.Differing.{no_run}
-use Rattle.wm_replay.proofs.compare.difference.Goals as goal
+use Rattle.wm_replay.specs.Comparison.{ComparesThread}
+use Rattle.wm_replay.specs.Positions.{ArePositionsOf, HasPositions, unstarted, ran}
+use Rattle.wm_replay.proofs.Logs.{unstarted_other}
+use Rattle.wm_replay.proofs.compare.replay_thread.Goals as goal
 
-pub returns : goal.returns
-returns c =
+pub returns-in-Err : goal.returns-in-Err
+returns-in-Err c =
+    let m = c.args.module.now in
     let k = c.args.number in
     let t = c.args.stated.now in
-    let place = c.in-Some.place in
-    let followed = subst (FollowsLog c.args.module.now k t t.steps) c.in-Ok-Ok.field-0-is c.in-Ok-Ok.ensures.runs in
-    let there = subst (IsDifference c.in-Ok-Ok.followed.thread.module k t) c.in-Some.is c.differing_place.ensures in
-    let differs : DiffersAt c.args.module.now k t place = subst (λ m. DiffersAt m k t place) followed.1 there in
-    ((refl, differs), no_run c.args.module.now k t place differs)
+    let refused = subst (FollowsLog m k t t.steps) c.in-Err.is c.in_ok-fault.ensures.runs in
+    record {
+      compares = unstarted_other m k t c.in-Err.fault refused;
+      positions = subst (ArePositionsOf m k t) (sym c.new.ensures) (unstarted refused.0);
+    }
+
+pub returns-in-Ok : goal.returns-in-Ok
+returns-in-Ok c =
+    let m = c.args.module.now in
+    let k = c.args.number in
+    let t = c.args.stated.now in
+    let runs = subst (FollowsLog m k t t.steps) c.in-Ok.is c.in_ok-fault.ensures.runs in
+    let positions = subst (HasPositions m k t) c.in-Ok.is c.in_ok-fault.ensures.positions in
+    record {
+      compares = subst (λ own. ComparesThread own k t c.difference_of-difference.result) runs.1 c.difference_of-difference.ensures;
+      positions = ran runs.0 positions;
+    }

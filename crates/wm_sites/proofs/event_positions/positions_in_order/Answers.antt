@@ -1,7 +1,7 @@
 use Rattle.std.proofs.Common.{◌≡◌, Some}
 use Rattle.std.specs.Prelude.{slice_get}
 use Rattle.wm_replay.proofs.Logs.{item_at, places_in}
-use Rattle.wm_sites.proofs.EventSites.{all_counted, positions_more}
+use Rattle.wm_replay.proofs.LogPositions.{all_counted, positions_more}
 use Rattle.wm_sites.proofs.event_positions.positions_in_order.Goals as goal
 
 pub positions_of-requires : goal.positions_of-requires

@@ -1,5 +1,5 @@
 use Rattle.std.proofs.Common.{◌≡◌, length}
-use Rattle.wm_sites.specs.Sites.{ArePositionsIn}
+use Rattle.wm_replay.specs.Positions.{ArePositionsIn}
 use Rattle.wm_sites.proofs.event_positions.positions_in_order.Given as goal
 
 -- the first threads have their positions

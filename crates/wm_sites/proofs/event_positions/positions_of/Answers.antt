@@ -1,5 +1,5 @@
 use Rattle.std.proofs.Common.{subst, sym}
-use Rattle.wm_sites.specs.Sites.{ArePositionsOf, unstarted, ran}
+use Rattle.wm_replay.specs.Positions.{ArePositionsOf, unstarted, ran}
 use Rattle.wm_replay.specs.Following.{FollowsLog}
 use Rattle.wm_replay.specs.Positions.{HasPositions}
 use Rattle.wm_sites.proofs.event_positions.positions_of.Goals as goal

@@ -5,7 +5,8 @@ use Rattle.wm_machine.specs.declared.thread.CodePosition.{CodePosition}
 use Rattle.wm_races.specs.declared.site.Site.{Site}
 use Rattle.std.specs.Prelude.{unwrap_or}
 use Rattle.wm_sites.specs.Sites.{AreSitesOf, first_site}
-use Rattle.wm_sites.proofs.EventSites.{found_or_first, one_more, position_sites_more}
+use Rattle.wm_replay.proofs.LogPositions.{one_more}
+use Rattle.wm_sites.proofs.EventSites.{found_or_first, position_sites_more}
 use Rattle.wm_sites.proofs.sites.position_sites.Goals as goal
 
 pub loop-position-preserved : goal.loop-position-preserved

@@ -4,7 +4,8 @@ use Rattle.wm_event.specs.declared.event.EventKey.{EventKey}
 use Rattle.wm_races.specs.declared.site.Site.{Site}
 use Rattle.wm_sites.specs.declared.sites.RunSites.{RunSites}
 use Rattle.wm_sites.specs.Sites.{AreThreadSites, IsSiteAt, first_site, position_in}
-use Rattle.wm_sites.proofs.EventSites.{event_at, one_more, site_or_first, thread_sites_more}
+use Rattle.wm_replay.proofs.LogPositions.{one_more}
+use Rattle.wm_sites.proofs.EventSites.{event_at, site_or_first, thread_sites_more}
 use Rattle.wm_sites.proofs.sites.thread_sites.Goals as goal
 
 pub loop-event-preserved : goal.loop-event-preserved
