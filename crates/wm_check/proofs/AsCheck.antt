@@ -1,8 +1,7 @@
 -- The verdict on a log and its completion is a check's verdict on the completed document.
-use Rattle.std.proofs.Common.{◌≡◌, ℕ, List, sym, subst}
+use Rattle.std.proofs.Common.{◌≡◌, ℕ, List, subst}
 use Rattle.wm_ast.specs.declared.module.Module.{Module}
 use Rattle.wm_event.specs.declared.log.ThreadLog.{ThreadLog}
-use Rattle.wm_event.specs.declared.witness.Witness.{Witness}
 use Rattle.wm_event.specs.LoggedRun.{LoggedRun}
 use Rattle.wm_logfile.specs.DocumentBytes.{IsDocumentOf}
 use Rattle.wm_replay.specs.declared.answer.ReplayAnswer.{ReplayAnswer}
@@ -13,7 +12,7 @@ use Rattle.wm_check.specs.declared.verdict.Verdict.TheVariants.{Allowed, Refused
 use Rattle.wm_check.specs.Completed.{HasNoRun, IsCompletedTo}
 use Rattle.wm_check.specs.Run.{IsCandidateOf}
 use Rattle.wm_check.specs.Verdicts.{Says}
-use Rattle.wm_check.specs.Verified.{IsJudgedCompleted, Verifies, with_log}
+use Rattle.wm_check.specs.Verified.{Verifies, with_log}
 use Rattle.wm_check.proofs.Alone.{AreSpelledOnce, none_refused, one_run}
 use Rattle.wm_check.proofs.OneCompletion.{has_run, one_completion}
 use Rattle.wm_check.proofs.SameEvents.{completed_shape}

@@ -1,16 +1,16 @@
 -- A log has one completion.
-use Rattle.std.proofs.Common.{◌≡◌, ℕ, suc, ◌+◌, ◌<◌, ◌≤◌, ◌⊎◌, inl, inr, List, [], ◌∷◌, length, get_or, Option, Some, refl, sym, ap, ap₂, subst, ◌∙◌, arith}
+use Rattle.std.proofs.Common.{◌≡◌, ℕ, suc, ◌<◌, ◌≤◌, ◌⊎◌, inl, inr, List, [], ◌∷◌, length, get_or, Some, refl, sym, ap, ap₂, subst, ◌∙◌, arith}
 use Rattle.std.specs.Prelude.{slice_get}
 use Rattle.std.proofs.lemmas.Bool.{cases_lt}
 use Rattle.std.proofs.lemmas.Option.{same_Some, slice_get-get_or, slice_get_within}
 use Rattle.wm_ast.specs.declared.module.Module.{Module}
 use Rattle.wm_event.specs.declared.log.End.{End}
 use Rattle.wm_event.specs.declared.log.ThreadLog.{ThreadLog}
-use Rattle.wm_machine.specs.Run.{Outcome, run}
+use Rattle.wm_machine.specs.Run.{Outcome}
 use Rattle.wm_replay.specs.declared.answer.ReplayAnswer.{ReplayAnswer}
 use Rattle.wm_replay.specs.declared.answer.ReplayAnswer.TheVariants.{Same, StartRefused, Differs}
 use Rattle.wm_replay.specs.Complete.{IsCompletion, IsFirstWithoutRun, IsLongestRun, IsWithoutRun, MakesEvents, ending}
-use Rattle.wm_replay.specs.Replay.{IsRun, reads_of}
+use Rattle.wm_replay.specs.Replay.{IsRun}
 
 -- a completed thread is the thread with other steps and another end
 as_ending : (t c : ThreadLog) → c.start ≡ t.start → c.events ≡ t.events → c ≡ ending t c.steps c.end

@@ -1,13 +1,11 @@
 -- Bytes that cannot be read have one fault.
-use Rattle.std.proofs.Common.{◌≡◌, ℕ, List, Option, Some, Result, Err, length, refl, sym, ap, subst, ◌∙◌}
-use Rattle.std.specs.Prelude.{◌≢◌}
+use Rattle.std.proofs.Common.{◌≡◌, ℕ, List, Some, Result, Err, length, refl, sym, ap, ◌∙◌}
 use Rattle.std.proofs.lemmas.Option.{same_Some}
 use Rattle.serde_json.specs.Data.{Data}
 use Rattle.serde_json.specs.Read.{read}
 use Rattle.wm_ast.specs.declared.module.Module.{Module}
 use Rattle.wm_decode.specs.declared.fault.DecodeFault.{DecodeFault}
 use Rattle.wm_decode.specs.declared.fault.DecodeFault.TheVariants as decode
-use Rattle.wm_decode.specs.declared.fault.FaultKind.{FaultKind}
 use Rattle.wm_decode.specs.ReadingModule.{whole_at}
 use Rattle.wm_decode.specs.Stop.{Stop, offset_in, stop}
 use Rattle.wm_logfile.specs.declared.fault.DocFault.{DocFault}

@@ -13,7 +13,6 @@ use Rattle.wm_check.specs.declared.checker.Unread.{Unread}
 use Rattle.wm_check.specs.declared.checker.Unread.TheVariants.{Refused, OutOfMemory}
 use Rattle.wm_check.specs.declared.verdict.Refusal.{Refusal}
 use Rattle.wm_check.specs.declared.verdict.Refusal.TheVariants as refusal
-use Rattle.wm_check.specs.declared.verdict.Breach.{Breach}
 use Rattle.wm_check.specs.declared.verdict.Breach.TheVariants as breach
 use Rattle.wm_check.specs.declared.verdict.Certificate.{Certificate}
 use Rattle.wm_check.specs.declared.verdict.Verdict.{Verdict}

@@ -18,7 +18,7 @@ use wm_event::{Candidate, Judgement, Log, Misshapen, ShapeFault, ThreadLog, Witn
 use wm_list::List;
 use wm_logfile::{DocFault, ReadingRoom, read_document_in};
 use wm_machine::CodePosition;
-use wm_replay::{Replayed, ReplayAnswer, replay_with_positions};
+use wm_replay::{ReplayAnswer, Replayed, replay_with_positions};
 use wm_rules::judge;
 use wm_valid::{ValidFault, ValidModule, validate};
 
