@@ -1,28 +1,28 @@
 -- The place of the first fault of a document.
-use Rattle.std.proofs.Common.{◌≡◌, ℕ, zero, suc, ◌+◌, ◌<◌, ◌≤◌, ◌⊎◌, inl, inr, ◌||◌, Bool, true, false, cond, eqb, leb, List, [], ◌∷◌, length, Option, Some, None, option_and_then, refl, sym, ap, subst, ◌∙◌, arith}
+use Rattle.std.proofs.Common.{◌≡◌, ℕ, ◌≤◌, ◌⊎◌, inl, inr, ◌||◌, Bool, true, false, cond, eqb, leb, List, [], ◌∷◌, length, Option, Some, None, option_and_then, refl, sym, ap, ◌∙◌, arith}
 use Rattle.std.proofs.lemmas.Bool.{ne_eqb}
 use Rattle.std.proofs.lemmas.Option.{same_Some}
 use Rattle.std.specs.Option.{option_or, option_map_or, unwrap_or}
-use Rattle.serde_json.specs.Data.{Data, Num, number, unsigned, negative, float}
-use Rattle.serde_json.specs.Find.{at, as_number, as_u64}
+use Rattle.serde_json.specs.Data.{Data, Num, unsigned, negative, float}
+use Rattle.serde_json.specs.Find.{as_number, as_u64}
 use Rattle.wm_logfile.specs.declared.document.Version.{Version}
 use Rattle.wm_logfile.specs.declared.document.Version.TheVariants.{First, Second}
 use Rattle.wm_logfile.specs.declared.fault.DocFault.{DocFault}
-use Rattle.wm_logfile.specs.declared.fault.DocFault.TheVariants.{BadShape, BadVersion, NumberRange, TooLarge, OutOfMemory}
+use Rattle.wm_logfile.specs.declared.fault.DocFault.TheVariants.{BadShape, BadVersion, NumberRange, TooLarge}
 use Rattle.wm_logfile.specs.declared.fault.ReadFault.{ReadFault}
 use Rattle.wm_logfile.specs.declared.fault.ReadFault.TheVariants.{Shape, Range, Memory}
 use Rattle.wm_logfile.specs.Causes.{IsTextOf}
 use Rattle.wm_logfile.specs.Faults.{as_document}
-use Rattle.wm_logfile.specs.FirstFault.{as_first, document_fault, few_fault, in_document, pair_fault, parts_fault_with, threads_fault, version_fault}
-use Rattle.wm_logfile.specs.Forms.{Form, one_of, numbered, Fields, no_fields, field, exact_fault, fields_fault, first_fault, in_list, items_fault, numbered_fault, number_fault, unless}
+use Rattle.wm_logfile.specs.FirstFault.{as_first, document_fault, few_fault, pair_fault, parts_fault_with, threads_fault, version_fault}
+use Rattle.wm_logfile.specs.Forms.{Form, one_of, numbered, Fields, no_fields, field, exact_fault, fields_fault, first_fault, items_fault, numbered_fault, number_fault, unless}
 use Rattle.wm_logfile.specs.Grammar.{format_name, keys, thread, thread_by, witness, event, event_by, width, order, update_order, ending, result, trap, writers, writer, key, thread_writers}
 use Rattle.wm_logfile.specs.Limits.{max_document_bytes}
 use Rattle.wm_logfile.specs.Paths.{child}
 use Rattle.wm_logfile.specs.Places.{HasFaultAt, HasNumberAt, document_form, form_at, named_version, value_at}
 use Rattle.wm_logfile.specs.Reading.{◌>>=◌, list_at, version_at, version_from}
-use Rattle.wm_logfile.proofs.FaultSteps.{at-nth, moved, nth}
+use Rattle.wm_logfile.proofs.FaultSteps.{at-nth, nth}
 use Rattle.wm_logfile.proofs.Places.{IsPlaced, depth, placed}
-use Rattle.wm_logfile.proofs.Sizes.{size, size-document}
+use Rattle.wm_logfile.proofs.Sizes.{size-document}
 
 abbrev Found : Type 0
 Found = Option DocFault

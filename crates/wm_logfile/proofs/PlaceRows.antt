@@ -1,12 +1,12 @@
 -- Places of a few documents.
-use Rattle.std.proofs.Common.{◌≡◌, List, [], ◌∷◌, Some, None, refl}
+use Rattle.std.proofs.Common.{◌≡◌, [], ◌∷◌, Some, None, refl}
 use Rattle.std.specs.Prelude.{codes}
 use Rattle.serde_json.specs.Data.{Data, string}
 use Rattle.wm_logfile.specs.declared.document.Version.TheVariants.{First, Second}
 use Rattle.wm_logfile.specs.declared.fault.ReadFault.TheVariants.{Range}
 use Rattle.wm_logfile.specs.Document.{count, document_cells, list}
 use Rattle.wm_logfile.specs.Forms.{first_fault, word_of}
-use Rattle.wm_logfile.specs.Grammar.{event, event_by, thread, thread_by, witness, keys, key, writers, writer, width, order, small, ending}
+use Rattle.wm_logfile.specs.Grammar.{event, event_by, thread, thread_by, writers, writer, small, ending}
 use Rattle.wm_logfile.specs.Places.{document_form, form_at, named_version, value_at}
 
 -- a read, whose writer is of thread 2^32

@@ -7,7 +7,6 @@ use Rattle.wm_logfile.specs.declared.document.Version.{Version}
 use Rattle.wm_logfile.specs.declared.document.Version.TheVariants.{First, Second}
 use Rattle.wm_logfile.specs.declared.fault.DocFault.{DocFault}
 use Rattle.wm_logfile.specs.declared.fault.ReadFault.{ReadFault}
-use Rattle.wm_logfile.specs.declared.fault.ReadFault.TheVariants.{Shape, Range}
 use Rattle.wm_logfile.specs.Causes.{IsTextOf}
 use Rattle.wm_logfile.specs.FirstFault.{document_fault}
 use Rattle.wm_logfile.specs.Forms.{Form, up_to, one_of, word_of, text, items, numbered, fields, maybe, tagged, Fields, no_fields, field, Cases, no_cases, case, is_word, first_fault}
@@ -75,7 +74,7 @@ pub record HasFaultAt (fault : List ℕ → ReadFault) (path : List ℕ) (d : Da
   pub expected : form_at path (document_form (named_version d)) d ≡ Some form
   pub faulty : first_fault form [] value ≡ Some (fault [])
 
--- the path leads to such a number
+-- the path leads to a number
 pub record HasNumberAt (path : List ℕ) (d : Data) : Type 0 where
   pub given : Num
   pub found : value_at path d ≡ Some (number given)
