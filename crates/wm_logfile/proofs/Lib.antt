@@ -24,3 +24,8 @@ pub mod Digits
 pub mod TakingEvents
 pub mod TakingThreads
 pub mod TakingDocuments
+pub mod Sizes
+pub mod FaultSteps
+pub mod Places
+pub mod DocumentPlaces
+pub mod PlaceRows

@@ -14,3 +14,4 @@ pub mod DocumentBytes
 pub mod Migration
 pub mod Tokens
 pub mod Taking
+pub mod Places

@@ -24,6 +24,7 @@ mod event;
 mod fault;
 mod fields;
 mod items;
+mod law;
 mod migration;
 mod path;
 mod quick;
@@ -34,6 +35,7 @@ mod words;
 
 pub use document::{ReadingRoom, one_pair, read_document, read_document_in};
 pub use fault::DocFault;
+pub use law::fault_paths_lead_to_values;
 pub use migration::{migrate, write_and_read};
 pub use path::Path;
 pub use text::write_document;
