@@ -31,12 +31,13 @@ module _ (m : Module) (k : ℕ) (t : ThreadLog) (start : Config) (is_start : sta
       → steps m k start (reads_of t.events) j ≡ Some (so_far (config_of s) t.events n)
       → Steps m (config_of s) new t.events n (by_log.Stepped now)
       → NotesPosition s n old ps (by_log.Stepped now)
+      → s.module ≡ m
       → ArePositions m k t n old → ArePositions m k t now ps
-  positions_on s new j n now old ps so step (inl kept) are =
+  positions_on s new j n now old ps so step (inl kept) of_module are =
       subst (λ i. ArePositions m k t i ps) (sym kept.0) (subst (ArePositions m k t n) (sym kept.1) are)
-  positions_on s new j n now old ps so (inl local) (inr noted) are =
+  positions_on s new j n now old ps so (inl local) (inr noted) of_module are =
       absurd (let a = local.0 in let b = noted.0 in omega (arith, a, b))
-  positions_on s new j n now old ps so (inr made) (inr noted) are =
+  positions_on s new j n now old ps so (inr made) (inr noted) of_module are =
       subst (λ i. ArePositions m k t i ps) (sym noted.0) (subst (ArePositions m k t (n + 1)) (sym noted.1) record {
         count = length-append old (position_of s ∷ []) ∙ ap (λ i. i + 1) are.count;
         each = all_and_one (IsMadeAt m k t) old (position_of s) are.each
@@ -44,10 +45,11 @@ module _ (m : Module) (k : ℕ) (t : ThreadLog) (start : Config) (is_start : sta
               start = start;
               is_start = is_start;
               state = s;
+              runs_module = of_module;
               count = j;
               ran_so = so;
               next = new;
               makes = made.1;
-              stands = refl;
+              is_position = refl;
             });
       })

@@ -21,11 +21,12 @@ pub record IsMadeAt (m : Module) (k : ℕ) (t : ThreadLog) (n : ℕ) (position :
   pub start : Config
   pub is_start : start_of m t ≡ Ok start
   pub state : State
+  pub runs_module : state.module ≡ m
   pub count : ℕ
   pub ran_so : steps m k start (reads_of t.events) count ≡ Some record { events = take n t.events; config = config_of state; reads = reads_of (drop n t.events) }
   pub next : Config
   pub makes : Accesses m (config_of state) next t.events n
-  pub stands : position_of state ≡ position
+  pub is_position : position_of state ≡ position
 
 -- these are the positions of thread k's first n events
 pub record ArePositions (m : Module) (k : ℕ) (t : ThreadLog) (n : ℕ) (positions : List CodePosition) : Type 0 where

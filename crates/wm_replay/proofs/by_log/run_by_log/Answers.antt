@@ -27,7 +27,7 @@ loop-steps-preserved c =
       within = on.0;
       «module» = same;
       followed = runs_in m c.step_by_log.new.thread.module c.args.number start _ (c.loop-steps.steps + 1) _ same on.1;
-      positions = positions_on m c.args.number t start c.requires.start c.loop-steps.thread new c.loop-steps.steps n now positions _ so_far.ran_so stepped noted c.loop-steps.invariant.positions;
+      positions = positions_on m c.args.number t start c.requires.start c.loop-steps.thread new c.loop-steps.steps n now positions _ so_far.ran_so stepped noted c.loop-steps.invariant.module c.loop-steps.invariant.positions;
     }
 
 pub loop-steps-init : goal.loop-steps-init
