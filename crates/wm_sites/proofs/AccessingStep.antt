@@ -1,5 +1,5 @@
 -- A thread that makes an access is at an instruction.
-use Rattle.std.proofs.Common.{◌≡◌, ℕ, zero, suc, ◌<◌, ◌≤◌, List, [], ◌∷◌, drop, length, get_or, Option, Some, None, refl, sym, ap, ◌∙◌, slice_get, ⊎_elim}
+use Rattle.std.proofs.Common.{◌≡◌, ℕ, zero, suc, ◌<◌, ◌≤◌, List, [], ◌∷◌, length, get_or, Option, Some, None, refl, sym, ap, ◌∙◌, slice_get, ⊎_elim}
 use Rattle.std.specs.Prelude.{option_and_then}
 use Rattle.std.proofs.lemmas.List.{drop_all}
 use Rattle.std.proofs.lemmas.Option.{none-some, slice_get_cases}
@@ -11,7 +11,7 @@ use Rattle.wm_event.specs.declared.log.End.{End}
 use Rattle.wm_event.specs.declared.op.OpFields.{OpFields}
 use Rattle.wm_machine.specs.declared.call_frame.CallFrame.{CallFrame}
 use Rattle.wm_machine.specs.declared.value.TypedValue.{TypedValue}
-use Rattle.wm_machine.specs.Configuration.{around, left_of, under, waiting}
+use Rattle.wm_machine.specs.Configuration.{around, under, waiting}
 use Rattle.wm_machine.specs.Functions.{continuation, from_place}
 use Rattle.wm_machine.specs.Inside.{made_of}
 use Rattle.wm_machine.specs.Nest.{Position}

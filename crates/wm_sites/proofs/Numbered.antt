@@ -1,12 +1,12 @@
 -- Each instruction of the blocks that bytes spell is an opcode with a number, and as many opcodes are spelled before it.
 use Rattle.std.proofs.Common.{◌≡◌, ℕ, zero, suc, ◌+◌, ◌<◌, ◌≤◌, Bool, true, false, List, [], ◌∷◌, ◌++◌, length, Option, Some, None, refl, sym, ap, subst, ◌∙◌, slice_get, ⊎_elim, inl, inr, append_assoc, arith}
-use Rattle.std.specs.Prelude.{◌⊎◌, Result, Ok, Err, nat_lt, if◌then◌else◌}
+use Rattle.std.specs.Prelude.{◌⊎◌, Ok, Err, nat_lt, if◌then◌else◌}
 use Rattle.std.proofs.lemmas.Option.{none-some, same_Some}
 use Rattle.wm_ast.specs.declared.types.ValType.{ValType}
 use Rattle.wm_ast.specs.declared.instr.Else.TheVariants.{Present}
 use Rattle.wm_ast.specs.declared.instr.Instr.{Instr}
 use Rattle.wm_ast.specs.declared.instr.Instr.TheVariants.{If}
-use Rattle.wm_decode.specs.Instructions.{block_type, indexed_instr, Immediates, alone, indexed, br_table, access, memory_size, i32_const, i64_const, atomic, Plain, plain_instr, Spells, none, plain, block, loop, if_then, if_else}
+use Rattle.wm_decode.specs.Instructions.{block_type, indexed_instr, alone, indexed, br_table, access, memory_size, i32_const, i64_const, atomic, Plain, plain_instr, Spells, none, plain, block, loop, if_then, if_else}
 use Rattle.wm_decode.specs.Reading.{signed_at, unsigned_at}
 use Rattle.wm_decode.specs.ReadingVectors.{vector_at}
 use Rattle.wm_decode.specs.ReadingInstructions.{InstrAt, immediates_at, access_at, atomic_access_at}

@@ -9,8 +9,8 @@ use Rattle.wm_decode.specs.Instructions.{plain_instr}
 use Rattle.wm_decode.specs.Module.{SpellsWithin}
 use Rattle.wm_machine.specs.declared.thread.CodePosition.{CodePosition}
 use Rattle.wm_sites.specs.declared.opcode_numbers.BlockPosition.{BlockPosition}
-use Rattle.wm_sites.specs.Numbering.{begin_of, IsNumbered}
-use Rattle.wm_sites.specs.Offsets.{OpcodeText, plain, begin_block, begin_loop, begin_if, else_between, end_after, OpcodeTexts, no_opcode, opcode, OpcodeBegins}
+use Rattle.wm_sites.specs.Numbering.{begin_of}
+use Rattle.wm_sites.specs.Offsets.{OpcodeText, plain, begin_block, begin_loop, begin_if, else_between, end_after, OpcodeTexts, no_opcode, opcode}
 use Rattle.wm_sites.specs.Opcodes.{HasOpcode}
 use Rattle.wm_sites.specs.Sites.{in_function}
 use Rattle.wm_sites.proofs.AccessingStep.{HasInstr}

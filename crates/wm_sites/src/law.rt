@@ -11,8 +11,6 @@ ghost use Rattle.wm_sites.specs.Opcodes.{HasOpcode};
 /// function and begins at a byte offset (Core 1.0, sections 5.4 and 5.5.13). The thread that makes the event runs this
 /// module.
 pub fn made_at_opcodes()
-    ensures {
-        (bytes : List ℕ) (m : Module) (k : ℕ) (t : ThreadLog) (n : ℕ) (p : CodePosition)
-            → (made : IsMadeAt m k t n p) → made.state.module ≡ m → SpellsWithin bytes m → HasOpcode bytes m p
-    }
+    ensures { (bytes : List ℕ) (m : Module) (k : ℕ) (t : ThreadLog) (n : ℕ) (p : CodePosition)
+        → (made : IsMadeAt m k t n p) → made.state.module ≡ m → SpellsWithin bytes m → HasOpcode bytes m p }
 {}
