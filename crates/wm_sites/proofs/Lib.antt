@@ -5,3 +5,8 @@ pub mod NumberingLaws
 pub mod Noting
 pub mod AllNumbered
 pub mod FunctionMaps
+pub mod Numbered
+pub mod CodeBytes
+pub mod AccessingStep
+pub mod NumberedPositions
+pub mod MadeAtOpcodes

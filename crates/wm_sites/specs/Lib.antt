@@ -1,2 +1,4 @@
 pub mod Numbering
 pub mod Sites
+pub mod Offsets
+pub mod Opcodes

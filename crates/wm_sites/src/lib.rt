@@ -4,10 +4,12 @@
 
 mod code_map;
 mod event_positions;
+mod law;
 mod module_code;
 mod opcode_numbers;
 mod sites;
 
 pub use code_map::CodeMap;
+pub use law::made_at_opcodes;
 pub use module_code::ModuleCode;
 pub use sites::{RunSites, event_sites, position_sites};
