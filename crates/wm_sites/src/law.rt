@@ -1,5 +1,5 @@
 //! What holds of the instructions that make events, in a module that bytes spell.
-ghost use Rattle.std.specs.Prelude.{◌≡◌, ℕ, List};
+ghost use Rattle.std.specs.Prelude.{ℕ, List};
 ghost use Rattle.wm_ast.specs.declared.module.Module.{Module};
 ghost use Rattle.wm_decode.specs.Module.{SpellsWithin};
 ghost use Rattle.wm_event.specs.declared.log.ThreadLog.{ThreadLog};
@@ -8,9 +8,8 @@ ghost use Rattle.wm_replay.specs.Positions.{IsMadeAt};
 ghost use Rattle.wm_sites.specs.Opcodes.{HasOpcode};
 
 /// In a module that bytes spell, each event of a thread is made at an opcode, which has a number below 1,048,576 in its
-/// function and begins at a byte offset (Core 1.0, sections 5.4 and 5.5.13). The thread that makes the event runs this
-/// module.
+/// function and begins at a byte offset (Core 1.0, sections 5.4 and 5.5.13).
 pub fn made_at_opcodes()
     ensures { (bytes : List ℕ) (m : Module) (k : ℕ) (t : ThreadLog) (n : ℕ) (p : CodePosition)
-        → (made : IsMadeAt m k t n p) → made.state.module ≡ m → SpellsWithin bytes m → HasOpcode bytes m p }
+        → SpellsWithin bytes m → IsMadeAt m k t n p → HasOpcode bytes m p }
 {}
