@@ -1,0 +1,5 @@
+pub mod NumberSteps
+pub mod Values
+pub mod Steps
+pub mod NumbersSteps
+pub mod SectionSteps
