@@ -3,3 +3,5 @@ pub mod Values
 pub mod Steps
 pub mod NumbersSteps
 pub mod SectionSteps
+pub mod OpcodeSteps
+pub mod ImmediateSteps

@@ -1,8 +1,9 @@
 -- One text after another.
-use Rattle.std.proofs.Common.{◌≡◌, ℕ, ◌+◌, ◌<◌, ◌≤◌, List, [], ◌∷◌, ◌++◌, length, drop, min, refl, sym, ap, subst, ◌∙◌, append_assoc, length-append, length-drop, arith}
+use Rattle.std.proofs.Common.{◌≡◌, ℕ, ◌+◌, ◌<◌, ◌≤◌, List, [], ◌∷◌, ◌++◌, length, drop, min, Option, None, refl, sym, ap, subst, ◌∙◌, append_assoc, length-append, length-drop, arith}
 use Rattle.std.proofs.lemmas.List.{drop-drop, drop_at}
 use Rattle.wm_module_bytes.specs.declared.byte_reader.ByteReader.{ByteReader}
-use Rattle.wm_module_bytes.specs.Reading.{Moves, Next}
+use Rattle.std.proofs.lemmas.Option.{none-some}
+use Rattle.wm_module_bytes.specs.Reading.{Moves, Next, Reads}
 
 pub next_front : (reader : ByteReader) (first second : List ℕ) → Next reader (first ++ second) → Next reader first
 next_front reader first second next = record { rest = second ++ next.rest; begins = next.begins ∙ append_assoc first second next.rest }
@@ -38,3 +39,21 @@ skipped reader count sum text next same fits bounded is =
     let all : length (drop reader.at reader.bytes.now) ≡ length text + length next.rest = ap length next.begins ∙ length-append text next.rest in
     let exact : sum ≡ reader.at + count = omega (arith, is, all, same, fits, bounded, length-drop reader.at reader.bytes.now) in
     ap (λ (n : ℕ). record reader { at = n }) exact
+
+pub moves_both : (start now new : ByteReader) (first second : List ℕ) → Moves start now (length first) → Moves now new (length second) → Moves start new (length (first ++ second))
+moves_both start now new first second one two = moves_twice start now new (length first) (length second) (length (first ++ second)) one two (sym (length-append first second))
+
+-- one text is read, and then another
+pub reads_both : {X Y : Type 0} (start now new : ByteReader) (text first second : List ℕ) (one : Option X) (two : Option Y) (x : X) (y : Y) → text ≡ first ++ second
+    → Reads start now first one x → Reads now new second two y → Reads start new text two y
+reads_both start now new text first second one two x y parts a b = record {
+  gives = b.gives;
+  moves = subst (λ (t : List ℕ). Moves start new (length t)) (sym parts) (moves_both start now new first second a.moves b.moves);
+}
+
+pub next_parts : (reader : ByteReader) (text other : List ℕ) → text ≡ other → Next reader text → Next reader other
+next_parts reader text other same next = subst (Next reader) same next
+
+-- what is read is there
+pub always : {X : Type 0} {start now : ByteReader} {text : List ℕ} {answer : Option X} {x : X} → Reads start now text answer x → answer ≡ None → ⊥
+always {x = x} read none = none-some x (sym none ∙ read.gives)
