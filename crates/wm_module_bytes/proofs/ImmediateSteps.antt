@@ -1,11 +1,11 @@
 -- The immediates of an opcode are skipped: an alignment, a vector of integers.
-use Rattle.std.proofs.Common.{◌≡◌, ℕ, ◌<◌, ◌≤◌, List, ◌++◌, length, Option, Some, None, refl, sym, ap, subst, ◌∙◌, arith}
+use Rattle.std.proofs.Common.{◌≡◌, ℕ, ◌<◌, ◌≤◌, List, ◌++◌, length, Option, Some, None, refl, sym, subst, ◌∙◌, arith}
 use Rattle.std.proofs.lemmas.Option.{same_Some}
 use Rattle.wm_module_bytes.specs.declared.byte_reader.ByteReader.{ByteReader}
 use Rattle.wm_module_bytes.specs.Instructions.{HasVector, IsAlignment, alone, with_memory}
 use Rattle.wm_module_bytes.specs.Reading.{AreNumbers, IsNumber, Moves, Next, Reads, value_of}
 use Rattle.wm_module_bytes.proofs.SectionSteps.{ReadsNumber}
-use Rattle.wm_module_bytes.proofs.Steps.{always, moves_both, next_front, next_parts, next_past, reads_both}
+use Rattle.wm_module_bytes.proofs.Steps.{always, next_front, next_parts, next_past, reads_both}
 
 -- how an integer of at most ten bytes is skipped
 abbrev pub SkipsNumber : ByteReader → ByteReader → Option (Unit {0}) → Type 0

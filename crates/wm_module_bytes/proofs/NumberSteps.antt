@@ -1,5 +1,5 @@
 -- Integers that are read byte by byte.
-use Rattle.std.proofs.Common.{◌≡◌, ℕ, zero, suc, ◌+◌, ◌*◌, ◌%◌, ◌<◌, ◌≤◌, List, [], ◌∷◌, ◌++◌, length, drop, Option, Some, None, refl, sym, ap, subst, ◌∙◌, slice_get, arith}
+use Rattle.std.proofs.Common.{◌≡◌, ℕ, zero, suc, ◌+◌, ◌<◌, ◌≤◌, List, [], ◌∷◌, length, drop, Some, None, refl, sym, ap, subst, ◌∙◌, slice_get, arith}
 use Rattle.std.proofs.lemmas.List.{drop-drop}
 use Rattle.std.proofs.lemmas.Option.{none-some, same_Some}
 use Rattle.wm_module_bytes.specs.declared.byte_reader.ByteReader.{ByteReader}
@@ -51,7 +51,7 @@ byte_step {start} {now} {new} {text} {count = count} {b = b} (more {b = x} {text
     let is_high : 128 ≤ b = subst (λ (y : ℕ). 128 ≤ y) same high in
     let left : count + 1 + length rest ≡ length text = omega (arith, sum) in
     subst (λ (y : ℕ). ByteOf start new text count b (y ∷ rest)) (sym same)
-        (before_last is_high (next_after now new x rest next moves) number (moves_twice start now new count 1 (count + 1) moved moves refl) left)
+    (before_last is_high (next_after now new x rest next moves) number (moves_twice start now new count 1 (count + 1) moved moves refl) left)
 
 pub byte_read : (start now new : ByteReader) (text : List ℕ) (count b : ℕ) (part : Partly start now text count) → slice_get now.bytes.now now.at ≡ Some b → Moves now new 1
     → ByteOf start new text count b part.todo

@@ -1,5 +1,5 @@
 -- Integers that are skipped one after the other.
-use Rattle.std.proofs.Common.{◌≡◌, ℕ, ◌+◌, ◌-◌, ◌<◌, ◌≤◌, List, [], ◌++◌, length, Option, Some, None, refl, sym, ap, subst, ◌∙◌, length-append, arith}
+use Rattle.std.proofs.Common.{◌≡◌, ℕ, ◌+◌, ◌<◌, ◌≤◌, List, ◌++◌, length, Option, None, refl, sym, ap, subst, ◌∙◌, length-append, arith}
 use Rattle.std.proofs.lemmas.Option.{none-some}
 use Rattle.wm_module_bytes.specs.declared.byte_reader.ByteReader.{ByteReader}
 use Rattle.wm_module_bytes.specs.Reading.{AreNumbers, IsNumber, Moves, Next, Reads, no_number, one_more}

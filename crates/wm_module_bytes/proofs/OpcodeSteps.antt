@@ -1,11 +1,11 @@
 -- An opcode is read: its byte, and the code after a prefix.
-use Rattle.std.proofs.Common.{◌≡◌, ℕ, ◌+◌, ◌<◌, ◌≤◌, List, [], ◌∷◌, ◌++◌, length, Option, Some, None, refl, sym, ap, subst, ◌∙◌, slice_get, inl, inr, arith}
+use Rattle.std.proofs.Common.{◌≡◌, ℕ, ◌<◌, ◌≤◌, List, [], ◌∷◌, length, Option, Some, None, sym, ap, ◌∙◌, slice_get, inl, inr, arith}
 use Rattle.std.specs.Prelude.{◌⊎◌}
 use Rattle.std.proofs.lemmas.Option.{none-some, same_Some}
 use Rattle.wm_module_bytes.specs.declared.byte_reader.ByteReader.{ByteReader}
 use Rattle.wm_module_bytes.specs.declared.instruction.Opcode.{Opcode}
 use Rattle.wm_module_bytes.specs.Instructions.{IsOpcode, plain, prefixed}
-use Rattle.wm_module_bytes.specs.Reading.{IsNumber, Moves, Next, Reads, value_of}
+use Rattle.wm_module_bytes.specs.Reading.{Moves, Next, Reads, value_of}
 use Rattle.wm_module_bytes.proofs.NumberSteps.{next_after, next_byte}
 use Rattle.wm_module_bytes.proofs.SectionSteps.{ReadsNumber}
 use Rattle.wm_module_bytes.proofs.Steps.{moves_twice}

@@ -1,12 +1,12 @@
 -- A section is read: its number, its size, its contents.
-use Rattle.std.proofs.Common.{◌≡◌, ℕ, ◌+◌, ◌<◌, ◌≤◌, List, ◌∷◌, ◌++◌, length, Option, Some, None, refl, sym, ap, subst, ◌∙◌, length-append, slice_get, arith}
+use Rattle.std.proofs.Common.{◌≡◌, ℕ, ◌+◌, ◌<◌, ◌≤◌, List, ◌∷◌, ◌++◌, length, Option, Some, None, refl, sym, ap, ◌∙◌, length-append, slice_get, arith}
 use Rattle.std.specs.Prelude.{IsSome}
 use Rattle.std.proofs.lemmas.Option.{none-some, same_Some}
 use Rattle.wm_module_bytes.specs.declared.byte_reader.ByteReader.{ByteReader}
 use Rattle.wm_module_bytes.specs.declared.byte_reader.Section.{Section}
 use Rattle.wm_module_bytes.specs.Reading.{IsNumber, Moves, Next, Reads, ReadsSection, value_of}
 use Rattle.wm_module_bytes.proofs.NumberSteps.{next_after, next_byte}
-use Rattle.wm_module_bytes.proofs.Steps.{moves_twice, next_front, next_past, within}
+use Rattle.wm_module_bytes.proofs.Steps.{moves_twice, next_front, within}
 
 -- how the function number reads
 abbrev pub ReadsNumber : ByteReader → ByteReader → Option ℕ → Type 0

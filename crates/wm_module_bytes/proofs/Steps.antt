@@ -1,5 +1,5 @@
 -- One text after another.
-use Rattle.std.proofs.Common.{◌≡◌, ℕ, ◌+◌, ◌<◌, ◌≤◌, List, [], ◌∷◌, ◌++◌, length, drop, min, Option, None, refl, sym, ap, subst, ◌∙◌, append_assoc, length-append, length-drop, arith}
+use Rattle.std.proofs.Common.{◌≡◌, ℕ, ◌+◌, ◌<◌, ◌≤◌, List, ◌++◌, length, drop, min, Option, None, refl, sym, ap, subst, ◌∙◌, append_assoc, length-append, length-drop, arith}
 use Rattle.std.proofs.lemmas.List.{drop-drop, drop_at}
 use Rattle.wm_module_bytes.specs.declared.byte_reader.ByteReader.{ByteReader}
 use Rattle.std.proofs.lemmas.Option.{none-some}

@@ -1,5 +1,5 @@
 -- Opcodes and their immediates (Core 1.0, section 5.4; threads proposal, "Atomic Memory Instructions").
-use Rattle.std.specs.Prelude.{◌≡◌, ℕ, ◌+◌, ◌<◌, ◌≤◌, List, [], ◌∷◌, ◌++◌, length, nat_lt, if◌then◌else◌, Option, Some, None}
+use Rattle.std.specs.Prelude.{◌≡◌, ℕ, ◌<◌, ◌≤◌, List, [], ◌∷◌, ◌++◌, length, nat_lt, if◌then◌else◌, Option, Some, None}
 use Rattle.wm_module_bytes.specs.declared.instruction.Immediates.{Immediates}
 use Rattle.wm_module_bytes.specs.declared.instruction.Immediates.TheVariants.{Fixed, Access, Vector, BlockType}
 use Rattle.wm_module_bytes.specs.declared.instruction.Opcode.{Opcode}

@@ -129,10 +129,8 @@ impl<'a> ByteReader<'a> {
 
     /// A section or a subsection (Core 1.0, section 5.5.2); None if it is cut off.
     pub fn section(&mut self) -> Option<Section<'a>>
-        ensures {
-            (id : ℕ) (size contents : List ℕ) → Next self.old (id ∷ (size ++ contents)) → IsNumber size → length size ≤ 5
-                → value_of size ≡ length contents → ReadsSection self.old self.new id size contents result
-        }
+        ensures { (id : ℕ) (size contents : List ℕ) → Next self.old (id ∷ (size ++ contents)) → IsNumber size → length size ≤ 5
+            → value_of size ≡ length contents → ReadsSection self.old self.new id size contents result }
     {
         let id = self.byte()?;
         let size = self.number()?;

@@ -1,4 +1,4 @@
-use Rattle.std.proofs.Common.{refl, sym, ◌∙◌}
+use Rattle.std.proofs.Common.{refl}
 use Rattle.wm_module_bytes.proofs.SectionSteps.{id_is, id_there, room, section_read, size_is, size_there, some_none}
 use Rattle.wm_module_bytes.proofs.byte_reader.ByteReader.section.Goals as goal
 

@@ -1,4 +1,4 @@
-use Rattle.std.proofs.Common.{ℕ, ◌<◌, length, rules}
+use Rattle.std.proofs.Common.{◌<◌, length, rules}
 use Rattle.wm_module_bytes.proofs.Steps.{skipped}
 use Rattle.wm_module_bytes.proofs.byte_reader.ByteReader.skip.Goals as goal
 

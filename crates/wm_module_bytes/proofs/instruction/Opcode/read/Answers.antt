@@ -1,4 +1,4 @@
-use Rattle.std.proofs.Common.{ℕ, ◌<◌, ◌≤◌, ◌∙◌, sym, inl, inr, arith}
+use Rattle.std.proofs.Common.{◌<◌, ◌≤◌, ◌∙◌, sym, inl, inr, arith}
 use Rattle.wm_module_bytes.proofs.OpcodeSteps.{code_there, opcode_there, plain_read, prefixed_read}
 use Rattle.wm_module_bytes.proofs.instruction.Opcode.read.Goals as goal
 
