@@ -3,17 +3,8 @@ use Rattle.std.proofs.Common.{◌≡◌, ℕ, ◌<◌, ◌≤◌, List, ◌++◌
 use Rattle.std.proofs.lemmas.Option.{same_Some}
 use Rattle.wm_module_bytes.specs.declared.byte_reader.ByteReader.{ByteReader}
 use Rattle.wm_module_bytes.specs.Instructions.{HasVector, IsAlignment, alone, with_memory}
-use Rattle.wm_module_bytes.specs.Reading.{AreNumbers, IsNumber, Moves, Next, Reads, value_of}
-use Rattle.wm_module_bytes.proofs.SectionSteps.{ReadsNumber}
+use Rattle.wm_module_bytes.specs.Reading.{AreNumbers, Moves, Next, Reads, ReadsNumber, SkipsNumber, SkipsNumbers, value_of}
 use Rattle.wm_module_bytes.proofs.Steps.{always, next_front, next_parts, next_past, reads_both}
-
--- how an integer of at most ten bytes is skipped
-abbrev pub SkipsNumber : ByteReader → ByteReader → Option (Unit {0}) → Type 0
-SkipsNumber old new answer = (text : List ℕ) → Next old text → IsNumber text → length text ≤ 10 → Reads old new text answer (tt {0})
-
--- how this number of integers is skipped
-abbrev pub SkipsNumbers : ℕ → ByteReader → ByteReader → Option (Unit {0}) → Type 0
-SkipsNumbers count old new answer = (text : List ℕ) → Next old text → AreNumbers count text → Reads old new text answer (tt {0})
 
 -- ---- an alignment
 

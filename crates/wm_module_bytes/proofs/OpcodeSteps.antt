@@ -5,9 +5,8 @@ use Rattle.std.proofs.lemmas.Option.{none-some, same_Some}
 use Rattle.wm_module_bytes.specs.declared.byte_reader.ByteReader.{ByteReader}
 use Rattle.wm_module_bytes.specs.declared.instruction.Opcode.{Opcode}
 use Rattle.wm_module_bytes.specs.Instructions.{IsOpcode, plain, prefixed}
-use Rattle.wm_module_bytes.specs.Reading.{Moves, Next, Reads, value_of}
+use Rattle.wm_module_bytes.specs.Reading.{Moves, Next, Reads, ReadsNumber, value_of}
 use Rattle.wm_module_bytes.proofs.NumberSteps.{next_after, next_byte}
-use Rattle.wm_module_bytes.proofs.SectionSteps.{ReadsNumber}
 use Rattle.wm_module_bytes.proofs.Steps.{moves_twice}
 
 pub opcode_there : {start : ByteReader} {text : List ℕ} {opcode : Opcode} → IsOpcode text opcode → Next start text → slice_get start.bytes.now start.at ≡ None → ⊥

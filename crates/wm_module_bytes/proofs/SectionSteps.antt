@@ -4,19 +4,15 @@ use Rattle.std.specs.Prelude.{IsSome}
 use Rattle.std.proofs.lemmas.Option.{none-some, same_Some}
 use Rattle.wm_module_bytes.specs.declared.byte_reader.ByteReader.{ByteReader}
 use Rattle.wm_module_bytes.specs.declared.byte_reader.Section.{Section}
-use Rattle.wm_module_bytes.specs.Reading.{IsNumber, Moves, Next, Reads, ReadsSection, value_of}
+use Rattle.wm_module_bytes.specs.Reading.{FindsSection, IsSized, Moves, Next, Reads, ReadsNumber, value_of}
 use Rattle.wm_module_bytes.proofs.NumberSteps.{next_after, next_byte}
 use Rattle.wm_module_bytes.proofs.Steps.{moves_twice, next_front, within}
-
--- how the function number reads
-abbrev pub ReadsNumber : ByteReader → ByteReader → Option ℕ → Type 0
-ReadsNumber old new answer = (text : List ℕ) → Next old text → IsNumber text → length text ≤ 5 → Reads old new text answer (value_of text)
 
 pub some_none : {X : Type 0} (answer : Option X) → IsSome answer → answer ≡ None → ⊥
 some_none None is none = absurd (cc)
 some_none (Some x) is none = none-some x (sym none)
 
-module _ (start : ByteReader) (id : ℕ) (size contents : List ℕ) (next : Next start (id ∷ (size ++ contents))) (number : IsNumber size) (short : length size ≤ 5) where
+module _ (start : ByteReader) (id : ℕ) (size contents : List ℕ) (next : Next start (id ∷ (size ++ contents))) (sized : IsSized size contents) where
   pub id_there : (answer : Option ℕ) → answer ≡ slice_get start.bytes.now start.at → answer ≡ None → ⊥
   id_there answer is none = none-some id (sym none ∙ is ∙ next_byte start id (size ++ contents) next)
 
@@ -28,13 +24,13 @@ module _ (start : ByteReader) (id : ℕ) (size contents : List ℕ) (next : Next
     at_size = next_after start second id (size ++ contents) next first_moves
 
     size_read : Reads second third size size_answer (value_of size)
-    size_read = reads size (next_front second size contents at_size) number short
+    size_read = reads size (next_front second size contents at_size) sized.number sized.short
 
     pub size_there : size_answer ≡ None → ⊥
     size_there none = none-some (value_of size) (sym none ∙ size_read.gives)
 
-    pub size_is : (count : ℕ) → size_answer ≡ Some count → value_of size ≡ length contents → count ≡ length contents
-    size_is count given is = same_Some count (value_of size) (sym given ∙ size_read.gives) ∙ is
+    pub size_is : (count : ℕ) → size_answer ≡ Some count → count ≡ length contents
+    size_is count given = same_Some count (value_of size) (sym given ∙ size_read.gives) ∙ sized.sized
 
     both_moves : Moves start third (1 + length size)
     both_moves = moves_twice start second third 1 (length size) (1 + length size) first_moves size_read.moves refl
@@ -48,7 +44,7 @@ module _ (start : ByteReader) (id : ℕ) (size contents : List ℕ) (next : Next
         omega (arith, all, place, bytes, same, length-append size contents)
 
     pub section_read : (fourth : ByteReader) (count : ℕ) (section : Section) → count ≡ length contents → Moves third fourth count → section.id ≡ id → section.start ≡ third.at
-        → ReadsSection start fourth id size contents (Some section)
+        → FindsSection start fourth id size contents (Some section)
     section_read fourth count section same moves is_id is_start = record {
       section = section;
       gives = refl;

@@ -1,14 +1,20 @@
 -- Opcodes and their immediates (Core 1.0, section 5.4; threads proposal, "Atomic Memory Instructions").
 use Rattle.std.specs.Prelude.{◌≡◌, ℕ, ◌<◌, ◌≤◌, List, [], ◌∷◌, ◌++◌, length, nat_lt, if◌then◌else◌, Option, Some, None}
+use Rattle.wm_module_bytes.specs.declared.byte_reader.ByteReader.{ByteReader}
 use Rattle.wm_module_bytes.specs.declared.instruction.Immediates.{Immediates}
 use Rattle.wm_module_bytes.specs.declared.instruction.Immediates.TheVariants.{Fixed, Access, Vector, BlockType}
 use Rattle.wm_module_bytes.specs.declared.instruction.Opcode.{Opcode}
-use Rattle.wm_module_bytes.specs.Reading.{AreNumbers, IsNumber, value_of}
+use Rattle.wm_module_bytes.specs.Reading.{AreNumbers, IsNumber, Next, Reads, value_of}
 
 -- the bytes are an opcode: one byte, or a prefix and a code
 pub data IsOpcode : List ℕ → Opcode → Type 0 where
   plain : {b : ℕ} → b < 0xFC → IsOpcode (b ∷ []) (record { byte = b; code = 0 })
-  prefixed : {b : ℕ} {text : List ℕ} → 0xFC ≤ b → b ≤ 0xFE → IsNumber text → length text ≤ 5 → IsOpcode (b ∷ text) (record { byte = b; code = value_of text })
+  prefixed : {b : ℕ} {text : List ℕ} → 0xFC ≤ b → b ≤ 0xFE → IsNumber text → length text ≤ 5
+      → IsOpcode (b ∷ text) (record { byte = b; code = value_of text })
+
+-- an opcode that comes next is the answer
+abbrev pub ReadsOpcode : ByteReader → ByteReader → Option Opcode → Type 0
+ReadsOpcode old new answer = (text : List ℕ) (opcode : Opcode) → Next old text → IsOpcode text opcode → Reads old new text answer opcode
 
 -- the bytes are this number of integers, and then this number of bytes
 pub record HasFixed (n k : ℕ) (text : List ℕ) : Type 0 where
@@ -21,7 +27,8 @@ pub record HasFixed (n k : ℕ) (text : List ℕ) : Type 0 where
 -- the bytes are an alignment; the index of a memory follows one of 64 or more
 pub data IsAlignment : List ℕ → Type 0 where
   alone : {text : List ℕ} → IsNumber text → length text ≤ 5 → value_of text < 64 → IsAlignment text
-  with_memory : {text memory : List ℕ} → IsNumber text → length text ≤ 5 → 64 ≤ value_of text → IsNumber memory → length memory ≤ 10 → IsAlignment (text ++ memory)
+  with_memory : {text memory : List ℕ} → IsNumber text → length text ≤ 5 → 64 ≤ value_of text → IsNumber memory → length memory ≤ 10
+      → IsAlignment (text ++ memory)
 
 -- the bytes are an alignment, an offset, and then this number of bytes
 pub record HasAccess (k : ℕ) (text : List ℕ) : Type 0 where

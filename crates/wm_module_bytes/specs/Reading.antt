@@ -32,10 +32,32 @@ pub record Reads {X : Type 0} (old new : ByteReader) (text : List ℕ) (answer :
   pub gives : answer ≡ Some x
   pub moves : Moves old new (length text)
 
+-- an integer of at most five bytes that comes next is the answer
+abbrev pub ReadsNumber : ByteReader → ByteReader → Option ℕ → Type 0
+ReadsNumber old new answer = (text : List ℕ) → Next old text → IsNumber text → length text ≤ 5 → Reads old new text answer (value_of text)
+
+-- an integer of at most ten bytes that comes next is skipped
+abbrev pub SkipsNumber : ByteReader → ByteReader → Option (Unit {0}) → Type 0
+SkipsNumber old new answer = (text : List ℕ) → Next old text → IsNumber text → length text ≤ 10 → Reads old new text answer (tt {0})
+
+-- this number of integers that come next are skipped
+abbrev pub SkipsNumbers : ℕ → ByteReader → ByteReader → Option (Unit {0}) → Type 0
+SkipsNumbers count old new answer = (text : List ℕ) → Next old text → AreNumbers count text → Reads old new text answer (tt {0})
+
+-- the first bytes are the size of the others
+pub record IsSized (size contents : List ℕ) : Type 0 where
+  pub number : IsNumber size
+  pub short : length size ≤ 5
+  pub sized : value_of size ≡ length contents
+
 -- the answer is the section of this number with these contents, and the reader goes past it
-pub record ReadsSection (old new : ByteReader) (id : ℕ) (size contents : List ℕ) (answer : Option Section) : Type 0 where
+pub record FindsSection (old new : ByteReader) (id : ℕ) (size contents : List ℕ) (answer : Option Section) : Type 0 where
   pub section : Section
   pub gives : answer ≡ Some section
   pub is_id : section.id ≡ id
   pub is_start : section.start ≡ old.at + (1 + length size)
   pub moves : Moves old new (1 + (length size + length contents))
+
+-- a section that comes next is the answer
+abbrev pub ReadsSection : ByteReader → ByteReader → Option Section → Type 0
+ReadsSection old new answer = (id : ℕ) (size contents : List ℕ) → Next old (id ∷ (size ++ contents)) → IsSized size contents → FindsSection old new id size contents answer

@@ -1,6 +1,6 @@
 //! Reading the bytes of a module without judging them.
-ghost use Rattle.std.specs.Prelude.{◌≡◌, ◌+◌, ◌-◌, ◌^◌, ◌≤◌, ◌∷◌, ◌++◌, ℕ, List, IfSome, IsSome, length, min, slice_get};
-ghost use Rattle.wm_module_bytes.specs.Reading.{AreNumbers, IsNumber, Moves, Next, Reads, ReadsSection, value_of};
+ghost use Rattle.std.specs.Prelude.{◌≡◌, ◌+◌, ◌-◌, ◌^◌, ◌≤◌, ℕ, List, IfSome, IsSome, length, min, slice_get};
+ghost use Rattle.wm_module_bytes.specs.Reading.{Moves, Next, ReadsNumber, ReadsSection, SkipsNumber, SkipsNumbers};
 
 use std::str;
 
@@ -59,7 +59,7 @@ impl<'a> ByteReader<'a> {
 
     /// The unsigned integer of at most 32 bits that begins here (Core 1.0, section 5.2.2), if it ends within its bytes.
     pub fn number(&mut self) -> Option<usize>
-        ensures { (text : List ℕ) → Next self.old text → IsNumber text → length text ≤ 5 → Reads self.old self.new text result (value_of text) }
+        ensures { ReadsNumber self.old self.new result }
     {
         let mut number = 0usize;
         let mut scale = 1usize;
@@ -84,7 +84,7 @@ impl<'a> ByteReader<'a> {
 
     /// Skips an integer of at most 64 bits, signed or not.
     pub fn skip_number(&mut self) -> Option<()>
-        ensures { (text : List ℕ) → Next self.old text → IsNumber text → length text ≤ 10 → Reads self.old self.new text result tt }
+        ensures { SkipsNumber self.old self.new result }
     {
         for _count in 0..10usize {
             if self.byte()? < 128 {
@@ -96,7 +96,7 @@ impl<'a> ByteReader<'a> {
 
     /// Skips this number of integers.
     pub fn skip_numbers(&mut self, count: usize) -> Option<()>
-        ensures { (text : List ℕ) → Next self.old text → AreNumbers count text → Reads self.old self.new text result tt }
+        ensures { SkipsNumbers count self.old self.new result }
     {
         for _number in 0..count {
             self.skip_number()?;
@@ -129,8 +129,7 @@ impl<'a> ByteReader<'a> {
 
     /// A section or a subsection (Core 1.0, section 5.5.2); None if it is cut off.
     pub fn section(&mut self) -> Option<Section<'a>>
-        ensures { (id : ℕ) (size contents : List ℕ) → Next self.old (id ∷ (size ++ contents)) → IsNumber size → length size ≤ 5
-            → value_of size ≡ length contents → ReadsSection self.old self.new id size contents result }
+        ensures { ReadsSection self.old self.new result }
     {
         let id = self.byte()?;
         let size = self.number()?;

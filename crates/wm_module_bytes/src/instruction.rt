@@ -1,6 +1,6 @@
 //! Instructions of any part of WebAssembly, as far as needed to find the next one.
 ghost use Rattle.std.specs.Prelude.{◌≡◌, ◌≢◌, ◌<◌, ℕ, List};
-ghost use Rattle.wm_module_bytes.specs.Instructions.{HasAccess, HasFixed, HasImmediates, HasVector, IsAlignment, IsOpcode, in_ranges, plain_ranges};
+ghost use Rattle.wm_module_bytes.specs.Instructions.{HasAccess, HasFixed, HasImmediates, HasVector, IsAlignment, ReadsOpcode, in_ranges, plain_ranges};
 ghost use Rattle.wm_module_bytes.specs.Reading.{Next, Reads};
 
 use crate::byte_reader::ByteReader;
@@ -15,7 +15,7 @@ pub struct Opcode {
 impl Opcode {
     /// Reads an opcode.
     pub fn read(reader: &mut ByteReader) -> Option<Opcode>
-        ensures { (text : List ℕ) (opcode : Opcode) → Next reader.old text → IsOpcode text opcode → Reads reader.old reader.new text result opcode }
+        ensures { ReadsOpcode reader.old reader.new result }
     {
         let byte = reader.byte()?;
         let code = match byte {
