@@ -5,3 +5,8 @@ pub mod NumberingLaws
 pub mod Noting
 pub mod AllNumbered
 pub mod FunctionMaps
+pub mod Spelled
+pub mod Series
+pub mod CodeSection
+pub mod OpcodeForms
+pub mod OpcodeShapes

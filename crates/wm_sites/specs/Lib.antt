@@ -1,2 +1,4 @@
+pub mod Bodies
 pub mod Numbering
+pub mod Offsets
 pub mod Sites

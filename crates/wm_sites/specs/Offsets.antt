@@ -10,9 +10,9 @@ use Rattle.wm_decode.specs.Parts.{Locals}
 -- the bytes are one opcode with its immediates: an instruction without blocks, the begin of a block, an `else` or an `end`
 pub data OpcodeText : List ℕ → Type 0 where
   plain : {text : List ℕ} {i : Instr} → Plain text i → OpcodeText text
-  begin_block : {ty : Option ValType} → OpcodeText (0x02 ∷ block_type ty ∷ [])
-  begin_loop : {ty : Option ValType} → OpcodeText (0x03 ∷ block_type ty ∷ [])
-  begin_if : {ty : Option ValType} → OpcodeText (0x04 ∷ block_type ty ∷ [])
+  begin_block : (ty : Option ValType) → OpcodeText (0x02 ∷ block_type ty ∷ [])
+  begin_loop : (ty : Option ValType) → OpcodeText (0x03 ∷ block_type ty ∷ [])
+  begin_if : (ty : Option ValType) → OpcodeText (0x04 ∷ block_type ty ∷ [])
   else_between : OpcodeText (0x05 ∷ [])
   end_after : OpcodeText (0x0B ∷ [])
 
@@ -24,12 +24,12 @@ pub data OpcodeTexts : ℕ → List ℕ → Type 0 where
 -- the bytes are f items, each after its size
 pub data SizedItems : ℕ → List ℕ → Type 0 where
   no_item : SizedItems 0 []
-  item : {f : ℕ} {size content rest : List ℕ} → U32 size (length content) → SizedItems f rest → SizedItems (1 + f) (size ++ (content ++ rest))
+  item : {f : ℕ} {size rest : List ℕ} (content : List ℕ) → U32 size (length content) → SizedItems f rest → SizedItems (1 + f) (size ++ (content ++ rest))
 
 -- the bytes are sections other than the code section
 pub data OtherSections : List ℕ → Type 0 where
   no_section : OtherSections []
-  section : {id : ℕ} {size content rest : List ℕ} → id ≢ 10 → U32 size (length content) → OtherSections rest → OtherSections (id ∷ (size ++ (content ++ rest)))
+  section : {id : ℕ} {size rest : List ℕ} (content : List ℕ) → id ≢ 10 → U32 size (length content) → OtherSections rest → OtherSections (id ∷ (size ++ (content ++ rest)))
 
 -- in the bytes of a module, the items of its code section come after these
 pub record HasCode (bytes before items : List ℕ) : Type 0 where
