@@ -10,3 +10,4 @@ pub mod Series
 pub mod CodeSection
 pub mod OpcodeForms
 pub mod OpcodeShapes
+pub mod BodySteps
