@@ -11,3 +11,5 @@ pub mod CodeSection
 pub mod OpcodeForms
 pub mod OpcodeShapes
 pub mod BodySteps
+pub mod LocalsSteps
+pub mod OpcodeSteps

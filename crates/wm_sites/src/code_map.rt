@@ -93,14 +93,14 @@ fn opcode_offsets(
 {
     let mut offsets = Vec::new(alloc);
     let mut reader = ByteReader { bytes, at: body };
-    if skip_locals(&mut reader).is_none() {
+    let Some(()) = skip_locals(&mut reader) else {
         return Ok(offsets);
-    }
+    };
     for _opcode in 0..count {
         offsets.push(reader.at)?;
-        if skip_instruction(&mut reader).is_none() {
-            break;
-        }
+        let Some(()) = skip_instruction(&mut reader) else {
+            return Ok(offsets);
+        };
     }
     Ok(offsets)
 }
