@@ -13,3 +13,4 @@ pub mod OpcodeShapes
 pub mod BodySteps
 pub mod LocalsSteps
 pub mod OpcodeSteps
+pub mod Begins
