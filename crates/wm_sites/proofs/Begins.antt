@@ -1,8 +1,10 @@
 -- Where an opcode begins, by the body of its function.
-use Rattle.std.proofs.Common.{◌≡◌, ℕ, ◌+◌, ◌<◌, List, ◌∷◌, ◌++◌, length, drop, refl, sym, ap, ◌∙◌, append_assoc, length-append, arith}
+use Rattle.std.proofs.Common.{◌≡◌, ℕ, ◌+◌, ◌<◌, List, ◌∷◌, ◌++◌, length, drop, slice_get, Option, Some, None, refl, sym, ap, subst, ◌∙◌, append_assoc, length-append, arith}
+use Rattle.std.proofs.lemmas.Option.{none-some, same_Some}
 use Rattle.wm_module_bytes.proofs.Steps.{dropped}
-use Rattle.wm_sites.specs.Bodies.{BodyBegins, LocalsText, OpcodeFollows}
+use Rattle.wm_sites.specs.Bodies.{AreBodies, AreOpcodes, BodyBegins, LocalsText, OpcodeFollows}
 use Rattle.wm_sites.specs.Offsets.{OpcodeBegins}
+use Rattle.wm_sites.specs.Sites.{AreOffsets}
 
 module _ {bytes : List ℕ} {f n offset : ℕ} (o : OpcodeBegins bytes f n offset) where
   abbrev pub body_offset : ℕ
@@ -69,3 +71,13 @@ module _ {bytes : List ℕ} {f n offset : ℕ} (o : OpcodeBegins bytes f n offse
     skipped = o.skipped;
     is_offset = omega (arith, o.is_offset, ap length o.body.before_is, length-append o.body.bodies (o.body.size ++ (o.body.count ++ o.body.locals)), length-append o.body.size (o.body.count ++ o.body.locals));
   }
+
+-- the offsets in a body are those of its function
+pub offsets_found : (bytes : List ℕ) (f body count : ℕ) (bodies offsets : List ℕ) → AreBodies bytes bodies → slice_get bodies f ≡ Some body → AreOpcodes bytes body count offsets → AreOffsets bytes f count offsets
+offsets_found bytes f body count bodies offsets are is opcodes n at begins below =
+    let same : body_offset begins ≡ body = same_Some (body_offset begins) body (sym (are f (body_offset begins) (begins_body begins)) ∙ is) in
+    opcodes n at (subst (λ (x : ℕ). OpcodeFollows bytes x n at) same (begins_after begins)) below
+
+-- a function without a body has no opcode that begins in the bytes
+pub no_offsets : (bytes : List ℕ) (f count : ℕ) (bodies offsets : List ℕ) → AreBodies bytes bodies → slice_get bodies f ≡ None → AreOffsets bytes f count offsets
+no_offsets bytes f count bodies offsets are none n at begins below = absurd (none-some (body_offset begins) (sym none ∙ are f (body_offset begins) (begins_body begins)))

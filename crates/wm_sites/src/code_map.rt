@@ -3,7 +3,7 @@ ghost use Rattle.std.specs.Prelude.{◌≡◌, ◌≢◌, ◌<◌, IfOk, IfSome,
 ghost use Rattle.wm_module_bytes.specs.Instructions.{in_ranges, plain_ranges};
 ghost use Rattle.wm_sites.specs.Bodies.{AreBodies, AreOpcodes, SkipsLocals, SkipsOpcode, StartsCode, in_one_memory};
 ghost use Rattle.wm_sites.specs.Numbering.{number_at};
-ghost use Rattle.wm_sites.specs.Sites.{AreFunctionMaps, AreUnread, IsFunctionMap, IsNoOpcode, IsRead, IsSiteOf, PutsMap};
+ghost use Rattle.wm_sites.specs.Sites.{AreFunctionMaps, AreOffsets, AreUnread, IsFunctionMap, IsNoOpcode, IsRead, IsSiteOf, PutsMap};
 ghost use Rattle.wm_sites.specs.Sites.{code_in, code_of, in_32_bits, offset_in, opcode_in};
 
 use crate::module_code::ModuleCode;
@@ -164,6 +164,17 @@ struct FunctionReader<'m> {
 }
 
 impl FunctionReader<'_> {
+    /// Where the first `count` opcodes of a function begin, for as many as can be read.
+    fn offsets(&self, function: usize, count: usize) -> Result<Vec<usize>, AllocError>
+        requires { AreBodies self.now.bytes.now self.now.bodies.items }
+        ensures { IfOk result (λ offsets. AreOffsets self.now.bytes.now function count offsets.items) }
+    {
+        match self.bodies.get(function) {
+            Some(body) => opcode_offsets(self.alloc, self.bytes, *body, count),
+            None => Ok(Vec::new(self.alloc)),
+        }
+    }
+
     /// The opcodes of a function; None if the module doesn't have it.
     fn read(&self, function: usize) -> Result<Option<FunctionMap>, AllocError>
         requires { AreBodies self.now.bytes.now self.now.bodies.items }
@@ -174,10 +185,7 @@ impl FunctionReader<'_> {
             return Ok(None);
         };
         let numbers = opcode_numbers(self.alloc, code.blocks.as_slice())?;
-        let offsets = match self.bodies.get(function) {
-            Some(body) => opcode_offsets(self.alloc, self.bytes, *body, numbers.count)?,
-            None => Vec::new(self.alloc),
-        };
+        let offsets = self.offsets(function, numbers.count)?;
         Ok(Some(FunctionMap { numbers, offsets }))
     }
 }
