@@ -1,5 +1,5 @@
 -- Each opcode has a number in the table, or is left on the stack of what is to number.
-use Rattle.std.proofs.Common.{◌≡◌, ℕ, suc, ◌+◌, ◌<◌, ◌≤◌, List, [], ◌∷◌, ◌++◌, Vec, Global, map, drop, reverse, length, get_or, Option, Some, None, refl, sym, ap, subst, ◌∙◌, slice_get, ⊎_elim, inl, inr, append_assoc, arith}
+use Rattle.std.proofs.Common.{◌≡◌, ℕ, ◌+◌, ◌<◌, ◌≤◌, List, [], ◌∷◌, ◌++◌, Vec, Global, map, drop, reverse, length, get_or, Option, Some, None, refl, sym, ap, subst, ◌∙◌, slice_get, ⊎_elim, inl, inr, append_assoc, arith}
 use Rattle.std.specs.Prelude.{◌⊎◌}
 use Rattle.std.proofs.lemmas.List.{drop_all, reverse-append, reverse-reverse}
 use Rattle.std.proofs.lemmas.Option.{none-some, same_Some, slice_get_cases}

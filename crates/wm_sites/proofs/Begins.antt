@@ -1,8 +1,8 @@
 -- Where an opcode begins, by the body of its function.
-use Rattle.std.proofs.Common.{◌≡◌, ℕ, ◌+◌, ◌<◌, List, ◌∷◌, ◌++◌, length, drop, slice_get, Option, Some, None, refl, sym, ap, subst, ◌∙◌, append_assoc, length-append, arith}
+use Rattle.std.proofs.Common.{◌≡◌, ℕ, ◌+◌, List, ◌++◌, length, drop, slice_get, Some, None, refl, sym, ap, subst, ◌∙◌, append_assoc, length-append, arith}
 use Rattle.std.proofs.lemmas.Option.{none-some, same_Some}
 use Rattle.wm_module_bytes.proofs.Steps.{dropped}
-use Rattle.wm_sites.specs.Bodies.{AreBodies, AreOpcodes, BodyBegins, LocalsText, OpcodeFollows}
+use Rattle.wm_sites.specs.Bodies.{AreBodies, AreOpcodes, BodyBegins, OpcodeFollows}
 use Rattle.wm_sites.specs.Offsets.{OpcodeBegins}
 use Rattle.wm_sites.specs.Sites.{AreOffsets}
 

@@ -1,7 +1,7 @@
 -- The bodies of functions are passed, and where each begins is noted.
 use Rattle.std.proofs.Common.{◌≡◌, ℕ, ◌+◌, ◌-◌, ◌<◌, ◌≤◌, List, [], ◌∷◌, ◌++◌, length, drop, Option, Some, None, refl, sym, ap, subst, ◌∙◌, append_assoc, append-nil, length-append, slice_get, ⊎_elim, arith}
 use Rattle.std.proofs.lemmas.Bool.{cases_lt}
-use Rattle.std.proofs.lemmas.Option.{none-some, same_Some}
+use Rattle.std.proofs.lemmas.Option.{same_Some}
 use Rattle.wm_decode.specs.Module.{header}
 use Rattle.wm_decode.specs.Numbers.{U32}
 use Rattle.wm_module_bytes.specs.declared.byte_reader.ByteReader.{ByteReader}
@@ -10,7 +10,7 @@ use Rattle.wm_module_bytes.proofs.Steps.{always, dropped, moves_both, next_front
 use Rattle.wm_sites.specs.Bodies.{BodyBegins, code_start}
 use Rattle.wm_sites.specs.Offsets.{HasCode, SizedItems, item, no_item}
 use Rattle.wm_sites.proofs.CodeSection.{code_parts}
-use Rattle.wm_sites.proofs.Series.{Ahead, AheadOrNoted, First, Series, at_place, at_tail, first, next_text, no_text, noted_more, passed}
+use Rattle.wm_sites.proofs.Series.{AheadOrNoted, First, Series, at_place, at_tail, first, next_text, no_text, noted_more, passed}
 use Rattle.wm_sites.proofs.Spelled.{u32_number, u32_short, u32_value}
 
 -- ---- the code section's items
@@ -30,8 +30,8 @@ module _ {bytes before items : List ℕ} (code : HasCode bytes before items) (st
   count_next = record {
     rest = [];
     begins =
-      ap (λ (n : ℕ). drop n start.bytes.now) (at ∙ place) ∙ ap (drop (0 + length front)) (same ∙ code_parts code ∙ regroup)
-      ∙ dropped (front ++ (code.count ++ (items ++ code.after))) 0 front (code.count ++ (items ++ code.after)) refl ∙ sym (append-nil (code.count ++ (items ++ code.after)));
+        ap (λ (n : ℕ). drop n start.bytes.now) (at ∙ place) ∙ ap (drop (0 + length front)) (same ∙ code_parts code ∙ regroup)
+        ∙ dropped (front ++ (code.count ++ (items ++ code.after))) 0 front (code.count ++ (items ++ code.after)) refl ∙ sym (append-nil (code.count ++ (items ++ code.after)));
   }
 
   -- the count of functions is read
@@ -125,10 +125,10 @@ module _ {bytes : List ℕ} {f offset : ℕ} (b : BodyBegins bytes f offset) (no
         let both = moves_both now second third i.item.size i.item.content read.moves (subst (Moves second third) (sym same) moves) in
         passed third i (subst (λ (t : List ℕ). Moves now third (length t)) (sym i.item.parts) both);
     is_noted = noted_more notes new count f second.at offset all noted ahead.is_noted λ here.
-      let least : count ≤ f = omega (arith, here) in
-      let none : f - count ≡ 0 = omega (arith, here) in
-      let moved : second.at ≡ now.at + length b.size = ap (λ (r : ByteReader). r.at) (own_size here).moves in
-      omega (arith, moved, at_place (ahead.ahead least) none, b.is_offset);
+        let least : count ≤ f = omega (arith, here) in
+        let none : f - count ≡ 0 = omega (arith, here) in
+        let moved : second.at ≡ now.at + length b.size = ap (λ (r : ByteReader). r.at) (own_size here).moves in
+        omega (arith, moved, at_place (ahead.ahead least) none, b.is_offset);
   }
 
 -- ---- all bodies

@@ -1,11 +1,10 @@
 -- The sections before the code section are passed.
-use Rattle.std.proofs.Common.{◌≡◌, ◌≢◌, ℕ, ◌+◌, ◌<◌, ◌≤◌, List, [], ◌∷◌, ◌++◌, length, drop, Option, Some, None, refl, sym, ap, subst, ◌∙◌, append_assoc, length-append, arith}
+use Rattle.std.proofs.Common.{◌≡◌, ◌≢◌, ℕ, ◌+◌, ◌<◌, ◌≤◌, List, ◌∷◌, ◌++◌, length, drop, Option, Some, None, sym, ap, subst, ◌∙◌, append_assoc, length-append, arith}
 use Rattle.std.proofs.lemmas.Option.{none-some, same_Some}
 use Rattle.wm_decode.specs.Module.{header}
-use Rattle.wm_decode.specs.Numbers.{U32}
 use Rattle.wm_module_bytes.specs.declared.byte_reader.ByteReader.{ByteReader}
 use Rattle.wm_module_bytes.specs.declared.byte_reader.Section.{Section}
-use Rattle.wm_module_bytes.specs.Reading.{FindsSection, Moves, Next, ReadsSection}
+use Rattle.wm_module_bytes.specs.Reading.{Moves, Next, ReadsSection}
 use Rattle.wm_module_bytes.proofs.Steps.{next_front, next_parts, next_past, within}
 use Rattle.wm_sites.specs.Bodies.{code_start}
 use Rattle.wm_sites.specs.Offsets.{HasCode, OtherSections, no_section, section}
@@ -86,21 +85,21 @@ module _ {bytes before items : List ℕ} (code : HasCode bytes before items) whe
 
   pub section_there : (now new : ByteReader) (answer : Option Section) (count : ℕ) → SectionsAhead now count → ReadsSection now new answer → answer ≡ None → ⊥
   section_there now new answer count ahead reads_section none = elim (next_section now new answer count ahead reads_section) [
-      is_code found given id start ↦ none-some found (sym none ∙ given)
+    | is_code found given id start ↦ none-some found (sym none ∙ given)
     | is_other found given id more ↦ none-some found (sym none ∙ given)
-    ]
+  ]
 
   pub code_found : (now new : ByteReader) (answer : Option Section) (count : ℕ) (read : Section) → SectionsAhead now count → ReadsSection now new answer → answer ≡ Some read → read.id ≡ 10 → read.start ≡ code_start code
   code_found now new answer count read ahead reads_section is ten = elim (next_section now new answer count ahead reads_section) [
-      is_code found given id start ↦ ap (λ (s : Section). s.start) (same_Some read found (sym is ∙ given)) ∙ start
+    | is_code found given id start ↦ ap (λ (s : Section). s.start) (same_Some read found (sym is ∙ given)) ∙ start
     | is_other found given other more ↦ absurd (other (sym (ap (λ (s : Section). s.id) (same_Some read found (sym is ∙ given))) ∙ ten))
-    ]
+  ]
 
   pub other_found : (now new : ByteReader) (answer : Option Section) (count : ℕ) (read : Section) → SectionsAhead now count → ReadsSection now new answer → answer ≡ Some read → read.id ≢ 10 → SectionsAhead new (count + 1)
   other_found now new answer count read ahead reads_section is other = elim (next_section now new answer count ahead reads_section) [
-      is_code found given id start ↦ absurd (other (ap (λ (s : Section). s.id) (same_Some read found (sym is ∙ given)) ∙ id))
+    | is_code found given id start ↦ absurd (other (ap (λ (s : Section). s.id) (same_Some read found (sym is ∙ given)) ∙ id))
     | is_other found given not_ten more ↦ more
-    ]
+  ]
 
   -- each section takes a byte, so they end before the bytes do
   pub sections_end : (now : ByteReader) (count : ℕ) → SectionsAhead now count → length bytes ≤ count → ⊥

@@ -10,7 +10,6 @@ use Rattle.wm_sites.specs.declared.code_map.FunctionMap.{FunctionMap}
 use Rattle.wm_races.specs.declared.site.Site.{Site}
 use Rattle.wm_sites.specs.declared.opcode_numbers.BlockPosition.{BlockPosition}
 use Rattle.wm_sites.specs.Numbering.{IsNumbered, number_at}
-use Rattle.wm_sites.specs.Offsets.{OpcodeBegins}
 use Rattle.wm_sites.specs.Sites.{AreFunctionMaps, Code, IsNoOpcode, IsRead, IsSiteOf, in_32_bits, in_function, offset_in, opcode_in}
 
 -- a function that was read now
@@ -60,10 +59,10 @@ found_site c maps p n offset site are is place function instruction made =
       function = function;
       instruction = instruction;
       offset = λ at begins.
-        let here : slice_get map.offsets.items n ≡ Some at = of_map.offsets n at begins (of_map.numbers.below (in_function p) n found.2) in
-        let in_maps : offset_in maps p n ≡ Some at =
-        ap (λ (o : Option (Option FunctionMap)). option_and_then (λ (x : FunctionMap). slice_get x.offsets.items n) (option_flatten o)) found.1 ∙ here in
-        made ∙ ap in_32_bits (place ∙ ap (λ (o : Option ℕ). unwrap_or o 0) in_maps);
+          let here : slice_get map.offsets.items n ≡ Some at = of_map.offsets n at begins (of_map.numbers.below (in_function p) n found.2) in
+          let in_maps : offset_in maps p n ≡ Some at =
+          ap (λ (o : Option (Option FunctionMap)). option_and_then (λ (x : FunctionMap). slice_get x.offsets.items n) (option_flatten o)) found.1 ∙ here in
+          made ∙ ap in_32_bits (place ∙ ap (λ (o : Option ℕ). unwrap_or o 0) in_maps);
     }
 
 -- none was read

@@ -1,7 +1,7 @@
 -- The ranges of opcodes by the form of their immediates agree with the decoder's opcodes.
-use Rattle.std.proofs.Common.{◌≡◌, ℕ, suc, ◌+◌, ◌<◌, ◌≤◌, List, [], ◌∷◌, length, Bool, true, false, cond, eqb, ltb, Option, Some, None, Result, Ok, Err, refl, sym, ap, subst, ◌∙◌, arith}
+use Rattle.std.proofs.Common.{◌≡◌, ℕ, List, [], ◌∷◌, length, Bool, true, false, cond, eqb, Option, Some, None, Ok, Err, refl, sym, ap, ◌∙◌}
 use Rattle.std.specs.Prelude.{◌&&◌, ◌==◌, nat_lt, if◌then◌else◌}
-use Rattle.std.proofs.lemmas.Bool.{eqb-true, ltb-false}
+use Rattle.std.proofs.lemmas.Bool.{eqb-true}
 use Rattle.std.proofs.lemmas.Option.{none-some, same_Some}
 use Rattle.wm_ast.specs.declared.instr.Instr.{Instr}
 use Rattle.wm_ast.specs.declared.instr.Instr.TheVariants as instr
@@ -11,7 +11,7 @@ use Rattle.wm_decode.specs.ReadingInstructions.{InstrAt, access_at, atomic_acces
 use Rattle.wm_decode.specs.ReadingVectors.{items_at, vector_at}
 use Rattle.wm_module_bytes.specs.declared.instruction.Immediates.{Immediates}
 use Rattle.wm_module_bytes.specs.declared.instruction.Immediates.TheVariants.{Fixed, Access, Vector, BlockType}
-use Rattle.wm_module_bytes.specs.Instructions.{Range, in_ranges, plain_ranges}
+use Rattle.wm_module_bytes.specs.Instructions.{in_ranges, plain_ranges}
 
 -- immediates of an opcode of any form but that of an atomic access
 abbrev pub zeros : List ℕ

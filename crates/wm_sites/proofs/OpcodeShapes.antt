@@ -1,8 +1,8 @@
 -- The bytes of an opcode are an opcode and immediates as a reader of bytes takes them.
-use Rattle.std.proofs.Common.{◌≡◌, ◌≢◌, ℕ, suc, ◌+◌, ◌<◌, ◌≤◌, List, [], ◌∷◌, ◌++◌, length, Bool, true, false, cond, Option, Some, None, option_map, refl, sym, ap, subst, ◌∙◌, inl, inr, append_assoc, append-nil, arith}
+use Rattle.std.proofs.Common.{◌≡◌, ◌≢◌, ℕ, ◌<◌, ◌≤◌, List, [], ◌∷◌, ◌++◌, length, Bool, true, false, cond, Option, Some, None, option_map, refl, sym, ap, subst, ◌∙◌, inl, inr, append_assoc, append-nil, arith}
 use Rattle.std.specs.Prelude.{◌&&◌, ◌⊎◌, ◌==◌, nat_lt}
 use Rattle.std.proofs.lemmas.Bool.{eqb-true, ltb-false, ltb-true}
-use Rattle.std.proofs.lemmas.Option.{none-some, same_Some}
+use Rattle.std.proofs.lemmas.Option.{none-some}
 use Rattle.wm_ast.specs.declared.instr.Instr.{Instr}
 use Rattle.wm_ast.specs.declared.types.ValType.{ValType}
 use Rattle.wm_ast.specs.declared.types.ValType.TheVariants.{I32, I64}
@@ -14,13 +14,13 @@ use Rattle.wm_decode.specs.ReadingVectors.{items_at, vector_at}
 use Rattle.wm_module_bytes.specs.declared.instruction.Immediates.{Immediates}
 use Rattle.wm_module_bytes.specs.declared.instruction.Immediates.TheVariants.{Fixed, Access, Vector, BlockType}
 use Rattle.wm_module_bytes.specs.declared.instruction.Opcode.{Opcode}
-use Rattle.wm_module_bytes.specs.Instructions.{HasFixed, HasImmediates, HasVector, IsOpcode, Range, in_ranges, plain, plain_ranges, prefixed}
+use Rattle.wm_module_bytes.specs.Instructions.{HasFixed, HasImmediates, IsOpcode, Range, in_ranges, plain, plain_ranges, prefixed}
 use Rattle.wm_module_bytes.specs.Reading.{AreNumbers, IsNumber, value_of}
 use Rattle.wm_module_bytes.specs.Reading as read
 use Rattle.wm_sites.specs.Bodies.{in_one_memory}
 use Rattle.wm_sites.specs.Offsets.{OpcodeText, begin_block, begin_if, begin_loop, else_between, end_after}
 use Rattle.wm_sites.specs.Offsets as opcode
-use Rattle.wm_sites.proofs.OpcodeForms.{and_first, and_second, either, fits, opcode_fits, same_form, some_form, zeros}
+use Rattle.wm_sites.proofs.OpcodeForms.{and_first, and_second, either, opcode_fits, same_form, some_form}
 use Rattle.wm_sites.proofs.Spelled.{each_numbers, one_number, signed_32_short, signed_64_short, signed_number, two_numbers, u32_number, u32_short, u32_shorter, u32_value}
 
 -- the form of an opcode's immediates is known

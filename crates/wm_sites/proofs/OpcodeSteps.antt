@@ -1,6 +1,5 @@
 -- An instruction is skipped, and where each opcode of a body begins is noted.
-use Rattle.std.proofs.Common.{◌≡◌, ◌≢◌, ℕ, ◌+◌, ◌-◌, ◌<◌, ◌≤◌, List, [], ◌∷◌, ◌++◌, length, drop, Option, Some, None, option_map, refl, sym, ap, subst, ◌∙◌, append_assoc, append-nil, length-append, slice_get, ⊎_elim, arith}
-use Rattle.std.specs.Prelude.{◌⊎◌}
+use Rattle.std.proofs.Common.{◌≡◌, ◌≢◌, ℕ, ◌+◌, ◌-◌, ◌<◌, ◌≤◌, List, [], ◌∷◌, ◌++◌, length, drop, Option, Some, None, option_map, sym, ap, subst, ◌∙◌, append-nil, slice_get, ⊎_elim, arith}
 use Rattle.std.proofs.lemmas.Bool.{cases_lt}
 use Rattle.std.proofs.lemmas.Option.{none-some, same_Some}
 use Rattle.wm_module_bytes.specs.declared.byte_reader.ByteReader.{ByteReader}
@@ -8,12 +7,12 @@ use Rattle.wm_module_bytes.specs.declared.instruction.Immediates.{Immediates}
 use Rattle.wm_module_bytes.specs.declared.instruction.Immediates.TheVariants.{Access}
 use Rattle.wm_module_bytes.specs.declared.instruction.Opcode.{Opcode}
 use Rattle.wm_module_bytes.specs.Instructions.{HasImmediates, ReadsOpcode, in_ranges, plain_ranges}
-use Rattle.wm_module_bytes.specs.Reading.{Moves, Next, Reads}
+use Rattle.wm_module_bytes.specs.Reading.{Next, Reads}
 use Rattle.wm_module_bytes.proofs.Steps.{always, next_front, next_parts, next_past, reads_both}
-use Rattle.wm_sites.specs.Bodies.{LocalsText, OpcodeFollows, SkipsLocals, SkipsOpcode, in_one_memory}
+use Rattle.wm_sites.specs.Bodies.{OpcodeFollows, SkipsLocals, SkipsOpcode, in_one_memory}
 use Rattle.wm_sites.specs.Offsets.{OpcodeText, OpcodeTexts, no_opcode, opcode}
 use Rattle.wm_sites.proofs.OpcodeShapes.{IsKnown, Shape, opcode_shape}
-use Rattle.wm_sites.proofs.Series.{Ahead, AheadOrNoted, First, Series, at_place, first, next_text, no_text, noted_more, passed}
+use Rattle.wm_sites.proofs.Series.{AheadOrNoted, First, Series, at_place, first, next_text, no_text, noted_more, passed}
 
 -- ---- an instruction
 
@@ -106,8 +105,8 @@ module _ {bytes : List ℕ} {body n offset : ℕ} (o : OpcodeFollows bytes body 
 
   noted : (new : List ℕ) → length notes ≡ count → new ≡ notes ++ now.at ∷ [] → n < count + 1 → slice_get new n ≡ Some offset
   noted new all is = noted_more notes new count n now.at offset all is ahead.is_noted λ here.
-    let least : count ≤ n = omega (arith, here) in
-    let none : n - count ≡ 0 = omega (arith, here) in at_place (ahead.ahead least) none
+      let least : count ≤ n = omega (arith, here) in
+      let none : n - count ≡ 0 = omega (arith, here) in at_place (ahead.ahead least) none
 
   module _ (second : ByteReader) (answer : Option (Unit {0})) (skips : SkipsOpcode now second answer) (new : List ℕ) (all : length notes ≡ count) (is : new ≡ notes ++ now.at ∷ []) where
     opcode_skipped : (later : count < n) → Reads now second (next_opcode later).text answer (tt {0})

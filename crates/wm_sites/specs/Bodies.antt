@@ -1,5 +1,5 @@
 -- Where the bodies of functions begin among the bytes of a module, and opcodes in a body (Core 1.0, sections 5.4.9 and 5.5.13).
-use Rattle.std.specs.Prelude.{◌≡◌, ◌+◌, ◌<◌, ◌⊎◌, ℕ, List, ◌∷◌, [], ◌++◌, drop, length, slice_get, Option, Some}
+use Rattle.std.specs.Prelude.{◌≡◌, ◌+◌, ◌<◌, ℕ, List, ◌++◌, drop, length, slice_get, Option, Some}
 use Rattle.wm_ast.specs.declared.types.ValType.{ValType}
 use Rattle.wm_decode.specs.Numbers.{U32}
 use Rattle.wm_decode.specs.Parts.{Locals}

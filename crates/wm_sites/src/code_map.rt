@@ -241,9 +241,7 @@ impl<'m> Model for CodeMap<'m> {
 
     ghost view = { λ map. code_of map.reader };
 
-    ghost invariant = {
-        λ map. AreBodies map.reader.bytes.now map.reader.bodies.items × AreFunctionMaps (code_of map.reader) map.functions.items
-    };
+    ghost invariant = { λ map. AreBodies map.reader.bytes.now map.reader.bodies.items × AreFunctionMaps (code_of map.reader) map.functions.items };
 }
 
 impl<'m> CodeMap<'m> {

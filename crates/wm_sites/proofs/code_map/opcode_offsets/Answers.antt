@@ -9,8 +9,8 @@ loop-opcode-init c =
     record {
       count = ap (λ (xs : List ℕ). length xs) none;
       each = λ n offset o.
-        subst (OpcodeAhead o c.skip_locals.new.reader 0) (sym none)
-        (opcode_none o (record { bytes = c.args.bytes; at = c.args.body }) c.skip_locals.new.reader refl refl c.skip_locals.result c.skip_locals.ensures);
+          subst (OpcodeAhead o c.skip_locals.new.reader 0) (sym none)
+          (opcode_none o (record { bytes = c.args.bytes; at = c.args.body }) c.skip_locals.new.reader refl refl c.skip_locals.result c.skip_locals.ensures);
     }
 
 pub loop-opcode-preserved : goal.loop-opcode-preserved
@@ -19,8 +19,8 @@ loop-opcode-preserved c =
     record {
       count = one_more l._opcode l.offsets.items c.push.new.self.items l.reader.at l.invariant.count c.in_ok-push.ensures.items;
       each = λ n offset o.
-        opcode_more o l.reader l._opcode l.offsets.items (l.invariant.each n offset o) c.skip_instruction.new.reader c.skip_instruction.result c.skip_instruction.ensures c.push.new.self.items l.invariant.count
-        c.in_ok-push.ensures.items;
+          opcode_more o l.reader l._opcode l.offsets.items (l.invariant.each n offset o) c.skip_instruction.new.reader c.skip_instruction.result c.skip_instruction.ensures c.push.new.self.items l.invariant.count
+          c.in_ok-push.ensures.items;
     }
 
 pub returns-in_default-skip_instruction : goal.returns-in_default-skip_instruction

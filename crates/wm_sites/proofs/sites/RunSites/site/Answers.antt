@@ -1,7 +1,6 @@
 use Rattle.std.proofs.Common.{◌≡◌, ◌∙◌, None, Option, sym, subst}
 use Rattle.std.proofs.lemmas.Option.{same_Some}
 use Rattle.std.proofs.lemmas.Result.{IfOk-weaker}
-use Rattle.wm_machine.specs.declared.thread.CodePosition.{CodePosition}
 use Rattle.wm_races.specs.declared.site.Site.{Site}
 use Rattle.wm_sites.specs.Sites.{IsMadeNowhere, IsNoOpcode}
 use Rattle.wm_sites.proofs.sites.RunSites.site.Goals as goal
