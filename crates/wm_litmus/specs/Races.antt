@@ -15,7 +15,7 @@ use Rattle.wm_event.specs.LoggedRun.{LoggedRun, execution}
 use Rattle.wm_event.specs.Rules.{IsValid}
 use Rattle.wm_event.specs.Shape.{IsWellShaped, event_count}
 use Rattle.wm_event.specs.Texts.{key_text}
-use Rattle.wm_sites.specs.Sites.{AreEventSites}
+use Rattle.wm_sites.specs.Sites.{AreEventSites, Code}
 use Rattle.wm_logfile.specs.declared.fault.DocFault.{DocFault}
 use Rattle.wm_logfile.specs.DocumentBytes.{IsDocumentOf, IsNoDocument}
 use Rattle.wm_races.specs.declared.pair.RacingPair.{RacingPair}
@@ -85,10 +85,10 @@ ListsFirst {X} line threads events shown total answer =
 -- ---- for a module and a document
 
 -- the status and the text list the races of a run, reported by the instructions that make its events
-pub record ReportsRaces («module» : Module) (run : LoggedRun) (certificate : Certificate) (status : ℕ) (text : List ℕ) : Type 0 where
+pub record ReportsRaces (code : Code) (run : LoggedRun) (certificate : Certificate) (status : ℕ) (text : List ℕ) : Type 0 where
   pub sites : List (List Site)
   pub has_sites : HasSites run.log sites
-  pub of_events : AreEventSites «module» run.log sites
+  pub of_events : AreEventSites code run.log sites
   pub races : List SiteRace
   pub report : IsRaceReport (execution run) sites races
   pub lists : ListsRaces sites_text certificate.threads certificate.events races status text
@@ -102,14 +102,15 @@ IsNotAllowed (Broken breach) = ⊤
 -- verdict
 pub data AnswersRaces (module_bytes document_bytes : List ℕ) (status : ℕ) (text : List ℕ) : Type 0 where
   listed : («module» : Module) (run : LoggedRun) (certificate : Certificate) → IsCandidateOf module_bytes document_bytes «module» run
-      → Says module_bytes document_bytes (Allowed certificate) → IsValid (execution run) → ReportsRaces «module» run certificate status text
+      → Says module_bytes document_bytes (Allowed certificate) → IsValid (execution run)
+      → ReportsRaces (record { «module» = «module»; bytes = module_bytes }) run certificate status text
       → AnswersRaces module_bytes document_bytes status text
   told : (verdict : Verdict) → Says module_bytes document_bytes verdict → IsNotAllowed verdict
       → status ≡ verdict_status verdict → text ≡ ended (verdict_text verdict) → AnswersRaces module_bytes document_bytes status text
 
--- an answer to these bytes of a document, and to all bytes that spell the module
-abbrev pub RacesOver : Module → List ℕ → Answer → Type 0
-RacesOver «module» document_bytes answer = (module_bytes : List ℕ) → IsModuleOf module_bytes «module» → Gives (AnswersRaces module_bytes document_bytes) answer
+-- an answer to these bytes of a document and to those of a module, if these spell the module
+abbrev pub RacesOver : Code → List ℕ → Answer → Type 0
+RacesOver code document_bytes answer = IsModuleOf code.bytes code.module → Gives (AnswersRaces code.bytes document_bytes) answer
 
 -- ---- for a document alone
 

@@ -17,7 +17,7 @@ use Rattle.wm_event.specs.Event.{is_atomic, key_of}
 use Rattle.wm_event.specs.Log.{event_in}
 use Rattle.wm_event.specs.Texts.{id_text, key_text}
 use Rattle.wm_event.specs.Witness.{writers_in}
-use Rattle.wm_sites.specs.Sites.{AreSitesOf}
+use Rattle.wm_sites.specs.Sites.{AreSitesOf, Code}
 use Rattle.wm_races.specs.declared.site.Site.{Site}
 use Rattle.wm_run.specs.declared.fault.RunFault.{RunFault}
 use Rattle.wm_run.specs.declared.fault.RunFault.TheVariants.{OutOfMemory}
@@ -122,10 +122,10 @@ trace_text run entries sites = lines_text run entries sites ++ ended (codes "out
 -- ---- answers
 
 -- the status and the text that show the turns of a run, each with its thread's next instruction before it
-pub record ShowsTrace («module» : Module) (run : Record) (entries : List TracedTurn) (status : ℕ) (text : List ℕ) : Type 0 where
+pub record ShowsTrace (code : Code) (run : Record) (entries : List TracedTurn) (status : ℕ) (text : List ℕ) : Type 0 where
   pub sites : List Site
   pub count : length sites ≡ length entries
-  pub of_turns : AreSitesOf «module» (map (λ entry. entry.position) entries) sites
+  pub of_turns : AreSitesOf code (map (λ entry. entry.position) entries) sites
   pub status_is : status ≡ 0
   pub text_is : text ≡ trace_text run entries sites
 
@@ -137,9 +137,9 @@ pub data AnswersTrace (module_bytes : List ℕ) (plan : Plan) (turns : List Turn
   refused : («module» : Module) (fault : RunFault) → IsModuleOf module_bytes «module» → fault ≢ OutOfMemory → IsScriptFault «module» plan turns fault
       → status ≡ 2 → text ≡ ended (run_fault_line_text fault) → AnswersTrace module_bytes plan turns status text
   traced : («module» : Module) (run : Record) (entries : List TracedTurn) → IsModuleOf module_bytes «module» → IsScripted «module» plan turns run
-      → IsTraced «module» plan turns run entries → ShowsTrace «module» run entries status text → AnswersTrace module_bytes plan turns status text
+      → IsTraced «module» plan turns run entries → ShowsTrace (record { «module» = «module»; bytes = module_bytes }) run entries status text
+      → AnswersTrace module_bytes plan turns status text
 
--- an answer to a script, whichever bytes spell the module
-abbrev pub TracesOver : Module → Script → Answer → Type 0
-TracesOver «module» script answer =
-    (module_bytes : List ℕ) → IsModuleOf module_bytes «module» → Gives (AnswersTrace module_bytes script.plan script.turns) answer
+-- an answer to a script and to the bytes of a module, if these spell the module
+abbrev pub TracesOver : Code → Script → Answer → Type 0
+TracesOver code script answer = IsModuleOf code.bytes code.module → Gives (AnswersTrace code.bytes script.plan script.turns) answer

@@ -7,6 +7,7 @@ ghost use Rattle.wm_litmus.specs.Prints.{Gives, ended};
 ghost use Rattle.wm_litmus.specs.Rules.{run_over};
 ghost use Rattle.wm_races.specs.First.{AreFirstRaces};
 ghost use Rattle.wm_races.specs.Report.{HasSites, IsRaceReport};
+ghost use Rattle.wm_sites.specs.Sites.{code_in};
 
 use crate::INITIAL_PAGES;
 use crate::answer::Answer;
@@ -20,8 +21,7 @@ use wm_list::List;
 use wm_logfile::read_document;
 use wm_races::{FirstRaces, RacingPair, Site, SiteRace, first_races, races};
 use wm_rules::judge;
-use wm_sites::event_sites;
-use wm_valid::ValidModule;
+use wm_sites::{ModuleCode, event_sites};
 
 /// The most lines that are printed.
 const MAX_LINES: usize = 1000;
@@ -167,15 +167,14 @@ fn listed<L: RaceLine>(
 /// The answer to an allowed run.
 fn list_allowed<R: AllocGlobal + Threads + Sync>(
     rt: &R,
-    module: &ValidModule,
-    module_bytes: &[u8],
+    code: ModuleCode,
     certificate: Certificate,
     candidate: &Candidate,
 ) -> Result<Answer, AllocError>
     requires { KeepsOrder (execution candidate.now) }
-    ensures { IfOk result (Gives (ReportsRaces «module».now candidate.now certificate)) }
+    ensures { IfOk result (Gives (ReportsRaces (code_in code.exit) candidate.now certificate)) }
 {
-    let sites = event_sites(rt.alloc(), module, module_bytes, candidate.log())?;
+    let sites = event_sites(rt.alloc(), code, candidate.log())?;
     let races = report_of(rt, candidate, sites.as_slice())?;
     let Certificate { threads, events } = certificate;
     let shown = races.len().min(MAX_LINES);
@@ -191,20 +190,19 @@ fn list_allowed<R: AllocGlobal + Threads + Sync>(
 /// The answer to a document over a module.
 fn races_of_log<R: AllocGlobal + Threads + Sync>(
     rt: &R,
-    module: &ValidModule,
-    module_bytes: &[u8],
+    code: ModuleCode,
     document_bytes: &[u8],
 ) -> Result<Answer, AllocError>
-    ensures { IfOk result (RacesOver «module».now document_bytes.now) }
+    ensures { IfOk result (RacesOver (code_in code.exit) document_bytes.now) }
 {
-    let checked = check_log(rt, module, document_bytes)?;
+    let checked = check_log(rt, code.module, document_bytes)?;
     let verdict = &checked.verdict;
     match verdict {
         Verdict::Allowed(certificate) => {
             let Some(candidate) = &checked.candidate else {
                 unreachable!()
             };
-            list_allowed(rt, module, module_bytes, *certificate, candidate)
+            list_allowed(rt, code, *certificate, candidate)
         }
         Verdict::Refused(_) => Answer::of_verdict(rt.alloc(), verdict),
         Verdict::Broken(_) => Answer::of_verdict(rt.alloc(), verdict),
@@ -225,7 +223,13 @@ pub(crate) fn races_answer<R: AllocGlobal + Threads + Sync>(
     ensures { IfOk result (Gives (AnswersRaces module_bytes.now document_bytes.now)) }
 {
     match read_module(rt.alloc(), module_bytes) {
-        Ok(module) => races_of_log(rt, &module, module_bytes, document_bytes),
+        Ok(module) => {
+            let code = ModuleCode {
+                module: &module,
+                bytes: module_bytes,
+            };
+            races_of_log(rt, code, document_bytes)
+        }
         Err(Unread::Refused(refusal)) => Answer::of_verdict(rt.alloc(), &Verdict::Refused(refusal)),
         Err(Unread::OutOfMemory) => Err(AllocError),
     }

@@ -1,6 +1,6 @@
 //! The command `trace`: a script is played over a module, and each of its turns is shown.
 ghost use Rattle.std.specs.Prelude.{◌≡◌, IfOk, Some, length, map, string_bytes};
-ghost use Rattle.wm_sites.specs.Sites.{AreSitesOf};
+ghost use Rattle.wm_sites.specs.Sites.{AreSitesOf, code_in};
 ghost use Rattle.wm_litmus.specs.Prints.{Gives, ended};
 ghost use Rattle.wm_litmus.specs.Trace.{AnswersTrace, ShowsTrace, TracesOver, before_text, done_text, from_text, ids_text, kind_event_text, keys_text, line_text, lines_text, order_text, pending_text, range_text, rest_text, turn_text};
 ghost use Rattle.wm_run.specs.declared.traced.TracedTurn.{TracedTurn};
@@ -16,8 +16,7 @@ use wm_list::List;
 use wm_machine::CodePosition;
 use wm_races::Site;
 use wm_run::{Rest, Run, RunFault, Trace, TracedTurn, Turn, TurnDone, trace};
-use wm_sites::position_sites;
-use wm_valid::ValidModule;
+use wm_sites::{ModuleCode, position_sites};
 use wm_words::Script;
 
 /// A turn, as TURNS spells it.
@@ -232,45 +231,34 @@ fn positions_of(alloc: Global, entries: &[TracedTurn]) -> Result<Vec<CodePositio
 /// The next instructions of the threads at the turns.
 fn sites_of(
     alloc: Global,
-    module: &ValidModule,
-    module_bytes: &[u8],
+    code: ModuleCode,
     entries: &[TracedTurn],
 ) -> Result<List<Site>, AllocError>
     ensures count { IfOk result (λ sites. length sites ≡ length entries.now) }
-    ensures sites { IfOk result (AreSitesOf «module».now (map (λ (entry : TracedTurn). entry.position) entries.now)) }
+    ensures sites { IfOk result (AreSitesOf (code_in code.exit) (map (λ (entry : TracedTurn). entry.position) entries.now)) }
 {
     let positions = positions_of(alloc, entries)?;
-    position_sites(alloc, module, module_bytes, positions.as_slice())
+    position_sites(alloc, code, positions.as_slice())
 }
 
 /// The answer for a traced run.
-fn shown(
-    alloc: Global,
-    module: &ValidModule,
-    module_bytes: &[u8],
-    traced: &Trace,
-) -> Result<Answer, AllocError>
-    ensures { IfOk result (Gives (ShowsTrace «module».now traced.now.run traced.now.turns)) }
+fn shown(alloc: Global, code: ModuleCode, traced: &Trace) -> Result<Answer, AllocError>
+    ensures { IfOk result (Gives (ShowsTrace (code_in code.exit) traced.now.run traced.now.turns)) }
 {
     let entries = traced.turns.as_slice();
-    let sites = sites_of(alloc, module, module_bytes, entries)?;
+    let sites = sites_of(alloc, code, entries)?;
     let lines = turn_lines(alloc, &traced.run, entries, sites.as_slice())?;
     let outcome = outcome(alloc, &traced.run)?;
     let text = format!(in alloc; "{lines}outcome {outcome}\n")?;
     Ok(Answer { text, status: 0 })
 }
 
-/// The answer to a script over the module that these bytes spell.
-fn play(
-    alloc: Global,
-    module: &ValidModule,
-    module_bytes: &[u8],
-    script: &Script,
-) -> Result<Answer, AllocError>
-    ensures { IfOk result (TracesOver «module».now script.now) }
+/// The answer to a script over a module.
+fn play(alloc: Global, code: ModuleCode, script: &Script) -> Result<Answer, AllocError>
+    ensures { IfOk result (TracesOver (code_in code.exit) script.now) }
 {
-    match trace(alloc, module, &script.plan, script.turns.as_slice()) {
-        Ok(traced) => shown(alloc, module, module_bytes, &traced),
+    match trace(alloc, code.module, &script.plan, script.turns.as_slice()) {
+        Ok(traced) => shown(alloc, code, &traced),
         Err(RunFault::OutOfMemory) => Err(AllocError),
         Err(fault) => Answer::refused_run(alloc, fault),
     }
@@ -289,7 +277,13 @@ pub(crate) fn trace_answer(
     ensures { IfOk result (Gives (AnswersTrace module_bytes.now script.now.plan script.now.turns)) }
 {
     match read_module(alloc, module_bytes) {
-        Ok(module) => play(alloc, &module, module_bytes, script),
+        Ok(module) => {
+            let code = ModuleCode {
+                module: &module,
+                bytes: module_bytes,
+            };
+            play(alloc, code, script)
+        }
         Err(Unread::Refused(refusal)) => Answer::of_verdict(alloc, &Verdict::Refused(refusal)),
         Err(Unread::OutOfMemory) => Err(AllocError),
     }

@@ -1,4 +1,6 @@
 //! Reading the bytes of a module without judging them.
+ghost use Rattle.std.specs.Prelude.{◌≡◌, ◌+◌, ◌-◌, ◌^◌, ◌≤◌, ℕ, List, IfSome, IsSome, length, min, slice_get};
+ghost use Rattle.wm_module_bytes.specs.Reading.{Moves, Next, ReadsNumber, ReadsSection, SkipsNumber, SkipsNumbers};
 
 use std::str;
 
@@ -24,12 +26,16 @@ pub struct ByteReader<'a> {
 
 impl<'a> ByteReader<'a> {
     /// A reader at the first of these bytes.
-    pub fn new(bytes: &'a [u8]) -> Self {
+    pub fn new(bytes: &'a [u8]) -> Self
+        ensures { result ≡ record { bytes = bytes.entry; at = 0 } }
+    {
         ByteReader { bytes, at: 0 }
     }
 
     /// A reader at the first section of a module.
-    pub fn at_sections(module_bytes: &'a [u8]) -> Self {
+    pub fn at_sections(module_bytes: &'a [u8]) -> Self
+        ensures { result ≡ record { bytes = module_bytes.entry; at = 8 } }
+    {
         ByteReader {
             bytes: module_bytes,
             at: HEADER_BYTES,
@@ -42,17 +48,22 @@ impl<'a> ByteReader<'a> {
     }
 
     /// The next byte.
-    pub fn byte(&mut self) -> Option<u8> {
+    pub fn byte(&mut self) -> Option<u8>
+        ensures byte { result ≡ slice_get self.old.bytes.now self.old.at }
+        ensures moves { IfSome result (λ _. Moves self.old self.new 1) }
+    {
         let byte = self.bytes.get(self.at).copied()?;
         self.skip(1);
         Some(byte)
     }
 
     /// The unsigned integer of at most 32 bits that begins here (Core 1.0, section 5.2.2), if it ends within its bytes.
-    pub fn number(&mut self) -> Option<usize> {
+    pub fn number(&mut self) -> Option<usize>
+        ensures { ReadsNumber self.old self.new result }
+    {
         let mut number = 0usize;
         let mut scale = 1usize;
-        for _ in 0..5usize {
+        for _count in 0..5usize {
             let byte = self.byte()?;
             number = number.saturating_add(usize::from(byte & 127).saturating_mul(scale));
             scale = scale.saturating_mul(128);
@@ -64,13 +75,18 @@ impl<'a> ByteReader<'a> {
     }
 
     /// Skips this number of bytes.
-    pub fn skip(&mut self, count: usize) {
+    pub fn skip(&mut self, count: usize)
+        ensures saturates { self.new ≡ record self.old { at = min (self.old.at + count) (2 ^ 64 - 1) } }
+        ensures moves { (text : List ℕ) → Next self.old text → length text ≡ count → Moves self.old self.new count }
+    {
         self.at = self.at.saturating_add(count);
     }
 
     /// Skips an integer of at most 64 bits, signed or not.
-    pub fn skip_number(&mut self) -> Option<()> {
-        for _ in 0..10usize {
+    pub fn skip_number(&mut self) -> Option<()>
+        ensures { SkipsNumber self.old self.new result }
+    {
+        for _count in 0..10usize {
             if self.byte()? < 128 {
                 return Some(());
             }
@@ -79,8 +95,10 @@ impl<'a> ByteReader<'a> {
     }
 
     /// Skips this number of integers.
-    pub fn skip_numbers(&mut self, count: usize) -> Option<()> {
-        for _ in 0..count {
+    pub fn skip_numbers(&mut self, count: usize) -> Option<()>
+        ensures { SkipsNumbers count self.old self.new result }
+    {
+        for _number in 0..count {
             self.skip_number()?;
         }
         Some(())
@@ -94,7 +112,9 @@ impl<'a> ByteReader<'a> {
     }
 
     /// This number of bytes, if there are enough.
-    fn take(&mut self, count: usize) -> Option<&'a [u8]> {
+    fn take(&mut self, count: usize) -> Option<&'a [u8]>
+        ensures { self.old.at + count ≤ length self.old.bytes.now → IsSome result × Moves self.old self.new count }
+    {
         let end = self.at.checked_add(count)?;
         let taken = self.bytes.get(self.at..end)?;
         self.at = end;
@@ -108,7 +128,9 @@ impl<'a> ByteReader<'a> {
     }
 
     /// A section or a subsection (Core 1.0, section 5.5.2); None if it is cut off.
-    pub fn section(&mut self) -> Option<Section<'a>> {
+    pub fn section(&mut self) -> Option<Section<'a>>
+        ensures { ReadsSection self.old self.new result }
+    {
         let id = self.byte()?;
         let size = self.number()?;
         let start = self.at;

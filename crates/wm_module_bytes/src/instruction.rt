@@ -1,4 +1,7 @@
 //! Instructions of any part of WebAssembly, as far as needed to find the next one.
+ghost use Rattle.std.specs.Prelude.{◌≡◌, ◌≢◌, ◌<◌, ℕ, List};
+ghost use Rattle.wm_module_bytes.specs.Instructions.{HasAccess, HasFixed, HasImmediates, HasVector, IsAlignment, ReadsOpcode, in_ranges, plain_ranges};
+ghost use Rattle.wm_module_bytes.specs.Reading.{Next, Reads};
 
 use crate::byte_reader::ByteReader;
 
@@ -11,7 +14,9 @@ pub struct Opcode {
 
 impl Opcode {
     /// Reads an opcode.
-    pub fn read(reader: &mut ByteReader) -> Option<Opcode> {
+    pub fn read(reader: &mut ByteReader) -> Option<Opcode>
+        ensures { ReadsOpcode reader.old reader.new result }
+    {
         let byte = reader.byte()?;
         let code = match byte {
             0xFC | 0xFD | 0xFE => reader.number()?,
@@ -36,7 +41,9 @@ pub enum Immediates {
 }
 
 /// Only integers.
-fn numbers(count: usize) -> Option<Immediates> {
+fn numbers(count: usize) -> Option<Immediates>
+    ensures { result ≡ Some (Immediates.Fixed count 0) }
+{
     Some(Immediates::Fixed {
         numbers: count,
         bytes: 0,
@@ -44,7 +51,9 @@ fn numbers(count: usize) -> Option<Immediates> {
 }
 
 /// Only bytes.
-fn bytes(count: usize) -> Option<Immediates> {
+fn bytes(count: usize) -> Option<Immediates>
+    ensures { result ≡ Some (Immediates.Fixed 0 count) }
+{
     Some(Immediates::Fixed {
         numbers: 0,
         bytes: count,
@@ -73,7 +82,9 @@ fn after_simd(code: usize) -> Option<Immediates> {
 }
 
 /// The immediates of an opcode without a prefix.
-fn after_plain(byte: u8) -> Option<Immediates> {
+fn after_plain(byte: u8) -> Option<Immediates>
+    ensures { result ≡ in_ranges byte plain_ranges }
+{
     match byte {
         0x02..=0x04 | 0x06 => Some(Immediates::BlockType),
         0x07..=0x09 | 0x0C | 0x0D | 0x10 | 0x12 | 0x18 => numbers(1),
@@ -90,7 +101,10 @@ fn after_plain(byte: u8) -> Option<Immediates> {
 }
 
 /// The immediates of an opcode; None if the opcode is not known.
-pub fn immediates_of(opcode: Opcode) -> Option<Immediates> {
+pub fn immediates_of(opcode: Opcode) -> Option<Immediates>
+    ensures plain { opcode.byte < 0xFC → result ≡ in_ranges opcode.byte plain_ranges }
+    ensures atomic { opcode.byte ≡ 0xFE → opcode.code ≢ 0x03 → result ≡ Some (Immediates.Access 0) }
+{
     match opcode.byte {
         0xFC => after_bulk(opcode.code),
         0xFD => after_simd(opcode.code),
@@ -100,26 +114,50 @@ pub fn immediates_of(opcode: Opcode) -> Option<Immediates> {
     }
 }
 
-/// Skips the immediates of an opcode.
-pub fn skip_immediates(reader: &mut ByteReader, immediates: Immediates) -> Option<()> {
-    match immediates {
-        Immediates::Fixed { numbers, bytes } => {
-            reader.skip_numbers(numbers)?;
-            reader.skip(bytes);
-        }
-        Immediates::Access { bytes } => {
-            if reader.number()? >= 64 {
-                reader.skip_number()?;
-            }
-            reader.skip_number()?;
-            reader.skip(bytes);
-        }
-        Immediates::Vector { numbers } => {
-            let count = reader.number()?;
-            reader.skip_numbers(count)?;
-            reader.skip_numbers(numbers)?;
-        }
-        Immediates::BlockType => reader.skip_number()?,
+/// Skips this number of integers, and then this number of bytes.
+fn skip_fixed(reader: &mut ByteReader, numbers: usize, bytes: usize) -> Option<()>
+    ensures { (text : List ℕ) → Next reader.old text → HasFixed numbers bytes text → Reads reader.old reader.new text result tt }
+{
+    reader.skip_numbers(numbers)?;
+    reader.skip(bytes);
+    Some(())
+}
+
+/// Skips the alignment of an access, and the index of its memory if there is one.
+fn skip_alignment(reader: &mut ByteReader) -> Option<()>
+    ensures { (text : List ℕ) → Next reader.old text → IsAlignment text → Reads reader.old reader.new text result tt }
+{
+    if reader.number()? >= 64 {
+        reader.skip_number()?;
     }
     Some(())
+}
+
+/// Skips the alignment and the offset of an access, and then this number of bytes.
+fn skip_access(reader: &mut ByteReader, bytes: usize) -> Option<()>
+    ensures { (text : List ℕ) → Next reader.old text → HasAccess bytes text → Reads reader.old reader.new text result tt }
+{
+    skip_alignment(reader)?;
+    skip_fixed(reader, 1, bytes)
+}
+
+/// Skips a vector of integers, and then this number of integers.
+fn skip_integers(reader: &mut ByteReader, numbers: usize) -> Option<()>
+    ensures { (text : List ℕ) → Next reader.old text → HasVector numbers text → Reads reader.old reader.new text result tt }
+{
+    let count = reader.number()?;
+    reader.skip_numbers(count)?;
+    reader.skip_numbers(numbers)
+}
+
+/// Skips the immediates of an opcode.
+pub fn skip_immediates(reader: &mut ByteReader, immediates: Immediates) -> Option<()>
+    ensures { (text : List ℕ) → Next reader.old text → HasImmediates immediates text → Reads reader.old reader.new text result tt }
+{
+    match immediates {
+        Immediates::Fixed { numbers, bytes } => skip_fixed(reader, numbers, bytes),
+        Immediates::Access { bytes } => skip_access(reader, bytes),
+        Immediates::Vector { numbers } => skip_integers(reader, numbers),
+        Immediates::BlockType => reader.skip_number(),
+    }
 }

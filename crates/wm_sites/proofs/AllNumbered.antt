@@ -1,5 +1,5 @@
 -- Each opcode has a number in the table, or is left on the stack of what is to number.
-use Rattle.std.proofs.Common.{◌≡◌, ℕ, suc, ◌+◌, ◌<◌, ◌≤◌, List, [], ◌∷◌, ◌++◌, Vec, Global, map, drop, reverse, length, get_or, Option, Some, None, refl, sym, ap, subst, ◌∙◌, slice_get, ⊎_elim, inl, inr, append_assoc, arith}
+use Rattle.std.proofs.Common.{◌≡◌, ℕ, ◌+◌, ◌<◌, ◌≤◌, List, [], ◌∷◌, ◌++◌, Vec, Global, map, drop, reverse, length, get_or, Option, Some, None, refl, sym, ap, subst, ◌∙◌, slice_get, ⊎_elim, inl, inr, append_assoc, arith}
 use Rattle.std.specs.Prelude.{◌⊎◌}
 use Rattle.std.proofs.lemmas.List.{drop_all, reverse-append, reverse-reverse}
 use Rattle.std.proofs.lemmas.Option.{none-some, same_Some, slice_get_cases}
@@ -7,7 +7,7 @@ use Rattle.wm_ast.specs.declared.instr.Instr.{Instr}
 use Rattle.wm_decode.specs.Bounds.{max_module_bytes}
 use Rattle.wm_valid.specs.Locations.{Part, parts, Opcodes, none, instr, part}
 use Rattle.wm_sites.specs.declared.opcode_numbers.BlockPosition.{BlockPosition}
-use Rattle.wm_sites.specs.Numbering.{begin_of, next_of, IsNumberedFrom, here, behind, in_part, past_part, IsNoted, IsNumbered, HasPlace, HasPlaces, Notes, begins_of, behind_of, followers}
+use Rattle.wm_sites.specs.Numbering.{AreBelow, number_in, begin_of, next_of, IsNumberedFrom, here, behind, in_part, past_part, IsNoted, IsNumbered, HasPlace, HasPlaces, Notes, begins_of, behind_of, followers}
 use Rattle.wm_sites.proofs.Unnumbered.{IsLeft, in_top, below_top, drop_at, no_part}
 
 abbrev Table : Type 0
@@ -192,3 +192,18 @@ late_left blocks number table stack are end q k numbered below = ⊎_elim
     (λ (noted : IsNoted table q). noted)
     (λ (left : (m : ℕ) × (k ≡ number + m) × IsLeft blocks (reverse stack) q m). let sum = left.1 in absurd (omega (arith, sum, end, below)))
     (are q k numbered)
+
+-- ---- the count
+
+pub below_none : (table : Table) → ((q : BlockPosition) → number_in table q ≡ None) → AreBelow 0 table
+below_none table empty q k is = absurd (none-some k (sym (empty q) ∙ is))
+
+pub below_more : (old now : Table) (number : ℕ) (p : BlockPosition) → AreBelow number old → Notes old now p number → AreBelow (number + 1) now
+below_more old now number p below notes q k is = ⊎_elim
+    (λ (before : number_in old q ≡ Some k). let less = below q k before in let lt : k < number + 1 = omega (arith, less) in lt)
+    (λ (same : (q ≡ p) × (k ≡ number)). let e = same.1 in let lt : k < number + 1 = omega (arith, e) in lt)
+    (notes.from q k is)
+
+pub below_at_most : (table : Table) (number most : ℕ) → AreBelow number table → number ≤ most → AreBelow most table
+below_at_most table number most below le q k is =
+    let less = below q k is in omega (arith, less, le)

@@ -10,3 +10,12 @@ pub mod CodeBytes
 pub mod AccessingStep
 pub mod NumberedPositions
 pub mod MadeAtOpcodes
+pub mod Spelled
+pub mod Series
+pub mod CodeSection
+pub mod OpcodeForms
+pub mod OpcodeShapes
+pub mod BodySteps
+pub mod LocalsSteps
+pub mod OpcodeSteps
+pub mod Begins

@@ -9,7 +9,7 @@ use Rattle.wm_ast.specs.declared.instr.Instr.TheVariants.{Nop, Block, If, Drop}
 use Rattle.wm_valid.specs.InstrTypes.{Labels}
 use Rattle.wm_valid.specs.Locations.{Part, At, here as at_here, behind as at_behind, in_part as at_in_part, past_part as at_past_part, IsEnd, last, end_behind, end_in_part, end_past_part, none, instr}
 use Rattle.wm_sites.specs.declared.opcode_numbers.BlockPosition.{BlockPosition}
-use Rattle.wm_sites.specs.Numbering.{begin_of, next_of, IsNumberedFrom, here, behind, in_part, past_part, IsNumbered}
+use Rattle.wm_sites.specs.Numbering.{IsNumberedFrom, here, behind, in_part, past_part, IsNumbered}
 use Rattle.wm_sites.proofs.Unnumbered.{drop_at}
 
 -- what follows the first of the instructions from an index on

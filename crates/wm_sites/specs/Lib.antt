@@ -1,4 +1,6 @@
+pub mod Bodies
 pub mod Numbering
+pub mod Offsets
 pub mod Sites
 pub mod Offsets
 pub mod Opcodes

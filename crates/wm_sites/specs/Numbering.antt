@@ -46,10 +46,15 @@ HasNumbers blocks table = (q : BlockPosition) (k : ℕ) → number_in table q �
 abbrev pub IsNoted : List (Vec (Option ℕ) Global) → BlockPosition → Type 0
 IsNoted table q = (j : ℕ) × (number_in table q ≡ Some j)
 
--- the numbers are those of opcodes at their positions, and each opcode of a number below 1,048,576 has one
+-- each number is below this count
+abbrev pub AreBelow : ℕ → List (Vec (Option ℕ) Global) → Type 0
+AreBelow count table = (q : BlockPosition) (k : ℕ) → number_in table q ≡ Some k → k < count
+
+-- the numbers are those of opcodes at their positions and below the count, and each opcode of a number below 1,048,576 has one
 pub record AreNumbers (blocks : List (List Instr)) (numbers : OpcodeNumbers) : Type 0 where
   pub right : HasNumbers blocks numbers.numbers.items
   pub all : (q : BlockPosition) (k : ℕ) → IsNumbered blocks q k → k < max_module_bytes → IsNoted numbers.numbers.items q
+  pub below : AreBelow numbers.count numbers.numbers.items
 
 -- no place of a block has a number
 abbrev pub NoneIsNoted : List (Option ℕ) → Type 0

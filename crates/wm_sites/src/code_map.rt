@@ -1,25 +1,29 @@
 //! The numbers and the byte offsets of a module's instructions.
-ghost use Rattle.std.specs.Prelude.{◌≡◌, IfOk, IfSome, None, Some, slice_get};
+ghost use Rattle.std.specs.Prelude.{◌≡◌, ◌≢◌, ◌<◌, IfOk, IfSome, None, option_map, slice_get, unwrap_or};
+ghost use Rattle.wm_module_bytes.specs.Instructions.{in_ranges, plain_ranges};
+ghost use Rattle.wm_sites.specs.Bodies.{AreBodies, AreOpcodes, SkipsLocals, SkipsOpcode, StartsCode, in_one_memory};
 ghost use Rattle.wm_sites.specs.Numbering.{number_at};
-ghost use Rattle.wm_sites.specs.Sites.{AreFunctionMaps, IsFunctionMap, IsNoOpcode, IsRead, IsSiteOf, PutsMap, in_32_bits, opcode_in};
+ghost use Rattle.wm_sites.specs.Sites.{AreFunctionMaps, AreOffsets, AreUnread, IsFunctionMap, IsNoOpcode, IsRead, IsSiteOf, PutsMap};
+ghost use Rattle.wm_sites.specs.Sites.{code_in, code_of, in_32_bits, offset_in, opcode_in};
 
 use crate::module_code::ModuleCode;
 use crate::opcode_numbers::{BlockPosition, OpcodeNumbers, opcode_numbers};
 use std::alloc::{AllocError, Global};
 use std::marker::Model;
 use wm_ast::Module;
-use wm_decode::MAX_MODULE_BYTES;
 use wm_machine::CodePosition;
-use wm_module_bytes::{ByteReader, Opcode, immediates_of, skip_immediates};
+use wm_module_bytes::{ByteReader, Immediates, Opcode, immediates_of, skip_immediates};
 use wm_races::Site;
 
 /// The number of the code section (Core 1.0, section 5.5.2).
 const CODE_SECTION: u8 = 10;
 
 /// The start of the contents of the code section.
-fn code_section(bytes: &[u8]) -> Option<usize> {
+fn code_section(bytes: &[u8]) -> Option<usize>
+    ensures { StartsCode bytes.now result }
+{
     let mut reader = ByteReader::at_sections(bytes);
-    for _ in 0..bytes.len() {
+    for _section in 0..bytes.len() {
         let section = reader.section()?;
         if section.id == CODE_SECTION {
             return Some(section.start);
@@ -29,14 +33,16 @@ fn code_section(bytes: &[u8]) -> Option<usize> {
 }
 
 /// The byte offset in a module of each function's body, after its size, for as many as can be read.
-fn body_offsets(alloc: Global, bytes: &[u8]) -> Result<Vec<usize>, AllocError> {
+fn body_offsets(alloc: Global, bytes: &[u8]) -> Result<Vec<usize>, AllocError>
+    ensures { IfOk result (λ bodies. AreBodies bytes.now bodies.items) }
+{
     let mut bodies = Vec::new(alloc);
     let Some(start) = code_section(bytes) else {
         return Ok(bodies);
     };
     let mut reader = ByteReader { bytes, at: start };
     let count = reader.number().unwrap_or(0);
-    for _ in 0..count {
+    for _body in 0..count {
         let Some(size) = reader.number() else { break };
         bodies.push(reader.at)?;
         reader.skip(size);
@@ -45,19 +51,34 @@ fn body_offsets(alloc: Global, bytes: &[u8]) -> Result<Vec<usize>, AllocError> {
 }
 
 /// Skips the declarations of a body's locals (Core 1.0, section 5.4.9).
-fn skip_locals(reader: &mut ByteReader) -> Option<()> {
+fn skip_locals(reader: &mut ByteReader) -> Option<()>
+    ensures { SkipsLocals reader.old reader.new result }
+{
     let count = reader.number()?;
-    for _ in 0..count {
+    for _declaration in 0..count {
         reader.skip_number()?;
         reader.skip(1);
     }
     Some(())
 }
 
+/// The immediates of an opcode. The module has at most one memory, so no access names one.
+fn immediates_in_one_memory(opcode: Opcode) -> Option<Immediates>
+    ensures plain { opcode.byte < 0xFC → result ≡ option_map in_one_memory (in_ranges opcode.byte plain_ranges) }
+    ensures atomic { opcode.byte ≡ 0xFE → opcode.code ≢ 0x03 → result ≡ Some (in_one_memory (Immediates.Access 0)) }
+{
+    match immediates_of(opcode)? {
+        Immediates::Access { bytes } => Some(Immediates::Fixed { numbers: 2, bytes }),
+        immediates => Some(immediates),
+    }
+}
+
 /// Skips an instruction, without the blocks in it.
-fn skip_instruction(reader: &mut ByteReader) -> Option<()> {
+fn skip_instruction(reader: &mut ByteReader) -> Option<()>
+    ensures { SkipsOpcode reader.old reader.new result }
+{
     let opcode = Opcode::read(reader)?;
-    let immediates = immediates_of(opcode)?;
+    let immediates = immediates_in_one_memory(opcode)?;
     skip_immediates(reader, immediates)
 }
 
@@ -67,17 +88,19 @@ fn opcode_offsets(
     bytes: &[u8],
     body: usize,
     count: usize,
-) -> Result<Vec<usize>, AllocError> {
+) -> Result<Vec<usize>, AllocError>
+    ensures { IfOk result (λ offsets. AreOpcodes bytes.now body count offsets.items) }
+{
     let mut offsets = Vec::new(alloc);
     let mut reader = ByteReader { bytes, at: body };
-    if skip_locals(&mut reader).is_none() {
+    let Some(()) = skip_locals(&mut reader) else {
         return Ok(offsets);
-    }
-    for _ in 0..count.min(MAX_MODULE_BYTES) {
+    };
+    for _opcode in 0..count {
         offsets.push(reader.at)?;
-        if skip_instruction(&mut reader).is_none() {
-            break;
-        }
+        let Some(()) = skip_instruction(&mut reader) else {
+            return Ok(offsets);
+        };
     }
     Ok(offsets)
 }
@@ -95,6 +118,7 @@ impl FunctionMap {
     fn opcode(&self, position: BlockPosition) -> Option<(usize, usize)>
         ensures some { IfSome result (λ found. number_at self.now.numbers position ≡ Some found.0) }
         ensures none { result ≡ None → number_at self.now.numbers position ≡ None }
+        ensures offset { IfSome result (λ found. found.1 ≡ unwrap_or (slice_get self.now.offsets.items found.0) 0) }
     {
         let number = self.numbers.at(position)?;
         let offset = self.offsets.get(number).copied().unwrap_or(0);
@@ -104,7 +128,7 @@ impl FunctionMap {
 
 /// A table in which no function has been read yet.
 fn unread(alloc: Global, module: &Module) -> Result<Vec<Option<FunctionMap>>, AllocError>
-    ensures { IfOk result (λ maps. AreFunctionMaps «module».now maps.items) }
+    ensures { IfOk result (λ maps. AreUnread «module».now maps.items) }
 {
     let mut functions = Vec::new(alloc);
     for _func in module.funcs.as_slice() {
@@ -140,19 +164,28 @@ struct FunctionReader<'m> {
 }
 
 impl FunctionReader<'_> {
+    /// Where the first `count` opcodes of a function begin, for as many as can be read.
+    fn offsets(&self, function: usize, count: usize) -> Result<Vec<usize>, AllocError>
+        requires { AreBodies self.now.bytes.now self.now.bodies.items }
+        ensures { IfOk result (λ offsets. AreOffsets self.now.bytes.now function count offsets.items) }
+    {
+        match self.bodies.get(function) {
+            Some(body) => opcode_offsets(self.alloc, self.bytes, *body, count),
+            None => Ok(Vec::new(self.alloc)),
+        }
+    }
+
     /// The opcodes of a function; None if the module doesn't have it.
     fn read(&self, function: usize) -> Result<Option<FunctionMap>, AllocError>
-        ensures some { IfOk result (λ found. IfSome found (IsFunctionMap self.now.module.now function)) }
+        requires { AreBodies self.now.bytes.now self.now.bodies.items }
+        ensures some { IfOk result (λ found. IfSome found (IsFunctionMap (code_of self.now) function)) }
         ensures none { IfOk result (λ found. found ≡ None → slice_get self.now.module.now.funcs function ≡ None) }
     {
         let Some(code) = self.module.funcs.get(function) else {
             return Ok(None);
         };
         let numbers = opcode_numbers(self.alloc, code.blocks.as_slice())?;
-        let offsets = match self.bodies.get(function) {
-            Some(body) => opcode_offsets(self.alloc, self.bytes, *body, numbers.count)?,
-            None => Vec::new(self.alloc),
-        };
+        let offsets = self.offsets(function, numbers.count)?;
         Ok(Some(FunctionMap { numbers, offsets }))
     }
 }
@@ -163,8 +196,9 @@ fn read_once(
     functions: &mut Vec<Option<FunctionMap>>,
     function: usize,
 ) -> Result<(), AllocError>
-    requires { AreFunctionMaps reader.now.module.now functions.old.items }
-    ensures maps { AreFunctionMaps reader.now.module.now functions.new.items }
+    requires bodies { AreBodies reader.now.bytes.now reader.now.bodies.items }
+    requires maps { AreFunctionMaps (code_of reader.now) functions.old.items }
+    ensures maps { AreFunctionMaps (code_of reader.now) functions.new.items }
     ensures read { IfOk result (λ _. IsRead reader.now.module.now functions.new.items function) }
 {
     match functions.get(function) {
@@ -182,6 +216,7 @@ fn read_once(
 fn opcode_at(functions: &[Option<FunctionMap>], position: CodePosition) -> Option<(usize, usize)>
     ensures some { IfSome result (λ found. opcode_in functions.now position ≡ Some found.0) }
     ensures none { result ≡ None → opcode_in functions.now position ≡ None }
+    ensures offset { IfSome result (λ found. found.1 ≡ unwrap_or (offset_in functions.now position found.0) 0) }
 {
     let CodePosition { func, block, at } = position;
     match functions.get(func) {
@@ -191,7 +226,7 @@ fn opcode_at(functions: &[Option<FunctionMap>], position: CodePosition) -> Optio
 }
 
 /// The instructions of a module by their positions. Each function is read when its first position is asked for. Contracts see
-/// it as the module.
+/// it as the module with its bytes.
 #[derive(Drop)]
 pub struct CodeMap<'m> {
     reader: FunctionReader<'m>,
@@ -199,14 +234,14 @@ pub struct CodeMap<'m> {
 }
 
 impl<'m> Model for CodeMap<'m> {
-    ghost use Rattle.wm_ast.specs.declared.module.Module.{Module as Seen};
-    ghost use Rattle.wm_sites.specs.Sites.{AreFunctionMaps};
+    ghost use Rattle.wm_sites.specs.Bodies.{AreBodies};
+    ghost use Rattle.wm_sites.specs.Sites.{AreFunctionMaps, Code as Seen, code_of};
 
     ghost Value = { Seen };
 
-    ghost view = { λ map. map.reader.module.now };
+    ghost view = { λ map. code_of map.reader };
 
-    ghost invariant = { λ map. AreFunctionMaps map.reader.module.now map.functions.items };
+    ghost invariant = { λ map. AreBodies map.reader.bytes.now map.reader.bodies.items × AreFunctionMaps (code_of map.reader) map.functions.items };
 }
 
 impl<'m> CodeMap<'m> {
@@ -216,7 +251,7 @@ impl<'m> CodeMap<'m> {
     ///
     /// Only if an allocation fails.
     pub fn new(alloc: Global, code: ModuleCode<'m>) -> Result<Self, AllocError>
-        ensures { IfOk result (λ map. map ≡ code.exit.module.now) }
+        ensures { IfOk result (λ map. map ≡ code_in code.exit) }
     {
         let ModuleCode { module, bytes } = code;
         let module = module.module();
@@ -241,7 +276,7 @@ impl<'m> CodeMap<'m> {
     /// Only if an allocation fails.
     pub fn site(&mut self, position: CodePosition) -> Result<Option<Site>, AllocError>
         ensures site { IfOk result (λ found. IfSome found (IsSiteOf self.old position)) }
-        ensures none { IfOk result (λ found. found ≡ None → IsNoOpcode self.old position) }
+        ensures none { IfOk result (λ found. found ≡ None → IsNoOpcode self.old.module position) }
         ensures same { self.new ≡ self.old }
     {
         read_once(&self.reader, &mut self.functions, position.func)?;

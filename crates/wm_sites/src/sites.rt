@@ -1,6 +1,6 @@
 //! The instructions that make the events of a log.
 ghost use Rattle.std.specs.Prelude.{◌≡◌, IfOk, IfSome, None, length};
-ghost use Rattle.wm_sites.specs.Sites.{AreEventSites, AreSitesOf, AreThreadSites, IsMadeNowhere, IsSiteMade, position_in};
+ghost use Rattle.wm_sites.specs.Sites.{AreEventSites, AreSitesOf, AreThreadSites, IsMadeNowhere, IsSiteMade, code_in, position_in};
 ghost use Rattle.wm_replay.specs.Positions.{AreLogPositions};
 ghost use Rattle.wm_races.specs.Report.{HasSites};
 
@@ -13,7 +13,6 @@ use wm_event::{EventKey, Log, ThreadLog};
 use wm_list::List;
 use wm_machine::CodePosition;
 use wm_races::Site;
-use wm_valid::ValidModule;
 
 /// The instructions that make the events of a log.
 #[derive(Drop)]
@@ -35,7 +34,7 @@ impl<'m> RunSites<'m> {
         code: ModuleCode<'m>,
         log: &Log,
     ) -> Result<Self, AllocError>
-        ensures map { IfOk result (λ run. run.map ≡ code.exit.module.now) }
+        ensures map { IfOk result (λ run. run.map ≡ code_in code.exit) }
         ensures positions { IfOk result (λ run. AreLogPositions code.exit.module.now log.now run.positions.items) }
     {
         let positions = log_positions(rt, code.module, log)?;
@@ -52,7 +51,7 @@ impl<'m> RunSites<'m> {
         code: ModuleCode<'m>,
         positions: Vec<List<CodePosition>>,
     ) -> Result<Self, AllocError>
-        ensures map { IfOk result (λ run. run.map ≡ code.exit.module.now) }
+        ensures map { IfOk result (λ run. run.map ≡ code_in code.exit) }
         ensures positions { IfOk result (λ run. run.positions.items ≡ positions.items) }
     {
         let map = CodeMap::new(alloc, code)?;
@@ -75,7 +74,7 @@ impl<'m> RunSites<'m> {
     /// Only if an allocation fails.
     pub fn site(&mut self, key: EventKey) -> Result<Option<Site>, AllocError>
         ensures site { IfOk result (λ found. IfSome found (IsSiteMade self.old.map self.old.positions.items key)) }
-        ensures none { IfOk result (λ found. found ≡ None → IsMadeNowhere self.old.map self.old.positions.items key) }
+        ensures none { IfOk result (λ found. found ≡ None → IsMadeNowhere self.old.map.module self.old.positions.items key) }
         ensures same { self.new ≡ self.old }
     {
         match self.position(key) {
@@ -111,25 +110,20 @@ fn thread_sites(
 }
 
 /// For each event of a log, by thread and number, the instruction of the module that makes it, if the threads of the
-/// log are runs of the module. `module_bytes` spell the module.
+/// log are runs of the module.
 ///
 /// # Errors
 ///
 /// Only if an allocation fails.
 pub fn event_sites(
     alloc: Global,
-    module: &ValidModule,
-    module_bytes: &[u8],
+    code: ModuleCode,
     log: &Log,
 ) -> Result<Vec<List<Site>>, AllocError>
     ensures has { IfOk result (λ sites. HasSites log.now sites.items) }
-    ensures sites { IfOk result (λ sites. AreEventSites «module».now log.now sites.items) }
+    ensures sites { IfOk result (λ sites. AreEventSites (code_in code.exit) log.now sites.items) }
 {
-    let code = ModuleCode {
-        module,
-        bytes: module_bytes,
-    };
-    let positions = positions_in_order(alloc, module, log)?;
+    let positions = positions_in_order(alloc, code.module, log)?;
     let mut run = RunSites::at(alloc, code, positions)?;
     let mut sites = Vec::new(alloc);
     for thread in log.threads() {
@@ -139,24 +133,19 @@ pub fn event_sites(
 }
 
 /// For each of these positions, in order, the instruction of the module there; a position that the module doesn't have
-/// gets the first instruction of function 0. `module_bytes` spell the module.
+/// gets the first instruction of function 0.
 ///
 /// # Errors
 ///
 /// Only if an allocation fails.
 pub fn position_sites(
     alloc: Global,
-    module: &ValidModule,
-    module_bytes: &[u8],
+    code: ModuleCode,
     positions: &[CodePosition],
 ) -> Result<List<Site>, AllocError>
     ensures count { IfOk result (λ sites. length sites ≡ length positions.now) }
-    ensures sites { IfOk result (AreSitesOf «module».now positions.now) }
+    ensures sites { IfOk result (AreSitesOf (code_in code.exit) positions.now) }
 {
-    let code = ModuleCode {
-        module,
-        bytes: module_bytes,
-    };
     let mut map = CodeMap::new(alloc, code)?;
     let mut sites = List::new(alloc);
     for position in positions {

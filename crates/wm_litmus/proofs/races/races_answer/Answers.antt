@@ -6,7 +6,7 @@ use Rattle.wm_litmus.proofs.races.races_answer.Goals as goal
 
 pub returns-in-Ok : goal.returns-in-Ok
 returns-in-Ok g c =
-    IfOk-weaker c.races_of_log.result _ _ (λ answer answers. answers c.args.module_bytes.now c.in-Ok.ensures.read) c.races_of_log.ensures
+    IfOk-weaker c.races_of_log.result _ _ (λ answer answers. answers c.in-Ok.ensures.read) c.races_of_log.ensures
 
 pub returns-in-Err-Refused : goal.returns-in-Err-Refused
 returns-in-Err-Refused g c =

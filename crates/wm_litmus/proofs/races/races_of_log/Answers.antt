@@ -8,7 +8,8 @@ use Rattle.wm_litmus.proofs.races.races_of_log.Goals as goal
 
 pub returns-in-Allowed : goal.returns-in-Allowed
 returns-in-Allowed g c =
-    let m = c.args.module.now in
+    let m = c.args.code.module.now in
+    let mb = c.args.code.bytes.now in
     let db = c.args.document_bytes.now in
     let v = c.in_ok-checked.checked.verdict in
     let o = c.in_ok-checked.checked.candidate in
@@ -17,15 +18,15 @@ returns-in-Allowed g c =
     let recorded = said_of_some o run (IsRecordedOver m db) c.in-Some.is c.in_ok-checked.ensures.candidate in
     let certified = certified_by v certificate run c.in-Allowed.is (said_of_some o run (λ r. IsCertified r v) c.in-Some.is c.in_ok-checked.ensures.certified) in
     IfOk-weaker c.list_allowed.result _ _
-    (λ answer reports. λ module_bytes is_module. listed m run certificate (recorded module_bytes is_module)
-    (subst (Says module_bytes db) c.in-Allowed.is (c.in_ok-checked.ensures.verdict module_bytes is_module)) certified.valid reports)
+    (λ answer reports is_module. listed m run certificate (recorded mb is_module)
+    (subst (Says mb db) c.in-Allowed.is (c.in_ok-checked.ensures.verdict mb is_module)) certified.valid reports)
     c.list_allowed.ensures
 
 pub returns-in-Refused : goal.returns-in-Refused
 returns-in-Refused g c =
     let v = c.in_ok-checked.checked.verdict in
     IfOk-weaker c.of_verdict.result _ _
-    (λ answer prints. λ module_bytes is_module. told v (c.in_ok-checked.ensures.verdict module_bytes is_module)
+    (λ answer prints is_module. told v (c.in_ok-checked.ensures.verdict c.args.code.bytes.now is_module)
     (refused_not_allowed v c.in-Refused.field-0 c.in-Refused.is) prints.status_is prints.text_is)
     c.of_verdict.ensures
 
@@ -33,6 +34,6 @@ pub returns : goal.returns
 returns g c =
     let v = c.in_ok-checked.checked.verdict in
     IfOk-weaker c.of_verdict-in-Broken.result _ _
-    (λ answer prints. λ module_bytes is_module. told v (c.in_ok-checked.ensures.verdict module_bytes is_module)
+    (λ answer prints is_module. told v (c.in_ok-checked.ensures.verdict c.args.code.bytes.now is_module)
     (broken_not_allowed v c.in-Broken.field-0 c.in-Broken.is) prints.status_is prints.text_is)
     c.of_verdict-in-Broken.ensures

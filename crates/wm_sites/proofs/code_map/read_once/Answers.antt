@@ -6,7 +6,7 @@ use Rattle.wm_sites.proofs.code_map.read_once.Goals as goal
 
 pub returns-in_ok-read-in-Some-None-clause-read : goal.returns-in_ok-read-in-Some-None-clause-read
 returns-in_ok-read-in-Some-None-clause-read c =
-    read_now c.args.reader.now.module.now c.args.functions.now.items c.put.new.functions.items c.args.function c.in_ok-read-in-Some-None.read c.requires.count c.put.ensures.puts c.in_ok-read-in-Some-None.ensures.none
+    read_now c.args.reader.now.module.now c.args.functions.now.items c.put.new.functions.items c.args.function c.in_ok-read-in-Some-None.read c.requires.maps.count c.put.ensures.puts c.in_ok-read-in-Some-None.ensures.none
 
 pub returns-in-Some-Some-clause-read : goal.returns-in-Some-Some-clause-read
 returns-in-Some-Some-clause-read c =
@@ -21,5 +21,5 @@ returns-in-Some-Some-clause-read c =
 
 pub returns-in-None-clause-read : goal.returns-in-None-clause-read
 returns-in-None-clause-read c =
-    no_function c.args.reader.now.module.now c.args.functions.now.items c.args.function c.requires.count
+    no_function c.args.reader.now.module.now c.args.functions.now.items c.args.function c.requires.maps.count
     (subst (λ (maps : List (Option FunctionMap)). length maps ≤ c.args.function) c.deref.ensures.value c.in-None.ensures.lookup.3)

@@ -5,5 +5,5 @@ use Rattle.wm_sites.proofs.code_map.unread.Goals as goal
 pub returns : goal.returns
 returns c = record {
   count = search rules;
-  each = λ f map at. absurd (none-some map (sym (c.loop-func.invariant.unread f (Some map) at)));
+  none = λ f map at. none-some map (sym (c.loop-func.invariant.unread f (Some map) at));
 }

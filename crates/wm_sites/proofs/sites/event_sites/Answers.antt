@@ -1,7 +1,6 @@
 use Rattle.std.proofs.Common.{◌≡◌, ◌+◌, ◌≤◌, ◌∙◌, List, Some, ap, length, map, refl, subst, sym, take}
 use Rattle.std.proofs.lemmas.Option.{none-some}
 use Rattle.std.specs.Prelude.{slice_get}
-use Rattle.wm_ast.specs.declared.module.Module.{Module}
 use Rattle.wm_event.specs.Shape.{event_counts}
 use Rattle.wm_event.specs.declared.log.ThreadLog.{ThreadLog}
 use Rattle.wm_machine.specs.declared.thread.CodePosition.{CodePosition}
@@ -9,6 +8,7 @@ use Rattle.wm_races.proofs.SiteLaws.{sites-of-shape}
 use Rattle.wm_races.specs.declared.site.Site.{Site}
 use Rattle.wm_replay.proofs.Logs.{item_at}
 use Rattle.wm_sites.specs.declared.sites.RunSites.{RunSites}
+use Rattle.wm_sites.specs.Sites.{Code, code_in}
 use Rattle.wm_sites.proofs.EventSites.{AreSitesIn, event_site, sites_more}
 use Rattle.wm_sites.proofs.SiteShapes.{shape_more, whole_shape}
 use Rattle.wm_sites.proofs.sites.event_sites.Goals as goal
@@ -52,9 +52,9 @@ returns c =
     let table = c.in_ok-positions.positions.items in
     let all : length log ≤ n = subst (λ (items : List ThreadLog). length items ≤ n) c.threads-thread-items.ensures.value c.loop-thread-test.false in
     let each = subst (λ (r : RunSites). AreSitesIn r.map r.positions.items log sites) c.loop-thread.invariant.same c.loop-thread.invariant.sites in
-    let of_module = subst (λ (m : Module). AreSitesIn m run.positions.items log sites) c.in_ok-run.ensures.map each in
-    let of_table = subst (λ (t : List (List CodePosition)). AreSitesIn c.args.module.now t log sites) c.in_ok-run.ensures.positions of_module in
+    let of_module = subst (λ (code : Code). AreSitesIn code run.positions.items log sites) c.in_ok-run.ensures.map each in
+    let of_table = subst (λ (t : List (List CodePosition)). AreSitesIn (code_in c.args.code) t log sites) c.in_ok-run.ensures.positions of_module in
     record {
       has = sites-of-shape log sites (whole_shape log sites n all c.loop-thread.invariant.shape);
-      sites = record { table = table; positions = c.in_ok-positions.ensures; each = event_site c.args.module.now table log sites c.threads-thread-items.ensures.keys of_table };
+      sites = record { table = table; positions = c.in_ok-positions.ensures; each = event_site (code_in c.args.code) table log sites c.threads-thread-items.ensures.keys of_table };
     }

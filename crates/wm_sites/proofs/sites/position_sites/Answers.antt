@@ -1,10 +1,9 @@
 use Rattle.std.proofs.Common.{◌∷◌, [], ◌++◌, get_or, ap, subst, sym, ◌∙◌}
 use Rattle.std.proofs.lemmas.Option.{slice_get-get_or}
-use Rattle.wm_ast.specs.declared.module.Module.{Module}
 use Rattle.wm_machine.specs.declared.thread.CodePosition.{CodePosition}
 use Rattle.wm_races.specs.declared.site.Site.{Site}
 use Rattle.std.specs.Prelude.{unwrap_or}
-use Rattle.wm_sites.specs.Sites.{AreSitesOf, first_site}
+use Rattle.wm_sites.specs.Sites.{AreSitesOf, Code, first_site}
 use Rattle.wm_replay.proofs.LogPositions.{one_more}
 use Rattle.wm_sites.proofs.EventSites.{found_or_first, position_sites_more}
 use Rattle.wm_sites.proofs.sites.position_sites.Goals as goal
@@ -25,9 +24,10 @@ loop-position-preserved c =
     in
     record {
       count = one_more n old new (unwrap_or found first_site) c.loop-position.invariant.count more;
-      sites = subst (λ (m : Module). AreSitesOf m positions new) (sym c.in_ok-found.ensures.same) sites;
+      sites = subst (λ (code : Code). AreSitesOf code positions new) (sym c.in_ok-found.ensures.same) sites;
       same = c.in_ok-found.ensures.same ∙ c.loop-position.invariant.same;
     }
 
 pub returns-clause-sites : goal.returns-clause-sites
-returns-clause-sites c = subst (λ (m : Module). AreSitesOf m c.args.positions.now c.loop-position.sites) c.loop-position.invariant.same c.loop-position.invariant.sites
+returns-clause-sites c =
+    subst (λ (code : Code). AreSitesOf code c.args.positions.now c.loop-position.sites) (c.loop-position.invariant.same ∙ c.in_ok-map.ensures) c.loop-position.invariant.sites
