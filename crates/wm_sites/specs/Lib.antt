@@ -2,5 +2,4 @@ pub mod Bodies
 pub mod Numbering
 pub mod Offsets
 pub mod Sites
-pub mod Offsets
 pub mod Opcodes

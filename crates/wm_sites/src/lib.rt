@@ -10,6 +10,6 @@ mod opcode_numbers;
 mod sites;
 
 pub use code_map::CodeMap;
-pub use law::made_at_opcodes;
+pub use law::{made_at_opcodes, made_events_have_sites};
 pub use module_code::ModuleCode;
 pub use sites::{RunSites, event_sites, position_sites};

@@ -3,7 +3,7 @@ use Rattle.std.specs.Prelude.{unwrap_or}
 use Rattle.std.proofs.lemmas.Option.{none-some}
 use Rattle.wm_sites.specs.Bodies.{code_start}
 use Rattle.wm_sites.proofs.BodySteps.{BodyAhead, body_more, body_none, body_noted, functions_read, items_next, items_place, size_there, start_is}
-use Rattle.wm_sites.proofs.EventSites.{one_more}
+use Rattle.wm_replay.proofs.LogPositions.{one_more}
 use Rattle.wm_sites.proofs.code_map.body_offsets.Goals as goal
 use Rattle.wm_sites.proofs.code_map.body_offsets.Goals.{else-loop-body-test, then-loop-body-test+in_default-number}
 

@@ -1,5 +1,5 @@
 use Rattle.std.proofs.Common.{ℕ, ◌<◌, List, ap, arith, length, refl, subst, sym}
-use Rattle.wm_sites.proofs.EventSites.{one_more}
+use Rattle.wm_replay.proofs.LogPositions.{one_more}
 use Rattle.wm_sites.proofs.OpcodeSteps.{OpcodeAhead, opcode_last, opcode_more, opcode_none}
 use Rattle.wm_sites.proofs.code_map.opcode_offsets.Goals as goal
 
