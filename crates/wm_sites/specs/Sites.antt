@@ -17,6 +17,7 @@ use Rattle.wm_sites.specs.declared.code_map.FunctionMap.{FunctionMap}
 use Rattle.wm_sites.specs.declared.code_map.FunctionReader.{FunctionReader}
 use Rattle.wm_sites.specs.declared.module_code.ModuleCode.{ModuleCode}
 use Rattle.wm_sites.specs.declared.opcode_numbers.BlockPosition.{BlockPosition}
+use Rattle.wm_sites.specs.Bodies.{AreBodies}
 use Rattle.wm_sites.specs.Numbering.{AreNumbers, IsNumbered, number_at}
 use Rattle.wm_sites.specs.Offsets.{OpcodeBegins}
 
@@ -86,6 +87,11 @@ pub record IsFunctionMap (c : Code) (f : ℕ) (map : FunctionMap) : Type 0 where
 pub record AreFunctionMaps (c : Code) (maps : List (Option FunctionMap)) : Type 0 where
   pub count : length maps ≡ length c.module.funcs
   pub each : (f : ℕ) (map : FunctionMap) → slice_get maps f ≡ Some (Some map) → IsFunctionMap c f map
+
+-- the reader has the offsets of the bodies, and these maps are of functions of its module
+pub record AreReadBy (reader : FunctionReader) (maps : List (Option FunctionMap)) : Type 0 where
+  pub bodies : AreBodies reader.bytes.now reader.bodies.items
+  pub functions : AreFunctionMaps (code_of reader) maps
 
 -- there is a place for each function, and none was read
 pub record AreUnread (m : Module) (maps : List (Option FunctionMap)) : Type 0 where

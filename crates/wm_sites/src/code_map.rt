@@ -234,14 +234,13 @@ pub struct CodeMap<'m> {
 }
 
 impl<'m> Model for CodeMap<'m> {
-    ghost use Rattle.wm_sites.specs.Bodies.{AreBodies};
-    ghost use Rattle.wm_sites.specs.Sites.{AreFunctionMaps, Code as Seen, code_of};
+    ghost use Rattle.wm_sites.specs.Sites.{AreReadBy, Code as Seen, code_of};
 
     ghost Value = { Seen };
 
     ghost view = { λ map. code_of map.reader };
 
-    ghost invariant = { λ map. AreBodies map.reader.bytes.now map.reader.bodies.items × AreFunctionMaps (code_of map.reader) map.functions.items };
+    ghost invariant = { λ map. AreReadBy map.reader map.functions.items };
 }
 
 impl<'m> CodeMap<'m> {
