@@ -144,6 +144,21 @@ pub(crate) trait ItemTaker<T> {
             Taken (levels self.now) (reads self.now index) reader.old x reader.new) };
 }
 
+/// A list of this number of items may fill the rest of the text.
+const LONG_LIST: usize = 131_072;
+
+/// Reserves capacity for the rest of a list that gets long, so that it isn't moved again: for as many items as the rest
+/// of the text has, if they are as long as the items so far. These took the `used` bytes before the last `left` ones.
+#[inline(always)]
+fn reserve_rest<T>(found: &mut Vec<T>, used: usize, left: usize) -> Result<(), AllocError>
+    ensures { OnOk result (found.new.items ≡ found.old.items) }
+{
+    if found.len() != LONG_LIST || used < LONG_LIST {
+        return Ok(());
+    }
+    found.reserve(left / (used / LONG_LIST))
+}
+
 /// Takes the items of a list up to its end. Capacity for `room` items is reserved at once, and more as needed.
 fn take_items<T: Drop, R: ItemTaker<T>>(
     alloc: Global,
@@ -155,10 +170,13 @@ fn take_items<T: Drop, R: ItemTaker<T>>(
         TakenOn (R.levels taker.now) (traverse (R.reads taker.now) 0) reader.old xs reader.new) }
 {
     let mut found = Vec::with_capacity(alloc, room)?;
+    let whole = reader.bytes_left();
     for index in 0..MAX_DOCUMENT_BYTES {
         if reader.take_end_array() {
             return Ok(List::from_vec(found));
         }
+        let left = reader.bytes_left();
+        reserve_rest(&mut found, whole.saturating_sub(left), left)?;
         let item = taker.take(alloc, reader, index)?;
         found.push(item)?;
     }

@@ -181,6 +181,12 @@ impl<'a> Reader<'a> {
         }
     }
 
+    /// How many bytes of the text are left.
+    #[inline(always)]
+    pub(crate) fn bytes_left(&self) -> usize {
+        self.rest.len()
+    }
+
     /// Whether no token is left.
     #[tactic(auto, using(crate::proofs::Bytes::none_left))]
     pub(crate) fn is_at_end(&self) -> bool
