@@ -148,15 +148,19 @@ pub(crate) trait ItemTaker<T> {
 const LONG_LIST: usize = 131_072;
 
 /// Reserves capacity for the rest of a list that gets long, so that it isn't moved again: for as many items as the rest
-/// of the text has, if they are as long as the items so far. These took the `used` bytes before the last `left` ones.
+/// of the text has, if they are as long as the items so far. `whole` bytes were left before these, and `left` are now.
 #[inline(always)]
-fn reserve_rest<T>(found: &mut Vec<T>, used: usize, left: usize) -> Result<(), AllocError>
+fn reserve_rest<T>(found: &mut Vec<T>, whole: usize, left: usize) -> Result<(), AllocError>
     ensures { OnOk result (found.new.items ≡ found.old.items) }
 {
-    if found.len() != LONG_LIST || used < LONG_LIST {
+    if found.len() != LONG_LIST {
         return Ok(());
     }
-    found.reserve(left / (used / LONG_LIST))
+    let length = whole.saturating_sub(left) / LONG_LIST;
+    if length == 0 {
+        return Ok(());
+    }
+    found.reserve(left / length)
 }
 
 /// Takes the items of a list up to its end. Capacity for `room` items is reserved at once, and more as needed.
@@ -175,8 +179,7 @@ fn take_items<T: Drop, R: ItemTaker<T>>(
         if reader.take_end_array() {
             return Ok(List::from_vec(found));
         }
-        let left = reader.bytes_left();
-        reserve_rest(&mut found, whole.saturating_sub(left), left)?;
+        reserve_rest(&mut found, whole, reader.bytes_left())?;
         let item = taker.take(alloc, reader, index)?;
         found.push(item)?;
     }
