@@ -21,6 +21,7 @@ pub mod Once
 pub mod Documents
 pub mod Taking
 pub mod Digits
+pub mod Bytes
 pub mod TakingEvents
 pub mod TakingThreads
 pub mod TakingDocuments

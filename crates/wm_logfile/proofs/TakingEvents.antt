@@ -107,9 +107,12 @@ numbers_taken old t mid n new h i = record {
   read = rw (h.read, i.read) refl;
 }
 
-pub init_taken : (old opened new : List Token) → old ≡ Token.begin_array ∷ opened → after_end_array opened ≡ Some new → Taken 1 writer_at old Init new
+init_taken : (old opened new : List Token) → old ≡ Token.begin_array ∷ opened → after_end_array opened ≡ Some new → Taken 1 writer_at old Init new
 init_taken old opened new is closed =
     front_taken 0 writer_from old opened opened new Init is (record { values = []; passes = passes_nothing 0 opened; read = refl }) closed
+
+pub empty_taken : (old new : List Token) → old ≡ Token.begin_array ∷ Token.end_array ∷ new → Taken 1 writer_at old Init new
+empty_taken old new is = init_taken old (Token.end_array ∷ new) new is refl
 
 named : (ds : List Data) (key : EventKey) → key_from ds ≡ Some key → writer_from ds ≡ Some (At key)
 unfolding key_from

@@ -14,4 +14,5 @@ pub mod DocumentBytes
 pub mod Migration
 pub mod Tokens
 pub mod Taking
+pub mod TokensLeft
 pub mod Places

@@ -24,7 +24,6 @@ use crate::path::Path;
 use crate::quick::{TakeFault, take_document};
 use crate::thread::{ThreadByReader, ThreadReader};
 use crate::witness::{order_keys_of, witness_of};
-use json::Scratch;
 use serde_json::Value;
 use std::alloc::Global;
 use wm_event::{Log, MAX_THREADS, ThreadLog, Witness};
@@ -155,18 +154,14 @@ fn document_of(alloc: Global, value: &Value) -> Result<(Log, Witness), DocFault>
     }
 }
 
-/// Memory for reading documents: about 16 KiB, reused from one document to the next.
+/// What is kept from one document to the next. Reading needs no memory between documents, so it is empty.
 #[derive(Drop)]
-pub struct ReadingRoom {
-    scratch: Scratch,
-}
+pub struct ReadingRoom;
 
 impl ReadingRoom {
     /// A room for any document.
-    pub fn new(alloc: Global) -> ReadingRoom {
-        ReadingRoom {
-            scratch: Scratch::new(alloc),
-        }
+    pub fn new(_alloc: Global) -> ReadingRoom {
+        ReadingRoom
     }
 }
 
@@ -177,7 +172,7 @@ impl ReadingRoom {
 /// The errors of [`read_document`].
 pub fn read_document_in(
     alloc: Global,
-    room: &mut ReadingRoom,
+    _room: &mut ReadingRoom,
     bytes: &[u8],
 ) -> Result<(Log, Witness), DocFault>
     // The bytes spell the pair that is read, and it is within the limits.
@@ -194,7 +189,7 @@ pub fn read_document_in(
     if bytes.len() > MAX_DOCUMENT_BYTES {
         return Err(DocFault::TooLarge);
     }
-    match take_document(alloc, &mut room.scratch, bytes) {
+    match take_document(alloc, bytes) {
         Ok(pair) => return Ok(pair),
         Err(TakeFault::Memory) => return Err(DocFault::OutOfMemory),
         // Reading the value of the text finds the fault.

@@ -11,12 +11,13 @@ ghost use Rattle.wm_logfile.specs.Taking.{Taken, TakenOn};
 
 mod document;
 mod event;
+mod reader;
 mod thread;
 
 use crate::MAX_DOCUMENT_BYTES;
 pub(crate) use document::take_document;
 use fast_float::Numeral;
-use json::{Reader, Token};
+use reader::Reader;
 use std::alloc::{AllocError, AllocFailed, Global};
 use wm_list::List;
 
@@ -45,9 +46,10 @@ impl<T: Drop> From<AllocFailed<T>> for TakeFault {
 pub(crate) fn open_list(reader: &mut Reader<'_>) -> Result<(), TakeFault>
     ensures { OnOk result (reader.old ≡ begin_array ∷ reader.new) }
 {
-    match reader.next() {
-        Some(Token::BeginArray) => Ok(()),
-        _ => Err(TakeFault::Other),
+    if reader.take_begin_array() {
+        Ok(())
+    } else {
+        Err(TakeFault::Other)
     }
 }
 
@@ -67,9 +69,9 @@ pub(crate) fn close_list(reader: &mut Reader<'_>) -> Result<(), TakeFault>
 pub(crate) fn take_text<'a>(reader: &mut Reader<'a>) -> Result<&'a str, TakeFault>
     ensures { IfOk result (λ s. Taken 0 as_str reader.old s.now reader.new) }
 {
-    match reader.next() {
-        Some(Token::String(text)) => Ok(text),
-        _ => Err(TakeFault::Other),
+    match reader.take_plain() {
+        Some(text) => Ok(text),
+        None => Err(TakeFault::Other),
     }
 }
 
@@ -106,10 +108,9 @@ fn scanned_natural(bytes: &[u8]) -> Option<u64>
 }
 
 /// The 64-bit integer that a number's text spells, if it has no sign.
-fn natural_of(text: &str) -> Option<u64>
-    ensures { IfSome result (λ n. number_of text.now ≡ Some (unsigned n)) }
+fn natural_of(bytes: &[u8]) -> Option<u64>
+    ensures { IfSome result (λ n. number_of bytes.now ≡ Some (unsigned n)) }
 {
-    let bytes = text.as_bytes();
     // Most numbers of a log are only a few digits. Only the others are scanned.
     match number_of_digits(bytes) {
         Some(number) => Some(number),
@@ -123,10 +124,10 @@ pub(crate) fn take_number(reader: &mut Reader<'_>, limit: u64) -> Result<u64, Ta
     ensures taken { IfOk result (λ n. Taken 0 (number_at limit) reader.old n reader.new) }
     ensures bound { IfOk result (λ n. n ≤ limit) }
 {
-    let Some(Token::Number(text)) = reader.next() else {
+    let Some(digits) = reader.take_digits() else {
         return Err(TakeFault::Other);
     };
-    match natural_of(text) {
+    match natural_of(digits) {
         Some(n) if n <= limit => Ok(n),
         _ => Err(TakeFault::Other),
     }
@@ -143,6 +144,25 @@ pub(crate) trait ItemTaker<T> {
             Taken (levels self.now) (reads self.now index) reader.old x reader.new) };
 }
 
+/// A list of this number of items may fill the rest of the text.
+const LONG_LIST: usize = 131_072;
+
+/// Reserves capacity for the rest of a list that gets long, so that it isn't moved again: for as many items as the rest
+/// of the text has, if they are as long as the items so far. `whole` bytes were left before these, and `left` are now.
+#[inline(always)]
+fn reserve_rest<T>(found: &mut Vec<T>, whole: usize, left: usize) -> Result<(), AllocError>
+    ensures { OnOk result (found.new.items ≡ found.old.items) }
+{
+    if found.len() != LONG_LIST {
+        return Ok(());
+    }
+    let length = whole.saturating_sub(left) / LONG_LIST;
+    if length == 0 {
+        return Ok(());
+    }
+    found.reserve(left / length)
+}
+
 /// Takes the items of a list up to its end. Capacity for `room` items is reserved at once, and more as needed.
 fn take_items<T: Drop, R: ItemTaker<T>>(
     alloc: Global,
@@ -154,10 +174,12 @@ fn take_items<T: Drop, R: ItemTaker<T>>(
         TakenOn (R.levels taker.now) (traverse (R.reads taker.now) 0) reader.old xs reader.new) }
 {
     let mut found = Vec::with_capacity(alloc, room)?;
+    let whole = reader.bytes_left();
     for index in 0..MAX_DOCUMENT_BYTES {
         if reader.take_end_array() {
             return Ok(List::from_vec(found));
         }
+        reserve_rest(&mut found, whole, reader.bytes_left())?;
         let item = taker.take(alloc, reader, index)?;
         found.push(item)?;
     }

@@ -7,11 +7,11 @@ ghost use Rattle.wm_logfile.specs.Taking.{Taken, TakenPair, TakenText, TakenDocu
 use crate::document::Version;
 use crate::items::unzipped;
 use crate::quick::event::{take_event_writers, take_order_keys};
+use crate::quick::reader::Reader;
 use crate::quick::thread::{ThreadByTaker, ThreadTaker, take_threads};
 use crate::quick::{
     ItemTaker, TakeFault, close_list, open_list, take_list, take_number, take_text,
 };
-use json::{Reader, Scratch};
 use simdutf8::basic::from_utf8;
 use std::alloc::Global;
 use wm_event::{EventId, Log, Witness};
@@ -140,16 +140,12 @@ fn take_whole(alloc: Global, reader: &mut Reader<'_>) -> Result<(Log, Witness), 
 
 /// The log and the witness that a text spells, if one pass over its tokens shows that.
 #[tactic(auto, using(crate::proofs::TakingDocuments::text_taken_whole))]
-fn take_text_whole(
-    alloc: Global,
-    scratch: &mut Scratch,
-    text: &str,
-) -> Result<(Log, Witness), TakeFault>
+fn take_text_whole(alloc: Global, text: &[u8]) -> Result<(Log, Witness), TakeFault>
     ensures { IfOk result (λ p. TakenText text.now p.0 p.1) }
 {
-    let mut reader = Reader::new(text, scratch)?;
+    let mut reader = Reader::new(text);
     let (log, witness) = take_whole(alloc, &mut reader)?;
-    if reader.next().is_some() {
+    if !reader.is_at_end() {
         return Err(TakeFault::Other);
     }
     Ok((log, witness))
@@ -161,16 +157,12 @@ fn take_text_whole(
 ///
 /// `Memory` if an allocation fails, and `Other` if the bytes spell nothing, or the pass didn't find out what.
 #[tactic(auto, using(crate::proofs::TakingDocuments::bytes_taken))]
-pub(crate) fn take_document(
-    alloc: Global,
-    scratch: &mut Scratch,
-    bytes: &[u8],
-) -> Result<(Log, Witness), TakeFault>
+pub(crate) fn take_document(alloc: Global, bytes: &[u8]) -> Result<(Log, Witness), TakeFault>
     ensures { IfOk result (λ p. TakenDocument bytes.now p.0 p.1) }
 {
     let Ok(text) = from_utf8(bytes) else {
         return Err(TakeFault::Other);
     };
-    let (log, witness) = take_text_whole(alloc, scratch, text)?;
+    let (log, witness) = take_text_whole(alloc, text.as_bytes())?;
     Ok((log, witness))
 }

@@ -3,11 +3,11 @@ ghost use Rattle.std.specs.Prelude.{Some, IfOk};
 ghost use Rattle.wm_logfile.specs.Reading.{kind_at, order_at, order_for, width_at, key_at, writer_at, event_writers_at, number_event_at, number_event_by_at, event_at, event_by_at, key_from, keys_at, by_from};
 ghost use Rattle.wm_logfile.specs.Taking.{Taken, TakenFront, TakenOn, TakenEvent, TakenValues};
 
+use crate::quick::reader::Reader;
 use crate::quick::{
     ItemTaker, TakeFault, close_list, open_list, take_list_with_room, take_number, take_text,
 };
 use crate::words::{kind_of_word, order_of_word, width_of_bytes};
-use json::Reader;
 use std::alloc::Global;
 use wm_access::{AccessWidth, MemoryOrder};
 use wm_event::{Event, EventId, EventKey, EventKind};
@@ -156,14 +156,14 @@ fn take_key(reader: &mut Reader<'_>) -> Result<EventKey, TakeFault>
 }
 
 /// Takes the writer of a byte.
-#[tactic(auto, using(crate::proofs::TakingEvents::init_taken, crate::proofs::TakingEvents::named_taken))]
+#[tactic(auto, using(crate::proofs::TakingEvents::empty_taken, crate::proofs::TakingEvents::named_taken))]
 fn take_writer(reader: &mut Reader<'_>) -> Result<EventId, TakeFault>
     ensures { IfOk result (λ w. Taken 1 writer_at reader.old w reader.new) }
 {
-    open_list(reader)?;
-    if reader.take_end_array() {
+    if reader.take_empty_array() {
         return Ok(EventId::Init);
     }
+    open_list(reader)?;
     let key = take_key_numbers(reader)?;
     close_list(reader)?;
     Ok(EventId::At(key))

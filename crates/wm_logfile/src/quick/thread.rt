@@ -6,13 +6,13 @@ ghost use Rattle.wm_logfile.specs.Taking.{Taken, TakenOn, TakenHead, result_at};
 
 use crate::items::unzipped;
 use crate::quick::event::{EventByTaker, EventTaker};
+use crate::quick::reader::Reader;
 use crate::quick::{
     ItemTaker, NumberTaker, TakeFault, close_list, open_list, take_list, take_list_with_room,
     take_number, take_text,
 };
 use crate::thread::ThreadHead;
 use crate::words::trap_of_word;
-use json::Reader;
 use std::alloc::Global;
 use wm_event::{End, EventId, MAX_STEPS, MAX_THREADS, Start, ThreadLog, TrapKind};
 use wm_list::{List, Text};

@@ -13,4 +13,4 @@ returns-then-take_end_array g c =
 pub loop-index-preserved : goal.loop-index-preserved
 loop-index-preserved g c =
     let same : c.take_end_array.new.self ≡ c.loop-index.reader = grind arith in
-    rw c.in_ok-push.ensures.items (one_more_taken (g.R.ItemTaker.levels c.args.taker.now) (g.R.ItemTaker.reads c.args.taker.now) c.args.reader.now c.loop-index.found.items c.loop-index.index c.loop-index.reader c.in_ok-item.item c.take.new.reader c.loop-index.invariant (rw same at c.in_ok-item.ensures))
+    rw (c.in_ok-push.ensures.items, c.in_ok-reserve_rest.ensures) (one_more_taken (g.R.ItemTaker.levels c.args.taker.now) (g.R.ItemTaker.reads c.args.taker.now) c.args.reader.now c.loop-index.found.items c.loop-index.index c.loop-index.reader c.in_ok-item.item c.take.new.reader c.loop-index.invariant (rw same at c.in_ok-item.ensures))
