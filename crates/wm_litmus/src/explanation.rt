@@ -42,13 +42,13 @@ fn reasons_of<R: AllocGlobal + Threads + Sync>(
 fn explain_checked<R: AllocGlobal + Threads + Sync>(
     rt: &R,
     code: ModuleCode,
-    mut checked: CheckedLog,
+    checked: &CheckedLog,
+    positions: Option<Vec<List<CodePosition>>>,
     document_bytes: &[u8],
 ) -> Result<Answer, AllocError>
-    ensures { IfOk result (Explains checked.entry.verdict) }
+    ensures { IfOk result (Explains checked.now.verdict) }
 {
-    let positions = checked.positions.take();
-    let reasons = reasons_of(rt, code, &checked, positions, document_bytes)?;
+    let reasons = reasons_of(rt, code, checked, positions, document_bytes)?;
     Answer::explained(rt.alloc(), &checked.verdict, reasons.as_str())
 }
 
@@ -61,12 +61,13 @@ fn explain_log<R: AllocGlobal + Threads + Sync>(
 ) -> Result<Answer, AllocError>
     ensures { IfOk result (ExplainsOver «module».now document_bytes.now) }
 {
-    let checked = check_log(rt, module, document_bytes)?;
+    let mut checked = check_log(rt, module, document_bytes)?;
+    let positions = checked.positions.take();
     let code = ModuleCode {
         module,
         bytes: module_bytes,
     };
-    explain_checked(rt, code, checked, document_bytes)
+    explain_checked(rt, code, &checked, positions, document_bytes)
 }
 
 /// The answer to the bytes of a refused module.
@@ -128,12 +129,12 @@ fn picture_of<R: AllocGlobal + Threads + Sync>(
 fn show_checked<R: AllocGlobal + Threads + Sync>(
     rt: &R,
     code: ModuleCode,
-    mut checked: CheckedLog,
+    checked: &CheckedLog,
+    positions: Option<Vec<List<CodePosition>>>,
 ) -> Result<Answer, AllocError>
-    requires { HasCandidate checked.verdict checked.candidate }
-    ensures { IfOk result (Shows checked.entry.verdict) }
+    requires { HasCandidate checked.now.verdict checked.now.candidate }
+    ensures { IfOk result (Shows checked.now.verdict) }
 {
-    let positions = checked.positions.take();
     match &checked.candidate {
         Some(candidate) => {
             let picture = picture_of(rt, code, &checked.verdict, candidate, positions)?;
@@ -152,12 +153,13 @@ fn show_log<R: AllocGlobal + Threads + Sync>(
 ) -> Result<Answer, AllocError>
     ensures { IfOk result (GraphsOver «module».now document_bytes.now) }
 {
-    let checked = check_log(rt, module, document_bytes)?;
+    let mut checked = check_log(rt, module, document_bytes)?;
+    let positions = checked.positions.take();
     let code = ModuleCode {
         module,
         bytes: module_bytes,
     };
-    show_checked(rt, code, checked)
+    show_checked(rt, code, &checked, positions)
 }
 
 /// The execution that these bytes record, for Graphviz; if they are refused, the line of the refusal.
