@@ -1,5 +1,5 @@
 -- The contracts of the calls that make a step: for a call's frame, and for a thread.
-use Rattle.std.specs.Prelude.{◌≡◌, ◌⊎◌, ◌++◌, ◌<◌, ℕ, List, [], Option, Some, Bool, true, Result, Ok, Err, drop, length, option_map}
+use Rattle.std.specs.Prelude.{◌≡◌, ◌⊎◌, ◌++◌, ◌<◌, ℕ, List, [], Option, Some, Bool, true, Result, Ok, Err, ⊤, drop, length, option_map}
 use Rattle.wm_num.specs.Conversion.{low_part}
 use Rattle.wm_ast.specs.declared.access.Storage.{Storage}
 use Rattle.wm_ast.specs.declared.module.Module.{Module}
@@ -15,12 +15,14 @@ use Rattle.wm_machine.specs.declared.call_frame.StepOutcome.TheVariants as outco
 use Rattle.wm_machine.specs.declared.fault.StartFault.{StartFault}
 use Rattle.wm_machine.specs.declared.fault.StartFault.TheVariants.{OutOfMemory}
 use Rattle.wm_machine.specs.declared.fault.StepFault.{StepFault}
+use Rattle.wm_machine.specs.declared.thread.Need.{Need}
 use Rattle.wm_machine.specs.declared.thread.Need.TheVariants as need
 use Rattle.wm_machine.specs.declared.thread.Stepped.{Stepped}
 use Rattle.wm_machine.specs.declared.thread.Stepped.TheVariants as stepped
 use Rattle.wm_machine.specs.declared.value.TypedValue.{TypedValue}
 use Rattle.wm_machine.specs.Functions.{continuation}
 use Rattle.wm_machine.specs.Inside.{StepsTo, asked_for, asking, call_step, made_of, unanswered}
+use Rattle.wm_machine.specs.Local.{local_steps}
 use Rattle.wm_machine.specs.Nest.{carried_top}
 use Rattle.wm_machine.specs.State.{State, config_of, need_of, value_or_zero}
 use Rattle.wm_machine.specs.Step.{access_of, branch_to, next_config, push_optional, continue_with, step}
@@ -94,3 +96,13 @@ HasEnded old new s = (end : End) → s ≡ stepped.Ended end → ((read : ℕ) �
 -- there is a step, if the access reads this value
 abbrev pub HasStep : State → ℕ → Type 0
 HasStep t read = (c : Config) × (next_config (step t.module read (config_of t)) ≡ Some c)
+
+-- the thread has made this number of steps, none of which makes an access
+abbrev pub RunsLocally : ℕ → State → State → Type 0
+RunsLocally count old new = local_steps old.module (config_of old) count ≡ Some (config_of new)
+
+-- there is no next step, or it is an access
+abbrev pub HasNoLocalStep : Need → Type 0
+HasNoLocalStep need.Local = ⊥
+HasNoLocalStep (need.Access op) = ⊤
+HasNoLocalStep (need.Ended end) = ⊤

@@ -1,12 +1,12 @@
 //! A thread, step by step.
-ghost use Rattle.std.specs.Prelude.{◌≡◌, ℕ, Some, Ok, None, Err, OnOk, OnErr, IfErr, IfOk};
+ghost use Rattle.std.specs.Prelude.{◌≡◌, ◌≤◌, ◌<◌, ℕ, Some, Ok, None, Err, OnOk, OnErr, IfErr, IfOk};
 ghost use Rattle.wm_valid.specs.Valid.{Valid};
 ghost use Rattle.wm_machine.specs.State.{config_of, need_of, position_of, read_in, given_by, RepliesTo};
 ghost use Rattle.wm_machine.specs.Step.{next_config, result_of, step};
 ghost use Rattle.wm_machine.specs.Start.{started, started_in};
 ghost use Rattle.wm_machine.specs.Functions.{callable as callable_in};
 ghost use Rattle.wm_machine.specs.Inside.{as_list};
-ghost use Rattle.wm_machine.specs.Stepping.{HasEnded, HasStep, IsIn, IsStartFault, KeepsThread, MakesStep, NamesNextAccess, NeedsAccess};
+ghost use Rattle.wm_machine.specs.Stepping.{HasEnded, HasStep, IsIn, IsStartFault, KeepsThread, HasNoLocalStep, MakesStep, NamesNextAccess, NeedsAccess, RunsLocally};
 ghost use Rattle.wm_event.specs.declared.op.OpFields.{OpFields};
 
 use crate::call::call;
@@ -259,6 +259,30 @@ impl<'m> Thread<'m> {
             Err(fault) => Err(fault),
             Ok(outcome) => Ok(outcome.stepped()),
         }
+    }
+
+    /// Makes steps that need nothing, at most `most`, and returns how many it made. They are fewer than `most` only if
+    /// the thread has ended or its next step is an access. If an allocation fails, it has made some of the steps.
+    ///
+    /// # Errors
+    ///
+    /// `OutOfMemory` if an allocation fails. A thread that needs nothing always has a step, since its module is valid.
+    pub fn run(&mut self, most: u32) -> Result<u32, AdvanceFault>
+        ensures made { IfOk result (λ count. RunsLocally count self.old self.new) }
+        ensures most { IfOk result (λ count. count ≤ most) }
+        ensures stops { IfOk result (λ count. count < most → (read : ℕ) → HasNoLocalStep (need_of read self.new)) }
+        ensures err { OnErr result ((count : ℕ) × RunsLocally count self.old self.new) }
+        ensures same { self.new.module ≡ self.old.module }
+    {
+        for made in 0..most {
+            match self.step() {
+                Err(fault) => return Err(fault),
+                Ok(Stepped::Local) => {}
+                Ok(Stepped::Access(_)) => return Ok(made),
+                Ok(Stepped::Ended(_)) => return Ok(made),
+            }
+        }
+        Ok(most)
     }
 
     /// Makes one step of a thread that hasn't ended, with the reply to its access exactly if `next` returns `Access`.

@@ -1,0 +1,10 @@
+use Rattle.std.proofs.Common.{◌≡◌, Some}
+use Rattle.wm_machine.specs.Local.{local_steps}
+use Rattle.wm_machine.specs.State.{config_of}
+use Rattle.wm_machine.proofs.thread.Thread.run.Given as goal
+
+abbrev pub invariant-loop-made : goal.invariant-loop-made
+invariant-loop-made l = record {
+  «module» : l.self.module ≡ l.initial.self.module;
+  ran : local_steps l.initial.self.module (config_of l.initial.self) l.made ≡ Some (config_of l.self);
+}
