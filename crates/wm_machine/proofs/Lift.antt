@@ -1,6 +1,6 @@
 -- A step of the innermost place, seen from outside.
 use Rattle.std.proofs.Common.{◌≡◌, ℕ, zero, suc, ◌+◌, ◌-◌, ◌≤◌, ◌<◌, List, [], ◌∷◌, ◌++◌, length, Option, Some, None, refl, sym, ap, ◌∙◌, arith, get_or}
-use Rattle.std.specs.Prelude.{slice_get, IfSome, drop, Bool, true, false, Result, Ok, Err}
+use Rattle.std.specs.Prelude.{slice_get, IfSome, drop, Bool, true, false}
 use Rattle.std.proofs.lemmas.Option.{slice_get-get_or}
 use Rattle.wm_ast.specs.declared.module.Module.{Module}
 use Rattle.wm_ast.specs.declared.instr.Instr.{Instr}
@@ -9,18 +9,13 @@ use Rattle.wm_event.specs.declared.op.OpFields.{OpFields}
 use Rattle.wm_event.specs.declared.log.TrapKind.{TrapKind}
 use Rattle.wm_machine.specs.declared.value.TypedValue.{TypedValue}
 use Rattle.wm_machine.specs.declared.action.Action.{Action}
-use Rattle.wm_machine.specs.declared.call_frame.CallFrame.{CallFrame}
-use Rattle.wm_machine.specs.declared.call_frame.Flow.{Flow}
-use Rattle.wm_machine.specs.declared.call_frame.Flow.TheVariants.{Within, Trapped, Left, Calling, Asking}
-use Rattle.wm_machine.specs.declared.fault.StepFault.{StepFault}
-use Rattle.wm_machine.specs.declared.fault.StepFault.TheVariants.{Stuck as StuckFault, OutOfMemory}
 use Rattle.wm_machine.specs.Functions.{continuation, from_place}
-use Rattle.wm_machine.specs.Term.{Vars, Term, Here, Label, Reduced, Next, Leaves, Returns, Traps, Stuck}
+use Rattle.wm_machine.specs.Term.{Vars, Term, Here, Label, Next, Leaves, Returns, Traps, Stuck}
 use Rattle.wm_machine.specs.Step.{reduce, branch_to, continue_with, act, after, enter, returned}
 use Rattle.wm_machine.specs.Nest.{Nest, Position, after_branch, carried_top, joined}
 use Rattle.wm_machine.specs.Action.{does}
 use Rattle.wm_machine.specs.Configuration.{around, left_of}
-use Rattle.wm_machine.specs.Inside.{out_of_labels, seen, back, StepsTo, GivesBack}
+use Rattle.wm_machine.specs.Inside.{out_of_labels, seen, back}
 
 module _ (m : Module) (read : ℕ) where
   pub labels_lift : (depth func : ℕ) (vars : Vars) (ps : List Position) (t : Term) → reduce m read depth func vars (around m func ps t) ≡ out_of_labels m func vars ps (reduce m read depth func vars t)
@@ -146,16 +141,6 @@ branches_out m func vars values outer label h =
     let e : label - length outer ≡ 0 = omega arith in
     let le : length outer ≤ label = omega arith in
     ap (seen m func) (leaves_func m func vars values outer label le ∙ ap (λ (j : ℕ). Leaves j values) e)
-
--- what a function gives back
-pub gives_back_steps : (m : Module) (depth : ℕ) (r : Reduced) (old : CallFrame) (globals : List TypedValue) (values : Option (List TypedValue)) (result : Result Flow StepFault) → seen m old.func r ≡ back values → GivesBack values result → StepsTo m depth r old globals old globals result
-gives_back_steps m depth r old globals values (Ok (Left v)) e g = (e ∙ ap back g, (refl, refl))
-gives_back_steps m depth r old globals values (Ok Within) e g = absurd g
-gives_back_steps m depth r old globals values (Ok (Trapped kind)) e g = absurd g
-gives_back_steps m depth r old globals values (Ok (Calling f)) e g = absurd g
-gives_back_steps m depth r old globals values (Ok (Asking op)) e g = absurd g
-gives_back_steps m depth r old globals values (Err StuckFault) e g = (e ∙ ap back g, (refl, refl))
-gives_back_steps m depth r old globals values (Err OutOfMemory) e g = absurd g
 
 after_from : (o : Option (List Instr)) (at : ℕ) → after (from_place o at) ≡ from_place o (at + 1)
 after_from None at = refl

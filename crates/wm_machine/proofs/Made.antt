@@ -1,6 +1,6 @@
 -- The access that a step makes, seen from outside.
 use Rattle.std.proofs.Common.{◌≡◌, ℕ, zero, suc, List, [], ◌∷◌, length, Option, Some, None, refl, sym, ap, ◌∙◌, Bool, true, false}
-use Rattle.std.specs.Prelude.{if◌then◌else◌, nat_lt}
+use Rattle.std.specs.Prelude.{if◌then◌else◌, is_some, nat_lt}
 use Rattle.wm_ast.specs.declared.module.Module.{Module}
 use Rattle.wm_ast.specs.declared.instr.Instr.{Instr}
 use Rattle.wm_ast.specs.declared.instr.Instr.TheVariants.{Block, Loop, If}
@@ -107,9 +107,9 @@ unanswered_none (Some value) = refl
 pub made_step : (m : Module) (read : ℕ) (globals : List TypedValue) (cs : List CallFrame) (a : CallFrame) → access_of (step m read (running_in m globals cs a)) ≡ made_of (call_step m read (suc (length cs)) a globals)
 made_step m read globals cs a = ap access_of (calls_lift m read cs a.func (vars_of a globals) (left_of m a.func a.control_stack)) ∙ made_calls m globals cs a.func (call_step m read (suc (length cs)) a globals)
 
--- what a thread's step waits for is what its innermost call waits for
-pub waits_as : (m : Module) (read : ℕ) (globals : List TypedValue) (cs : List CallFrame) (a : CallFrame) (given : Option ℕ) (asked : Option Op) → asked ≡ unanswered given (made_of (call_step m read (suc (length cs)) a globals)) → asked ≡ unanswered given (access_of (step m read (running_in m globals cs a)))
-waits_as m read globals cs a given asked h = h ∙ ap (unanswered given) (sym (made_step m read globals cs a))
+-- a thread's step waits exactly if its innermost call's does
+pub waits_as : (m : Module) (read : ℕ) (globals : List TypedValue) (cs : List CallFrame) (a : CallFrame) (given : Option ℕ) (asks : Bool) → asks ≡ is_some (unanswered given (made_of (call_step m read (suc (length cs)) a globals))) → asks ≡ is_some (unanswered given (access_of (step m read (running_in m globals cs a))))
+waits_as m read globals cs a given asks h = h ∙ ap (λ (o : Option Op). is_some (unanswered given o)) (sym (made_step m read globals cs a))
 
 pub made_at_end : (m : Module) (read depth : ℕ) (a : CallFrame) (globals : List TypedValue) → continuation m a.func a.control_stack.block a.control_stack.at ≡ [] → made_of (call_step m read depth a globals) ≡ None
 made_at_end m read depth a globals h =

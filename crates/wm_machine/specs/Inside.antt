@@ -1,5 +1,5 @@
 -- A step inside one call, whatever the surrounding calls.
-use Rattle.std.specs.Prelude.{ℕ, zero, suc, ◌+◌, ◌<◌, ◌^◌, ◌≡◌, List, [], ◌∷◌, ◌++◌, Option, Some, None, Result, Ok, Err, length, drop, take, reverse, map}
+use Rattle.std.specs.Prelude.{ℕ, zero, suc, Bool, true, false, ◌+◌, ◌<◌, ◌^◌, ◌≡◌, List, [], ◌∷◌, ◌++◌, Option, Some, None, Result, Ok, Err, length, drop, take, reverse, map}
 use Rattle.wm_ast.specs.declared.module.Module.{Module}
 use Rattle.wm_ast.specs.declared.types.ValType.{ValType}
 use Rattle.wm_ast.specs.declared.instr.Instr.{Instr}
@@ -10,7 +10,7 @@ use Rattle.wm_machine.specs.declared.call_frame.CallFrame.{CallFrame}
 use Rattle.wm_machine.specs.declared.call_frame.Invocation.{Invocation}
 use Rattle.wm_machine.specs.declared.call_frame.Invocation.TheVariants.{Entered, TooDeep}
 use Rattle.wm_machine.specs.declared.call_frame.StepOutcome.{StepOutcome}
-use Rattle.wm_machine.specs.declared.call_frame.StepOutcome.TheVariants.{Made, NeedsReply}
+use Rattle.wm_machine.specs.declared.call_frame.StepOutcome.TheVariants as outcome
 use Rattle.wm_machine.specs.declared.call_frame.Flow.{Flow}
 use Rattle.wm_machine.specs.declared.call_frame.Flow.TheVariants.{Within, Trapped, Left, Calling, Asking}
 use Rattle.wm_machine.specs.declared.fault.StepFault.{StepFault}
@@ -75,13 +75,13 @@ abbrev pub Reaches : Module → ℕ → Reduced → CallFrame → List TypedValu
 Reaches m depth r old globals new globals' Within =
     (seen m old.func r ≡ Next None (vars_of new globals') (left_of m new.func new.control_stack)) × (new.func ≡ old.func)
 Reaches m depth r old globals new globals' (Trapped kind) = seen m old.func r ≡ Traps kind
-Reaches m depth r old globals new globals' (Left value) =
-    (seen m old.func r ≡ Returns (as_list value)) × Same old globals new globals'
+Reaches m depth r old globals new globals' (Left popped) =
+    (seen m old.func r ≡ back (returned m old.func (drop popped old.control_stack.operands))) × Same old globals new globals'
 Reaches m depth r old globals new globals' (Calling callee) =
     (r ≡ out_of_labels m old.func (vars_of old globals) old.control_stack.outer
     (invoke (callable m callee) depth callee (vars_of old globals) old.control_stack.operands (continuation m old.func old.control_stack.block (old.control_stack.at + 1))))
     × Same old globals new globals' × (old.control_stack.at + 1 < 2 ^ 64)
-Reaches m depth r old globals new globals' (Asking op) = (made_of r ≡ Some op) × Same old globals new globals'
+Reaches m depth r old globals new globals' Asking = Same old globals new globals'
 
 abbrev pub Refuses : Module → Reduced → CallFrame → List TypedValue → CallFrame → List TypedValue → StepFault → Type 0
 Refuses m r old globals new globals' StuckFault = (seen m old.func r ≡ Stuck) × Same old globals new globals'
@@ -91,18 +91,19 @@ abbrev pub StepsTo : Module → ℕ → Reduced → CallFrame → List TypedValu
 StepsTo m depth r old globals new globals' (Ok reached) = Reaches m depth r old globals new globals' reached
 StepsTo m depth r old globals new globals' (Err fault) = Refuses m r old globals new globals' fault
 
--- the access that a step waits for
-abbrev pub asking : Result Flow StepFault → Option OpFields
-asking (Ok (Asking op)) = Some op
-asking (Ok Within) = None
-asking (Ok (Trapped kind)) = None
-asking (Ok (Left value)) = None
-asking (Ok (Calling callee)) = None
-asking (Err fault) = None
+-- whether a step waits for the value that its access reads
+abbrev pub asks_value : Result Flow StepFault → Bool
+asks_value (Ok Asking) = true
+asks_value (Ok Within) = false
+asks_value (Ok (Trapped kind)) = false
+asks_value (Ok (Left popped)) = false
+asks_value (Ok (Calling callee)) = false
+asks_value (Err fault) = false
 
-abbrev pub asked_for : StepOutcome → Option OpFields
-asked_for Made = None
-asked_for (NeedsReply op) = Some op
+abbrev pub waits : StepOutcome → Bool
+waits outcome.Made = false
+waits outcome.Last = false
+waits outcome.NeedsReply = true
 
 -- an access waits if the value that it reads isn't given
 abbrev pub unanswered : Option ℕ → Option OpFields → Option OpFields
@@ -112,15 +113,6 @@ unanswered (Some value) op = None
 -- one step of a call's term
 abbrev pub call_step : Module → ℕ → ℕ → CallFrame → List TypedValue → Reduced
 call_step m read depth a globals = reduce m read depth a.func (vars_of a globals) (left_of m a.func a.control_stack)
-
-abbrev pub GivesBack : Option (List TypedValue) → Result Flow StepFault → Type 0
-GivesBack values (Ok (Left value)) = values ≡ Some (as_list value)
-GivesBack values (Ok Within) = ⊥
-GivesBack values (Ok (Trapped kind)) = ⊥
-GivesBack values (Ok (Calling callee)) = ⊥
-GivesBack values (Ok (Asking op)) = ⊥
-GivesBack values (Err StuckFault) = values ≡ None
-GivesBack values (Err OutOfMemory) = ⊥
 
 -- back to the first of the call_stack, with a value on its operands
 abbrev pub ReturnsTo : Option TypedValue → List CallFrame → CallFrame → List CallFrame → Type 0

@@ -1,5 +1,5 @@
 -- The contracts of the calls that make a step: for a call's frame, and for a thread.
-use Rattle.std.specs.Prelude.{◌≡◌, ◌⊎◌, ◌++◌, ◌<◌, ℕ, List, [], Option, Some, Bool, true, Result, Ok, Err, ⊤, drop, length, option_map}
+use Rattle.std.specs.Prelude.{◌≡◌, ◌⊎◌, ◌++◌, ◌<◌, ℕ, List, [], Option, Some, None, Bool, true, false, Result, Ok, Err, ⊤, drop, length, is_some, option_map}
 use Rattle.wm_num.specs.Conversion.{low_part}
 use Rattle.wm_ast.specs.declared.access.Storage.{Storage}
 use Rattle.wm_ast.specs.declared.module.Module.{Module}
@@ -10,7 +10,6 @@ use Rattle.wm_event.specs.declared.op.OpFields.{OpFields}
 use Rattle.wm_machine.specs.declared.call_frame.CallFrame.{CallFrame}
 use Rattle.wm_machine.specs.declared.call_frame.Flow.{Flow}
 use Rattle.wm_machine.specs.declared.call_frame.StepOutcome.{StepOutcome}
-use Rattle.wm_machine.specs.declared.call_frame.StepOutcome.TheVariants.{Made}
 use Rattle.wm_machine.specs.declared.call_frame.StepOutcome.TheVariants as outcome
 use Rattle.wm_machine.specs.declared.fault.StartFault.{StartFault}
 use Rattle.wm_machine.specs.declared.fault.StartFault.TheVariants.{OutOfMemory}
@@ -21,7 +20,8 @@ use Rattle.wm_machine.specs.declared.thread.Stepped.{Stepped}
 use Rattle.wm_machine.specs.declared.thread.Stepped.TheVariants as stepped
 use Rattle.wm_machine.specs.declared.value.TypedValue.{TypedValue}
 use Rattle.wm_machine.specs.Functions.{continuation}
-use Rattle.wm_machine.specs.Inside.{StepsTo, asked_for, asking, call_step, made_of, unanswered}
+use Rattle.wm_machine.specs.Code.{FunctionCode}
+use Rattle.wm_machine.specs.Inside.{StepsTo, asks_value, call_step, made_of, unanswered, waits}
 use Rattle.wm_machine.specs.Local.{local_steps}
 use Rattle.wm_machine.specs.Nest.{carried_top}
 use Rattle.wm_machine.specs.State.{State, config_of, need_of, value_or_zero}
@@ -60,9 +60,9 @@ abbrev pub StepsAs : Module → Option ℕ → CallFrame → List TypedValue →
 StepsAs m given old globals new globals' result =
     (depth : ℕ) → StepsTo m depth (call_step m (value_or_zero given) depth old globals) old globals new globals' result
 
--- the access whose value the step needs is named, and no other
-abbrev pub NamesAccess : Module → Option ℕ → CallFrame → List TypedValue → Result Flow StepFault → Type 0
-NamesAccess m given old globals result = (depth read : ℕ) → asking result ≡ unanswered given (made_of (call_step m read depth old globals))
+-- the step waits exactly if it makes an access whose value isn't given
+abbrev pub AsksForValue : Module → Option ℕ → CallFrame → List TypedValue → Result Flow StepFault → Type 0
+AsksForValue m given old globals result = (depth read : ℕ) → asks_value result ≡ is_some (unanswered given (made_of (call_step m read depth old globals)))
 
 -- ---- a thread
 
@@ -74,16 +74,28 @@ IsIn m config t = (config ≡ Ok (config_of t)) × (t.module ≡ m)
 abbrev pub IsStartFault : Result Config StartFault → StartFault → Type 0
 IsStartFault config fault = (fault ≡ OutOfMemory) ⊎ (config ≡ Err fault)
 
--- the access whose value the thread's step needs is named, and no other
-abbrev pub NamesNextAccess : Option ℕ → State → StepOutcome → Type 0
-NamesNextAccess given old o = (read : ℕ) → asked_for o ≡ unanswered given (access_of (step old.module read (config_of old)))
+-- this is the code of the thread's running call
+abbrev pub IsRunningCode : FunctionCode → State → Type 0
+IsRunningCode code t = code ≡ record { «module» = t.module; func = t.running.func }
 
--- the thread has made its step, if its access reads the value given
+-- the thread's step waits exactly if it makes an access whose value isn't given
+abbrev pub WaitsForAccess : Option ℕ → State → StepOutcome → Type 0
+WaitsForAccess given old o = (read : ℕ) → waits o ≡ is_some (unanswered given (access_of (step old.module read (config_of old))))
+
+-- a step that doesn't wait was made, if its access reads the value given
 abbrev pub MakesStep : Option ℕ → State → State → StepOutcome → Type 0
-MakesStep given old new o = o ≡ Made → next_config (step old.module (value_or_zero given) (config_of old)) ≡ Some (config_of new)
+MakesStep given old new o = waits o ≡ false → next_config (step old.module (value_or_zero given) (config_of old)) ≡ Some (config_of new)
 
 abbrev pub KeepsThread : State → State → StepOutcome → Type 0
-KeepsThread old new o = (op : OpFields) → o ≡ outcome.NeedsReply op → new ≡ old
+KeepsThread old new o = waits o ≡ true → new ≡ old
+
+-- the thread hasn't ended, and this is the code of its running call
+abbrev pub RunsOn : FunctionCode → State → StepOutcome → Type 0
+RunsOn code new o = o ≡ outcome.Made → (new.ended ≡ None) × IsRunningCode code new
+
+-- after its last step the thread has ended
+abbrev pub EndsAtLast : State → StepOutcome → Type 0
+EndsAtLast new o = o ≡ outcome.Last → (end : End) × (new.ended ≡ Some end)
 
 -- the thread needs this access's reply, and nothing has changed
 abbrev pub NeedsAccess : State → State → Stepped → Type 0

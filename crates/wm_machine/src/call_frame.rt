@@ -2,8 +2,7 @@
 
 use crate::control_stack::ControlStack;
 use crate::locals::Locals;
-use crate::value::TypedValue;
-use wm_event::{Op, TrapKind};
+use wm_event::TrapKind;
 
 /// An active call, with its current state.
 #[derive(Drop)]
@@ -32,9 +31,12 @@ pub enum Invocation {
 /// The outcome of a step that may have been given the value that its access reads.
 #[derive(Clone, Copy)]
 pub enum StepOutcome {
+    /// It was made, and the thread runs on.
     Made,
-    /// It wasn't made: this access needs its value.
-    NeedsReply(Op),
+    /// It was made, and the thread has ended.
+    Last,
+    /// It wasn't made: it is an access, whose value it wasn't given.
+    NeedsReply,
 }
 
 /// The outcome of a step within a call.
@@ -43,10 +45,10 @@ pub enum Flow {
     /// Still within the call.
     Within,
     Trapped(TrapKind),
-    /// It has left the call, and returns this.
-    Left(Option<TypedValue>),
+    /// It leaves the call, with the operands below this number of topmost ones.
+    Left(usize),
     /// It is before a call of this function.
     Calling(u32),
-    /// It is before this access, whose value it wasn't given.
-    Asking(Op),
+    /// It is before an access, whose value it wasn't given.
+    Asking,
 }

@@ -6,12 +6,12 @@ ghost use Rattle.wm_machine.specs.Step.{next_config, result_of, step};
 ghost use Rattle.wm_machine.specs.Start.{started, started_in};
 ghost use Rattle.wm_machine.specs.Functions.{callable as callable_in};
 ghost use Rattle.wm_machine.specs.Inside.{as_list};
-ghost use Rattle.wm_machine.specs.Stepping.{HasEnded, HasStep, IsIn, IsStartFault, KeepsThread, HasNoLocalStep, MakesStep, NamesNextAccess, NeedsAccess, RunsLocally};
-ghost use Rattle.wm_event.specs.declared.op.OpFields.{OpFields};
+ghost use Rattle.wm_machine.specs.Stepping.{EndsAtLast, HasEnded, HasStep, IsIn, IsStartFault, KeepsThread, HasNoLocalStep, IsRunningCode, MakesStep, NeedsAccess, RunsLocally, RunsOn, WaitsForAccess};
 
-use crate::call::call;
+use crate::call::{call, returned};
 use crate::call_frame::{CallFrame, Flow, Invocation, ReturnTo, StepOutcome};
 use crate::call_stack::CallStack;
+use crate::code::Code;
 use crate::control_stack::ControlStack;
 use crate::fault::{AdvanceFault, StartFault, StepFault};
 use crate::functions::callable;
@@ -45,19 +45,6 @@ pub enum Stepped {
     Access(Op),
     /// It made no step: the thread has ended this way.
     Ended(End),
-}
-
-impl StepOutcome {
-    /// The outcome of a step without a value, for a thread that hadn't ended.
-    fn stepped(self) -> Stepped
-        ensures made { self ≡ StepOutcome.Made → result ≡ Stepped.Local }
-        ensures asks { (op : OpFields) → self ≡ StepOutcome.NeedsReply op → result ≡ Stepped.Access op }
-    {
-        match self {
-            StepOutcome::Made => Stepped::Local,
-            StepOutcome::NeedsReply(op) => Stepped::Access(op),
-        }
-    }
 }
 
 /// The position of a thread in its module's code.
@@ -183,40 +170,51 @@ impl<'m> Thread<'m> {
     }
 
     /// Makes a step of a thread that hasn't ended, with the value that its access reads. Without a value, an access
-    /// isn't made but named.
-    fn step_with(&mut self, given: Option<u64>) -> Result<StepOutcome, AdvanceFault>
-        requires { self.old.ended ≡ None }
-        ensures asks { IfOk result (NamesNextAccess given self.old) }
+    /// isn't made. `code` is that of the running call, before the step and after it.
+    #[inline(always)]
+    fn step_in(
+        &mut self,
+        code: &mut Code<'m>,
+        given: Option<u64>,
+    ) -> Result<StepOutcome, AdvanceFault>
+        requires runs { self.old.ended ≡ None }
+        requires here { IsRunningCode code.old self.old }
+        ensures asks { IfOk result (WaitsForAccess given self.old) }
         ensures made { IfOk result (MakesStep given self.old self.new) }
         ensures kept { IfOk result (KeepsThread self.old self.new) }
+        ensures runs_on { IfOk result (RunsOn code.new self.new) }
+        ensures last { IfOk result (EndsAtLast self.new) }
         ensures err { OnErr result (self.new ≡ self.old) }
         ensures same { self.new.module ≡ self.old.module }
     {
-        let reached = match step_in_frame(
-            self.module,
-            &mut self.running,
-            &mut self.globals,
-            given,
-        ) {
+        let reached = match step_in_frame(code, &mut self.running, &mut self.globals, given) {
             Err(StepFault::Stuck) => unreachable!(),
             Err(StepFault::OutOfMemory) => return Err(AdvanceFault::OutOfMemory),
             Ok(reached) => reached,
         };
         match reached {
             Flow::Within => Ok(StepOutcome::Made),
-            Flow::Asking(op) => Ok(StepOutcome::NeedsReply(op)),
+            Flow::Asking => Ok(StepOutcome::NeedsReply),
             Flow::Trapped(kind) => {
                 self.end = Some(End::Trap(kind));
-                Ok(StepOutcome::Made)
+                Ok(StepOutcome::Last)
             }
-            Flow::Left(value) => match self.call_stack.leave(&mut self.running, value) {
-                Err(_) => Err(AdvanceFault::OutOfMemory),
-                Ok(ReturnTo::Caller) => Ok(StepOutcome::Made),
-                Ok(ReturnTo::Outside) => {
-                    self.end = Some(End::Done(bits(value)));
-                    Ok(StepOutcome::Made)
+            Flow::Left(popped) => {
+                let Some(value) = returned(code.module(), &self.running, popped) else {
+                    unreachable!()
+                };
+                match self.call_stack.leave(&mut self.running, value) {
+                    Err(_) => Err(AdvanceFault::OutOfMemory),
+                    Ok(ReturnTo::Caller) => {
+                        *code = Code::of(self.module, self.running.func);
+                        Ok(StepOutcome::Made)
+                    }
+                    Ok(ReturnTo::Outside) => {
+                        self.end = Some(End::Done(bits(value)));
+                        Ok(StepOutcome::Last)
+                    }
                 }
-            },
+            }
             Flow::Calling(callee) => {
                 match call(
                     self.module,
@@ -227,14 +225,31 @@ impl<'m> Thread<'m> {
                 ) {
                     Err(StepFault::Stuck) => unreachable!(),
                     Err(StepFault::OutOfMemory) => Err(AdvanceFault::OutOfMemory),
-                    Ok(Invocation::Entered) => Ok(StepOutcome::Made),
+                    Ok(Invocation::Entered) => {
+                        *code = Code::of(self.module, self.running.func);
+                        Ok(StepOutcome::Made)
+                    }
                     Ok(Invocation::TooDeep) => {
                         self.end = Some(End::Trap(TrapKind::Exhausted));
-                        Ok(StepOutcome::Made)
+                        Ok(StepOutcome::Last)
                     }
                 }
             }
         }
+    }
+
+    /// Makes a step of a thread that hasn't ended, with the value that its access reads. Without a value, an access
+    /// isn't made.
+    fn step_with(&mut self, given: Option<u64>) -> Result<StepOutcome, AdvanceFault>
+        requires { self.old.ended ≡ None }
+        ensures asks { IfOk result (WaitsForAccess given self.old) }
+        ensures made { IfOk result (MakesStep given self.old self.new) }
+        ensures kept { IfOk result (KeepsThread self.old self.new) }
+        ensures err { OnErr result (self.new ≡ self.old) }
+        ensures same { self.new.module ≡ self.old.module }
+    {
+        let mut code = Code::of(self.module, self.running.func);
+        self.step_in(&mut code, given)
     }
 
     /// Makes the next step if it needs nothing; otherwise it reports what the step needs, and nothing changes. So it
@@ -252,12 +267,14 @@ impl<'m> Thread<'m> {
         ensures err { OnErr result (self.new ≡ self.old) }
         ensures same { self.new.module ≡ self.old.module }
     {
-        if let Some(end) = self.end {
-            return Ok(Stepped::Ended(end));
-        }
-        match self.step_with(None) {
-            Err(fault) => Err(fault),
-            Ok(outcome) => Ok(outcome.stepped()),
+        let _ = &self.module;
+        match self.next() {
+            Need::Ended(end) => Ok(Stepped::Ended(end)),
+            Need::Access(op) => Ok(Stepped::Access(op)),
+            Need::Local => match self.step_with(None) {
+                Err(fault) => Err(fault),
+                Ok(_) => Ok(Stepped::Local),
+            },
         }
     }
 
@@ -274,12 +291,16 @@ impl<'m> Thread<'m> {
         ensures err { OnErr result ((count : ℕ) × RunsLocally count self.old self.new) }
         ensures same { self.new.module ≡ self.old.module }
     {
+        if self.end.is_some() {
+            return Ok(0);
+        }
+        let mut code = Code::of(self.module, self.running.func);
         for made in 0..most {
-            match self.step() {
+            match self.step_in(&mut code, None) {
                 Err(fault) => return Err(fault),
-                Ok(Stepped::Local) => {}
-                Ok(Stepped::Access(_)) => return Ok(made),
-                Ok(Stepped::Ended(_)) => return Ok(made),
+                Ok(StepOutcome::NeedsReply) => return Ok(made),
+                Ok(StepOutcome::Last) => return Ok(made + 1),
+                Ok(StepOutcome::Made) => {}
             }
         }
         Ok(most)

@@ -1,34 +1,32 @@
 use Rattle.std.proofs.Common.{arith, refl, ◌≡◌, ◌<◌, length, drop, [], Some, true, false, ◌∙◌, length-drop, sym}
-use Rattle.wm_machine.specs.Step.{returned}
-use Rattle.wm_machine.specs.Term.{Leaves}
-use Rattle.wm_machine.specs.Inside.{out_of_labels, vars_of}
-use Rattle.wm_machine.proofs.Lift.{branches_to, branches_stuck, branches_past, branches_out, gives_back_steps}
+use Rattle.wm_machine.specs.Inside.{vars_of}
+use Rattle.wm_machine.proofs.Lift.{branches_to, branches_stuck, branches_past, branches_out}
 use Rattle.wm_machine.proofs.Continuations.{drop_past}
 use Rattle.wm_machine.specs.Nest.{after_branch, carried_top}
 use Rattle.wm_machine.proofs.perform.branch.Goals as goal
 use Rattle.wm_machine.proofs.perform.branch.Goals.{else-carry-via-then-carry+else-count-popped, else-carry-via-else-carry}
 
 pub returns-then-depth-label-clause-leads : goal.returns-then-depth-label-clause-leads
-returns-then-depth-label-clause-leads c = λ _ globals. (branches_past c.args.module.now c.args.running.now.func (vars_of c.args.running.now globals) _ c.args.running.now.control_stack.outer c.args.label (omega arith), (refl, refl))
+returns-then-depth-label-clause-leads c = λ _ globals. (branches_past c.args.code.now.module c.args.running.now.func (vars_of c.args.running.now globals) _ c.args.running.now.control_stack.outer c.args.label (omega arith), (refl, refl))
 
 pub returns-then-depth-label-2-clause-leads : goal.returns-then-depth-label-2-clause-leads
 returns-then-depth-label-2-clause-leads c = λ depth globals.
     let a = c.args.running.now in
     let vs = drop c.args.popped a.control_stack.operands in
-    gives_back_steps c.args.module.now depth (out_of_labels c.args.module.now a.func (vars_of a globals) a.control_stack.outer (Leaves c.args.label vs)) a globals (returned c.args.module.now a.func vs) c.give_back.result (branches_out c.args.module.now a.func (vars_of a globals) vs a.control_stack.outer c.args.label (omega arith)) c.give_back.ensures.gives
+    (branches_out c.args.code.now.module a.func (vars_of a globals) vs a.control_stack.outer c.args.label (omega arith), (refl, refl))
 
 pub returns-then-count-popped-clause-leads : goal.returns-then-count-popped-clause-leads
 returns-then-count-popped-clause-leads c = λ depth globals.
     let a = c.args.running.now in
     let e : drop c.args.popped a.control_stack.operands ≡ [] = drop_past a.control_stack.operands c.args.popped (omega arith) in
     let lt : c.args.label < length a.control_stack.outer = omega arith in
-    rw e (branches_stuck c.args.module.now a.func (vars_of a globals) [] a.control_stack.outer c.args.label _ _ lt c.place-block.ensures.place (λ ops. c.in-Some.ensures.empty (vars_of a globals) ops c.if-carry.true), (refl, refl))
+    rw e (branches_stuck c.args.code.now.module a.func (vars_of a globals) [] a.control_stack.outer c.args.label _ _ lt c.place-block.ensures.place (λ ops. rw c.requires.here at (c.in-Some.ensures.empty (vars_of a globals) ops c.if-carry.true)), (refl, refl))
 
 pub returns-in-None-clause-leads : goal.returns-in-None-clause-leads
 returns-in-None-clause-leads c = λ depth globals.
     let a = c.args.running.now in
     let lt : c.args.label < length a.control_stack.outer = omega arith in
-    (branches_stuck c.args.module.now a.func (vars_of a globals) (drop c.args.popped a.control_stack.operands) a.control_stack.outer c.args.label _ _ lt c.place-block.ensures.place (λ ops. c.in-None.ensures.none refl (vars_of a globals) ops (drop c.args.popped a.control_stack.operands)), (refl, refl))
+    (branches_stuck c.args.code.now.module a.func (vars_of a globals) (drop c.args.popped a.control_stack.operands) a.control_stack.outer c.args.label _ _ lt c.place-block.ensures.place (λ ops. rw c.requires.here at (c.in-None.ensures.none refl (vars_of a globals) ops (drop c.args.popped a.control_stack.operands))), (refl, refl))
 
 pub returns-else-carry-clause-leads : goal.returns-else-carry-clause-leads
 returns-else-carry-clause-leads c = λ depth globals.
@@ -41,5 +39,5 @@ returns-else-carry-clause-leads c = λ depth globals.
       | else-carry-via-else-carry w ↦ λ h. absurd (let e : true ≡ false = sym h ∙ w.if-carry.false in cc)
     ] in
     let u : after_branch c.args.label (carried_top c.in-Some.carry ops) a.control_stack.outer ≡ Some c.unwind.new.self = rw c.pop.ensures at c.unwind.ensures in
-    let e = branches_to c.args.module.now a.func (vars_of a globals) ops a.control_stack.outer c.args.label _ _ c.in-Some.next c.in-Some.carry c.unwind.new.self lt c.place-block.ensures.place u (λ operands. c.in-Some.ensures.some (vars_of a globals) operands ops pos) in
+    let e = branches_to c.args.code.now.module a.func (vars_of a globals) ops a.control_stack.outer c.args.label _ _ c.in-Some.next c.in-Some.carry c.unwind.new.self lt c.place-block.ensures.place u (λ operands. rw c.requires.here at (c.in-Some.ensures.some (vars_of a globals) operands ops pos)) in
     rw c.set_at.ensures (e, refl)
