@@ -5,7 +5,8 @@
     scripts/edits.py --all CRATE..   tries the gate's too
     scripts/edits.py --check         asks whether each can still be applied, and whether the gate's copies are current
     scripts/edits.py --sync          copies those that edits/gate.txt lists to crates/CRATE/must-fail/
-    scripts/edits.py --functions     tries those that edits/gate.txt lists with a function, on that function alone
+    scripts/edits.py --functions     tries those that edits/gate.txt lists with a function, on that function alone;
+                                     with --until FILE beside `rt ci`: it waits for each library until FILE is there
 
 Each is tried on a copy, over the proofs that are there. --functions needs what `rt ci` left in out/: it has proved the
 functions without the edits. The last line is `N passed, N failed`.
@@ -19,8 +20,13 @@ import re
 import shutil
 import subprocess
 import tempfile
+import threading
+import time
 
 from wmlabtools import TOP, edits, harness, prover
+
+# The seconds after which a library that was being written is whole.
+SETTLED = 5
 
 
 def copy_of(edit):
@@ -104,6 +110,16 @@ def changed_since(crate):
             if os.path.getmtime(path) > proved:
                 return f"{os.path.relpath(path, TOP)} is newer than what `rt ci` proved"
     return None
+
+
+def wait_for_library(crate, start, until):
+    """Waits until `rt ci`, which began at the same time, has built the library of a crate, or has ended and so written
+    the file `until`. A library from before the start is not meant."""
+    last = f"{TOP}/crates/{crate}/out/rlib/{crate}.rlib/toolchain"
+    while not os.path.exists(until):
+        if os.path.isfile(f"{last}/mir.json") and start <= os.path.getmtime(last) < time.time() - SETTLED:
+            return
+        time.sleep(1)
 
 
 class Copy:
@@ -225,13 +241,20 @@ def try_crate(crate, listed):
     return answers
 
 
-def try_functions(tally, jobs):
-    by_crate = {}
+def try_functions(tally, jobs, until):
+    by_crate, start, turns = {}, time.time(), threading.Semaphore(jobs)
     for edit, function in edits.gate_edits().items():
         if function:
             by_crate.setdefault(edit.split("/")[1], {})[edit] = function
-    with concurrent.futures.ThreadPoolExecutor(jobs) as pool:
-        for answers in pool.map(try_crate, by_crate, by_crate.values()):
+
+    def answered(crate):
+        if until:
+            wait_for_library(crate, start, until)
+        with turns:
+            return try_crate(crate, by_crate[crate])
+
+    with concurrent.futures.ThreadPoolExecutor(len(by_crate)) as pool:
+        for answers in pool.map(answered, by_crate):
             for edit, (is_refused, said) in answers.items():
                 tally.check(is_refused, edit, said)
                 print(f"{edit}: {said}", flush=True)
@@ -244,6 +267,7 @@ def main():
     )
     parser.add_argument("--sync", action="store_true", help="only copy those of edits/gate.txt into the crates")
     parser.add_argument("--functions", action="store_true", help="only try those of edits/gate.txt with a function")
+    parser.add_argument("--until", metavar="FILE", help="wait for the libraries of `rt ci` until FILE is there")
     parser.add_argument("--all", action="store_true", help="try the gate's edits too")
     parser.add_argument("--jobs", type=int, default=os.cpu_count(), help="crates that are tried side by side")
     parser.add_argument("crates", nargs="*", metavar="CRATE")
@@ -254,7 +278,7 @@ def main():
     if options.check or options.sync:
         check(tally)
     elif options.functions:
-        try_functions(tally, options.jobs)
+        try_functions(tally, options.jobs, options.until)
     else:
         try_all(tally, options.crates, options.jobs, options.all)
     tally.end()

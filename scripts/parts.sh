@@ -4,17 +4,19 @@ passed=0
 failed=0
 seconds_of_parts=()
 last_lines=$(mktemp)
-beside=
+# The parts that run beside others: for each name its process group, and the file of what it prints.
+declare -A beside=() beside_lines=()
 trap leave EXIT
 
-# Ends the part that is still running beside others, as after an interruption, and removes what was printed.
+# Ends the parts that still run beside others, as after an interruption, and removes what was printed.
 leave() {
-    if [ -n "$beside" ]; then
-        kill -INT -- "-$beside" 2>/dev/null
-        wait "$beside" 2>/dev/null
-        rm -f "$beside_lines" "$beside_lines.seconds"
-    fi
-    rm -f "$last_lines"
+    local name
+    for name in "${!beside[@]}"; do
+        kill -INT -- "-${beside[$name]}" 2>/dev/null
+        wait "${beside[$name]}" 2>/dev/null
+        rm -f "${beside_lines[$name]}" "${beside_lines[$name]}.seconds"
+    done
+    rm -f "$last_lines"*
 }
 
 # Adds the numbers of a part's last line. A part that ends otherwise, or that tried nothing, has failed.
@@ -40,32 +42,33 @@ part() {
     seconds_of_parts+=("$name $((SECONDS - start)) s")
 }
 
-# Starts a part beside the parts after it. `end_beside` waits for it, prints what it printed, and counts it. There is
-# one such part at a time, in a process group of its own, so that it can be ended as a whole.
+# Starts a part of this name beside the parts after it, in a process group of its own, so that it can be ended as a
+# whole. `end_beside` waits for it, prints what it printed, and counts it.
 begin_beside() {
-    beside_name=$1
-    beside_lines=$(mktemp)
+    local name=$1 lines
+    lines=$(mktemp)
     shift
     set -m
     (
         start=$SECONDS
-        "$@" >"$beside_lines" 2>&1
+        "$@" >"$lines" 2>&1
         status=$?
-        echo "$((SECONDS - start))" >"$beside_lines.seconds"
+        echo "$((SECONDS - start))" >"$lines.seconds"
         exit "$status"
     ) &
-    beside=$!
+    beside[$name]=$!
+    beside_lines[$name]=$lines
     set +m
 }
 
 end_beside() {
-    local status=0
-    wait "$beside" || status=$?
-    beside=
-    tee "$last_lines" <"$beside_lines"
-    count_part "$beside_name" "$status"
-    seconds_of_parts+=("$beside_name, beside others, $(cat "$beside_lines.seconds") s")
-    rm -f "$beside_lines" "$beside_lines.seconds"
+    local name=$1 status=0 lines=${beside_lines[$1]}
+    wait "${beside[$name]}" || status=$?
+    unset "beside[$name]"
+    tee "$last_lines" <"$lines"
+    count_part "$name" "$status"
+    seconds_of_parts+=("$name, beside others, $(cat "$lines.seconds") s")
+    rm -f "$lines" "$lines.seconds"
 }
 
 # Runs a part if a tool is there, and else says that it is left out.

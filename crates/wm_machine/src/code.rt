@@ -1,6 +1,7 @@
 //! The code of a function.
-ghost use Rattle.std.specs.Prelude.{◌^◌, ◌≡◌, ◌<◌, ◌+◌, [], ◌∷◌, None, IfSome, option_copied};
+ghost use Rattle.std.specs.Prelude.{◌^◌, ◌≡◌, ◌<◌, ◌+◌, [], None, IfSome, option_copied};
 ghost use Rattle.wm_ast.specs.Module.{block_in};
+ghost use Rattle.wm_machine.specs.Code.{IsInstrAt};
 ghost use Rattle.wm_machine.specs.Functions.{continuation};
 ghost use Rattle.wm_machine.specs.Stepping.{BranchContinuesAt, IsNoBranchTarget, BranchNeedsOperand};
 
@@ -64,7 +65,7 @@ impl<'m> Code<'m> {
     pub fn instr_at(&self, block: usize, at: usize) -> Option<&Instr>
         ensures none { result ≡ None → continuation self.now.module self.now.func block at ≡ [] }
         ensures followed { IfSome result (λ _. at + 1 < 2 ^ 64) }
-        ensures some { IfSome result (λ i. continuation self.now.module self.now.func block at ≡ i.now ∷ continuation self.now.module self.now.func block (at + 1)) }
+        ensures some { IfSome result (λ i. IsInstrAt self.now block at i.now) }
     {
         match self.block(block) {
             None => None,
