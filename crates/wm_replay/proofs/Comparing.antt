@@ -1,5 +1,5 @@
 -- How a thread that has followed its log so far compares with it.
-use Rattle.std.proofs.Common.{◌≡◌, ℕ, suc, ◌+◌, ◌<◌, ◌≤◌, inl, inr, Bool, true, false, cond, nat_lt, List, [], length, drop, Some, refl, sym, ap, subst, ◌∙◌, add-one, arith}
+use Rattle.std.proofs.Common.{◌≡◌, ℕ, ◌+◌, ◌<◌, ◌≤◌, inl, inr, Bool, true, false, cond, nat_lt, List, [], length, drop, Some, refl, sym, ap, subst, ◌∙◌, add-one, arith}
 use Rattle.std.specs.Prelude.{Ok, ◌≢◌, ◌⊎◌}
 use Rattle.std.proofs.lemmas.Bool.{ltb-false, ltb-true}
 use Rattle.std.proofs.lemmas.List.{drop_all, take_all}
@@ -7,17 +7,17 @@ use Rattle.std.proofs.lemmas.Option.{slice_get_within}
 use Rattle.wm_ast.specs.declared.module.Module.{Module}
 use Rattle.wm_event.specs.declared.event.Event.{Event}
 use Rattle.wm_event.specs.declared.log.ThreadLog.{ThreadLog}
+use Rattle.wm_machine.specs.Local.{local_steps}
 use Rattle.wm_machine.specs.Term.{Config, NoStep}
 use Rattle.wm_machine.specs.Step.{step}
-use Rattle.wm_machine.specs.Run.{Ran, end_of, outcome_of, outcome_with, run_from, steps}
+use Rattle.wm_machine.specs.Run.{end_of, outcome_of, outcome_with, run_from, steps}
 use Rattle.wm_replay.specs.Comparison.{end_place}
-use Rattle.wm_replay.specs.Following.{AccessesOther, HasPlaces, Steps}
+use Rattle.wm_replay.specs.Following.{Accesses, AccessesOther, HasPlaces, MakesNext, RunsByLog, Stops}
+use Rattle.wm_replay.specs.Following.Stops.{at_other, at_end}
 use Rattle.wm_replay.specs.Replay.{DiffersAt, IsRun, Reaches, reads_of, start_of}
 use Rattle.wm_replay.specs.Replay.DiffersAt.{access, left_over, end}
 use Rattle.wm_replay.specs.declared.answer.Place.TheVariants as place
-use Rattle.wm_replay.specs.declared.by_log.StepByLog.{StepByLog}
-use Rattle.wm_replay.specs.declared.by_log.StepByLog.TheVariants as by_log
-use Rattle.wm_replay.proofs.Following.{access_on, local_on, so_far}
+use Rattle.wm_replay.proofs.Following.{access_on, local_steps_on, so_far}
 
 -- thread k has followed its log for j steps, up to the events below n
 pub record Follows (m : Module) (k : ℕ) (t : ThreadLog) (start c : Config) (j n : ℕ) : Type 0 where
@@ -30,35 +30,47 @@ pub reaches : (m : Module) (k : ℕ) (t : ThreadLog) (start c : Config) (j n : �
 reaches m k t start c j n f within =
     record { start = start; is_start = f.is_start; within = within; ran_so = f.ran_so; made = refl; listed = f.listed }
 
--- the same, where the module, the list of events and the progress are named otherwise
-pub follows_in : (m m' : Module) (k : ℕ) (t : ThreadLog) (start c : Config) (j n : ℕ) → m' ≡ m → start_of m t ≡ Ok start → HasPlaces k t.events → n ≤ length t.events
-    → steps m' k start (reads_of t.events) j ≡ Some (so_far c t.events n) → Follows m k t start c j n
-follows_in m m' k t start c j n same is_start places listed so =
-    record { is_start = is_start; places = places; listed = listed; ran_so = subst (λ x. steps x k start (reads_of t.events) j ≡ Some (so_far c t.events n)) same so }
+-- i steps more, none of which makes an access
+pub follows_locally : (m : Module) (k : ℕ) (t : ThreadLog) (start old new : Config) (j n i : ℕ) → Follows m k t start old j n → local_steps m old i ≡ Some new
+    → Follows m k t start new (j + i) n
+follows_locally m k t start old new j n i f ran = record {
+  is_start = f.is_start;
+  places = f.places;
+  listed = f.listed;
+  ran_so = local_steps_on m k start new (reads_of t.events) (so_far old t.events n) j i f.ran_so ran;
+}
 
-pub runs_in : (m m' : Module) (k : ℕ) (start : Config) (reads : List ℕ) (j : ℕ) (ran : Ran) → m' ≡ m → steps m k start reads j ≡ Some ran → steps m' k start reads j ≡ Some ran
-runs_in m m' k start reads j ran same so = subst (λ x. steps x k start reads j ≡ Some ran) (sym same) so
+-- a step more, which makes the log's next event
+pub follows_event : (m : Module) (k : ℕ) (t : ThreadLog) (start old new : Config) (j n : ℕ) → Follows m k t start old j n → Accesses m old new t.events n
+    → Follows m k t start new (j + 1) (n + 1)
+follows_event m k t start old new j n f a =
+    let at = f.places n a.event a.listed in
+    let lt = slice_get_within t.events n a.event a.listed in record {
+      is_start = f.is_start;
+      places = f.places;
+      listed = omega (arith, lt);
+      ran_so = ap (steps m k start (reads_of t.events)) (add-one j)
+          ∙ access_on m k start old new t.events j n a.op a.event f.ran_so a.listed a.makes.0 a.makes.1 (a.asks 0) a.steps_to at.0 at.1;
+    }
 
-pub steps_as : (m m' : Module) (old new : Config) (es es' : List Event) (n : ℕ) (p p' : StepByLog) → m' ≡ m → es' ≡ es → p' ≡ p → Steps m' old new es' n p' → Steps m old new es n p
-steps_as m m' old new es es' n p p' same list is s =
-    subst (Steps m old new es n) is (subst (λ x. Steps m old new x n p') list (subst (λ x. Steps x old new es' n p') same s))
+-- the same of the next event, where the module, the list of events and the answer are named otherwise
+pub makes_next_in : (m m' : Module) (old new : Config) (es es' : List Event) (n : ℕ) (b b' : Bool) → m' ≡ m → es' ≡ es → b' ≡ b → MakesNext m' old new es' n b' → MakesNext m old new es n b
+makes_next_in m m' old new es es' n b b' same list is next =
+    subst (MakesNext m old new es n) is (subst (λ x. MakesNext m old new x n b') list (subst (λ x. MakesNext x old new es' n b') same next))
 
--- ---- a step that is made
+-- where it stops
+pub runs_by_log : (m : Module) (k : ℕ) (t : ThreadLog) (limit : ℕ) (start c : Config) (j n : ℕ) → Follows m k t start c j n → Stops m c t.events limit j n
+    → RunsByLog m k t limit c j n
+runs_by_log m k t limit start c j n f stops =
+    record { start = start; is_start = f.is_start; listed = f.listed; ran_so = f.ran_so; stops = stops }
 
-pub followed : (m : Module) (k : ℕ) (t : ThreadLog) (start old new : Config) (j n now : ℕ) → Follows m k t start old j n → Steps m old new t.events n (by_log.Stepped now)
-    → (now ≤ length t.events) × (steps m k start (reads_of t.events) (j + 1) ≡ Some (so_far new t.events now))
-followed m k t start old new j n now f (inl local) = (
-  subst (λ i. i ≤ length t.events) (sym local.0) f.listed,
-  ap (steps m k start (reads_of t.events)) (add-one j) ∙ subst (λ i. steps m k start (reads_of t.events) (suc j) ≡ Some (so_far new t.events i)) (sym local.0)
-      (local_on m k start old new t.events j n f.ran_so local.1),
-)
-followed m k t start old new j n now f (inr made) =
-    let a = made.1 in
-    let at = f.places n a.event a.listed in (
-      subst (λ i. i ≤ length t.events) (sym made.0) (let lt = slice_get_within t.events n a.event a.listed in omega (arith, lt)),
-      ap (steps m k start (reads_of t.events)) (add-one j) ∙ subst (λ i. steps m k start (reads_of t.events) (suc j) ≡ Some (so_far new t.events i)) (sym made.0)
-          (access_on m k start old new t.events j n a.op a.event f.ran_so a.listed a.makes.0 a.makes.1 (a.asks 0) a.steps_to at.0 at.1),
-    )
+-- where it doesn't make the log's next event
+pub runs_no_further : (m : Module) (k : ℕ) (t : ThreadLog) (limit : ℕ) (start old new : Config) (j n : ℕ) → Follows m k t start old j n → j < limit
+    → MakesNext m old new t.events n false → RunsByLog m k t limit new j n
+runs_no_further m k t limit start old new j n f lt (same, inl other) =
+    subst (λ c. RunsByLog m k t limit c j n) (sym same) (runs_by_log m k t limit start old j n f (at_other lt other))
+runs_no_further m k t limit start old new j n f lt (same, inr none) =
+    subst (λ c. RunsByLog m k t limit c j n) (sym same) (runs_by_log m k t limit start old j n f (at_end lt none))
 
 -- ---- a difference
 

@@ -11,6 +11,7 @@ use Rattle.wm_machine.specs.declared.thread.Need.TheVariants as need
 use Rattle.wm_machine.specs.Run.{end_of}
 use Rattle.wm_machine.specs.State.{State, as_need, config_from, config_of, need_in, need_of}
 use Rattle.wm_machine.specs.Step.{access_of, step, next_config}
+use Rattle.wm_machine.specs.Stepping.{HasNoLocalStep}
 use Rattle.wm_replay.specs.Following.{Accesses, MakesEvent, MakesNotEvent}
 use Rattle.wm_machine.specs.Term.{Config, Over, Step, Term, Vars, ReducesTo, NoStep}
 use Rattle.wm_machine.specs.Configuration.{left_of, under, waiting}
@@ -55,6 +56,12 @@ ended_of_need s r end e = ended_in s.ended s r end e
 
 pub no_step_of_need : (s : State) (r : ℕ) (end : End) → need_of r s ≡ need.Ended end → step s.module 0 (config_of s) ≡ NoStep
 no_step_of_need s r end e = ap (step s.module 0) (ended_of_need s r end e)
+
+-- where there is no local step and no access there is no step
+pub no_step_left : (s : State) (n : Need) → need_of 0 s ≡ n → HasNoLocalStep n → ((op : OpFields) → n ≢ need.Access op) → step s.module 0 (config_of s) ≡ NoStep
+no_step_left s need.Local is none other = absurd none
+no_step_left s (need.Access op) is none other = absurd (other op refl)
+no_step_left s (need.Ended end) is none other = no_step_of_need s 0 end is
 
 -- a step that is made, by its access
 pub made_access : (s : Step) (op : OpFields) (c : Config) → access_of s ≡ Some op → next_config s ≡ Some c → s ≡ ReducesTo (Some op) c

@@ -1,5 +1,5 @@
 -- The positions of the events that a thread makes.
-use Rattle.std.proofs.Common.{◌≡◌, ℕ, zero, suc, ◌+◌, inl, inr, List, [], ◌∷◌, ◌++◌, length, Some, refl, sym, ap, subst, ◌∙◌, length-append, arith}
+use Rattle.std.proofs.Common.{◌≡◌, ℕ, zero, suc, ◌+◌, List, [], ◌∷◌, ◌++◌, length, Some, refl, sym, ap, subst, ◌∙◌, length-append}
 use Rattle.std.specs.Prelude.{Ok, slice_get}
 use Rattle.std.proofs.lemmas.Option.{none-some, same_Some}
 use Rattle.wm_ast.specs.declared.module.Module.{Module}
@@ -8,9 +8,8 @@ use Rattle.wm_machine.specs.declared.thread.CodePosition.{CodePosition}
 use Rattle.wm_machine.specs.Run.{steps}
 use Rattle.wm_machine.specs.State.{State, config_of, position_of}
 use Rattle.wm_machine.specs.Term.{Config}
-use Rattle.wm_replay.specs.declared.by_log.StepByLog.TheVariants as by_log
-use Rattle.wm_replay.specs.Following.{Steps}
-use Rattle.wm_replay.specs.Positions.{ArePositions, IsMadeAt, NotesPosition}
+use Rattle.wm_replay.specs.Following.{Accesses}
+use Rattle.wm_replay.specs.Positions.{ArePositions, IsMadeAt}
 use Rattle.wm_replay.specs.Replay.{reads_of, start_of}
 use Rattle.wm_replay.proofs.Following.{so_far}
 
@@ -26,19 +25,15 @@ all_and_one P (z ∷ zs) x each last zero y is = each 0 y is
 all_and_one P (z ∷ zs) x each last (suc i) y is = all_and_one (λ j. P (suc j)) zs x (λ j. each (suc j)) last i y is
 
 module _ (m : Module) (k : ℕ) (t : ThreadLog) (start : Config) (is_start : start_of m t ≡ Ok start) where
-  -- the positions after one step more
-  pub positions_on : (s : State) (new : Config) (j n now : ℕ) (old ps : List CodePosition)
+  -- the positions after one event more
+  pub positions_on : (s : State) (new : Config) (j n : ℕ) (old ps : List CodePosition)
       → steps m k start (reads_of t.events) j ≡ Some (so_far (config_of s) t.events n)
-      → Steps m (config_of s) new t.events n (by_log.Stepped now)
-      → NotesPosition s n old ps (by_log.Stepped now)
+      → Accesses m (config_of s) new t.events n
+      → ps ≡ old ++ position_of s ∷ []
       → s.module ≡ m
-      → ArePositions m k t n old → ArePositions m k t now ps
-  positions_on s new j n now old ps so step (inl kept) of_module are =
-      subst (λ i. ArePositions m k t i ps) (sym kept.0) (subst (ArePositions m k t n) (sym kept.1) are)
-  positions_on s new j n now old ps so (inl local) (inr noted) of_module are =
-      absurd (let a = local.0 in let b = noted.0 in omega (arith, a, b))
-  positions_on s new j n now old ps so (inr made) (inr noted) of_module are =
-      subst (λ i. ArePositions m k t i ps) (sym noted.0) (subst (ArePositions m k t (n + 1)) (sym noted.1) record {
+      → ArePositions m k t n old → ArePositions m k t (n + 1) ps
+  positions_on s new j n old ps so made noted of_module are =
+      subst (ArePositions m k t (n + 1)) (sym noted) record {
         count = length-append old (position_of s ∷ []) ∙ ap (λ i. i + 1) are.count;
         each = all_and_one (IsMadeAt m k t) old (position_of s) are.each
             (subst (λ i. IsMadeAt m k t i (position_of s)) (sym are.count) record {
@@ -49,7 +44,7 @@ module _ (m : Module) (k : ℕ) (t : ThreadLog) (start : Config) (is_start : sta
               count = j;
               ran_so = so;
               next = new;
-              makes = made.1;
+              makes = made;
               is_position = refl;
             });
-      })
+      }

@@ -1,5 +1,5 @@
 -- How a thread runs by its log, on the values that its events read.
-use Rattle.std.specs.Prelude.{◌≡◌, ◌≢◌, ℕ, ◌+◌, ◌<◌, ◌≤◌, ◌⊎◌, List, drop, length, take, Some, None, Result, Ok, Err, slice_get, ⊤}
+use Rattle.std.specs.Prelude.{◌≡◌, ◌≢◌, ℕ, ◌<◌, ◌≤◌, ◌⊎◌, Bool, true, false, List, drop, length, take, Some, Result, Ok, Err, slice_get}
 use Rattle.wm_access.specs.AccessWidth.{Fits}
 use Rattle.wm_ast.specs.declared.module.Module.{Module}
 use Rattle.wm_event.specs.declared.event.Event.{Event}
@@ -14,8 +14,6 @@ use Rattle.wm_machine.specs.State.{config_of}
 use Rattle.wm_machine.specs.Step.{access_of, step}
 use Rattle.wm_machine.specs.Term.{Config, ReducesTo, NoStep}
 use Rattle.wm_replay.specs.declared.by_log.Followed.{Followed}
-use Rattle.wm_replay.specs.declared.by_log.StepByLog.{StepByLog}
-use Rattle.wm_replay.specs.declared.by_log.StepByLog.TheVariants as by_log
 use Rattle.wm_replay.specs.Replay.{reads_of, start_of}
 
 -- ---- a step and the log
@@ -43,17 +41,10 @@ pub record AccessesOther (m : Module) (old : Config) (events : List Event) (n : 
   pub asks : (r : ℕ) → access_of (step m r old) ≡ Some op
   pub makes_not : (e : Event) → slice_get events n ≡ Some e → MakesNotEvent op e
 
--- a step of a thread that has made the log's events below n
-abbrev pub Steps : Module → Config → Config → List Event → ℕ → StepByLog → Type 0
-Steps m old new events n (by_log.Stepped now) = ((now ≡ n) × (step m 0 old ≡ ReducesTo None new)) ⊎ ((now ≡ n + 1) × Accesses m old new events n)
-Steps m old new events n by_log.OtherAccess = AccessesOther m old events n
-Steps m old new events n by_log.Ended = step m 0 old ≡ NoStep
-
--- without a step nothing changes
-abbrev pub KeepsUnstepped : Config → Config → StepByLog → Type 0
-KeepsUnstepped old new (by_log.Stepped now) = ⊤
-KeepsUnstepped old new by_log.OtherAccess = new ≡ old
-KeepsUnstepped old new by_log.Ended = new ≡ old
+-- a thread that has made the log's events below n makes the next one; or it is unchanged, before another access or at its end
+abbrev pub MakesNext : Module → Config → Config → List Event → ℕ → Bool → Type 0
+MakesNext m old new events n true = Accesses m old new events n
+MakesNext m old new events n false = (new ≡ old) × (AccessesOther m old events n ⊎ (step m 0 old ≡ NoStep))
 
 -- ---- a thread
 

@@ -1,5 +1,5 @@
 -- The positions in the code at which the threads of a log make its events.
-use Rattle.std.specs.Prelude.{◌≡◌, ◌⊎◌, ◌+◌, ℕ, List, [], ◌∷◌, ◌++◌, length, take, drop, Some, Result, Ok, Err, slice_get, ⊤}
+use Rattle.std.specs.Prelude.{◌≡◌, ℕ, Bool, true, false, List, [], ◌∷◌, ◌++◌, length, take, drop, Some, Result, Ok, Err, slice_get, ⊤}
 use Rattle.wm_ast.specs.declared.module.Module.{Module}
 use Rattle.wm_event.specs.declared.log.ThreadLog.{ThreadLog}
 use Rattle.wm_machine.specs.declared.fault.StartFault.{StartFault}
@@ -8,8 +8,6 @@ use Rattle.wm_machine.specs.Run.{steps}
 use Rattle.wm_machine.specs.State.{State, config_of, position_of}
 use Rattle.wm_machine.specs.Term.{Config}
 use Rattle.wm_replay.specs.declared.by_log.Followed.{Followed}
-use Rattle.wm_replay.specs.declared.by_log.StepByLog.{StepByLog}
-use Rattle.wm_replay.specs.declared.by_log.StepByLog.TheVariants as by_log
 use Rattle.wm_replay.specs.declared.answer.ReplayAnswer.{ReplayAnswer}
 use Rattle.wm_replay.specs.declared.answer.ReplayAnswer.TheVariants.{Same, StartRefused, Differs}
 use Rattle.wm_replay.specs.Following.{Accesses, RunsByLog}
@@ -38,11 +36,10 @@ abbrev pub HasPositions : Module → ℕ → ThreadLog → Result Followed Start
 HasPositions m k t (Ok f) = ArePositions m k t f.events f.positions
 HasPositions m k t (Err fault) = ⊤
 
--- a step of a thread in this state, which has made n events: the position is noted if the step makes the next one
-abbrev pub NotesPosition : State → ℕ → List CodePosition → List CodePosition → StepByLog → Type 0
-NotesPosition s n old new (by_log.Stepped now) = ((now ≡ n) × (new ≡ old)) ⊎ ((now ≡ n + 1) × (new ≡ old ++ position_of s ∷ []))
-NotesPosition s n old new by_log.OtherAccess = new ≡ old
-NotesPosition s n old new by_log.Ended = new ≡ old
+-- the position of a thread in this state is noted if it makes its log's next event
+abbrev pub NotesPosition : State → List CodePosition → List CodePosition → Bool → Type 0
+NotesPosition s old new true = new ≡ old ++ position_of s ∷ []
+NotesPosition s old new false = new ≡ old
 
 -- ---- the threads of a log
 

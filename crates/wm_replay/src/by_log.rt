@@ -4,28 +4,17 @@ ghost use Rattle.wm_event.specs.Op.{kind_finds};
 ghost use Rattle.wm_event.specs.Reply.{ReadAnswers};
 ghost use Rattle.wm_machine.specs.Run.{end_of as config_end};
 ghost use Rattle.wm_machine.specs.State.{config_of, need_of, value_or_zero};
-ghost use Rattle.wm_replay.specs.Following.{FollowsLog, HasPlaces, MakesEvent, MakesNotEvent, RunsByLog, KeepsUnstepped, Steps};
+ghost use Rattle.wm_machine.specs.Stepping.{HasNoLocalStep};
+ghost use Rattle.wm_replay.specs.Following.{FollowsLog, HasPlaces, MakesEvent, MakesNext, MakesNotEvent, RunsByLog};
 ghost use Rattle.wm_replay.specs.Positions.{ArePositions, HasPositions, NotesPosition};
 ghost use Rattle.wm_replay.specs.Replay.{start_of};
 
 use std::alloc::{AllocError, Global};
 use wm_event::{End, Event, EventId, Op, Reply, ThreadLog};
 use wm_list::List;
-use wm_machine::{AdvanceFault, CodePosition, Need, StartFault, Stepped, Thread};
+use wm_machine::{AdvanceFault, CodePosition, Need, StartFault, Thread};
 use wm_num::low_bytes;
 use wm_valid::ValidModule;
-
-/// The outcome of the next step of a thread by its log.
-#[derive(Clone, Copy)]
-enum StepByLog {
-    /// It was made: it makes no access, or the access is the log's next event. The thread has now made the given number
-    /// of events.
-    Stepped(usize),
-    /// It wasn't made: its access isn't the log's next event, or the log has no further event.
-    OtherAccess,
-    /// There is no step because the thread has ended.
-    Ended,
-}
 
 /// How far a thread was run by its log.
 #[derive(Drop)]
@@ -73,56 +62,33 @@ fn reply_of(op: &Op, event: &Event) -> Reply
     }
 }
 
-/// Makes an access if it is the log's next event, after the given number of events, and notes where it is made.
-fn access_by_log(
+/// Makes the next step of a thread that has no local one, if it is the access that is the log's next event, after the
+/// given number of events, and notes where that access is made. Returns whether it was made.
+fn event_by_log(
     thread: &mut Thread,
-    op: &Op,
     stated: &[Event],
     events: usize,
     positions: &mut Vec<CodePosition>,
-) -> Result<StepByLog, AllocError>
-    requires { (read : ℕ) → need_of read thread.old ≡ Need.Access op.now }
-    ensures steps { IfOk result (Steps thread.old.module (config_of thread.old) (config_of thread.new) stated.now events) }
-    ensures kept { IfOk result (KeepsUnstepped (config_of thread.old) (config_of thread.new)) }
-    ensures noted { IfOk result (NotesPosition thread.old events positions.old.items positions.new.items) }
+) -> Result<bool, AllocError>
+    requires { (read : ℕ) → HasNoLocalStep (need_of read thread.old) }
+    ensures made { IfOk result (MakesNext thread.old.module (config_of thread.old) (config_of thread.new) stated.now events) }
+    ensures noted { IfOk result (NotesPosition thread.old positions.old.items positions.new.items) }
     ensures same { thread.new.module ≡ thread.old.module }
 {
+    let Need::Access(op) = thread.next() else {
+        return Ok(false);
+    };
     if events >= stated.len() {
-        return Ok(StepByLog::OtherAccess);
+        return Ok(false);
     }
     let event = &stated[events];
-    if !makes_event(op, event) {
-        return Ok(StepByLog::OtherAccess);
+    if !makes_event(&op, event) {
+        return Ok(false);
     }
     positions.push(thread.position())?;
-    match thread.advance(Some(reply_of(op, event))) {
-        Ok(()) => Ok(StepByLog::Stepped(events + 1)),
+    match thread.advance(Some(reply_of(&op, event))) {
+        Ok(()) => Ok(true),
         Err(AdvanceFault::OutOfMemory) => Err(AllocError),
-    }
-}
-
-/// Makes the next step of a thread. If it makes an access, that has to be the log's next event, after the given number
-/// of events; the position of the access is noted.
-#[inline(always)]
-fn step_by_log(
-    thread: &mut Thread,
-    stated: &[Event],
-    events: usize,
-    positions: &mut Vec<CodePosition>,
-) -> Result<StepByLog, AllocError>
-    ensures steps { IfOk result (Steps thread.old.module (config_of thread.old) (config_of thread.new) stated.now events) }
-    ensures kept { IfOk result (KeepsUnstepped (config_of thread.old) (config_of thread.new)) }
-    ensures noted { IfOk result (NotesPosition thread.old events positions.old.items positions.new.items) }
-    ensures same { thread.new.module ≡ thread.old.module }
-{
-    let stepped = match thread.step() {
-        Ok(stepped) => stepped,
-        Err(AdvanceFault::OutOfMemory) => return Err(AllocError),
-    };
-    match stepped {
-        Stepped::Local => Ok(StepByLog::Stepped(events)),
-        Stepped::Access(op) => access_by_log(thread, &op, stated, events, positions),
-        Stepped::Ended(_) => Ok(StepByLog::Ended),
     }
 }
 
@@ -152,29 +118,24 @@ fn run_by_log(
     ensures same { thread.new.module ≡ thread.old.module }
 {
     let stated_events = stated.events.as_slice();
+    let mut steps = 0u32;
     let mut events = 0usize;
     let mut positions = Vec::new(alloc);
-    for steps in 0..limit {
-        match step_by_log(thread, stated_events, events, &mut positions) {
-            Err(refused) => return Err(refused),
-            Ok(StepByLog::Stepped(now)) => events = now,
-            Ok(StepByLog::OtherAccess) => return Ok(Progress {
-                steps,
-                events,
-                positions,
-            }),
-            Ok(StepByLog::Ended) => return Ok(Progress {
-                steps,
-                events,
-                positions,
-            }),
+    loop {
+        match thread.run(limit - steps) {
+            Ok(local) => steps += local,
+            Err(AdvanceFault::OutOfMemory) => return Err(AllocError),
         }
+        if steps >= limit || !event_by_log(thread, stated_events, events, &mut positions)? {
+            return Ok(Progress {
+                steps,
+                events,
+                positions,
+            });
+        }
+        steps += 1;
+        events += 1;
     }
-    Ok(Progress {
-        steps: limit,
-        events,
-        positions,
-    })
 }
 
 /// Starts a thread as its log states, and runs it on the values that its events read. It stops when it has ended,

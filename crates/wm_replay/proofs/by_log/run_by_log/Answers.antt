@@ -1,39 +1,61 @@
-use Rattle.std.proofs.Common.{◌+◌, ◌∙◌, arith, refl, subst}
-use Rattle.wm_machine.specs.State.{config_of}
-use Rattle.wm_replay.specs.declared.by_log.StepByLog.TheVariants.{Stepped}
-use Rattle.wm_replay.proofs.Comparing.{followed, follows_in, runs_in, steps_as}
+use Rattle.std.proofs.Common.{◌≡◌, ◌+◌, ◌∙◌, Some, true, false, sym, subst, arith}
+use Rattle.wm_machine.specs.Local.{local_steps}
+use Rattle.wm_machine.specs.State.{State, config_of}
+use Rattle.wm_replay.specs.Following.{RunsByLog}
+use Rattle.wm_replay.specs.Following.Stops.{at_limit}
 use Rattle.wm_replay.specs.Positions.{NotesPosition}
-use Rattle.wm_replay.proofs.Positions.{no_positions, positions_on}
+use Rattle.wm_replay.proofs.Comparing.{follows_event, follows_locally, makes_next_in, runs_by_log, runs_no_further}
+use Rattle.wm_replay.proofs.Positions.{positions_on}
+use Rattle.wm_replay.proofs.by_log.run_by_log.Goals.{then-steps-limit-via-then-steps-limit, then-steps-limit-via-else-steps-limit+in_ok-event_by_log+then-not-branch}
 use Rattle.wm_replay.proofs.by_log.run_by_log.Goals as goal
 
-pub loop-steps-preserved : goal.loop-steps-preserved
-loop-steps-preserved c =
+pub returns-then-steps-limit-clause-runs : goal.returns-then-steps-limit-clause-runs
+returns-then-steps-limit-clause-runs c =
     let m = c.args.thread.now.module in
+    let k = c.args.number in
     let t = c.args.stated.now in
     let start = config_of c.args.thread.now in
-    let old = config_of c.loop-steps.thread in
-    let new = config_of c.step_by_log.new.thread in
-    let n = c.loop-steps.events in
-    let now = c.in-Ok-Stepped.now in
-    let same = c.step_by_log.ensures.same ∙ c.loop-steps.invariant.module in
-    let so_far = follows_in m c.loop-steps.thread.module c.args.number t start old c.loop-steps.steps n
-    c.loop-steps.invariant.module c.requires.start c.requires.places c.loop-steps.invariant.within c.loop-steps.invariant.followed in
-    let stepped = steps_as m c.loop-steps.thread.module old new t.events c.as_slice-stated_events.result.now n (Stepped now) c.in-Ok-Stepped.field-0
-    c.loop-steps.invariant.module c.as_slice-stated_events.ensures c.in-Ok-Stepped.field-0-is c.in-Ok-Stepped.ensures.steps in
-    let on = followed m c.args.number t start old new c.loop-steps.steps n now so_far stepped in
-    let positions = c.loop-steps.positions.items in
-    let noted = subst (NotesPosition c.loop-steps.thread n positions c.step_by_log.new.positions.items) c.in-Ok-Stepped.field-0-is c.in-Ok-Stepped.ensures.noted in
-    record {
-      within = on.0;
-      «module» = same;
-      followed = runs_in m c.step_by_log.new.thread.module c.args.number start _ (c.loop-steps.steps + 1) _ same on.1;
-      positions = positions_on m c.args.number t start c.requires.start c.loop-steps.thread new c.loop-steps.steps n now positions _ so_far.ran_so stepped noted c.loop-steps.invariant.module c.loop-steps.invariant.positions;
-    }
+    let old = config_of c.loop-local.thread in
+    let at = config_of c.run.new.self in
+    let j = c.loop-local.steps in
+    let i = c.in-Ok.local in
+    let n = c.loop-local.events in
+    let local = subst (λ x. local_steps x old i ≡ Some at) c.loop-local.invariant.module c.in-Ok.ensures.made in
+    let here = follows_locally m k t start old at j n i c.loop-local.invariant.follows local in
+    let at_thread = λ (x : State). RunsByLog m k t c.args.limit (config_of x) (j + i) n in
+    elim c.then-steps-limit.branch [
+      | then-steps-limit-via-then-steps-limit w ↦
+          let all : j + i ≡ c.args.limit = omega (arith, w.if-steps-limit.true, c.in-Ok.ensures.most) in
+          subst at_thread (sym w.thread-is) (runs_by_log m k t c.args.limit start at (j + i) n here (at_limit all))
+      | then-steps-limit-via-else-steps-limit+in_ok-event_by_log+then-not-branch w ↦
+          let new = config_of w.event_by_log.new.thread in
+          let same = c.in-Ok.ensures.same ∙ c.loop-local.invariant.module in
+          let stopped = makes_next_in m c.run.new.self.module at new t.events c.as_slice-stated_events.result.now n false _
+          same c.as_slice-stated_events.ensures w.if-not-branch.true w.in_ok-event_by_log.ensures.made in
+          subst at_thread (sym w.thread-is) (runs_no_further m k t c.args.limit start at new (j + i) n here w.if-steps-limit.false stopped)
+    ]
 
-pub loop-steps-init : goal.loop-steps-init
-loop-steps-init c = record {
-  within = omega arith;
-  «module» = refl;
-  followed = refl;
-  positions = rw c.new-positions.ensures.items (no_positions c.args.thread.now.module c.args.number c.args.stated.now);
-}
+pub loop-local-preserved : goal.loop-local-preserved
+loop-local-preserved c =
+    let m = c.args.thread.now.module in
+    let k = c.args.number in
+    let t = c.args.stated.now in
+    let start = config_of c.args.thread.now in
+    let old = config_of c.loop-local.thread in
+    let s = c.run.new.self in
+    let new = config_of c.event_by_log.new.thread in
+    let j = c.loop-local.steps in
+    let i = c.in-Ok.local in
+    let n = c.loop-local.events in
+    let same : s.module ≡ m = c.in-Ok.ensures.same ∙ c.loop-local.invariant.module in
+    let local = subst (λ x. local_steps x old i ≡ Some (config_of s)) c.loop-local.invariant.module c.in-Ok.ensures.made in
+    let here = follows_locally m k t start old (config_of s) j n i c.loop-local.invariant.follows local in
+    let made = makes_next_in m s.module (config_of s) new t.events c.as_slice-stated_events.result.now n true _
+    same c.as_slice-stated_events.ensures c.if-not-branch.false c.in_ok-event_by_log.ensures.made in
+    let noted = subst (NotesPosition s c.loop-local.positions.items c.event_by_log.new.positions.items) c.if-not-branch.false c.in_ok-event_by_log.ensures.noted in
+    record {
+      within = omega (arith, c.if-steps-limit.false);
+      «module» = c.in_ok-event_by_log.ensures.same ∙ same;
+      follows = follows_event m k t start (config_of s) new (j + i) n here made;
+      positions = positions_on m k t start c.requires.start s new (j + i) n c.loop-local.positions.items _ here.ran_so made noted same c.loop-local.invariant.positions;
+    }

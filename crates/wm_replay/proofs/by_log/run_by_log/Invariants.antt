@@ -1,16 +1,16 @@
-use Rattle.std.proofs.Common.{◌≡◌, ◌≤◌, Some, length}
-use Rattle.wm_machine.specs.Run.{steps}
+use Rattle.std.proofs.Common.{◌-◌, ◌≡◌, ◌≤◌}
 use Rattle.wm_machine.specs.State.{config_of}
-use Rattle.wm_replay.specs.Replay.{reads_of}
-use Rattle.wm_replay.proofs.Following.{so_far}
 use Rattle.wm_replay.specs.Positions.{ArePositions}
+use Rattle.wm_replay.proofs.Comparing.{Follows}
 use Rattle.wm_replay.proofs.by_log.run_by_log.Given as goal
 
-abbrev pub invariant-loop-steps : goal.invariant-loop-steps
-invariant-loop-steps l = record {
-  within : l.events ≤ length l.stated.events;
+abbrev pub invariant-loop-local : goal.invariant-loop-local
+invariant-loop-local l = record {
+  within : l.steps ≤ l.limit;
   «module» : l.thread.module ≡ l.initial.thread.module;
-  followed : steps l.thread.module l.number (config_of l.initial.thread) (reads_of l.stated.events) l.steps
-      ≡ Some (so_far (config_of l.thread) l.stated.events l.events);
+  follows : Follows l.initial.thread.module l.number l.stated (config_of l.initial.thread) (config_of l.thread) l.steps l.events;
   positions : ArePositions l.initial.thread.module l.number l.stated l.events l.positions.items;
 }
+
+abbrev pub decreases-loop-local : goal.decreases-loop-local
+decreases-loop-local l = l.limit - l.steps
