@@ -1,9 +1,10 @@
 -- Steps that make no access.
-use Rattle.std.proofs.Common.{◌≡◌, ◌+◌, ℕ, suc, Option, Some, None, refl, ap, sym, ◌∙◌, subst, arith}
-use Rattle.std.specs.Prelude.{true, false, is_some, option_and_then}
+use Rattle.std.proofs.Common.{inl, inr, ◌≡◌, ◌+◌, ℕ, suc, Option, Some, None, refl, ap, sym, ◌∙◌, subst, arith}
+use Rattle.std.specs.Prelude.{◌⊎◌, true, false, is_some, option_and_then}
 use Rattle.wm_ast.specs.declared.module.Module.{Module}
 use Rattle.wm_event.specs.declared.log.End.{End}
 use Rattle.wm_event.specs.declared.op.OpFields.{OpFields}
+use Rattle.wm_machine.specs.declared.thread.Need.{Need}
 use Rattle.wm_machine.specs.declared.thread.Need.TheVariants as need
 use Rattle.wm_machine.specs.Local.{after_local, local_steps}
 use Rattle.wm_machine.specs.Stepping.{HasNoLocalStep}
@@ -44,6 +45,17 @@ asks_none_locally (Some op) h = tt
 pub waits_at_no_local_step : (end : Option End) (s : State) (read : ℕ) → true ≡ is_some (access_of (step s.module read (config_of s))) → HasNoLocalStep (need_in end read s)
 waits_at_no_local_step None s read h = asks_none_locally (access_of (step s.module read (config_of s))) h
 waits_at_no_local_step (Some end) s read h = tt
+
+accesses : (op : Option OpFields) → true ≡ is_some op → (n : Need) → n ≡ as_need op → (n ≡ need.Local) ⊎ ((end : End) × (n ≡ need.Ended end)) → ⊥
+accesses None h n e other = absurd (cc h)
+accesses (Some op) h n e (inl local) = let k = sym e ∙ local in cc
+accesses (Some op) h n e (inr ended) = let k = sym e ∙ ended.1 in cc
+
+-- a thread whose step waits for a value needs an access
+pub waits_for_access : (s : State) → s.ended ≡ None → true ≡ is_some (access_of (step s.module 0 (config_of s))) → (n : Need) → n ≡ need_of 0 s
+    → (n ≡ need.Local) ⊎ ((end : End) × (n ≡ need.Ended end)) → ⊥
+waits_for_access s runs h n e other =
+    accesses (access_of (step s.module 0 (config_of s))) h n (e ∙ ap (λ (end : Option End). need_in end 0 s) runs) other
 
 -- a thread that has ended has no local step
 pub no_local_after_end : (s : State) (read : ℕ) (end : End) → s.ended ≡ Some end → HasNoLocalStep (need_of read s)

@@ -267,13 +267,16 @@ impl<'m> Thread<'m> {
         ensures err { OnErr result (self.new ≡ self.old) }
         ensures same { self.new.module ≡ self.old.module }
     {
-        let _ = &self.module;
-        match self.next() {
-            Need::Ended(end) => Ok(Stepped::Ended(end)),
-            Need::Access(op) => Ok(Stepped::Access(op)),
-            Need::Local => match self.step_with(None) {
-                Err(fault) => Err(fault),
-                Ok(_) => Ok(Stepped::Local),
+        if let Some(end) = self.end {
+            return Ok(Stepped::Ended(end));
+        }
+        match self.step_with(None) {
+            Err(fault) => Err(fault),
+            Ok(StepOutcome::Made) => Ok(Stepped::Local),
+            Ok(StepOutcome::Last) => Ok(Stepped::Local),
+            Ok(StepOutcome::NeedsReply) => match self.next() {
+                Need::Access(op) => Ok(Stepped::Access(op)),
+                Need::Local | Need::Ended(_) => unreachable!(),
             },
         }
     }
