@@ -19,13 +19,14 @@ use Rattle.wm_event.specs.Op.{event_made, kind_finds, made_read}
 use Rattle.wm_event.specs.Reply.{ReadAnswers}
 use Rattle.wm_machine.specs.declared.thread.Need.TheVariants as need
 use Rattle.wm_machine.specs.declared.fault.StartFault.{StartFault}
+use Rattle.wm_machine.specs.Local.{local_steps}
 use Rattle.wm_machine.specs.Run.{Ran, and_run_on, end_of, outcome_of, run_from, steps}
 use Rattle.wm_machine.specs.Start.{started}
 use Rattle.wm_machine.specs.State.{State, config_of, need_of, read_in, value_or_zero}
 use Rattle.wm_machine.specs.Step.{access_of, step, next_config}
 use Rattle.wm_machine.specs.Term.{Config, ReducesTo}
 use Rattle.wm_replay.specs.Replay.{IsRun, reads_of}
-use Rattle.wm_replay.proofs.Following.{access_step, local_step}
+use Rattle.wm_replay.proofs.Following.{access_step, local_step, local_steps_on}
 use Rattle.wm_replay.proofs.Needs.{access_of_need, local_of_need, made_access, made_local}
 use Rattle.wm_run.specs.Reached.{HasRun, LeadsTo, is_access, is_before_access, ran_before_access, ran_by, ran_from, stands_before_access, thread_log}
 
@@ -59,6 +60,12 @@ leads_by_local s k first new es n so is next behind =
     let made : step m 0 (config_of s) ≡ ReducesTo None new = made_local (step m 0 (config_of s)) new (local_of_need s 0 is) next in
     let ran : Ran = record { events = es; config = config_of s; reads = behind } in
     next_number m k first (reads_of es ++ behind) n ∙ (ap (and_run_on m k) (so behind) ∙ local_step m k ran new made)
+
+-- i steps more, none of which makes an access; their module is then named otherwise
+pub leads_locally : (m seen : Module) (k : ℕ) (first old new : Config) (es : List Event) (n i : ℕ) → seen ≡ m → LeadsTo m k first es n old
+    → local_steps m old i ≡ Some new → LeadsTo seen k first es (n + i) new
+leads_locally m seen k first old new es n i same so ran = rw same (λ behind.
+    local_steps_on m k first new (reads_of es ++ behind) record { events = es; config = old; reads = behind } n i (so behind) ran)
 
 leads_by_access : (m : Module) (k : ℕ) (first old new : Config) (es : List Event) (n : ℕ) (a : OpFields) (e : Event) → LeadsTo m k first es n old
     → event_made (key_of e) a e.read ≡ e → Fits a.width e.read → access_of (step m 0 old) ≡ Some a → step m e.read old ≡ ReducesTo (Some a) new

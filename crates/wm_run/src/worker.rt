@@ -140,10 +140,18 @@ pub fn work<S: Shared, G: Gate>(
         Err(fault) => return Err(RunFault::Start(thread as usize, fault)),
     };
     let mut events = Growing::new(alloc);
-    for made in 0..steps {
+    let mut made = 0u32;
+    loop {
+        match running.run(steps - made) {
+            Ok(local) => made += local,
+            Err(AdvanceFault::OutOfMemory) => return Err(RunFault::OutOfMemory),
+        }
+        if made >= steps {
+            return Ok(finished(module, thread, own, &running, steps, events, Stop::Own));
+        }
         if let Some(stop) = step(&mut running, &mut events, thread, shared, gate)? {
             return Ok(finished(module, thread, own, &running, made, events, stop));
         }
+        made += 1;
     }
-    Ok(finished(module, thread, own, &running, steps, events, Stop::Own))
 }

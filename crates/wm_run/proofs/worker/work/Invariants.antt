@@ -1,11 +1,15 @@
-use Rattle.std.proofs.Common.{◌≡◌, ◌≤◌, length}
+use Rattle.std.proofs.Common.{◌-◌, ◌≡◌, ◌≤◌, length}
 use Rattle.wm_machine.specs.State.{config_of}
 use Rattle.wm_run.specs.Reached.{LeadsTo}
 use Rattle.wm_run.proofs.worker.work.Given as goal
 
-abbrev pub invariant-loop-made : goal.invariant-loop-made
-invariant-loop-made g l = record {
+abbrev pub invariant-loop-local : goal.invariant-loop-local
+invariant-loop-local g l = record {
+  within : l.made ≤ l.steps;
   program : l.running.module ≡ l.initial.running.module;
   few : length l.events.items ≤ l.made;
   leads : LeadsTo l.running.module l.thread (config_of l.initial.running) l.events.items l.made (config_of l.running);
 }
+
+abbrev pub decreases-loop-local : goal.decreases-loop-local
+decreases-loop-local g l = l.steps - l.made
