@@ -153,6 +153,10 @@ fn stepped(thread: &mut Thread) -> Option<Stepped> {
     thread.step().ok()
 }
 
+fn ran(thread: &mut Thread, most: u32) -> Option<u32> {
+    thread.run(most).ok()
+}
+
 fn next(thread: &Thread) -> Need {
     thread.next()
 }
@@ -236,6 +240,35 @@ fn a_thread_returns_what_it_read_and_five(rt: HostRuntime) -> Result<(), Fail> {
     never_stuck();
     let module = loads_and_adds(rt.alloc())?;
     let run = runs_to_twelve(&rt, &module);
+    drop(module);
+    run
+}
+
+/// The local steps up to the access, and those after it.
+fn runs_in_parts<R: Abort>(rt: &R, thread: &mut Thread) {
+    same(rt, ran(thread, 10), Some(1));
+    same(rt, ran(thread, 10), Some(0));
+    same(rt, next(thread), Need::Access(load(8)));
+    same(rt, advanced(thread, 7), true);
+    same(rt, ran(thread, 2), Some(2));
+    same(rt, position(thread), body_at(4));
+    same(rt, ran(thread, 10), Some(1));
+    same(rt, next(thread), Need::Ended(End::Done(Some(12))));
+    same(rt, ran(thread, 10), Some(0));
+}
+
+/// A thread of a module that makes its local steps at once.
+fn runs_at_once<R: Abort + AllocGlobal>(rt: &R, module: &ValidModule) -> Result<(), Fail> {
+    let mut thread = started(rt.alloc(), module, 8)?;
+    runs_in_parts(rt, &mut thread);
+    drop(thread);
+    Ok(())
+}
+
+#[test]
+fn local_steps_end_at_an_access_and_at_the_end(rt: HostRuntime) -> Result<(), Fail> {
+    let module = loads_and_adds(rt.alloc())?;
+    let run = runs_at_once(&rt, &module);
     drop(module);
     run
 }
