@@ -1,6 +1,10 @@
 //! Runs of a module's threads over one memory, and the logs that they record.
 #![tactic(auto)]
 
+mod assigned;
+mod bell;
+mod board;
+mod crew;
 mod drains;
 mod ended;
 mod ends;
@@ -11,14 +15,17 @@ mod launch;
 mod own;
 mod plan;
 mod round;
+mod rounds;
 mod run;
 mod runner;
 mod script;
+mod taker;
 mod traced;
 mod tracing;
 mod turn;
 mod worker;
 
+pub use assigned::Assigned;
 pub use drains::drainer;
 pub use ended::{Stop, ThreadEnd};
 pub use fault::{PlanFault, RunFault};
@@ -27,8 +34,10 @@ pub use gathering::gather;
 pub use own::{own_runs_are_allowed, own_runs_are_within_limits};
 pub use plan::Plan;
 pub use round::{WorkPromise, run_round};
+pub use rounds::run_rounds;
 pub use run::{Run, write_run};
 pub use script::{drive, one_scripted_run};
+pub use taker::Taker;
 pub use traced::{Rest, Trace, TracedTurn, TurnDone};
 pub use tracing::{trace, traced_accesses_are_logged, traced_stores_are_logged};
 pub use turn::Turn;

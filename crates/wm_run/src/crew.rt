@@ -1,0 +1,161 @@
+//! Threads that make the rounds of a plan, one after the other, over one locked memory.
+ghost use Rattle.std.specs.Prelude.{◌≡◌, ◌≤◌, IfErr, IfOk};
+ghost use Rattle.wm_recorder.specs.Locked.{IsOver};
+
+use crate::assigned::Assigned;
+use crate::board::{Board, empty_slots, ends_of};
+use crate::bell::Bell;
+use crate::drains::drainer;
+use crate::fault::RunFault;
+use crate::gate::Gate;
+use crate::gathering::gather;
+use crate::plan::Plan;
+use crate::run::Run;
+use crate::worker::work;
+use std::alloc::{AllocError, Global};
+use std::sync::atomic::{AtomicBool, Ordering};
+use std::sync::{Mutex, Wait};
+use std::thread::{JoinHandle, Scope, Threads};
+use wm_recorder::{LockedMemory, Over, Recorder};
+use wm_valid::ValidModule;
+
+/// What the threads of a crew share. Between two rounds they wait for the bell `begun`.
+#[derive(Drop)]
+pub struct Crew<'a, R: Wait, N: Over + Assigned, G: Gate> {
+    rt: &'a R,
+    alloc: Global,
+    module: &'a ValidModule,
+    plan: &'a Plan,
+    gate: &'a G,
+    memory: LockedMemory<'a, R, N>,
+    board: Mutex<Board<N>>,
+    begun: Bell,
+    made: Bell,
+    is_over: AtomicBool,
+}
+
+impl<'a, R: Wait, N: Over + Assigned, G: Gate> Crew<'a, R, N, G> {
+    /// What the threads of a crew will share.
+    pub fn new(
+        rt: &'a R,
+        alloc: Global,
+        module: &'a ValidModule,
+        plan: &'a Plan,
+        gate: &'a G,
+        recorder: Recorder,
+    ) -> Result<Crew<'a, R, N, G>, AllocError> {
+        let slots = empty_slots(alloc, plan.starts.len())?;
+        Ok(Crew {
+            rt,
+            alloc,
+            module,
+            plan,
+            gate,
+            memory: LockedMemory::new(rt, recorder),
+            board: Mutex::new(Board::new(slots)),
+            begun: Bell::new(),
+            made: Bell::new(),
+            is_over: AtomicBool::new(false),
+        })
+    }
+
+    /// Waits for the next round after `heard` rings. None if there is none.
+    fn next_round(&self, heard: u64) -> Option<u64> {
+        let rings = self.begun.wait(self.rt, heard);
+        if self.is_over.load(Ordering::SeqCst) {
+            return None;
+        }
+        Some(rings)
+    }
+
+    /// Makes the part of one thread in one round.
+    fn work_once(&self, thread: u32) {
+        let Some(start) = self.plan.starts.as_slice().get(thread as usize) else {
+            return;
+        };
+        let end = match work(
+            self.alloc,
+            self.module,
+            thread,
+            start,
+            self.plan.steps,
+            &self.memory,
+            self.gate,
+        ) {
+            Ok(end) => Some(end),
+            Err(_) => None,
+        };
+        if self.board.lock(self.rt).take_end(thread, end) {
+            self.made.ring();
+        }
+    }
+
+    /// Makes the part of a thread in each round.
+    fn serve(&self, thread: u32) {
+        let mut heard = 0;
+        for _ in self.rt.forever() {
+            match self.next_round(heard) {
+                Some(rings) => heard = rings,
+                None => return,
+            }
+            self.work_once(thread);
+        }
+    }
+
+    /// Takes the drains of one round.
+    fn drain_once(&self) {
+        let threads = self.plan.starts.len() as u32;
+        let drained = drainer(&self.memory, threads, self.plan.drains, self.gate);
+        if self.board.lock(self.rt).take_drainer(drained.is_err()) {
+            self.made.ring();
+        }
+    }
+
+    /// Takes the drains of each round.
+    fn serve_drains(&self) {
+        let mut heard = 0;
+        for _ in self.rt.forever() {
+            match self.next_round(heard) {
+                Some(rings) => heard = rings,
+                None => return,
+            }
+            self.drain_once();
+        }
+    }
+
+    /// Makes the round of this number, counted from 0.
+    pub fn round(&self, number: u64) -> Result<Run, RunFault> {
+        let threads = self.plan.starts.len();
+        let slots = empty_slots(self.alloc, threads)?;
+        let recorder = Recorder::new(self.alloc, self.module.initial(), threads)?;
+        self.begun.ring();
+        self.made.wait(self.rt, number);
+        let recorder = self.memory.exchange(recorder);
+        let (is_short, slots) = self.board.lock(self.rt).exchange(slots);
+        if is_short {
+            return Err(RunFault::OutOfMemory);
+        }
+        let ends = ends_of(self.alloc, slots)?;
+        gather(self.alloc, self.module, recorder, ends)
+    }
+
+    /// Tells the threads that there is no other round.
+    pub fn end(&self) {
+        self.is_over.store(true, Ordering::SeqCst);
+        self.begun.ring();
+    }
+}
+
+/// Starts the drainer and the workers of a crew, and adds them to `threads`, which has room for them.
+pub fn start_crew<'s, E: 's, R: Wait + Sync, N: Over + Assigned + Send + Sync, G: Gate + Sync>(
+    scope: &'s Scope<'s, E>,
+    crew: &'s Crew<'s, R, N, G>,
+    threads: &mut Vec<JoinHandle<()>>,
+) -> Result<(), AllocError> {
+    threads.push(scope.spawn(move || crew.serve_drains())?)?;
+    for number in 0..crew.plan.starts.len() {
+        let thread = number as u32;
+        threads.push(scope.spawn(move || crew.serve(thread))?)?;
+    }
+    Ok(())
+}
