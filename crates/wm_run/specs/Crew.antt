@@ -1,14 +1,20 @@
 -- The threads of a crew: what they know, and the ends that they leave for the one that gathers them.
-use Rattle.std.specs.Prelude.{◌≡◌, ℕ, ◌<◌, Bool, List, [], IfSome, None, Option, length, slice_index_or}
+use Rattle.std.specs.Prelude.{◌≡◌, ℕ, ◌<◌, Bool, List, [], IfSome, None, Some, Option, length, slice_index_or}
 use Rattle.wm_ast.specs.declared.module.Module.{Module}
+use denote.Struct.Props.{props}
+use Rattle.wm_event.specs.declared.log.End.{End}
+use Rattle.wm_event.specs.declared.log.End.TheVariants.{Done, Trap, Cut}
 use Rattle.wm_event.specs.declared.log.Start.{Start}
+use Rattle.wm_logfile.specs.Document.{EndFits}
 use Rattle.wm_run.specs.declared.ended.ThreadEnd.{ThreadEnd}
 use Rattle.wm_run.specs.declared.plan.Plan.{Plan}
+use Rattle.wm_run.specs.Rounds.{IsRoundPlan}
 use Rattle.wm_run.specs.Worker.{IsEndOf}
+use Rattle.wm_valid.specs.Valid.{IsInit}
 
 -- the module with nothing in it
 abbrev pub no_module : Module
-no_module = record { types = []; funcs = []; memory = None; globals = []; exports = []; data = [] }
+no_module = record { types = []; funcs = []; memory = None; globals = []; exports = []; «data» = [] }
 
 -- the plan of no thread
 abbrev pub no_plan : Plan
@@ -19,3 +25,16 @@ abbrev pub AreSlotsOf : Bool → Module → Plan → List (Option ThreadEnd) →
 AreSlotsOf is_open m plan slots =
     (length slots ≡ length plan.starts)
     × ((i : ℕ) (d : Start) (s : Option ThreadEnd) → i < length plan.starts → IfSome (slice_index_or slots i s) (IsEndOf is_open m i (slice_index_or plan.starts i d) plan.steps))
+
+-- there is one proof at most that an end fits, so a ghost field can keep it
+pub EndFits-prop : (e : End) → IsProp (EndFits e)
+EndFits-prop (Done None) = hlevel props
+EndFits-prop (Done (Some v)) = hlevel props
+EndFits-prop (Trap kind) = hlevel props
+EndFits-prop Cut = hlevel props
+
+-- a round can follow the plan, with this Init and for this number of threads
+pub record CanMakeRounds («module» : Module) (plan : Plan) (initial : List ℕ) (threads : ℕ) : Type 0 where
+  pub planned : IsRoundPlan plan
+  pub init : IsInit «module» initial
+  pub threads_are : threads ≡ length plan.starts

@@ -6,6 +6,9 @@ use std::sync::atomic::{AtomicU64, Ordering};
 /// How often a thread looks at the count before it sleeps.
 const MAX_LOOKS: u32 = 1_000;
 
+/// A thread sleeps as long as the low 32 bits of the count stay the same: one past them.
+const LOW_END: u64 = 1 << 32;
+
 /// A count of rings, which threads wait on.
 #[derive(Drop)]
 pub struct Bell {
@@ -45,7 +48,7 @@ impl Bell {
             if rings != heard {
                 return rings;
             }
-            self.rings.park(rt, heard as u32);
+            self.rings.park(rt, (heard % LOW_END) as u32);
         }
         unreachable!()
     }

@@ -1,7 +1,8 @@
 //! What the threads of a crew leave for the one that gathers a round.
-ghost use Rattle.std.specs.Prelude.{◌≡◌, ℕ, ◌<◌, IfOk, None, Some, All, length, map};
+ghost use Rattle.std.specs.Prelude.{◌≡◌, IfOk, IfSome, None, Some, All, length, map, slice_index_or};
+ghost use Rattle.std.proofs.Props.{props};
 ghost use Rattle.wm_event.specs.declared.log.Start.{Start};
-ghost use Rattle.wm_run.specs.Crew.{AreSlotsOf};
+ghost use Rattle.wm_run.specs.Crew.{AreSlotsOf, EndFits-prop};
 ghost use Rattle.wm_run.specs.Worker.{IsEndOf};
 
 use crate::assigned::Assigned;
@@ -18,7 +19,7 @@ pub struct Board<N: Assigned> {
     is_short: bool,
     at_work: usize,
     of: PhantomData<N>,
-    ghost are_slots: { AreSlotsOf N.is_open N.program N.plan slots.items },
+    ghost are_slots: { AreSlotsOf N.is_open N.program N.plan slots.items } by { Prim.hlevel (props, EndFits-prop) },
 }
 
 impl<N: Assigned> Board<N> {

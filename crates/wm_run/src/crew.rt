@@ -1,6 +1,9 @@
 //! Threads that make the rounds of a plan, one after the other, over one locked memory.
 ghost use Rattle.std.specs.Prelude.{◌≡◌, ◌≤◌, IfErr, IfOk};
 ghost use Rattle.wm_recorder.specs.Locked.{IsOver};
+ghost use Rattle.wm_run.specs.Crew.{CanMakeRounds};
+ghost use Rattle.wm_run.specs.Own.{IsWithinPlan};
+ghost use Rattle.wm_run.specs.Rounds.{IsReady, IsRound, IsRoundFault};
 
 use crate::assigned::Assigned;
 use crate::board::{Board, empty_slots, ends_of};
@@ -9,6 +12,7 @@ use crate::drains::drainer;
 use crate::fault::RunFault;
 use crate::gate::Gate;
 use crate::gathering::gather;
+use crate::own::own_runs_are_allowed;
 use crate::plan::Plan;
 use crate::run::Run;
 use crate::worker::work;
@@ -32,6 +36,10 @@ pub struct Crew<'a, R: Wait, N: Over + Assigned, G: Gate> {
     begun: Bell,
     made: Bell,
     is_over: AtomicBool,
+    ghost of_module: { «module».now ≡ N.program },
+    ghost of_plan: { plan.now ≡ N.plan },
+    ghost of_gate: { G.is_open gate.now ≡ N.is_open },
+    ghost can: { CanMakeRounds N.program N.plan N.initial N.threads },
 }
 
 impl<'a, R: Wait, N: Over + Assigned, G: Gate> Crew<'a, R, N, G> {
@@ -43,7 +51,13 @@ impl<'a, R: Wait, N: Over + Assigned, G: Gate> Crew<'a, R, N, G> {
         plan: &'a Plan,
         gate: &'a G,
         recorder: Recorder,
-    ) -> Result<Crew<'a, R, N, G>, AllocError> {
+    ) -> Result<Crew<'a, R, N, G>, AllocError>
+        requires of_module { «module».now ≡ N.program }
+        requires of_plan { plan.now ≡ N.plan }
+        requires of_gate { G.is_open gate.now ≡ N.is_open }
+        requires can { CanMakeRounds N.program N.plan N.initial N.threads }
+        requires over { IsOver N.initial N.threads recorder }
+    {
         let slots = empty_slots(alloc, plan.starts.len())?;
         Ok(Crew {
             rt,
@@ -124,7 +138,13 @@ impl<'a, R: Wait, N: Over + Assigned, G: Gate> Crew<'a, R, N, G> {
     }
 
     /// Makes the round of this number, counted from 0.
-    pub fn round(&self, number: u64) -> Result<Run, RunFault> {
+    pub fn round(&self, number: u64) -> Result<Run, RunFault>
+        requires { IsReady N.program N.plan }
+        ensures round { IfOk result (IsRound N.is_open N.program N.plan) }
+        ensures within { IfOk result IsWithinPlan }
+        ensures refused { IfErr result (IsRoundFault N.program N.plan) }
+    {
+        own_runs_are_allowed();
         let threads = self.plan.starts.len();
         let slots = empty_slots(self.alloc, threads)?;
         let recorder = Recorder::new(self.alloc, self.module.initial(), threads)?;
@@ -146,16 +166,18 @@ impl<'a, R: Wait, N: Over + Assigned, G: Gate> Crew<'a, R, N, G> {
     }
 }
 
-/// Starts the drainer and the workers of a crew, and adds them to `threads`, which has room for them.
+/// Starts the drainer and the workers of a crew, and adds each to `threads`.
 pub fn start_crew<'s, E: 's, R: Wait + Sync, N: Over + Assigned + Send + Sync, G: Gate + Sync>(
     scope: &'s Scope<'s, E>,
     crew: &'s Crew<'s, R, N, G>,
     threads: &mut Vec<JoinHandle<()>>,
 ) -> Result<(), AllocError> {
-    threads.push(scope.spawn(move || crew.serve_drains())?)?;
+    threads.reserve(1)?;
+    threads.push_reserved(scope.spawn(move || crew.serve_drains())?);
     for number in 0..crew.plan.starts.len() {
         let thread = number as u32;
-        threads.push(scope.spawn(move || crew.serve(thread))?)?;
+        threads.reserve(1)?;
+        threads.push_reserved(scope.spawn(move || crew.serve(thread))?);
     }
     Ok(())
 }

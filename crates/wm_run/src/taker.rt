@@ -1,5 +1,5 @@
 //! What is done with the rounds that a crew makes.
-ghost use Rattle.std.specs.Prelude.{ℕ, ◌+◌, IfOk, MatchBool};
+ghost use Rattle.std.specs.Prelude.{◌≡◌, ℕ, ◌+◌, IfOk, MatchBool};
 ghost use Rattle.wm_run.specs.Run.{Record};
 
 use crate::run::Run;
@@ -7,8 +7,14 @@ use std::alloc::AllocError;
 
 /// Takes the rounds of a plan, one after the other.
 pub trait Taker: Drop {
-    /// Which runs it takes.
-    ghost takes: { Self → Record → Type 0 };
+    /// What a task is: what it takes rounds for.
+    ghost Task: { Type 0 };
+
+    /// Its task, which stays the same.
+    ghost task: { Self → Task };
+
+    /// Which runs it takes for a task.
+    ghost takes: { Task → Record → Type 0 };
 
     /// What holds when it has taken this number of rounds and wants more.
     ghost has_taken: { Self → ℕ → Type 0 };
@@ -22,7 +28,7 @@ pub trait Taker: Drop {
     ///
     /// Only if an allocation fails.
     fn take(&mut self, run: Run) -> Result<bool, AllocError>
-        requires { takes self.old run }
-        ensures same { (other : Record) → takes self.old other → takes self.new other }
+        requires { takes (task self.old) run }
+        ensures same { task self.new ≡ task self.old }
         ensures taken { IfOk result (λ more. (taken : ℕ) → has_taken self.old taken → MatchBool more (has_taken self.new (taken + 1)) (is_done self.new)) };
 }
