@@ -73,6 +73,11 @@ impl<'a, R: Wait, N: Over + Assigned, G: Gate> Crew<'a, R, N, G> {
         })
     }
 
+    /// How many workers it has.
+    pub fn workers(&self) -> u32 {
+        self.plan.starts.len() as u32
+    }
+
     /// Waits for the next round after `heard` rings. None if there is none.
     fn next_round(&self, heard: u64) -> Option<u64> {
         let rings = self.begun.wait(self.rt, heard);
@@ -104,36 +109,12 @@ impl<'a, R: Wait, N: Over + Assigned, G: Gate> Crew<'a, R, N, G> {
         }
     }
 
-    /// Makes the part of a thread in each round.
-    fn serve(&self, thread: u32) {
-        let mut heard = 0;
-        for _ in self.rt.forever() {
-            match self.next_round(heard) {
-                Some(rings) => heard = rings,
-                None => return,
-            }
-            self.work_once(thread);
-        }
-    }
-
     /// Takes the drains of one round.
     fn drain_once(&self) {
         let threads = self.plan.starts.len() as u32;
         let drained = drainer(&self.memory, threads, self.plan.drains, self.gate);
         if self.board.lock(self.rt).take_drainer(drained.is_err()) {
             self.made.ring();
-        }
-    }
-
-    /// Takes the drains of each round.
-    fn serve_drains(&self) {
-        let mut heard = 0;
-        for _ in self.rt.forever() {
-            match self.next_round(heard) {
-                Some(rings) => heard = rings,
-                None => return,
-            }
-            self.drain_once();
         }
     }
 
@@ -166,18 +147,51 @@ impl<'a, R: Wait, N: Over + Assigned, G: Gate> Crew<'a, R, N, G> {
     }
 }
 
-/// Starts the drainer and the workers of a crew, and adds each to `threads`.
-pub fn start_crew<'s, E: 's, R: Wait + Sync, N: Over + Assigned + Send + Sync, G: Gate + Sync>(
+/// What the threads of a crew do until it tells them that there is no other round.
+pub trait Serves {
+    /// Makes the part of a thread in each round.
+    fn serve(&self, thread: u32);
+
+    /// Takes the drains of each round.
+    fn serve_drains(&self);
+}
+
+impl<'a, R: Wait, N: Over + Assigned, G: Gate> Serves for Crew<'a, R, N, G> {
+    fn serve(&self, thread: u32) {
+        let mut heard = 0;
+        for _ in self.rt.forever() {
+            match self.next_round(heard) {
+                Some(rings) => heard = rings,
+                None => return,
+            }
+            self.work_once(thread);
+        }
+    }
+
+    fn serve_drains(&self) {
+        let mut heard = 0;
+        for _ in self.rt.forever() {
+            match self.next_round(heard) {
+                Some(rings) => heard = rings,
+                None => return,
+            }
+            self.drain_once();
+        }
+    }
+}
+
+/// Starts the drainer and this number of workers of a crew, and adds each to `started`.
+pub fn start_crew<'s, E: 's, C: Serves + Sync>(
     scope: &'s Scope<'s, E>,
-    crew: &'s Crew<'s, R, N, G>,
-    threads: &mut Vec<JoinHandle<()>>,
+    crew: &'s C,
+    threads: u32,
+    started: &mut Vec<JoinHandle<()>>,
 ) -> Result<(), AllocError> {
-    threads.reserve(1)?;
-    threads.push_reserved(scope.spawn(move || crew.serve_drains())?);
-    for number in 0..crew.plan.starts.len() {
-        let thread = number as u32;
-        threads.reserve(1)?;
-        threads.push_reserved(scope.spawn(move || crew.serve(thread))?);
+    started.reserve(1)?;
+    started.push_reserved(scope.spawn(move || crew.serve_drains())?);
+    for thread in 0..threads {
+        started.reserve(1)?;
+        started.push_reserved(scope.spawn(move || crew.serve(thread))?);
     }
     Ok(())
 }

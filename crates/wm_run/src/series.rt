@@ -72,13 +72,13 @@ fn run_in<
     ensures taken { IfOk result.1 (λ all. MatchBool all (T.has_taken result.0 count) (T.is_done result.0)) }
     ensures refused { IfErr result.1 (IsRoundFault N.program N.plan) }
 {
-    let mut threads = Vec::new(alloc);
-    let made = match start_crew(scope, crew, &mut threads) {
+    let mut started = Vec::new(alloc);
+    let made = match start_crew(scope, crew, crew.workers(), &mut started) {
         Ok(()) => make_rounds(crew, count, taker),
         Err(_) => (taker, Err(RunFault::OutOfMemory)),
     };
     crew.end();
-    for thread in threads {
+    for thread in started {
         thread.join(rt);
     }
     made
@@ -111,7 +111,7 @@ fn run_scoped<
             requires takes { (run : Record) → IsRound N.is_open N.program N.plan run → IsWithinPlan run → T.takes (T.task taker) run }
             requires begins { T.has_taken taker 0 }
             requires ready { IsReady N.program N.plan }
-            ensures same { T.task result.0 ≡ T.task taker.entry }
+            ensures same { T.task result.0 ≡ T.task taker }
             ensures taken { IfOk result.1 (λ all. MatchBool all (T.has_taken result.0 count) (T.is_done result.0)) }
             ensures refused { IfErr result.1 (IsRoundFault N.program N.plan) }
         { run_in(rt, alloc, scope, crew, count, taker) },
