@@ -10,6 +10,7 @@ use crate::ended::ThreadEnd;
 use std::alloc::{AllocError, Global};
 use std::marker::PhantomData;
 use std::mem;
+use std::sync::{Mutex, Wait};
 
 /// A slot for the end of each thread of a round, whether a thread of the crew found no memory, and how many are still
 /// at work.
@@ -73,6 +74,54 @@ impl<N: Assigned> Board<N> {
             of: _,
         } = mem::replace(self, Board::new(slots));
         (is_short, slots)
+    }
+}
+
+/// Collects what the threads of a crew leave. They share it by reference.
+pub trait Collects<N: Assigned> {
+    /// Takes the end of a thread, or notes that it found no memory. Answers whether it was the last at work.
+    fn take_end(&self, thread: u32, end: Option<ThreadEnd>) -> bool
+        requires { (start : Start) → IfSome end (IsEndOf N.is_open N.program thread (slice_index_or N.plan.starts thread start) N.plan.steps) };
+
+    /// Notes how the drainer ended. Answers whether it was the last at work.
+    fn take_drainer(&self, is_short: bool) -> bool;
+
+    /// Whether a thread found no memory, and the slots; these others are for the next round.
+    fn exchange(&self, slots: Vec<Option<ThreadEnd>>) -> (bool, Vec<Option<ThreadEnd>>)
+        requires { AreSlotsOf N.is_open N.program N.plan slots.items }
+        ensures { AreSlotsOf N.is_open N.program N.plan result.1.items };
+}
+
+/// A board under a lock, with the handle that waits for it.
+#[derive(Drop)]
+pub struct LockedBoard<'a, R: Wait, N: Assigned> {
+    rt: &'a R,
+    board: Mutex<Board<N>>,
+}
+
+impl<'a, R: Wait, N: Assigned> LockedBoard<'a, R, N> {
+    /// The board of a crew whose threads begin a round.
+    pub fn new(rt: &'a R, slots: Vec<Option<ThreadEnd>>) -> LockedBoard<'a, R, N>
+        requires { AreSlotsOf N.is_open N.program N.plan slots.items }
+    {
+        LockedBoard {
+            rt,
+            board: Mutex::new(Board::new(slots)),
+        }
+    }
+}
+
+impl<'a, R: Wait, N: Assigned> Collects<N> for LockedBoard<'a, R, N> {
+    fn take_end(&self, thread: u32, end: Option<ThreadEnd>) -> bool {
+        self.board.lock(self.rt).take_end(thread, end)
+    }
+
+    fn take_drainer(&self, is_short: bool) -> bool {
+        self.board.lock(self.rt).take_drainer(is_short)
+    }
+
+    fn exchange(&self, slots: Vec<Option<ThreadEnd>>) -> (bool, Vec<Option<ThreadEnd>>) {
+        self.board.lock(self.rt).exchange(slots)
     }
 }
 

@@ -6,7 +6,7 @@ ghost use Rattle.wm_run.specs.Own.{IsWithinPlan};
 ghost use Rattle.wm_run.specs.Rounds.{IsReady, IsRound, IsRoundFault};
 
 use crate::assigned::Assigned;
-use crate::board::{Board, empty_slots, ends_of};
+use crate::board::{Collects, empty_slots, ends_of};
 use crate::bell::Bell;
 use crate::drains::drainer;
 use crate::fault::RunFault;
@@ -18,21 +18,21 @@ use crate::run::Run;
 use crate::worker::work;
 use std::alloc::{AllocError, Global};
 use std::sync::atomic::{AtomicBool, Ordering};
-use std::sync::{Mutex, Wait};
+use std::sync::Wait;
 use std::thread::{JoinHandle, Scope, Threads};
 use wm_recorder::{LockedMemory, Over, Recorder};
 use wm_valid::ValidModule;
 
 /// What the threads of a crew share. Between two rounds they wait for the bell `begun`.
 #[derive(Drop)]
-pub struct Crew<'a, R: Wait, N: Over + Assigned, G: Gate> {
+pub struct Crew<'a, R: Wait, N: Over + Assigned, G: Gate, B: Collects<N>> {
     rt: &'a R,
     alloc: Global,
     module: &'a ValidModule,
     plan: &'a Plan,
     gate: &'a G,
     memory: LockedMemory<'a, R, N>,
-    board: Mutex<Board<N>>,
+    board: &'a B,
     begun: Bell,
     made: Bell,
     is_over: AtomicBool,
@@ -42,7 +42,7 @@ pub struct Crew<'a, R: Wait, N: Over + Assigned, G: Gate> {
     ghost can: { CanMakeRounds N.program N.plan N.initial N.threads },
 }
 
-impl<'a, R: Wait, N: Over + Assigned, G: Gate> Crew<'a, R, N, G> {
+impl<'a, R: Wait, N: Over + Assigned, G: Gate, B: Collects<N>> Crew<'a, R, N, G, B> {
     /// What the threads of a crew will share.
     pub fn new(
         rt: &'a R,
@@ -50,31 +50,33 @@ impl<'a, R: Wait, N: Over + Assigned, G: Gate> Crew<'a, R, N, G> {
         module: &'a ValidModule,
         plan: &'a Plan,
         gate: &'a G,
+        board: &'a B,
         recorder: Recorder,
-    ) -> Result<Crew<'a, R, N, G>, AllocError>
+    ) -> Crew<'a, R, N, G, B>
         requires of_module { «module».now ≡ N.program }
         requires of_plan { plan.now ≡ N.plan }
         requires of_gate { G.is_open gate.now ≡ N.is_open }
         requires can { CanMakeRounds N.program N.plan N.initial N.threads }
         requires over { IsOver N.initial N.threads recorder }
     {
-        let slots = empty_slots(alloc, plan.starts.len())?;
-        Ok(Crew {
+        Crew {
             rt,
             alloc,
             module,
             plan,
             gate,
             memory: LockedMemory::new(rt, recorder),
-            board: Mutex::new(Board::new(slots)),
+            board,
             begun: Bell::new(),
             made: Bell::new(),
             is_over: AtomicBool::new(false),
-        })
+        }
     }
 
     /// How many workers it has.
-    pub fn workers(&self) -> u32 {
+    pub fn workers(&self) -> u32
+        ensures { 1 ≤ result }
+    {
         self.plan.starts.len() as u32
     }
 
@@ -104,16 +106,15 @@ impl<'a, R: Wait, N: Over + Assigned, G: Gate> Crew<'a, R, N, G> {
             Ok(end) => Some(end),
             Err(_) => None,
         };
-        if self.board.lock(self.rt).take_end(thread, end) {
+        if self.board.take_end(thread, end) {
             self.made.ring();
         }
     }
 
     /// Takes the drains of one round.
     fn drain_once(&self) {
-        let threads = self.plan.starts.len() as u32;
-        let drained = drainer(&self.memory, threads, self.plan.drains, self.gate);
-        if self.board.lock(self.rt).take_drainer(drained.is_err()) {
+        let drained = drainer(&self.memory, self.workers(), self.plan.drains, self.gate);
+        if self.board.take_drainer(drained.is_err()) {
             self.made.ring();
         }
     }
@@ -132,7 +133,7 @@ impl<'a, R: Wait, N: Over + Assigned, G: Gate> Crew<'a, R, N, G> {
         self.begun.ring();
         self.made.wait(self.rt, number);
         let recorder = self.memory.exchange(recorder);
-        let (is_short, slots) = self.board.lock(self.rt).exchange(slots);
+        let (is_short, slots) = self.board.exchange(slots);
         if is_short {
             return Err(RunFault::OutOfMemory);
         }
@@ -156,7 +157,7 @@ pub trait Serves {
     fn serve_drains(&self);
 }
 
-impl<'a, R: Wait, N: Over + Assigned, G: Gate> Serves for Crew<'a, R, N, G> {
+impl<'a, R: Wait, N: Over + Assigned, G: Gate, B: Collects<N>> Serves for Crew<'a, R, N, G, B> {
     fn serve(&self, thread: u32) {
         let mut heard = 0;
         for _ in self.rt.forever() {

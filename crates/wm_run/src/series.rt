@@ -7,6 +7,7 @@ ghost use Rattle.wm_run.specs.Rounds.{IsReady, IsRound, IsRoundFault, IsRoundPla
 ghost use Rattle.wm_run.specs.Run.{Record};
 
 use crate::assigned::Assigned;
+use crate::board::{Collects, LockedBoard, empty_slots};
 use crate::crew::{Crew, start_crew};
 use crate::fault::RunFault;
 use crate::gate::Gate;
@@ -23,8 +24,8 @@ use wm_recorder::{Over, Recorder};
 use wm_valid::ValidModule;
 
 /// Makes this number of rounds, or fewer if the taker wants no more.
-fn make_rounds<R: Wait, N: Over + Assigned, G: Gate, T: Taker>(
-    crew: &Crew<'_, R, N, G>,
+fn make_rounds<R: Wait, N: Over + Assigned, G: Gate, B: Collects<N>, T: Taker>(
+    crew: &Crew<'_, R, N, G, B>,
     count: u32,
     mut taker: T,
 ) -> (T, Result<bool, RunFault>)
@@ -56,12 +57,13 @@ fn run_in<
     R: Threads + Wait + Sync,
     N: Over + Assigned + Send + Sync,
     G: Gate + Sync,
+    B: Collects<N> + Sync,
     T: Taker,
 >(
     rt: &R,
     alloc: Global,
     scope: &'s Scope<'s, E>,
-    crew: &'s Crew<'s, R, N, G>,
+    crew: &'s Crew<'s, R, N, G, B>,
     count: u32,
     taker: T,
 ) -> (T, Result<bool, RunFault>)
@@ -89,11 +91,12 @@ fn run_scoped<
     N: Over + Assigned + Send + Sync,
     R: Threads + Wait + Sync,
     G: Gate + Sync,
+    B: Collects<N> + Sync,
     T: Taker,
 >(
     rt: &R,
     alloc: Global,
-    crew: &Crew<'_, R, N, G>,
+    crew: &Crew<'_, R, N, G, B>,
     count: u32,
     taker: T,
 ) -> (T, Result<bool, RunFault>)
@@ -118,12 +121,13 @@ fn run_scoped<
     )
 }
 
-/// Makes the rounds over a recorder under a lock.
-fn run_over<
+/// Makes the rounds by a crew that leaves its ends on this board.
+fn run_crew<
     'a,
     N: Over + Assigned + Send + Sync,
     R: Threads + Wait + Sync,
     G: Gate + Sync,
+    B: Collects<N> + Sync,
     T: Taker,
 >(
     rt: &'a R,
@@ -131,6 +135,7 @@ fn run_over<
     module: &'a ValidModule,
     plan: &'a Plan,
     gate: &'a G,
+    board: &'a B,
     recorder: Recorder,
     count: u32,
     taker: T,
@@ -147,10 +152,43 @@ fn run_over<
     ensures taken { IfOk result.1 (λ all. MatchBool all (T.has_taken result.0 count) (T.is_done result.0)) }
     ensures refused { IfErr result.1 (IsRoundFault N.program N.plan) }
 {
-    match Crew::<R, N, G>::new(rt, alloc, module, plan, gate, recorder) {
-        Ok(crew) => run_scoped(rt, alloc, &crew, count, taker),
-        Err(_) => (taker, Err(RunFault::OutOfMemory)),
-    }
+    let crew = Crew::<R, N, G, B>::new(rt, alloc, module, plan, gate, board, recorder);
+    run_scoped(rt, alloc, &crew, count, taker)
+}
+
+/// Makes the rounds over a recorder and a board, each under a lock.
+fn run_over<
+    N: Over + Assigned + Send + Sync,
+    R: Threads + Wait + Sync,
+    G: Gate + Sync,
+    T: Taker,
+>(
+    rt: &R,
+    alloc: Global,
+    module: &ValidModule,
+    plan: &Plan,
+    gate: &G,
+    recorder: Recorder,
+    count: u32,
+    taker: T,
+) -> (T, Result<bool, RunFault>)
+    requires of_module { «module».now ≡ N.program }
+    requires of_plan { plan.now ≡ N.plan }
+    requires of_gate { G.is_open gate.now ≡ N.is_open }
+    requires can { CanMakeRounds N.program N.plan N.initial N.threads }
+    requires over { IsOver N.initial N.threads recorder }
+    requires takes { (run : Record) → IsRound N.is_open N.program N.plan run → IsWithinPlan run → T.takes (T.task taker) run }
+    requires begins { T.has_taken taker 0 }
+    requires ready { IsReady N.program N.plan }
+    ensures same { T.task result.0 ≡ T.task taker }
+    ensures taken { IfOk result.1 (λ all. MatchBool all (T.has_taken result.0 count) (T.is_done result.0)) }
+    ensures refused { IfErr result.1 (IsRoundFault N.program N.plan) }
+{
+    let Ok(slots) = empty_slots(alloc, plan.starts.len()) else {
+        return (taker, Err(RunFault::OutOfMemory));
+    };
+    let board = LockedBoard::<R, N>::new(rt, slots);
+    run_crew(rt, alloc, module, plan, gate, &board, recorder, count, taker)
 }
 
 /// Makes this number of rounds of a plan, one after the other, or fewer if the taker wants no more. Each is as
