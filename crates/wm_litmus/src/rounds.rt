@@ -1,8 +1,10 @@
 //! The command `run`: rounds of a module's threads, which run at the same time.
-ghost use Rattle.std.specs.Prelude.{IfOk, string_bytes, true, ◌×◌};
-ghost use Rattle.wm_litmus.specs.Rounds.{AnswersRounds, CountsOrAnswers, RunsOver};
+ghost use Rattle.std.specs.Prelude.{◌×◌, IfOk, MatchOption, string_bytes, true};
+ghost use Rattle.wm_ast.specs.declared.module.Module.{Module};
+ghost use Rattle.wm_litmus.specs.Rounds.{AnswersRounds, CountsOrAnswers, HasCounted, RunsOver};
 ghost use Rattle.wm_run.specs.Own.{IsWithinPlan};
 ghost use Rattle.wm_run.specs.Rounds.{IsRound};
+ghost use Rattle.wm_words.specs.declared.words.Rounds.{Rounds};
 
 use crate::answer::Answer;
 use crate::own::check_own;
@@ -16,12 +18,17 @@ use wm_valid::ValidModule;
 use wm_words::Rounds;
 
 /// Counts the outcome of a round; if the round isn't allowed, it gives the answer to the whole command.
-fn count_round<R: AllocGlobal + Threads + Wait + Sync>(
+fn count_round<R: AllocGlobal + Threads + Sync>(
     rt: &R,
     module: &ValidModule,
+    rounds: &Rounds,
     run: &Run,
     table: &mut Table,
-) -> Result<Option<Answer>, AllocError> {
+) -> Result<Option<Answer>, AllocError>
+    requires round { IsRound true «module».now rounds.now.plan run.now }
+    requires within { IsWithinPlan run.now }
+    ensures { IfOk result (CountsOrAnswers «module».now rounds.now table.old.counts table.new.counts) }
+{
     let checked = check_own(rt, module, run)?;
     if let Verdict::Allowed(_) = checked.verdict {
         table.count(rt.alloc(), run)?;
@@ -30,7 +37,7 @@ fn count_round<R: AllocGlobal + Threads + Wait + Sync>(
     Ok(Some(Answer::of_verdict(rt.alloc(), &checked.verdict)?))
 }
 
-/// Counts the outcomes of rounds, as long as they are allowed.
+/// Counts the outcomes of rounds, until one isn't allowed, which gives the answer to the whole command.
 #[derive(Drop)]
 struct Counter<'a, R> {
     rt: &'a R,
@@ -40,40 +47,64 @@ struct Counter<'a, R> {
     answer: Option<Answer>,
 }
 
-impl<'a, R: AllocGlobal + Threads + Wait + Sync> Taker for Counter<'a, R> {
-    ghost takes = { λ c run. IsRound true c.module.now c.rounds.now.plan run × IsWithinPlan run };
+impl<'a, R: AllocGlobal + Threads + Sync> Taker for Counter<'a, R> {
+    ghost Task = { Module × Rounds };
 
-    ghost has_taken = { λ c taken. Unit {0} };
+    ghost task = { λ c. (c.module.now, c.rounds.now) };
 
-    ghost is_done = { λ c. Unit {0} };
+    ghost takes = { λ task run. IsRound true task.0 task.1.plan run × IsWithinPlan run };
+
+    ghost has_taken = { λ c taken. HasCounted c.module.now c.rounds.now.plan taken c.table.counts };
+
+    ghost is_done = { λ c. MatchOption c.answer ⊥ (RunsOver c.module.now c.rounds.now) };
 
     fn take(&mut self, run: Run) -> Result<bool, AllocError> {
-        self.answer = count_round(self.rt, self.module, &run, &mut self.table)?;
-        Ok(self.answer.is_none())
+        match count_round(self.rt, self.module, self.rounds, &run, &mut self.table)? {
+            None => Ok(true),
+            Some(answer) => {
+                self.answer = Some(answer);
+                Ok(false)
+            }
+        }
     }
 }
 
 /// The answer to rounds of a module.
-fn make_rounds<R: AllocGlobal + Threads + Wait + Sync>(
-    rt: &R,
-    module: &ValidModule,
-    rounds: &Rounds,
+fn make_rounds<'a, R: AllocGlobal + Threads + Wait + Sync>(
+    rt: &'a R,
+    module: &'a ValidModule,
+    rounds: &'a Rounds,
 ) -> Result<Answer, AllocError>
     ensures { IfOk result (RunsOver «module».now rounds.now) }
 {
-    let counter = Counter { rt, module, rounds, table: Table::new(rt.alloc()), answer: None };
-    let (counter, made) = run_rounds(rt, rt.alloc(), module, &rounds.plan, &OpenGate, rounds.count, counter);
-    let Counter { rt: _, module: _, rounds: _, table, answer } = counter;
+    let counter = Counter {
+        rt,
+        module,
+        rounds,
+        table: Table::new(rt.alloc()),
+        answer: None,
+    };
+    let (counter, made) = run_rounds(
+        rt,
+        rt.alloc(),
+        module,
+        &rounds.plan,
+        &OpenGate,
+        rounds.count,
+        counter,
+    );
     match made {
-        Ok(_) => {}
-        Err(RunFault::OutOfMemory) => return Err(AllocError),
-        Err(fault) => return Answer::refused_run(rt.alloc(), fault),
+        Ok(true) => {
+            let table = counter.table.text(rt.alloc())?;
+            Answer::rounds(rt.alloc(), table.as_str(), rounds.count)
+        }
+        Ok(false) => match counter.answer {
+            Some(answer) => Ok(answer),
+            None => unreachable!(),
+        },
+        Err(RunFault::OutOfMemory) => Err(AllocError),
+        Err(fault) => Answer::refused_run(rt.alloc(), fault),
     }
-    if let Some(answer) = answer {
-        return Ok(answer);
-    }
-    let table = table.text(rt.alloc())?;
-    Answer::rounds(rt.alloc(), table.as_str(), rounds.count)
 }
 
 /// The answer to the bytes of a module, for rounds of its threads. It may wait for these threads.

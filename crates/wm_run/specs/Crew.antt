@@ -20,11 +20,15 @@ no_module = record { types = []; funcs = []; memory = None; globals = []; export
 abbrev pub no_plan : Plan
 no_plan = record { starts = []; steps = 0; drains = 0 }
 
--- a slot for each thread of a plan, with the thread's end if there is one
+-- the slot of a thread of a plan: it has the thread's end, or nothing
+abbrev pub IsSlotOf : Bool → Module → Plan → ℕ → Option ThreadEnd → Type 0
+IsSlotOf is_open «module» plan t slot = (start : Start) → IfSome slot (IsEndOf is_open «module» t (slice_index_or plan.starts t start) plan.steps)
+
+-- the slots of all threads of a plan
 abbrev pub AreSlotsOf : Bool → Module → Plan → List (Option ThreadEnd) → Type 0
-AreSlotsOf is_open m plan slots =
+AreSlotsOf is_open «module» plan slots =
     (length slots ≡ length plan.starts)
-    × ((i : ℕ) (d : Start) (s : Option ThreadEnd) → i < length plan.starts → IfSome (slice_index_or slots i s) (IsEndOf is_open m i (slice_index_or plan.starts i d) plan.steps))
+    × ((t : ℕ) (s : Option ThreadEnd) → t < length plan.starts → IsSlotOf is_open «module» plan t (slice_index_or slots t s))
 
 -- there is one proof at most that an end fits, so a ghost field can keep it
 pub EndFits-prop : (e : End) → IsProp (EndFits e)

@@ -1,9 +1,7 @@
 //! What the threads of a crew leave for the one that gathers a round.
-ghost use Rattle.std.specs.Prelude.{◌≡◌, IfOk, IfSome, None, Some, All, length, map, slice_index_or};
+ghost use Rattle.std.specs.Prelude.{◌≡◌, IfOk, None, Some, All, length, map};
 ghost use Rattle.std.proofs.Props.{props};
-ghost use Rattle.wm_event.specs.declared.log.Start.{Start};
-ghost use Rattle.wm_run.specs.Crew.{AreSlotsOf, EndFits-prop};
-ghost use Rattle.wm_run.specs.Worker.{IsEndOf};
+ghost use Rattle.wm_run.specs.Crew.{AreSlotsOf, EndFits-prop, IsSlotOf};
 
 use crate::assigned::Assigned;
 use crate::ended::ThreadEnd;
@@ -45,7 +43,7 @@ impl<N: Assigned> Board<N> {
 
     /// Takes the end of a thread, or notes that it found no memory. Answers whether it was the last at work.
     pub fn take_end(&mut self, thread: u32, end: Option<ThreadEnd>) -> bool
-        requires { (start : Start) → IfSome end (IsEndOf N.is_open N.program thread (slice_index_or N.plan.starts thread start) N.plan.steps) }
+        requires { IsSlotOf N.is_open N.program N.plan thread end }
     {
         match self.slots.get_mut(thread as usize) {
             Some(slot) => *slot = end,
@@ -81,7 +79,7 @@ impl<N: Assigned> Board<N> {
 pub trait Collects<N: Assigned> {
     /// Takes the end of a thread, or notes that it found no memory. Answers whether it was the last at work.
     fn take_end(&self, thread: u32, end: Option<ThreadEnd>) -> bool
-        requires { (start : Start) → IfSome end (IsEndOf N.is_open N.program thread (slice_index_or N.plan.starts thread start) N.plan.steps) };
+        requires { IsSlotOf N.is_open N.program N.plan thread end };
 
     /// Notes how the drainer ended. Answers whether it was the last at work.
     fn take_drainer(&self, is_short: bool) -> bool;
@@ -138,10 +136,7 @@ pub fn empty_slots(alloc: Global, threads: usize) -> Result<Vec<Option<ThreadEnd
 }
 
 /// The ends in slots that all have one.
-pub fn ends_of(
-    alloc: Global,
-    slots: Vec<Option<ThreadEnd>>,
-) -> Result<Vec<ThreadEnd>, AllocError>
+pub fn ends_of(alloc: Global, slots: Vec<Option<ThreadEnd>>) -> Result<Vec<ThreadEnd>, AllocError>
     ensures { IfOk result (λ ends. slots.items ≡ map Some ends.items) }
 {
     let mut ends = Vec::with_capacity(alloc, slots.len())?;

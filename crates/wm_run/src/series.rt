@@ -157,12 +157,7 @@ fn run_crew<
 }
 
 /// Makes the rounds over a recorder and a board, each under a lock.
-fn run_over<
-    N: Over + Assigned + Send + Sync,
-    R: Threads + Wait + Sync,
-    G: Gate + Sync,
-    T: Taker,
->(
+fn run_over<N: Over + Assigned + Send + Sync, R: Threads + Wait + Sync, G: Gate + Sync, T: Taker>(
     rt: &R,
     alloc: Global,
     module: &ValidModule,
@@ -188,7 +183,9 @@ fn run_over<
         return (taker, Err(RunFault::OutOfMemory));
     };
     let board = LockedBoard::<R, N>::new(rt, slots);
-    run_crew(rt, alloc, module, plan, gate, &board, recorder, count, taker)
+    run_crew(
+        rt, alloc, module, plan, gate, &board, recorder, count, taker,
+    )
 }
 
 /// Makes this number of rounds of a plan, one after the other, or fewer if the taker wants no more. Each is as
@@ -208,7 +205,8 @@ pub fn run_rounds<R: Threads + Wait + Sync, G: Gate + Sync, T: Taker>(
     count: u32,
     taker: T,
 ) -> (T, Result<bool, RunFault>)
-    requires takes { (run : Record) → IsRound (G.is_open gate.now) «module».now plan.now run → IsWithinPlan run → T.takes (T.task taker) run }
+    requires takes { (run : Record) → IsRound (G.is_open gate.now) «module».now plan.now run → IsWithinPlan run
+        → T.takes (T.task taker) run }
     requires begins { T.has_taken taker 0 }
     ensures same { T.task result.0 ≡ T.task taker }
     ensures taken { IfOk result.1 (λ all. MatchBool all (T.has_taken result.0 count) (T.is_done result.0)) }

@@ -30,5 +30,6 @@ pub trait Taker: Drop {
     fn take(&mut self, run: Run) -> Result<bool, AllocError>
         requires { takes (task self.old) run }
         ensures same { task self.new ≡ task self.old }
-        ensures taken { IfOk result (λ more. (taken : ℕ) → has_taken self.old taken → MatchBool more (has_taken self.new (taken + 1)) (is_done self.new)) };
+        ensures taken { IfOk result (λ more.
+            (taken : ℕ) → has_taken self.old taken → MatchBool more (has_taken self.new (taken + 1)) (is_done self.new)) };
 }

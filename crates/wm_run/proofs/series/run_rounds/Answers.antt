@@ -1,7 +1,5 @@
-use Rattle.std.proofs.Common.{◌≡◌, ◌∙◌, rules, ap, subst, sym, length}
-use Rattle.wm_recorder.specs.Recorder.{initial_of, threads_of}
+use Rattle.std.proofs.Common.{rules, subst, sym}
 use Rattle.wm_run.specs.Refusal.{AllStart}
-use Rattle.wm_run.specs.Rounds.{IsRoundPlan}
 use Rattle.wm_valid.specs.Valid.{IsInit}
 use Rattle.wm_run.proofs.Refusing.{all_start}
 use Rattle.wm_run.proofs.series.run_rounds.Goals as goal

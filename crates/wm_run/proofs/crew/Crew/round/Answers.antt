@@ -1,10 +1,10 @@
-use Rattle.std.proofs.Common.{◌≡◌, ◌∙◌, ℕ, length, ap, subst, sym}
+use Rattle.std.proofs.Common.{◌≡◌, ◌∙◌, length, ap, subst, sym}
 use Rattle.std.proofs.lemmas.Result.{IfErr-weaker, IfOk-weaker}
 use Rattle.wm_ast.specs.declared.module.Module.{Module}
 use Rattle.wm_recorder.specs.Recorder.{initial_of, threads_of}
 use Rattle.wm_run.specs.declared.plan.Plan.{Plan}
 use Rattle.wm_run.specs.Gathered.{IsGathered, IsGatherFault}
-use Rattle.wm_run.specs.Rounds.{AreEndsOf, IsRound}
+use Rattle.wm_run.specs.Rounds.{AreEndsOf}
 use Rattle.wm_valid.specs.Valid.{IsInit}
 use Rattle.wm_valid.proofs.Initial.{one_init}
 use Rattle.wm_run.proofs.Refusing.{gather_fault}
