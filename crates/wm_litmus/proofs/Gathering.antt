@@ -11,14 +11,7 @@ use Rattle.wm_run.specs.declared.plan.Plan.{Plan}
 use Rattle.wm_run.specs.Run.{Record}
 use Rattle.wm_litmus.specs.Counts.{Counts}
 use Rattle.wm_litmus.specs.Outcomes.{outcome_text}
-use Rattle.wm_litmus.specs.Rounds.{CountsRound, IsAllowedRound, outcomes}
-
--- this number of rounds were made, each is allowed, and their outcomes are counted
-pub record HasMade («module» : Module) (plan : Plan) (number : ℕ) (counts : BTreeMap (String Global) ℕ) : Type 0 where
-  pub runs : List Record
-  pub many : length runs ≡ number
-  pub allowed : All (IsAllowedRound «module» plan) runs
-  pub counted : Counts (outcomes runs) counts
+use Rattle.wm_litmus.specs.Rounds.{CountsRound, HasMade, IsAllowedRound, outcomes}
 
 pub none_made : («module» : Module) (plan : Plan) (counts : BTreeMap (String Global) ℕ) → Counts [] counts
     → HasMade «module» plan 0 counts

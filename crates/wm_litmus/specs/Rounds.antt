@@ -1,5 +1,5 @@
 -- The answers of the command `run`.
-use Rattle.std.specs.Prelude.{◌≡◌, ◌≢◌, ◌<◌, ℕ, List, ◌++◌, MatchOption, Option, String, true, codes, length, map, string_bytes}
+use Rattle.std.specs.Prelude.{◌≡◌, ◌≢◌, ◌<◌, ◌^◌, ℕ, List, ◌++◌, MatchOption, Option, String, true, codes, length, map, string_bytes}
 use Rattle.std.specs.BTreeMap.{BTreeMap}
 use Rattle.std.specs.declared.alloc.Global.{Global}
 use Rattle.std.specs.Fmt.{decimal}
@@ -20,7 +20,7 @@ use Rattle.wm_run.specs.declared.plan.Plan.{Plan}
 use Rattle.wm_run.specs.Rounds.{IsRound, IsRoundFault}
 use Rattle.wm_run.specs.Run.{Record}
 use Rattle.wm_litmus.specs.declared.answer.Answer.{Answer}
-use Rattle.wm_litmus.specs.Counts.{CountsOneMore}
+use Rattle.wm_litmus.specs.Counts.{CountsOneMore, Counts}
 use Rattle.wm_litmus.specs.Own.{run_text}
 use Rattle.wm_litmus.specs.Input.{IsReadOf}
 use Rattle.wm_litmus.specs.Lines.{run_fault_line_text, verdict_text, word_line_text}
@@ -51,6 +51,17 @@ pub record CountsRound («module» : Module) (plan : Plan) (old new : BTreeMap (
   pub run : Record
   pub allowed : IsAllowedRound «module» plan run
   pub counted : CountsRun run old new
+
+-- this number of rounds were made, each is allowed, and their outcomes are counted
+pub record HasMade («module» : Module) (plan : Plan) (number : ℕ) (counts : BTreeMap (String Global) ℕ) : Type 0 where
+  pub runs : List Record
+  pub many : length runs ≡ number
+  pub allowed : All (IsAllowedRound «module» plan) runs
+  pub counted : Counts (outcomes runs) counts
+
+-- the same of a number of 64 bits
+abbrev pub HasCounted : Module → Plan → ℕ → BTreeMap (String Global) ℕ → Type 0
+HasCounted «module» plan number counts = number < 2 ^ 64 → HasMade «module» plan number counts
 
 -- a table, and the number of rounds
 abbrev pub rounds_text : List ℕ → ℕ → List ℕ

@@ -1,6 +1,10 @@
 //! The command `run`: rounds of a module's threads, which run at the same time.
-ghost use Rattle.std.specs.Prelude.{IfOk, string_bytes};
-ghost use Rattle.wm_litmus.specs.Rounds.{AnswersRounds, CountsOrAnswers, RunsOver};
+ghost use Rattle.std.specs.Prelude.{◌×◌, IfOk, MatchOption, string_bytes, true};
+ghost use Rattle.wm_ast.specs.declared.module.Module.{Module};
+ghost use Rattle.wm_litmus.specs.Rounds.{AnswersRounds, CountsOrAnswers, HasCounted, RunsOver};
+ghost use Rattle.wm_run.specs.Own.{IsWithinPlan};
+ghost use Rattle.wm_run.specs.Rounds.{IsRound};
+ghost use Rattle.wm_words.specs.declared.words.Rounds.{Rounds};
 
 use crate::answer::Answer;
 use crate::own::check_own;
@@ -9,49 +13,98 @@ use std::alloc::AllocError;
 use std::sync::Wait;
 use std::thread::Threads;
 use wm_check::{Unread, Verdict, read_module};
-use wm_run::{OpenGate, RunFault, run_round};
+use wm_run::{OpenGate, Run, RunFault, Taker, run_rounds};
 use wm_valid::ValidModule;
 use wm_words::Rounds;
 
-/// Makes a round and counts its outcome; if the round isn't allowed or can't be made, it gives the answer to the whole
-/// command.
-fn count_round<R: AllocGlobal + Threads + Wait + Sync>(
+/// Counts the outcome of a round; if the round isn't allowed, it gives the answer to the whole command.
+fn count_round<R: AllocGlobal + Threads + Sync>(
     rt: &R,
     module: &ValidModule,
     rounds: &Rounds,
+    run: &Run,
     table: &mut Table,
 ) -> Result<Option<Answer>, AllocError>
+    requires round { IsRound true «module».now rounds.now.plan run.now }
+    requires within { IsWithinPlan run.now }
     ensures { IfOk result (CountsOrAnswers «module».now rounds.now table.old.counts table.new.counts) }
 {
-    let run = match run_round(rt, rt.alloc(), module, &rounds.plan, &OpenGate) {
-        Ok(run) => run,
-        Err(RunFault::OutOfMemory) => return Err(AllocError),
-        Err(fault) => return Ok(Some(Answer::refused_run(rt.alloc(), fault)?)),
-    };
-    let checked = check_own(rt, module, &run)?;
+    let checked = check_own(rt, module, run)?;
     if let Verdict::Allowed(_) = checked.verdict {
-        table.count(rt.alloc(), &run)?;
+        table.count(rt.alloc(), run)?;
         return Ok(None);
     }
     Ok(Some(Answer::of_verdict(rt.alloc(), &checked.verdict)?))
 }
 
+/// Counts the outcomes of rounds, until one isn't allowed, which gives the answer to the whole command.
+#[derive(Drop)]
+struct Counter<'a, R> {
+    rt: &'a R,
+    module: &'a ValidModule,
+    rounds: &'a Rounds,
+    table: Table,
+    answer: Option<Answer>,
+}
+
+impl<'a, R: AllocGlobal + Threads + Sync> Taker for Counter<'a, R> {
+    ghost Task = { Module × Rounds };
+
+    ghost task = { λ c. (c.module.now, c.rounds.now) };
+
+    ghost takes = { λ task run. IsRound true task.0 task.1.plan run × IsWithinPlan run };
+
+    ghost has_taken = { λ c taken. HasCounted c.module.now c.rounds.now.plan taken c.table.counts };
+
+    ghost is_done = { λ c. MatchOption c.answer ⊥ (RunsOver c.module.now c.rounds.now) };
+
+    fn take(&mut self, run: Run) -> Result<bool, AllocError> {
+        match count_round(self.rt, self.module, self.rounds, &run, &mut self.table)? {
+            None => Ok(true),
+            Some(answer) => {
+                self.answer = Some(answer);
+                Ok(false)
+            }
+        }
+    }
+}
+
 /// The answer to rounds of a module.
-fn make_rounds<R: AllocGlobal + Threads + Wait + Sync>(
-    rt: &R,
-    module: &ValidModule,
-    rounds: &Rounds,
+fn make_rounds<'a, R: AllocGlobal + Threads + Wait + Sync>(
+    rt: &'a R,
+    module: &'a ValidModule,
+    rounds: &'a Rounds,
 ) -> Result<Answer, AllocError>
     ensures { IfOk result (RunsOver «module».now rounds.now) }
 {
-    let mut table = Table::new(rt.alloc());
-    for _ in 0..rounds.count {
-        if let Some(answer) = count_round(rt, module, rounds, &mut table)? {
-            return Ok(answer);
+    let counter = Counter {
+        rt,
+        module,
+        rounds,
+        table: Table::new(rt.alloc()),
+        answer: None,
+    };
+    let (counter, made) = run_rounds(
+        rt,
+        rt.alloc(),
+        module,
+        &rounds.plan,
+        &OpenGate,
+        rounds.count,
+        counter,
+    );
+    match made {
+        Ok(true) => {
+            let table = counter.table.text(rt.alloc())?;
+            Answer::rounds(rt.alloc(), table.as_str(), rounds.count)
         }
+        Ok(false) => match counter.answer {
+            Some(answer) => Ok(answer),
+            None => unreachable!(),
+        },
+        Err(RunFault::OutOfMemory) => Err(AllocError),
+        Err(fault) => Answer::refused_run(rt.alloc(), fault),
     }
-    let table = table.text(rt.alloc())?;
-    Answer::rounds(rt.alloc(), table.as_str(), rounds.count)
 }
 
 /// The answer to the bytes of a module, for rounds of its threads. It may wait for these threads.

@@ -9,6 +9,7 @@ ghost use Rattle.wm_recorder.specs.Recorder.{initial_of, threads_of};
 use crate::{AccessFault, Over, Recorder};
 use std::alloc::AllocError;
 use std::marker::PhantomData;
+use std::mem;
 use wm_event::{Op, Reply};
 
 /// A recorder over the Init and for the number of threads that `N` names. Each of its calls is one step.
@@ -39,6 +40,18 @@ impl<N: Over> Held<N> {
     {
         let Self { recorder, of: _ } = self;
         recorder
+    }
+
+    /// Puts another recorder under the lock, over the same Init and for as many threads, and gives back the one that
+    /// was there.
+    pub fn exchange(&mut self, recorder: Recorder) -> Recorder
+        requires { IsOver N.initial N.threads recorder }
+        ensures same { result ≡ self.old.recorder }
+        ensures over { IsOver N.initial N.threads result }
+        ensures put { self.new.recorder ≡ recorder }
+    {
+        let held = mem::replace(self, Held::new(recorder));
+        held.into_recorder()
     }
 
     /// One access, as [`Recorder::step_access`] makes it.

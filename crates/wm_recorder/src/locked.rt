@@ -31,6 +31,21 @@ impl<'a, R: Wait, N: Over> LockedMemory<'a, R, N> {
         }
     }
 
+    /// Puts another recorder under the lock, over the same Init and for as many threads, and gives back the one that
+    /// was there, with everything that the threads did.
+    pub fn exchange(&self, recorder: Recorder) -> Recorder
+        requires { IsOver N.initial N.threads recorder }
+        ensures over { IsOver N.initial N.threads result }
+        ensures recording { IsRecording result }
+        ensures valid { RecordsValid result }
+    {
+        let mut guard = self.held.lock(self.rt);
+        let held = &mut *guard;
+        let recorder = held.exchange(recorder);
+        recorder.recorded_log_is_valid();
+        recorder
+    }
+
     /// The recorder, with everything that the threads did. It has the same Init and the same number of threads as the
     /// one put in.
     pub fn into_recorder(self) -> Recorder

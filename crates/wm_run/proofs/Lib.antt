@@ -23,3 +23,4 @@ pub mod Ranges
 pub mod Once
 pub mod SameAccess
 pub mod Exists
+pub mod Slots

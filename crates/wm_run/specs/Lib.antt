@@ -19,3 +19,4 @@ pub mod Drains
 pub mod Ends
 pub mod Gathered
 pub mod Rounds
+pub mod Crew

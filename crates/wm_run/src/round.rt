@@ -215,7 +215,7 @@ fn all_ends(
 }
 
 /// Whether a round can follow the plan.
-fn check_plan(plan: &Plan) -> Result<(), PlanFault>
+pub fn check_plan(plan: &Plan) -> Result<(), PlanFault>
     ensures ok { OnOk result (IsRoundPlan plan.now) }
     ensures fault { IfErr result (IsRoundPlanFault plan.now) }
 {

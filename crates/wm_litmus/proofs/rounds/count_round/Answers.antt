@@ -1,28 +1,20 @@
-use Rattle.std.proofs.Common.{◌∙◌, ap, rules, subst}
-use Rattle.std.specs.Prelude.{◌≢◌}
+use Rattle.std.proofs.Common.{◌∙◌, ap, subst}
 use Rattle.wm_check.specs.Reading.{SaysOver}
-use Rattle.wm_run.specs.declared.fault.RunFault.TheVariants.{OutOfMemory}
 use Rattle.wm_litmus.specs.Lines.{verdict_status, verdict_text}
 use Rattle.wm_litmus.specs.Own.{IsMadeOf, run_text}
 use Rattle.wm_litmus.specs.Prints.{ended}
-use Rattle.wm_litmus.specs.Rounds.AnswersRounds.{refused, too_large}
+use Rattle.wm_litmus.specs.Rounds.AnswersRounds.{too_large}
 use Rattle.wm_litmus.proofs.OwnVerdicts.{only_large}
 use Rattle.wm_litmus.proofs.rounds.count_round.Goals as goal
 
-pub returns-in-Err : goal.returns-in-Err
-returns-in-Err g c = λ module_bytes modules.
-    let prints = c.in_ok-refused_run-in-Err.ensures in
-    let other : c.in-Err.fault ≢ OutOfMemory = search rules in
-    refused c.args.module.now c.in-Err.fault modules other c.in-Err.ensures.refused prints.status_is prints.text_is
-
 pub returns-in-Allowed : goal.returns-in-Allowed
 returns-in-Allowed g c =
-    let run = c.in-Ok.run' in
+    let run = c.args.run.now in
     let certificate = c.in-Allowed.field-0 in
     record {
       run = run;
       allowed = record {
-        round = c.in-Ok.ensures.round;
+        round = c.requires.round;
         certificate = certificate;
         says = subst (λ v. SaysOver c.args.module.now (run_text run) v) c.in-Allowed.is c.in_ok-checked.ensures.says;
       };
@@ -31,10 +23,10 @@ returns-in-Allowed g c =
 
 pub returns : goal.returns
 returns g c = λ module_bytes modules.
-    let run = c.in-Ok.run' in
+    let run = c.args.run.now in
     let v = c.in_ok-checked.checked.verdict in
     let prints = c.in_ok-of_verdict.ensures in
-    let made : IsMadeOf module_bytes c.args.module.now run = record { modules = modules; own = c.in-Ok.ensures.round.own; within = c.in-Ok.ensures.within } in
+    let made : IsMadeOf module_bytes c.args.module.now run = record { modules = modules; own = c.requires.round.own; within = c.requires.within } in
     let large = only_large run v c.in_default.not-Allowed (c.in_ok-checked.ensures.own module_bytes made) in
-    too_large c.args.module.now run modules c.in-Ok.ensures.round large.1
+    too_large c.args.module.now run modules c.requires.round large.1
     (prints.status_is ∙ ap verdict_status large.0) (prints.text_is ∙ ap (λ w. ended (verdict_text w)) large.0)
