@@ -1,5 +1,5 @@
 //! The command `run`: rounds of a module's threads, which run at the same time.
-ghost use Rattle.std.specs.Prelude.{◌×◌, IfOk, MatchOption, string_bytes, true};
+ghost use Rattle.std.specs.Prelude.{IfOk, MatchOption, string_bytes, true};
 ghost use Rattle.wm_ast.specs.declared.module.Module.{Module};
 ghost use Rattle.wm_litmus.specs.Rounds.{AnswersRounds, CountsOrAnswers, HasCounted, RunsOver};
 ghost use Rattle.wm_run.specs.Own.{IsWithinPlan};
@@ -39,15 +39,14 @@ fn count_round<R: AllocGlobal + Threads + Sync>(
 
 /// Counts the outcomes of rounds, until one isn't allowed, which gives the answer to the whole command.
 #[derive(Drop)]
-struct Counter<'a, R> {
-    rt: &'a R,
+struct Counter<'a> {
     module: &'a ValidModule,
     rounds: &'a Rounds,
     table: Table,
     answer: Option<Answer>,
 }
 
-impl<'a, R: AllocGlobal + Threads + Sync> Taker for Counter<'a, R> {
+impl<'a> Taker for Counter<'a> {
     ghost Task = { Module × Rounds };
 
     ghost task = { λ c. (c.module.now, c.rounds.now) };
@@ -58,8 +57,12 @@ impl<'a, R: AllocGlobal + Threads + Sync> Taker for Counter<'a, R> {
 
     ghost is_done = { λ c. MatchOption c.answer ⊥ (RunsOver c.module.now c.rounds.now) };
 
-    fn take(&mut self, run: Run) -> Result<bool, AllocError> {
-        match count_round(self.rt, self.module, self.rounds, &run, &mut self.table)? {
+    fn take<R: AllocGlobal + Threads + Sync>(
+        &mut self,
+        rt: &R,
+        run: Run,
+    ) -> Result<bool, AllocError> {
+        match count_round(rt, self.module, self.rounds, &run, &mut self.table)? {
             None => Ok(true),
             Some(answer) => {
                 self.answer = Some(answer);
@@ -71,14 +74,13 @@ impl<'a, R: AllocGlobal + Threads + Sync> Taker for Counter<'a, R> {
 
 /// The answer to rounds of a module.
 fn make_rounds<'a, R: AllocGlobal + Threads + Wait + Sync>(
-    rt: &'a R,
+    rt: &R,
     module: &'a ValidModule,
     rounds: &'a Rounds,
 ) -> Result<Answer, AllocError>
     ensures { IfOk result (RunsOver «module».now rounds.now) }
 {
     let counter = Counter {
-        rt,
         module,
         rounds,
         table: Table::new(rt.alloc()),
@@ -93,12 +95,18 @@ fn make_rounds<'a, R: AllocGlobal + Threads + Wait + Sync>(
         rounds.count,
         counter,
     );
+    let Counter {
+        module: _,
+        rounds: _,
+        table,
+        answer,
+    } = counter;
     match made {
         Ok(true) => {
-            let table = counter.table.text(rt.alloc())?;
+            let table = table.text(rt.alloc())?;
             Answer::rounds(rt.alloc(), table.as_str(), rounds.count)
         }
-        Ok(false) => match counter.answer {
+        Ok(false) => match answer {
             Some(answer) => Ok(answer),
             None => unreachable!(),
         },

@@ -24,11 +24,13 @@ use wm_recorder::{Over, Recorder};
 use wm_valid::ValidModule;
 
 /// Makes this number of rounds, or fewer if the taker wants no more.
-fn make_rounds<R: Wait, N: Over + Assigned, G: Gate, B: Collects<N>, T: Taker>(
-    crew: &Crew<'_, R, N, G, B>,
-    count: u32,
-    mut taker: T,
-) -> (T, Result<bool, RunFault>)
+fn make_rounds<
+    R: AllocGlobal + Threads + Wait + Sync,
+    N: Over + Assigned,
+    G: Gate,
+    B: Collects<N>,
+    T: Taker,
+>(rt: &R, crew: &Crew<'_, R, N, G, B>, count: u32, mut taker: T) -> (T, Result<bool, RunFault>)
     requires takes { (run : Record) → IsRound N.is_open N.program N.plan run → IsWithinPlan run → T.takes (T.task taker) run }
     requires begins { T.has_taken taker 0 }
     requires ready { IsReady N.program N.plan }
@@ -41,7 +43,7 @@ fn make_rounds<R: Wait, N: Over + Assigned, G: Gate, B: Collects<N>, T: Taker>(
             Ok(run) => run,
             Err(fault) => return (taker, Err(fault)),
         };
-        match taker.take(run) {
+        match taker.take(rt, run) {
             Ok(true) => {}
             Ok(false) => return (taker, Ok(false)),
             Err(_) => return (taker, Err(RunFault::OutOfMemory)),
@@ -54,7 +56,7 @@ fn make_rounds<R: Wait, N: Over + Assigned, G: Gate, B: Collects<N>, T: Taker>(
 fn run_in<
     's,
     E: 's,
-    R: Threads + Wait + Sync,
+    R: AllocGlobal + Threads + Wait + Sync,
     N: Over + Assigned + Send + Sync,
     G: Gate + Sync,
     B: Collects<N> + Sync,
@@ -76,7 +78,7 @@ fn run_in<
 {
     let mut started = Vec::new(alloc);
     let made = match start_crew(scope, crew, crew.workers(), &mut started) {
-        Ok(()) => make_rounds(crew, count, taker),
+        Ok(()) => make_rounds(rt, crew, count, taker),
         Err(_) => (taker, Err(RunFault::OutOfMemory)),
     };
     crew.end();
@@ -89,7 +91,7 @@ fn run_in<
 /// Makes the rounds in a scope that borrows what the crew shares.
 fn run_scoped<
     N: Over + Assigned + Send + Sync,
-    R: Threads + Wait + Sync,
+    R: AllocGlobal + Threads + Wait + Sync,
     G: Gate + Sync,
     B: Collects<N> + Sync,
     T: Taker,
@@ -125,7 +127,7 @@ fn run_scoped<
 fn run_crew<
     'a,
     N: Over + Assigned + Send + Sync,
-    R: Threads + Wait + Sync,
+    R: AllocGlobal + Threads + Wait + Sync,
     G: Gate + Sync,
     B: Collects<N> + Sync,
     T: Taker,
@@ -157,7 +159,12 @@ fn run_crew<
 }
 
 /// Makes the rounds over a recorder and a board, each under a lock.
-fn run_over<N: Over + Assigned + Send + Sync, R: Threads + Wait + Sync, G: Gate + Sync, T: Taker>(
+fn run_over<
+    N: Over + Assigned + Send + Sync,
+    R: AllocGlobal + Threads + Wait + Sync,
+    G: Gate + Sync,
+    T: Taker,
+>(
     rt: &R,
     alloc: Global,
     module: &ValidModule,
@@ -196,7 +203,7 @@ fn run_over<N: Over + Assigned + Send + Sync, R: Threads + Wait + Sync, G: Gate 
 ///
 /// Those of [`crate::run_round`], and `OutOfMemory` if the taker finds no memory. `Plan` and `Start` come before any
 /// thread is started; else every thread that was started is joined.
-pub fn run_rounds<R: Threads + Wait + Sync, G: Gate + Sync, T: Taker>(
+pub fn run_rounds<R: AllocGlobal + Threads + Wait + Sync, G: Gate + Sync, T: Taker>(
     rt: &R,
     alloc: Global,
     module: &ValidModule,
