@@ -1,5 +1,5 @@
 -- The answers of the command `run`.
-use Rattle.std.specs.Prelude.{◌≡◌, ◌≢◌, ◌<◌, ◌^◌, ℕ, List, ◌++◌, MatchOption, Option, String, true, codes, length, map, string_bytes}
+use Rattle.std.specs.Prelude.{◌≡◌, ◌≢◌, ◌+◌, ◌<◌, ◌^◌, ℕ, List, ◌++◌, MatchOption, Option, String, true, codes, length, map, string_bytes}
 use Rattle.std.specs.BTreeMap.{BTreeMap}
 use Rattle.std.specs.declared.alloc.Global.{Global}
 use Rattle.std.specs.Fmt.{decimal}
@@ -17,6 +17,7 @@ use Rattle.wm_logfile.specs.declared.fault.DocFault.TheVariants.{TooLarge}
 use Rattle.wm_run.specs.declared.fault.RunFault.{RunFault}
 use Rattle.wm_run.specs.declared.fault.RunFault.TheVariants.{OutOfMemory}
 use Rattle.wm_run.specs.declared.plan.Plan.{Plan}
+use Rattle.wm_run.specs.Own.{IsWithinPlan}
 use Rattle.wm_run.specs.Rounds.{IsRound, IsRoundFault}
 use Rattle.wm_run.specs.Run.{Record}
 use Rattle.wm_litmus.specs.declared.answer.Answer.{Answer}
@@ -59,9 +60,19 @@ pub record HasMade («module» : Module) (plan : Plan) (number : ℕ) (counts : 
   pub allowed : All (IsAllowedRound «module» plan) runs
   pub counted : Counts (outcomes runs) counts
 
--- the same of a number of 64 bits
-abbrev pub HasCounted : Module → Plan → ℕ → BTreeMap (String Global) ℕ → Type 0
-HasCounted «module» plan number counts = number < 2 ^ 64 → HasMade «module» plan number counts
+-- a round of the plan, within the limits of a document
+pub record IsKept («module» : Module) (plan : Plan) (run : Record) : Type 0 where
+  pub round : IsRound true «module» plan run
+  pub within : IsWithinPlan run
+
+-- this number of such rounds
+pub record AreKept («module» : Module) (plan : Plan) (number : ℕ) (runs : List Record) : Type 0 where
+  pub many : length runs ≡ number
+  pub each : All (IsKept «module» plan) runs
+
+-- this number of rounds more were made and counted
+abbrev pub CountsMore : Module → Plan → ℕ → BTreeMap (String Global) ℕ → BTreeMap (String Global) ℕ → Type 0
+CountsMore «module» plan number old new = (before : ℕ) → before + number < 2 ^ 64 → HasMade «module» plan before old → HasMade «module» plan (before + number) new
 
 -- a table, and the number of rounds
 abbrev pub rounds_text : List ℕ → ℕ → List ℕ

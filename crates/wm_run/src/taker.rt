@@ -33,7 +33,7 @@ pub trait Taker: Drop {
         rt: &R,
         run: Run,
     ) -> Result<bool, AllocError>
-        requires { takes (task self.old) run }
+        requires takes { takes (task self.old) run }
         ensures same { task self.new ≡ task self.old }
         ensures taken { IfOk result (λ more.
             (taken : ℕ) → has_taken self.old taken → MatchBool more (has_taken self.new (taken + 1)) (is_done self.new)) };
