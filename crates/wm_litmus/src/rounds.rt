@@ -115,8 +115,8 @@ fn count_rounds<R: AllocGlobal + Threads + Sync>(
     Ok(None)
 }
 
-/// How many rounds are made by threads that are started once.
-const BATCH: u32 = 32;
+/// How many rounds are made by threads that are started once, and kept until they are counted.
+const BATCH: u32 = 16;
 
 /// Makes at most [`BATCH`] of the rounds and counts their outcomes; if one of them isn't allowed or can't be made, it
 /// gives the answer to the whole command.
