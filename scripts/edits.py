@@ -253,7 +253,7 @@ def try_functions(tally, jobs, until):
         with turns:
             return try_crate(crate, by_crate[crate])
 
-    with concurrent.futures.ThreadPoolExecutor(len(by_crate)) as pool:
+    with concurrent.futures.ThreadPoolExecutor(max(1, len(by_crate))) as pool:
         for answers in pool.map(answered, by_crate):
             for edit, (is_refused, said) in answers.items():
                 tally.check(is_refused, edit, said)
