@@ -91,7 +91,6 @@ pub made_does : (m : Module) (depth read func : ℕ) (vars : Vars) (operands : L
 made_does m depth read func vars operands instrs action.Stuck = refl
 made_does m depth read func vars operands instrs (action.Trap k) = refl
 made_does m depth read func vars operands instrs (action.Replace n v) = refl
-made_does m depth read func vars operands instrs (action.SetLocal x v n) = refl
 made_does m depth read func vars operands instrs (action.SetGlobal x v) = refl
 made_does m depth read func vars operands instrs (action.Access op kind n) = refl
 made_does m depth read func vars operands instrs (action.Enter b n) = made_enter (block_in m.funcs func b) vars _ instrs

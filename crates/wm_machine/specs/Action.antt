@@ -19,8 +19,6 @@ does m depth read func vars operands instrs action.Stuck = Stuck
 does m depth read func vars operands instrs (action.Trap kind) = Traps kind
 does m depth read func vars operands instrs (action.Replace popped pushed) =
     continue_with vars (push_optional pushed (drop popped operands)) (after instrs)
-does m depth read func vars operands instrs (action.SetLocal x v popped) =
-    continue_with (record vars { locals = slice_set vars.locals x v }) (drop popped operands) (after instrs)
 does m depth read func vars operands instrs (action.SetGlobal x v) =
     continue_with (record vars { globals = slice_set vars.globals x v }) (drop 1 operands) (after instrs)
 does m depth read func vars operands instrs (action.Access op kind popped) =
@@ -37,7 +35,6 @@ abbrev pub popped_by : Action → ℕ
 popped_by action.Stuck = 0
 popped_by (action.Trap kind) = 0
 popped_by (action.Replace popped pushed) = popped
-popped_by (action.SetLocal x v popped) = popped
 popped_by (action.SetGlobal x v) = 1
 popped_by (action.Access op kind popped) = popped
 popped_by (action.Enter block popped) = popped
@@ -45,25 +42,23 @@ popped_by (action.Branch label popped) = popped
 popped_by action.Return = 0
 popped_by (action.Call callee) = 0
 
--- a local or global that is set exists
-abbrev pub SetsWithin : Action → List TypedValue → List TypedValue → Type 0
-SetsWithin action.Stuck locals globals = ⊤
-SetsWithin (action.Trap kind) locals globals = ⊤
-SetsWithin (action.Replace popped pushed) locals globals = ⊤
-SetsWithin (action.SetLocal x v popped) locals globals = x < length locals
-SetsWithin (action.SetGlobal x v) locals globals = x < length globals
-SetsWithin (action.Access op kind popped) locals globals = ⊤
-SetsWithin (action.Enter block popped) locals globals = ⊤
-SetsWithin (action.Branch label popped) locals globals = ⊤
-SetsWithin action.Return locals globals = ⊤
-SetsWithin (action.Call callee) locals globals = ⊤
+-- a global that is set exists
+abbrev pub SetsWithin : Action → List TypedValue → Type 0
+SetsWithin action.Stuck globals = ⊤
+SetsWithin (action.Trap kind) globals = ⊤
+SetsWithin (action.Replace popped pushed) globals = ⊤
+SetsWithin (action.SetGlobal x v) globals = x < length globals
+SetsWithin (action.Access op kind popped) globals = ⊤
+SetsWithin (action.Enter block popped) globals = ⊤
+SetsWithin (action.Branch label popped) globals = ⊤
+SetsWithin action.Return globals = ⊤
+SetsWithin (action.Call callee) globals = ⊤
 
--- no local and no global is set
+-- no global is set
 abbrev pub SetsNothing : Action → Type 0
 SetsNothing action.Stuck = ⊤
 SetsNothing (action.Trap kind) = ⊤
 SetsNothing (action.Replace popped pushed) = ⊤
-SetsNothing (action.SetLocal x v popped) = ⊥
 SetsNothing (action.SetGlobal x v) = ⊥
 SetsNothing (action.Access op kind popped) = ⊤
 SetsNothing (action.Enter block popped) = ⊤
@@ -77,7 +72,6 @@ op_of (action.Access op kind popped) = Some op
 op_of action.Stuck = None
 op_of (action.Trap kind) = None
 op_of (action.Replace popped pushed) = None
-op_of (action.SetLocal x v popped) = None
 op_of (action.SetGlobal x v) = None
 op_of (action.Enter block popped) = None
 op_of (action.Branch label popped) = None
@@ -89,23 +83,10 @@ abbrev pub Acts : Module → Instr → Vars → List TypedValue → Action → T
 Acts m i vars operands a = (depth : ℕ) (read : ℕ) (func : ℕ) (rest : List Instr) →
     act m depth read func vars operands i rest ≡ does m depth read func vars operands (i ∷ rest) a
 
--- it pushes this value, if the value is the local's or the global's, and there is one
-abbrev pub GetsLocal : Option TypedValue → Action → Type 0
-GetsLocal value a = (m : Module) (index : ℕ) (locals globals operands : List TypedValue)
-    → value ≡ slice_get locals index → Acts m (instr.LocalGet index) (record { locals = locals; globals = globals }) operands a
-
+-- it pushes this value, if the value is the global's, and there is one
 abbrev pub GetsGlobal : Option TypedValue → Action → Type 0
 GetsGlobal value a = (m : Module) (index : ℕ) (locals globals operands : List TypedValue)
     → value ≡ slice_get globals index → Acts m (instr.GlobalGet index) (record { locals = locals; globals = globals }) operands a
-
--- it sets one of these locals
-abbrev pub SetsLocal : ℕ → List TypedValue → List TypedValue → Action → Type 0
-SetsLocal index locals operands a = (m : Module) (globals : List TypedValue)
-    → Acts m (instr.LocalSet index) (record { locals = locals; globals = globals }) operands a
-
-abbrev pub TeesLocal : ℕ → List TypedValue → List TypedValue → Action → Type 0
-TeesLocal index locals operands a = (m : Module) (globals : List TypedValue)
-    → Acts m (instr.LocalTee index) (record { locals = locals; globals = globals }) operands a
 
 -- it sets one of these globals
 abbrev pub SetsGlobal : ℕ → List TypedValue → List TypedValue → Action → Type 0

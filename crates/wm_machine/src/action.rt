@@ -14,8 +14,6 @@ pub enum Action {
     Trap(TrapKind),
     /// Replaces this number of topmost operands by a value, if there is one.
     Replace(usize, Option<TypedValue>),
-    /// Sets a local, and pops this number of operands.
-    SetLocal(u32, TypedValue, usize),
     /// Pops the topmost operand into a global.
     SetGlobal(u32, TypedValue),
     /// An access, its instruction, and how many operands that pops.

@@ -1,17 +1,17 @@
 //! The effect of an instruction, decided from its operands before anything changes (Core 1.0, section 4.4).
-ghost use Rattle.std.specs.Prelude.{◌≡◌, ◌≤◌, List, length};
+ghost use Rattle.std.specs.Prelude.{◌≡◌, ◌≤◌, List, false, length};
 ghost use Rattle.wm_ast.specs.declared.module.Module.{Module};
 ghost use Rattle.wm_ast.specs.declared.instr.Instr.{Instr};
 ghost use Rattle.wm_ast.specs.Module.{pages_of};
 ghost use Rattle.wm_machine.specs.declared.value.TypedValue.{TypedValue};
 ghost use Rattle.wm_machine.specs.Term.{Vars};
-ghost use Rattle.wm_machine.specs.Action.{Acts, GetsGlobal, GetsLocal, SetsGlobal, SetsLocal, SetsNothing, SetsWithin, TeesLocal, popped_by};
+ghost use Rattle.wm_machine.specs.Action.{Acts, GetsGlobal, SetsGlobal, SetsNothing, SetsWithin, popped_by};
+ghost use Rattle.wm_machine.specs.AtOnce.{is_at_once};
 
 use crate::action::Action;
 use crate::control_stack::ControlStack;
-use crate::locals::Locals;
 use crate::memory::access;
-use crate::numeric::{calculated, comparison, converted, counted, eqz, number};
+use crate::numeric::{converted, counted, number};
 use crate::value::TypedValue;
 use wm_ast::{BlockType, Else, Instr, Module};
 use wm_event::TrapKind;
@@ -39,20 +39,6 @@ fn entered(
             block: first,
             popped: 1,
         },
-        None => Action::Stuck,
-    }
-}
-
-/// `br_if`: branches if the topmost operand isn't 0.
-#[inline(always)]
-fn branch_if(control_stack: &ControlStack, label: u32) -> Action
-    ensures means { (m : Module) (vars : Vars) → Acts m (Instr.BrIf label) vars control_stack.now.operands result }
-    ensures room { popped_by result ≤ length control_stack.now.operands }
-    ensures sets { SetsNothing result }
-{
-    match number(control_stack, 0, Width::W32) {
-        Some(0) => Action::Replace(1, None),
-        Some(_) => Action::Branch { label, popped: 1 },
         None => Action::Stuck,
     }
 }
@@ -107,11 +93,9 @@ fn selected(control_stack: &ControlStack) -> Action
     }
 }
 
-/// `local.get` and `global.get` of this variable, if it exists.
-#[inline(always)]
+/// `global.get` of this variable, if it exists.
 fn got(variable: Option<TypedValue>) -> Action
-    ensures local { GetsLocal variable result }
-    ensures global { GetsGlobal variable result }
+    ensures means { GetsGlobal variable result }
     ensures room { popped_by result ≡ 0 }
     ensures sets { SetsNothing result }
 {
@@ -121,26 +105,11 @@ fn got(variable: Option<TypedValue>) -> Action
     }
 }
 
-/// `local.set`, and `local.tee`, which pops nothing.
-#[inline(always)]
-fn set_local(control_stack: &ControlStack, locals: &Locals, index: u32, popped: usize) -> Action
-    requires { popped ≤ 1 }
-    ensures set { popped ≡ 1 → SetsLocal index locals.now control_stack.now.operands result }
-    ensures tee { popped ≡ 0 → TeesLocal index locals.now control_stack.now.operands result }
-    ensures room { popped_by result ≤ length control_stack.now.operands }
-    ensures sets { (globals : List TypedValue) → SetsWithin result locals.now globals }
-{
-    match control_stack.operand(0) {
-        Some(value) if locals.has(index as usize) => Action::SetLocal(index, value, popped),
-        _ => Action::Stuck,
-    }
-}
-
 /// `global.set`.
 fn set_global(control_stack: &ControlStack, globals: &[TypedValue], index: u32) -> Action
     ensures means { SetsGlobal index globals.now control_stack.now.operands result }
     ensures room { popped_by result ≤ length control_stack.now.operands }
-    ensures sets { (locals : List TypedValue) → SetsWithin result locals globals.now }
+    ensures sets { SetsWithin result globals.now }
 {
     match control_stack.operand(0) {
         Some(value) if (index as usize) < globals.len() => Action::SetGlobal(index, value),
@@ -148,19 +117,20 @@ fn set_global(control_stack: &ControlStack, globals: &[TypedValue], index: u32) 
     }
 }
 
-/// The effect of an instruction with these operands, locals and globals.
+/// The effect of an instruction with these operands and globals, unless it is one that is performed at once.
 #[inline(always)]
 pub fn decide(
     module: &Module,
     instr: &Instr,
     control_stack: &ControlStack,
-    locals: &Locals,
     globals: &[TypedValue],
 ) -> Action
-    requires { pages_of «module».now.memory ≤ 65536 }
-    ensures means { Acts «module».now instr.now record { locals = locals.now; globals = globals.now } control_stack.now.operands result }
+    requires pages { pages_of «module».now.memory ≤ 65536 }
+    requires rest { is_at_once instr.now ≡ false }
+    ensures means { (locals : List TypedValue)
+        → Acts «module».now instr.now record { locals = locals; globals = globals.now } control_stack.now.operands result }
     ensures room { popped_by result ≤ length control_stack.now.operands }
-    ensures sets { SetsWithin result locals.now globals.now }
+    ensures sets { SetsWithin result globals.now }
 {
     match instr {
         Instr::Unreachable => Action::Trap(TrapKind::Unreachable),
@@ -179,25 +149,25 @@ pub fn decide(
             label: *label,
             popped: 0,
         },
-        Instr::BrIf(label) => branch_if(control_stack, *label),
         Instr::BrTable(labels, default) => branch_by_table(control_stack, labels, *default),
         Instr::Return => Action::Return,
         Instr::Call(func) => Action::Call(*func),
         Instr::Drop => dropped(control_stack),
         Instr::Select => selected(control_stack),
-        Instr::LocalGet(index) => got(locals.get(*index as usize)),
-        Instr::LocalSet(index) => set_local(control_stack, locals, *index, 1),
-        Instr::LocalTee(index) => set_local(control_stack, locals, *index, 0),
         Instr::GlobalGet(index) => got(globals.get(*index as usize).copied()),
         Instr::GlobalSet(index) => set_global(control_stack, globals, *index),
         Instr::Access(kind, operands) => access(module, control_stack, *kind, *operands),
         Instr::MemorySize => Action::Replace(0, Some(TypedValue::I32(module.pages()))),
-        Instr::I32Const(number) => Action::Replace(0, Some(TypedValue::I32(*number))),
         Instr::I64Const(number) => Action::Replace(0, Some(TypedValue::I64(*number))),
-        Instr::Eqz(width) => eqz(control_stack, *width),
-        Instr::Compare(op, width) => comparison(control_stack, *op, *width),
         Instr::Unary(op, width) => counted(control_stack, *op, *width),
-        Instr::Binary(op, width) => calculated(control_stack, *op, *width),
         Instr::Convert(op) => converted(control_stack, *op),
+        Instr::LocalGet(_)
+        | Instr::LocalSet(_)
+        | Instr::LocalTee(_)
+        | Instr::I32Const(_)
+        | Instr::Eqz(_)
+        | Instr::Compare(_, _)
+        | Instr::Binary(_, _)
+        | Instr::BrIf(_) => unreachable!(),
     }
 }

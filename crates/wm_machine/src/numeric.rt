@@ -33,7 +33,7 @@ pub fn number(control_stack: &ControlStack, depth: usize, width: Width) -> Optio
 }
 
 /// The trap of an operator that has no result.
-fn trap_of(trap: NumTrap) -> TrapKind
+pub fn trap_of(trap: NumTrap) -> TrapKind
     ensures { result ≡ trap_of trap }
 {
     match trap {
@@ -44,45 +44,10 @@ fn trap_of(trap: NumTrap) -> TrapKind
 
 /// The result of a test, as an operand.
 #[inline(always)]
-fn truth(holds: bool) -> TypedValue
+pub fn truth(holds: bool) -> TypedValue
     ensures { result ≡ TypedValue.I32 (truth holds) }
 {
     TypedValue::I32(u32::from(holds))
-}
-
-/// `eqz`: whether the operand is 0.
-#[inline(always)]
-pub fn eqz(control_stack: &ControlStack, width: Width) -> Action
-    ensures means { (m : Module) (vars : Vars) → Acts m (Instr.Eqz width) vars control_stack.now.operands result }
-    ensures room { popped_by result ≤ length control_stack.now.operands }
-    ensures sets { SetsNothing result }
-{
-    match number(control_stack, 0, width) {
-        Some(operand) => Action::Replace(
-            1,
-            Some(truth(compare(Comparison::Eq, width, operand, 0))),
-        ),
-        None => Action::Stuck,
-    }
-}
-
-/// A comparison of the two topmost operands, with the right one on top.
-#[inline(always)]
-pub fn comparison(control_stack: &ControlStack, op: Comparison, width: Width) -> Action
-    ensures means { (m : Module) (vars : Vars) → Acts m (Instr.Compare op width) vars control_stack.now.operands result }
-    ensures room { popped_by result ≤ length control_stack.now.operands }
-    ensures sets { SetsNothing result }
-{
-    match (
-        number(control_stack, 1, width),
-        number(control_stack, 0, width),
-    ) {
-        (Some(left), Some(right)) => Action::Replace(
-            2,
-            Some(truth(compare(op, width, left, right))),
-        ),
-        _ => Action::Stuck,
-    }
 }
 
 /// An operator on the topmost operand.
@@ -94,25 +59,6 @@ pub fn counted(control_stack: &ControlStack, op: UnaryOperator, width: Width) ->
     match number(control_stack, 0, width) {
         Some(operand) => Action::Replace(1, Some(TypedValue::of(width, unary(op, width, operand)))),
         None => Action::Stuck,
-    }
-}
-
-/// An operator on the two topmost operands, with the right one on top.
-#[inline(always)]
-pub fn calculated(control_stack: &ControlStack, op: BinaryOperator, width: Width) -> Action
-    ensures means { (m : Module) (vars : Vars) → Acts m (Instr.Binary op width) vars control_stack.now.operands result }
-    ensures room { popped_by result ≤ length control_stack.now.operands }
-    ensures sets { SetsNothing result }
-{
-    match (
-        number(control_stack, 1, width),
-        number(control_stack, 0, width),
-    ) {
-        (Some(left), Some(right)) => match binary(op, width, left, right) {
-            Ok(value) => Action::Replace(2, Some(TypedValue::of(width, value))),
-            Err(trap) => Action::Trap(trap_of(trap)),
-        },
-        _ => Action::Stuck,
     }
 }
 

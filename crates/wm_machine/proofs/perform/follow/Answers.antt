@@ -1,30 +1,85 @@
-use Rattle.std.proofs.Common.{ap, ◌≡◌, ◌+◌, ◌∷◌, sym, subst, ◌∙◌, Option}
-use Rattle.std.specs.Prelude.{is_some}
-use Rattle.wm_event.specs.declared.op.OpFields.{OpFields}
-use Rattle.wm_machine.specs.Functions.{continuation}
-use Rattle.wm_machine.specs.Inside.{StepsTo, vars_of, call_step, made_of, unanswered}
-use Rattle.wm_machine.specs.State.{value_or_zero}
-use Rattle.wm_machine.specs.Action.{op_of}
-use Rattle.wm_machine.specs.Term.{Reduced}
-use Rattle.wm_machine.proofs.Made.{made_first, made_does}
-use Rattle.wm_machine.proofs.Lift.{acts}
+use Rattle.std.proofs.Common.{refl}
+use Rattle.wm_ast.specs.declared.instr.Instr.TheVariants.{Binary, BrIf, Compare, Eqz, I32Const, LocalGet, LocalSet, LocalTee}
+use Rattle.wm_machine.proofs.AtOnce.{at_once_asks, effect_asks, effect_steps}
 use Rattle.wm_machine.proofs.perform.follow.Goals as goal
 
-pub returns-clause-stepped : goal.returns-clause-stepped
-returns-clause-stepped c = λ depth.
-    let m = c.args.code.now.module in
-    let a = c.args.running.now in
-    let g = c.args.globals.now in
-    let e = acts m (value_or_zero c.args.given) depth a.func (vars_of a g) a.control_stack c.args.instr.now c.decide-action.result c.requires.stands (λ d r f rest. rw (c.module.ensures, c.as_slice.ensures) at (c.decide-action.ensures.means d r f rest)) in
-    subst (λ (r : Reduced). StepsTo m depth r a g c.perform.new.running c.perform.new.globals c.perform.result) (sym e) (c.perform.ensures.performs depth c.args.instr.now c.requires.stands)
+pub returns-in-LocalGet-clause-stepped : goal.returns-in-LocalGet-clause-stepped
+returns-in-LocalGet-clause-stepped c =
+    let stands = rw c.in-LocalGet.is at c.requires.stands in
+    effect_steps c.args.code.now.module (LocalGet c.in-LocalGet.index) c.args.given c.args.globals.now c.args.running.now c.get_local.new.running c.get_local.result stands c.get_local.ensures
 
-pub returns-clause-asks : goal.returns-clause-asks
-returns-clause-asks c = λ depth read.
-    let m = c.args.code.now.module in
-    let a = c.args.running.now in
-    let g = c.args.globals.now in
-    let i = c.args.instr.now in
-    let rest = continuation m a.func a.control_stack.block (a.control_stack.at + 1) in
-    let e = rw (c.module.ensures, c.as_slice.ensures) at (c.decide-action.ensures.means depth read a.func rest) in
-    let k : made_of (call_step m read depth a g) ≡ op_of c.decide-action.result = made_first m read depth a g i rest c.requires.stands ∙ ap made_of e ∙ made_does m depth read a.func (vars_of a g) a.control_stack.operands (i ∷ rest) c.decide-action.result in
-    c.perform.ensures.asks ∙ sym (ap (λ (o : Option OpFields). is_some (unanswered c.args.given o)) k)
+pub returns-in-LocalGet-clause-asks : goal.returns-in-LocalGet-clause-asks
+returns-in-LocalGet-clause-asks c =
+    let stands = rw c.in-LocalGet.is at c.requires.stands in
+    effect_asks c.args.code.now.module (LocalGet c.in-LocalGet.index) c.args.given c.args.globals.now c.args.running.now c.get_local.new.running c.get_local.result stands refl c.get_local.ensures
+
+pub returns-in-LocalSet-clause-stepped : goal.returns-in-LocalSet-clause-stepped
+returns-in-LocalSet-clause-stepped c =
+    let stands = rw c.in-LocalSet.is at c.requires.stands in
+    effect_steps c.args.code.now.module (LocalSet c.in-LocalSet.index) c.args.given c.args.globals.now c.args.running.now c.set_local.new.running c.set_local.result stands (c.set_local.ensures.set refl)
+
+pub returns-in-LocalSet-clause-asks : goal.returns-in-LocalSet-clause-asks
+returns-in-LocalSet-clause-asks c =
+    let stands = rw c.in-LocalSet.is at c.requires.stands in
+    effect_asks c.args.code.now.module (LocalSet c.in-LocalSet.index) c.args.given c.args.globals.now c.args.running.now c.set_local.new.running c.set_local.result stands refl (c.set_local.ensures.set refl)
+
+pub returns-in-LocalTee-clause-stepped : goal.returns-in-LocalTee-clause-stepped
+returns-in-LocalTee-clause-stepped c =
+    let stands = rw c.in-LocalTee.is at c.requires.stands in
+    effect_steps c.args.code.now.module (LocalTee c.in-LocalTee.index) c.args.given c.args.globals.now c.args.running.now c.set_local-in-LocalTee.new.running c.set_local-in-LocalTee.result stands (c.set_local-in-LocalTee.ensures.tee refl)
+
+pub returns-in-LocalTee-clause-asks : goal.returns-in-LocalTee-clause-asks
+returns-in-LocalTee-clause-asks c =
+    let stands = rw c.in-LocalTee.is at c.requires.stands in
+    effect_asks c.args.code.now.module (LocalTee c.in-LocalTee.index) c.args.given c.args.globals.now c.args.running.now c.set_local-in-LocalTee.new.running c.set_local-in-LocalTee.result stands refl (c.set_local-in-LocalTee.ensures.tee refl)
+
+pub returns-in-I32Const-clause-stepped : goal.returns-in-I32Const-clause-stepped
+returns-in-I32Const-clause-stepped c =
+    let stands = rw c.in-I32Const.is at c.requires.stands in
+    effect_steps c.args.code.now.module (I32Const c.in-I32Const.number) c.args.given c.args.globals.now c.args.running.now c.push_i32.new.running c.push_i32.result stands c.push_i32.ensures
+
+pub returns-in-I32Const-clause-asks : goal.returns-in-I32Const-clause-asks
+returns-in-I32Const-clause-asks c =
+    let stands = rw c.in-I32Const.is at c.requires.stands in
+    effect_asks c.args.code.now.module (I32Const c.in-I32Const.number) c.args.given c.args.globals.now c.args.running.now c.push_i32.new.running c.push_i32.result stands refl c.push_i32.ensures
+
+pub returns-in-Eqz-clause-stepped : goal.returns-in-Eqz-clause-stepped
+returns-in-Eqz-clause-stepped c =
+    let stands = rw c.in-Eqz.is at c.requires.stands in
+    effect_steps c.args.code.now.module (Eqz c.in-Eqz.width) c.args.given c.args.globals.now c.args.running.now c.test_zero.new.running c.test_zero.result stands c.test_zero.ensures
+
+pub returns-in-Eqz-clause-asks : goal.returns-in-Eqz-clause-asks
+returns-in-Eqz-clause-asks c =
+    let stands = rw c.in-Eqz.is at c.requires.stands in
+    effect_asks c.args.code.now.module (Eqz c.in-Eqz.width) c.args.given c.args.globals.now c.args.running.now c.test_zero.new.running c.test_zero.result stands refl c.test_zero.ensures
+
+pub returns-in-Compare-clause-stepped : goal.returns-in-Compare-clause-stepped
+returns-in-Compare-clause-stepped c =
+    let stands = rw c.in-Compare.is at c.requires.stands in
+    effect_steps c.args.code.now.module (Compare c.in-Compare.op c.in-Compare.width) c.args.given c.args.globals.now c.args.running.now c.compare_operands.new.running c.compare_operands.result stands c.compare_operands.ensures
+
+pub returns-in-Compare-clause-asks : goal.returns-in-Compare-clause-asks
+returns-in-Compare-clause-asks c =
+    let stands = rw c.in-Compare.is at c.requires.stands in
+    effect_asks c.args.code.now.module (Compare c.in-Compare.op c.in-Compare.width) c.args.given c.args.globals.now c.args.running.now c.compare_operands.new.running c.compare_operands.result stands refl c.compare_operands.ensures
+
+pub returns-in-Binary-clause-stepped : goal.returns-in-Binary-clause-stepped
+returns-in-Binary-clause-stepped c =
+    let stands = rw c.in-Binary.is at c.requires.stands in
+    effect_steps c.args.code.now.module (Binary c.in-Binary.op c.in-Binary.width) c.args.given c.args.globals.now c.args.running.now c.calculate.new.running c.calculate.result stands c.calculate.ensures
+
+pub returns-in-Binary-clause-asks : goal.returns-in-Binary-clause-asks
+returns-in-Binary-clause-asks c =
+    let stands = rw c.in-Binary.is at c.requires.stands in
+    effect_asks c.args.code.now.module (Binary c.in-Binary.op c.in-Binary.width) c.args.given c.args.globals.now c.args.running.now c.calculate.new.running c.calculate.result stands refl c.calculate.ensures
+
+pub branch_if-requires-clause-stands : goal.branch_if-requires-clause-stands
+branch_if-requires-clause-stands c = rw c.in-BrIf.is at c.requires.stands
+
+pub returns-in-BrIf-clause-stepped : goal.returns-in-BrIf-clause-stepped
+returns-in-BrIf-clause-stepped c = c.branch_if.ensures.stepped c.args.given c.args.globals.now
+
+pub returns-in-BrIf-clause-asks : goal.returns-in-BrIf-clause-asks
+returns-in-BrIf-clause-asks c =
+    let stands = rw c.in-BrIf.is at c.requires.stands in
+    at_once_asks c.args.code.now.module (BrIf c.in-BrIf.label) c.args.given c.args.globals.now c.args.running.now c.branch_if.result stands refl c.branch_if.ensures.asks

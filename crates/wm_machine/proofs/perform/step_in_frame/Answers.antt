@@ -24,5 +24,5 @@ returns-else-depth-eq0-clause-asks c = λ depth read.
     let h : continuation c.args.code.now.module a.func a.control_stack.block a.control_stack.at ≡ [] = rw (c.block.ensures, c.at-at.ensures, c.requires.here) at (c.in-None.ensures.none refl) in
     sym (ap (λ (o : Option OpFields). is_some (unanswered c.args.given o)) (made_at_end c.args.code.now.module read depth a c.args.globals.now h) ∙ ap is_some (unanswered_none c.args.given))
 
-pub follow_by_kind-requires-clause-stands : goal.follow_by_kind-requires-clause-stands
-follow_by_kind-requires-clause-stands c = rw (c.block.ensures, c.at-at.ensures, c.requires.here) at c.in-Some.ensures.some
+pub follow-requires-clause-stands : goal.follow-requires-clause-stands
+follow-requires-clause-stands c = rw (c.block.ensures, c.at-at.ensures, c.requires.here) at c.in-Some.ensures.some
