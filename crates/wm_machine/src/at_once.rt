@@ -73,7 +73,11 @@ pub fn test_zero(running: &mut CallFrame, width: Width) -> Result<Flow, StepFaul
     ensures { HasEffect (Instr.Eqz width) running.old running.new result }
 {
     match number(&running.control_stack, 0, width) {
-        Some(operand) => replace(running, 1, truth(compare(Comparison::Eq, width, operand, 0))),
+        Some(operand) => replace(
+            running,
+            1,
+            truth(compare(Comparison::Eq, width, operand, 0)),
+        ),
         None => Err(StepFault::Stuck),
     }
 }

@@ -16,18 +16,18 @@ use wm_ast::ValType;
 #[derive(Drop)]
 pub struct CallStack<'m> {
     /// The outermost first; calls that have returned come after the waiting ones.
-    calls: Vec<CallFrame<'m>>,
+    calls: Vec<Box<CallFrame<'m>>>,
     /// How many of the calls wait.
     depth: usize,
 }
 
 impl<'m> Model for CallStack<'m> {
-    ghost use Rattle.std.specs.Prelude.{List, ◌≤◌, length, take, reverse};
+    ghost use Rattle.std.specs.Prelude.{List, ◌≤◌, box_value, length, map, take, reverse};
     ghost use Rattle.wm_machine.specs.declared.call_frame.CallFrame.{CallFrame};
 
     ghost Value = { List CallFrame };
 
-    ghost view = { λ c. reverse (take c.depth c.calls.items) };
+    ghost view = { λ c. reverse (map box_value (take c.depth c.calls.items)) };
 
     ghost invariant = { λ c. c.depth ≤ length c.calls.items };
 }
@@ -55,15 +55,15 @@ impl<'m> CallStack<'m> {
     pub fn enter(
         &mut self,
         alloc: Global,
-        running: &mut CallFrame<'m>,
+        running: &mut Box<CallFrame<'m>>,
         func: usize,
         count: usize,
         others: &'m [ValType],
     ) -> Result<(), AllocError>
-        requires count { count ≤ length running.old.control_stack.operands }
-        requires followed { running.old.control_stack.at + 1 < 2 ^ 64 }
-        ensures waits { OnOk result (self.new ≡ without_arguments count running.old ∷ self.old) }
-        ensures entered { OnOk result (running.new ≡ called_frame func count running.old others.now) }
+        requires count { count ≤ length running.old.value.control_stack.operands }
+        requires followed { running.old.value.control_stack.at + 1 < 2 ^ 64 }
+        ensures waits { OnOk result (self.new ≡ without_arguments count running.old.value ∷ self.old) }
+        ensures entered { OnOk result (running.new.value ≡ called_frame func count running.old.value others.now) }
         ensures err { OnErr result ((running.new ≡ running.old) × (self.new ≡ self.old)) }
     {
         make_room(alloc, &mut self.calls, self.depth)?;
@@ -76,10 +76,10 @@ impl<'m> CallStack<'m> {
     /// nothing changes.
     pub fn leave(
         &mut self,
-        running: &mut CallFrame<'m>,
+        running: &mut Box<CallFrame<'m>>,
         value: Option<TypedValue>,
     ) -> Result<ReturnTo, AllocError>
-        ensures ok { IfOk result (λ to. to ≡ ReturnTo.Caller → ReturnsTo value self.old running.new self.new) }
+        ensures ok { IfOk result (λ to. to ≡ ReturnTo.Caller → ReturnsTo value self.old running.new.value self.new) }
         ensures none { IfOk result (λ to. to ≡ ReturnTo.Outside → (self.old ≡ []) × (running.new ≡ running.old) × (self.new ≡ self.old)) }
         ensures err { OnErr result ((running.new ≡ running.old) × (self.new ≡ self.old)) }
     {
@@ -97,19 +97,30 @@ impl<'m> CallStack<'m> {
     }
 }
 
+/// A call in a box.
+pub fn boxed<'m>(alloc: Global, frame: CallFrame<'m>) -> Result<Box<CallFrame<'m>>, AllocError>
+    ensures { IfOk result (λ made. made.value ≡ frame.entry) }
+{
+    match Box::new(alloc, frame) {
+        Ok(made) => Ok(made),
+        Err(_) => Err(AllocError),
+    }
+}
+
 /// Makes sure that there is some call at this place. The calls before it stay as they were.
-fn make_room(alloc: Global, calls: &mut Vec<CallFrame>, place: usize) -> Result<(), AllocError>
+fn make_room(alloc: Global, calls: &mut Vec<Box<CallFrame>>, place: usize) -> Result<(), AllocError>
     requires { place ≤ length calls.old.items }
     ensures before { take place calls.new.items ≡ take place calls.old.items }
     ensures ok { OnOk result (place < length calls.new.items) }
     ensures err { place ≤ length calls.new.items }
 {
     if place == calls.len() {
-        calls.push(CallFrame {
+        let call = CallFrame {
             func: 0,
             locals: Locals::new(alloc)?,
             control_stack: ControlStack::new(alloc, 0),
-        })?;
+        };
+        calls.push(boxed(alloc, call)?)?;
     }
     Ok(())
 }
@@ -118,16 +129,16 @@ fn make_room(alloc: Global, calls: &mut Vec<CallFrame>, place: usize) -> Result<
 /// number of operands of the running call as its arguments, then zeros of these types. An `Err` leaves the running call
 /// as it was.
 fn hand_over<'m>(
-    running: &mut CallFrame<'m>,
-    place: &mut CallFrame<'m>,
+    running: &mut Box<CallFrame<'m>>,
+    place: &mut Box<CallFrame<'m>>,
     func: usize,
     count: usize,
     others: &'m [ValType],
 ) -> Result<(), AllocError>
-    requires count { count ≤ length running.old.control_stack.operands }
-    requires followed { running.old.control_stack.at + 1 < 2 ^ 64 }
-    ensures waits { OnOk result (place.new ≡ without_arguments count running.old) }
-    ensures entered { OnOk result (running.new ≡ called_frame func count running.old others.now) }
+    requires count { count ≤ length running.old.value.control_stack.operands }
+    requires followed { running.old.value.control_stack.at + 1 < 2 ^ 64 }
+    ensures waits { OnOk result (place.new.value ≡ without_arguments count running.old.value) }
+    ensures entered { OnOk result (running.new.value ≡ called_frame func count running.old.value others.now) }
     ensures err { OnErr result (running.new ≡ running.old) }
 {
     swap(running, place);

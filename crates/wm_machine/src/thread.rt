@@ -10,7 +10,7 @@ ghost use Rattle.wm_machine.specs.Stepping.{EndsAtLast, HasEnded, HasStep, IsIn,
 
 use crate::call::{call, returned};
 use crate::call_frame::{CallFrame, Flow, Invocation, ReturnTo, StepOutcome};
-use crate::call_stack::CallStack;
+use crate::call_stack::{CallStack, boxed};
 use crate::code::Code;
 use crate::control_stack::ControlStack;
 use crate::fault::{AdvanceFault, StartFault, StepFault};
@@ -64,7 +64,8 @@ pub struct CodePosition {
 pub struct Thread<'m> {
     module: &'m Module,
     end: Option<End>,
-    running: CallFrame<'m>,
+    /// It is boxed so that a call that is entered or left changes places with another by their addresses alone.
+    running: Box<CallFrame<'m>>,
     call_stack: CallStack<'m>,
     globals: List<TypedValue>,
     alloc: Global,
@@ -75,9 +76,9 @@ impl<'m> Model for Thread<'m> {
 
     ghost Value = { State };
 
-    ghost view = { λ t. state_of t.module.now t.end t.running t.call_stack t.globals };
+    ghost view = { λ t. state_of t.module.now t.end t.running.value t.call_stack t.globals };
 
-    ghost invariant = { λ t. Sound (state_of t.module.now t.end t.running t.call_stack t.globals) };
+    ghost invariant = { λ t. Sound (state_of t.module.now t.end t.running.value t.call_stack t.globals) };
 }
 
 impl<'m> Thread<'m> {
@@ -103,14 +104,18 @@ impl<'m> Thread<'m> {
         }
         let locals = first_locals(alloc, types.params, types.locals, args)?;
         let globals = first_globals(alloc, module)?;
-        Ok(Thread {
-            module,
-            end: None,
-            running: CallFrame {
+        let running = boxed(
+            alloc,
+            CallFrame {
                 func,
                 locals,
                 control_stack: ControlStack::new(alloc, 0),
             },
+        )?;
+        Ok(Thread {
+            module,
+            end: None,
+            running,
             call_stack: CallStack::new(alloc),
             globals,
             alloc,
@@ -150,7 +155,7 @@ impl<'m> Thread<'m> {
     {
         match self.end {
             Some(end) => Need::Ended(end),
-            None => match next_op(self.module, &self.running) {
+            None => match next_op(self.module, &*self.running) {
                 Some(op) => Need::Access(op),
                 None => Need::Local,
             },
@@ -187,7 +192,7 @@ impl<'m> Thread<'m> {
         ensures err { OnErr result (self.new ≡ self.old) }
         ensures same { self.new.module ≡ self.old.module }
     {
-        let reached = match step_in_frame(code, &mut self.running, &mut self.globals, given) {
+        let reached = match step_in_frame(code, &mut *self.running, &mut self.globals, given) {
             Err(StepFault::Stuck) => unreachable!(),
             Err(StepFault::OutOfMemory) => return Err(AdvanceFault::OutOfMemory),
             Ok(reached) => reached,
@@ -200,7 +205,7 @@ impl<'m> Thread<'m> {
                 Ok(StepOutcome::Last)
             }
             Flow::Left(popped) => {
-                let Some(value) = returned(code.module(), &self.running, popped) else {
+                let Some(value) = returned(code.module(), &*self.running, popped) else {
                     unreachable!()
                 };
                 match self.call_stack.leave(&mut self.running, value) {

@@ -9,7 +9,7 @@ returns-in-Some-next_op c = λ read.
     let cs = s.call_stack in
     let e : s.end ≡ None = c.in-None.is in
     let g = c.in-Some-next_op.ensures (suc (length cs)) read s.globals in
-    let t = made_step s.module.now read s.globals cs s.running ∙ g in
+    let t = made_step s.module.now read s.globals cs s.running.value ∙ rw c.deref.ensures at g in
     rw (← c.self.view_is, e) (sym (ap as_need t))
 
 pub returns-in-None-next_op : goal.returns-in-None-next_op
@@ -18,5 +18,5 @@ returns-in-None-next_op c = λ read.
     let cs = s.call_stack in
     let e : s.end ≡ None = c.in-None.is in
     let g = c.in-None-next_op.ensures (suc (length cs)) read s.globals in
-    let t = made_step s.module.now read s.globals cs s.running ∙ g in
+    let t = made_step s.module.now read s.globals cs s.running.value ∙ rw c.deref.ensures at g in
     rw (← c.self.view_is, e) (sym (ap as_need t))

@@ -16,8 +16,8 @@ returns-in-Within-clause-made c =
     let q : c.args.code.now.module ≡ s.module.now = ap (λ (x : FunctionCode). x.module) c.requires.here ∙ sym (ap (λ (x : State). x.module) c.self.view_is) in
     let cs = s.call_stack in
     let e : s.end ≡ None = ap (λ (x : State). x.ended) c.self.view_is ∙ c.requires.runs in
-    let h = rw (c.in-Within.is, q) at (c.in-Ok.ensures.stepped (suc (length cs))) in
-    let t = thread_within s.module.now (value_or_zero c.args.given) s.globals cs s.running c.step_in_frame.new.running c.step_in_frame.new.globals h in
+    let h = rw (c.in-Within.is, q, c.deref_mut.ensures.value) at (c.in-Ok.ensures.stepped (suc (length cs))) in
+    let t = thread_within s.module.now (value_or_zero c.args.given) s.globals cs s.running.value c.step_in_frame.new.running c.step_in_frame.new.globals h in
     rw (← c.self.view_is, e) (λ _. t)
 
 pub returns-in-Trapped-clause-made : goal.returns-in-Trapped-clause-made
@@ -26,8 +26,8 @@ returns-in-Trapped-clause-made c =
     let q : c.args.code.now.module ≡ s.module.now = ap (λ (x : FunctionCode). x.module) c.requires.here ∙ sym (ap (λ (x : State). x.module) c.self.view_is) in
     let cs = s.call_stack in
     let e : s.end ≡ None = ap (λ (x : State). x.ended) c.self.view_is ∙ c.requires.runs in
-    let h = rw (c.in-Trapped.is, q) at (c.in-Ok.ensures.stepped (suc (length cs))) in
-    let t = thread_trapped s.module.now (value_or_zero c.args.given) s.globals cs s.running c.in-Trapped.kind c.step_in_frame.new.running c.step_in_frame.new.globals h in
+    let h = rw (c.in-Trapped.is, q, c.deref_mut.ensures.value) at (c.in-Ok.ensures.stepped (suc (length cs))) in
+    let t = thread_trapped s.module.now (value_or_zero c.args.given) s.globals cs s.running.value c.in-Trapped.kind c.step_in_frame.new.running c.step_in_frame.new.globals h in
     rw (← c.self.view_is, e) (λ _. t)
 
 pub returns-in-Ok-Caller-clause-made : goal.returns-in-Ok-Caller-clause-made
@@ -36,10 +36,10 @@ returns-in-Ok-Caller-clause-made c =
     let q : c.args.code.now.module ≡ s.module.now = ap (λ (x : FunctionCode). x.module) c.requires.here ∙ sym (ap (λ (x : State). x.module) c.self.view_is) in
     let cs = s.call_stack in
     let e : s.end ≡ None = ap (λ (x : State). x.ended) c.self.view_is ∙ c.requires.runs in
-    let h = rw (c.in-Left.is, q) at (c.in-Ok.ensures.stepped (suc (length cs))) in
+    let h = rw (c.in-Left.is, q, c.deref_mut.ensures.value) at (c.in-Ok.ensures.stepped (suc (length cs))) in
     let g = c.in-Ok-Caller.ensures.ok c.in-Ok-Caller.field-0-is in
-    let ret = h.0 ∙ ap back (sym (rw (c.module.ensures, q, h.1.0) at c.in-Some.ensures)) in
-    let t = thread_back s.module.now (value_or_zero c.args.given) s.globals s.running c.in-Some.value cs c.leave.new.running c.leave.new.self g ret in
+    let ret = h.0 ∙ ap back (sym (rw (c.module.ensures, q, c.deref.ensures, h.1.0) at c.in-Some.ensures)) in
+    let t = thread_back s.module.now (value_or_zero c.args.given) s.globals s.running.value c.in-Some.value cs c.leave.new.running.value c.leave.new.self g ret in
     rw (← c.self.view_is, e, h.1.1) (λ _. t)
 
 pub returns-in-Ok-Outside-clause-made : goal.returns-in-Ok-Outside-clause-made
@@ -48,15 +48,15 @@ returns-in-Ok-Outside-clause-made c =
     let q : c.args.code.now.module ≡ s.module.now = ap (λ (x : FunctionCode). x.module) c.requires.here ∙ sym (ap (λ (x : State). x.module) c.self.view_is) in
     let cs = s.call_stack in
     let e : s.end ≡ None = ap (λ (x : State). x.ended) c.self.view_is ∙ c.requires.runs in
-    let h = rw (c.in-Left.is, q) at (c.in-Ok.ensures.stepped (suc (length cs))) in
+    let h = rw (c.in-Left.is, q, c.deref_mut.ensures.value) at (c.in-Ok.ensures.stepped (suc (length cs))) in
     let n = c.in-Ok-Outside.ensures.none c.in-Ok-Outside.field-0-is in
-    let ret = h.0 ∙ ap back (sym (rw (c.module.ensures, q, h.1.0) at c.in-Some.ensures)) in
-    let t = thread_done s.module.now (value_or_zero c.args.given) s.globals s.running c.in-Some.value cs n.0 ret in
+    let ret = h.0 ∙ ap back (sym (rw (c.module.ensures, q, c.deref.ensures, h.1.0) at c.in-Some.ensures)) in
+    let t = thread_done s.module.now (value_or_zero c.args.given) s.globals s.running.value c.in-Some.value cs n.0 ret in
     rw (← c.self.view_is, e, c.bits.ensures) (λ _. t)
 
 pub call-requires : goal.call-requires
 call-requires c =
-    let h = rw c.in-Calling.is at (c.in-Ok.ensures.stepped 0) in
+    let h = rw (c.in-Calling.is, c.deref_mut.ensures.value) at (c.in-Ok.ensures.stepped 0) in
     rw h.1.0 h.2
 
 pub returns-in-Ok-Entered-clause-made : goal.returns-in-Ok-Entered-clause-made
@@ -68,9 +68,9 @@ returns-in-Ok-Entered-clause-made c =
     let d = 1 + length s.call_stack in
     let dq : d ≡ suc (length cs) = omega arith in
     let k = c.in-Calling.callee in
-    let h = rw (c.in-Calling.is, q) at (c.in-Ok.ensures.stepped d) in
+    let h = rw (c.in-Calling.is, q, c.deref_mut.ensures.value) at (c.in-Ok.ensures.stepped d) in
     let g = rw (c.in-Ok-Entered.field-0-is, h.1.0) at (c.in-Ok-Entered.ensures s.globals) in
-    let t = thread_called s.module.now (value_or_zero c.args.given) s.globals cs s.running d k dq (invoke (callable s.module.now k) d k (vars_of s.running s.globals) s.running.control_stack.operands (continuation s.module.now s.running.func s.running.control_stack.block (s.running.control_stack.at + 1))) c.call.new.running c.call.new.call_stack h.0 g in
+    let t = thread_called s.module.now (value_or_zero c.args.given) s.globals cs s.running.value d k dq (invoke (callable s.module.now k) d k (vars_of s.running.value s.globals) s.running.value.control_stack.operands (continuation s.module.now s.running.value.func s.running.value.control_stack.block (s.running.value.control_stack.at + 1))) c.call.new.running.value c.call.new.call_stack h.0 g in
     rw (← c.self.view_is, e, h.1.1) (λ _. t)
 
 pub returns-in-Ok-TooDeep-clause-made : goal.returns-in-Ok-TooDeep-clause-made
@@ -82,9 +82,9 @@ returns-in-Ok-TooDeep-clause-made c =
     let d = 1 + length s.call_stack in
     let dq : d ≡ suc (length cs) = omega arith in
     let k = c.in-Calling.callee in
-    let h = rw (c.in-Calling.is, q) at (c.in-Ok.ensures.stepped d) in
+    let h = rw (c.in-Calling.is, q, c.deref_mut.ensures.value) at (c.in-Ok.ensures.stepped d) in
     let g = rw (c.in-Ok-TooDeep.field-0-is, h.1.0) at (c.in-Ok-TooDeep.ensures s.globals) in
-    let t = thread_exhausted s.module.now (value_or_zero c.args.given) s.globals cs s.running d k dq (invoke (callable s.module.now k) d k (vars_of s.running s.globals) s.running.control_stack.operands (continuation s.module.now s.running.func s.running.control_stack.block (s.running.control_stack.at + 1))) c.call.new.running c.call.new.call_stack h.0 g in
+    let t = thread_exhausted s.module.now (value_or_zero c.args.given) s.globals cs s.running.value d k dq (invoke (callable s.module.now k) d k (vars_of s.running.value s.globals) s.running.value.control_stack.operands (continuation s.module.now s.running.value.func s.running.value.control_stack.block (s.running.value.control_stack.at + 1))) c.call.new.running.value c.call.new.call_stack h.0 g in
     rw (← c.self.view_is, e) (λ _. t)
 
 pub unreachable-requires : goal.unreachable-requires
@@ -93,8 +93,8 @@ unreachable-requires c =
     let q : c.args.code.now.module ≡ s.module.now = ap (λ (x : FunctionCode). x.module) c.requires.here ∙ sym (ap (λ (x : State). x.module) c.self.view_is) in
     let cs = s.call_stack in
     let e : s.end ≡ None = ap (λ (x : State). x.ended) c.self.view_is ∙ c.requires.runs in
-    let h = rw (c.in-Err-Stuck.field-0-is, q) at (c.in-Err-Stuck.ensures.stepped (suc (length cs))) in
-    has_step s.module.now (value_or_zero c.args.given) s.running cs s.globals s.end e c.self.invariant (thread_stuck s.module.now (value_or_zero c.args.given) s.globals cs s.running c.step_in_frame.new.running c.step_in_frame.new.globals h)
+    let h = rw (c.in-Err-Stuck.field-0-is, q, c.deref_mut.ensures.value) at (c.in-Err-Stuck.ensures.stepped (suc (length cs))) in
+    has_step s.module.now (value_or_zero c.args.given) s.running.value cs s.globals s.end e c.self.invariant (thread_stuck s.module.now (value_or_zero c.args.given) s.globals cs s.running.value c.step_in_frame.new.running c.step_in_frame.new.globals h)
 
 pub unreachable-requires-in-Err-Stuck-call : goal.unreachable-requires-in-Err-Stuck-call
 unreachable-requires-in-Err-Stuck-call c =
@@ -105,19 +105,19 @@ unreachable-requires-in-Err-Stuck-call c =
     let d = 1 + length s.call_stack in
     let dq : d ≡ suc (length cs) = omega arith in
     let k = c.in-Calling.callee in
-    let h = rw (c.in-Calling.is, q) at (c.in-Ok.ensures.stepped d) in
+    let h = rw (c.in-Calling.is, q, c.deref_mut.ensures.value) at (c.in-Ok.ensures.stepped d) in
     let g = rw (c.in-Err-Stuck-call.field-0-is, h.1.0) at (c.in-Err-Stuck-call.ensures s.globals) in
-    has_step s.module.now (value_or_zero c.args.given) s.running cs s.globals s.end e c.self.invariant
-    (thread_uncalled s.module.now (value_or_zero c.args.given) s.globals cs s.running d k dq (invoke (callable s.module.now k) d k (vars_of s.running s.globals) s.running.control_stack.operands (continuation s.module.now s.running.func s.running.control_stack.block (s.running.control_stack.at + 1))) c.call.new.running c.call.new.call_stack h.0 g)
+    has_step s.module.now (value_or_zero c.args.given) s.running.value cs s.globals s.end e c.self.invariant
+    (thread_uncalled s.module.now (value_or_zero c.args.given) s.globals cs s.running.value d k dq (invoke (callable s.module.now k) d k (vars_of s.running.value s.globals) s.running.value.control_stack.operands (continuation s.module.now s.running.value.func s.running.value.control_stack.block (s.running.value.control_stack.at + 1))) c.call.new.running.value c.call.new.call_stack h.0 g)
 
 within : (c : goal.In-Within) → c.self.inside.end ≡ None → Sound record { «module» = c.self.inside.module.now; ended = c.self.inside.end; running = c.step_in_frame.new.running; call_stack = c.self.inside.call_stack; globals = c.step_in_frame.new.globals }
 within c e =
     let s = c.self.inside in
     let q : c.args.code.now.module ≡ s.module.now = ap (λ (x : FunctionCode). x.module) c.requires.here ∙ sym (ap (λ (x : State). x.module) c.self.view_is) in
     let cs = s.call_stack in
-    let h = rw (c.in-Within.is, q) at (c.in-Ok.ensures.stepped (suc (length cs))) in
-    let t = thread_within s.module.now (value_or_zero c.args.given) s.globals cs s.running c.step_in_frame.new.running c.step_in_frame.new.globals h in
-    sound_after s.module.now (value_or_zero c.args.given) s.running cs s.globals s.end c.step_in_frame.new.running cs c.step_in_frame.new.globals e c.self.invariant t
+    let h = rw (c.in-Within.is, q, c.deref_mut.ensures.value) at (c.in-Ok.ensures.stepped (suc (length cs))) in
+    let t = thread_within s.module.now (value_or_zero c.args.given) s.globals cs s.running.value c.step_in_frame.new.running c.step_in_frame.new.globals h in
+    sound_after s.module.now (value_or_zero c.args.given) s.running.value cs s.globals s.end c.step_in_frame.new.running cs c.step_in_frame.new.globals e c.self.invariant t
 
 pub invariant_of-self-in-Within : goal.invariant_of-self-in-Within
 invariant_of-self-in-Within c = within c (ap (λ (x : State). x.ended) c.self.view_is ∙ c.requires.runs)
@@ -126,25 +126,25 @@ pub invariant_of-self : goal.invariant_of-self
 invariant_of-self c =
     let s = c.self.inside in
     let q : c.args.code.now.module ≡ s.module.now = ap (λ (x : FunctionCode). x.module) c.requires.here ∙ sym (ap (λ (x : State). x.module) c.self.view_is) in
-    let h = refuses_same s.module.now (call_step s.module.now (value_or_zero c.args.given) 0 s.running s.globals) s.running s.globals c.step_in_frame.new.running c.step_in_frame.new.globals c.in-Err-OutOfMemory.field-0 (rw q at (c.in-Err-OutOfMemory.ensures.stepped 0)) in
+    let h = refuses_same s.module.now (call_step s.module.now (value_or_zero c.args.given) 0 s.running.value s.globals) s.running.value s.globals c.step_in_frame.new.running c.step_in_frame.new.globals c.in-Err-OutOfMemory.field-0 (rw (q, c.deref_mut.ensures.value) at (c.in-Err-OutOfMemory.ensures.stepped 0)) in
     rw (h.0, h.1) c.self.invariant
 
 pub returns-in-Err-OutOfMemory-clause-err : goal.returns-in-Err-OutOfMemory-clause-err
 returns-in-Err-OutOfMemory-clause-err c =
     let s = c.self.inside in
     let q : c.args.code.now.module ≡ s.module.now = ap (λ (x : FunctionCode). x.module) c.requires.here ∙ sym (ap (λ (x : State). x.module) c.self.view_is) in
-    let h = refuses_same s.module.now (call_step s.module.now (value_or_zero c.args.given) 0 s.running s.globals) s.running s.globals c.step_in_frame.new.running c.step_in_frame.new.globals c.in-Err-OutOfMemory.field-0 (rw q at (c.in-Err-OutOfMemory.ensures.stepped 0)) in
+    let h = refuses_same s.module.now (call_step s.module.now (value_or_zero c.args.given) 0 s.running.value s.globals) s.running.value s.globals c.step_in_frame.new.running c.step_in_frame.new.globals c.in-Err-OutOfMemory.field-0 (rw (q, c.deref_mut.ensures.value) at (c.in-Err-OutOfMemory.ensures.stepped 0)) in
     rw (h.0, h.1) c.self.view_is
 
 pub invariant_of-self-in-Err : goal.invariant_of-self-in-Err
 invariant_of-self-in-Err c =
-    let h = rw c.in-Left.is at (c.in-Ok.ensures.stepped 0) in
+    let h = rw (c.in-Left.is, c.deref_mut.ensures.value) at (c.in-Ok.ensures.stepped 0) in
     let n = c.in-Err.ensures.err in
     rw (n.0, h.1.0, h.1.1, n.1) c.self.invariant
 
 pub returns-in-Err-clause-err : goal.returns-in-Err-clause-err
 returns-in-Err-clause-err c =
-    let h = rw c.in-Left.is at (c.in-Ok.ensures.stepped 0) in
+    let h = rw (c.in-Left.is, c.deref_mut.ensures.value) at (c.in-Ok.ensures.stepped 0) in
     let n = c.in-Err.ensures.err in
     rw (n.0, h.1.0, h.1.1, n.1) c.self.view_is
 
@@ -154,11 +154,11 @@ invariant_of-self-in-Ok-Caller c =
     let q : c.args.code.now.module ≡ s.module.now = ap (λ (x : FunctionCode). x.module) c.requires.here ∙ sym (ap (λ (x : State). x.module) c.self.view_is) in
     let cs = s.call_stack in
     let e : s.end ≡ None = ap (λ (x : State). x.ended) c.self.view_is ∙ c.requires.runs in
-    let h = rw (c.in-Left.is, q) at (c.in-Ok.ensures.stepped (suc (length cs))) in
+    let h = rw (c.in-Left.is, q, c.deref_mut.ensures.value) at (c.in-Ok.ensures.stepped (suc (length cs))) in
     let g = c.in-Ok-Caller.ensures.ok c.in-Ok-Caller.field-0-is in
-    let ret = h.0 ∙ ap back (sym (rw (c.module.ensures, q, h.1.0) at c.in-Some.ensures)) in
-    let t = thread_back s.module.now (value_or_zero c.args.given) s.globals s.running c.in-Some.value cs c.leave.new.running c.leave.new.self g ret in
-    rw h.1.1 (sound_after s.module.now (value_or_zero c.args.given) s.running cs s.globals s.end c.leave.new.running c.leave.new.self s.globals e c.self.invariant t)
+    let ret = h.0 ∙ ap back (sym (rw (c.module.ensures, q, c.deref.ensures, h.1.0) at c.in-Some.ensures)) in
+    let t = thread_back s.module.now (value_or_zero c.args.given) s.globals s.running.value c.in-Some.value cs c.leave.new.running.value c.leave.new.self g ret in
+    rw h.1.1 (sound_after s.module.now (value_or_zero c.args.given) s.running.value cs s.globals s.end c.leave.new.running.value c.leave.new.self s.globals e c.self.invariant t)
 
 pub invariant_of-self-in-Err-OutOfMemory-call : goal.invariant_of-self-in-Err-OutOfMemory-call
 invariant_of-self-in-Err-OutOfMemory-call c =
@@ -167,8 +167,8 @@ invariant_of-self-in-Err-OutOfMemory-call c =
     let m = s.module.now in
     let k = c.in-Calling.callee in
     let b = c.step_in_frame.new.running in
-    let h = rw (c.in-Calling.is, q) at (c.in-Ok.ensures.stepped 0) in
-    let n = called_same m k (invoke (callable m k) (1 + length s.call_stack) k (vars_of b s.globals) b.control_stack.operands (continuation m b.func b.control_stack.block (b.control_stack.at + 1))) b s.globals c.call.new.running s.call_stack c.call.new.call_stack c.in-Err-OutOfMemory-call.field-0 (c.in-Err-OutOfMemory-call.ensures s.globals) in
+    let h = rw (c.in-Calling.is, q, c.deref_mut.ensures.value) at (c.in-Ok.ensures.stepped 0) in
+    let n = called_same m k (invoke (callable m k) (1 + length s.call_stack) k (vars_of b s.globals) b.control_stack.operands (continuation m b.func b.control_stack.block (b.control_stack.at + 1))) b s.globals c.call.new.running.value s.call_stack c.call.new.call_stack c.in-Err-OutOfMemory-call.field-0 (c.in-Err-OutOfMemory-call.ensures s.globals) in
     rw (n.0, h.1.0, h.1.1, n.1) c.self.invariant
 
 pub returns-in-Err-OutOfMemory-call-clause-err : goal.returns-in-Err-OutOfMemory-call-clause-err
@@ -178,8 +178,8 @@ returns-in-Err-OutOfMemory-call-clause-err c =
     let m = s.module.now in
     let k = c.in-Calling.callee in
     let b = c.step_in_frame.new.running in
-    let h = rw (c.in-Calling.is, q) at (c.in-Ok.ensures.stepped 0) in
-    let n = called_same m k (invoke (callable m k) (1 + length s.call_stack) k (vars_of b s.globals) b.control_stack.operands (continuation m b.func b.control_stack.block (b.control_stack.at + 1))) b s.globals c.call.new.running s.call_stack c.call.new.call_stack c.in-Err-OutOfMemory-call.field-0 (c.in-Err-OutOfMemory-call.ensures s.globals) in
+    let h = rw (c.in-Calling.is, q, c.deref_mut.ensures.value) at (c.in-Ok.ensures.stepped 0) in
+    let n = called_same m k (invoke (callable m k) (1 + length s.call_stack) k (vars_of b s.globals) b.control_stack.operands (continuation m b.func b.control_stack.block (b.control_stack.at + 1))) b s.globals c.call.new.running.value s.call_stack c.call.new.call_stack c.in-Err-OutOfMemory-call.field-0 (c.in-Err-OutOfMemory-call.ensures s.globals) in
     rw (n.0, h.1.0, h.1.1, n.1) c.self.view_is
 
 pub invariant_of-self-in-Ok-Entered : goal.invariant_of-self-in-Ok-Entered
@@ -191,10 +191,10 @@ invariant_of-self-in-Ok-Entered c =
     let d = 1 + length s.call_stack in
     let dq : d ≡ suc (length cs) = omega arith in
     let k = c.in-Calling.callee in
-    let h = rw (c.in-Calling.is, q) at (c.in-Ok.ensures.stepped d) in
+    let h = rw (c.in-Calling.is, q, c.deref_mut.ensures.value) at (c.in-Ok.ensures.stepped d) in
     let g = rw (c.in-Ok-Entered.field-0-is, h.1.0) at (c.in-Ok-Entered.ensures s.globals) in
-    let t = thread_called s.module.now (value_or_zero c.args.given) s.globals cs s.running d k dq (invoke (callable s.module.now k) d k (vars_of s.running s.globals) s.running.control_stack.operands (continuation s.module.now s.running.func s.running.control_stack.block (s.running.control_stack.at + 1))) c.call.new.running c.call.new.call_stack h.0 g in
-    rw h.1.1 (sound_after s.module.now (value_or_zero c.args.given) s.running cs s.globals s.end c.call.new.running c.call.new.call_stack s.globals e c.self.invariant t)
+    let t = thread_called s.module.now (value_or_zero c.args.given) s.globals cs s.running.value d k dq (invoke (callable s.module.now k) d k (vars_of s.running.value s.globals) s.running.value.control_stack.operands (continuation s.module.now s.running.value.func s.running.value.control_stack.block (s.running.value.control_stack.at + 1))) c.call.new.running.value c.call.new.call_stack h.0 g in
+    rw h.1.1 (sound_after s.module.now (value_or_zero c.args.given) s.running.value cs s.globals s.end c.call.new.running.value c.call.new.call_stack s.globals e c.self.invariant t)
 
 pub returns-in-Within-clause-asks : goal.returns-in-Within-clause-asks
 returns-in-Within-clause-asks c = λ read.
@@ -202,8 +202,8 @@ returns-in-Within-clause-asks c = λ read.
     let q : c.args.code.now.module ≡ s.module.now = ap (λ (x : FunctionCode). x.module) c.requires.here ∙ sym (ap (λ (x : State). x.module) c.self.view_is) in
     let cs = s.call_stack in
     let e : s.end ≡ None = ap (λ (x : State). x.ended) c.self.view_is ∙ c.requires.runs in
-    let h = rw (c.in-Within.is, q) at (c.in-Ok.ensures.asks (suc (length cs)) read) in
-    let t = waits_as s.module.now read s.globals cs s.running c.args.given false h in
+    let h = rw (c.in-Within.is, q, c.deref_mut.ensures.value) at (c.in-Ok.ensures.asks (suc (length cs)) read) in
+    let t = waits_as s.module.now read s.globals cs s.running.value c.args.given false h in
     rw (← c.self.view_is, e) t
 
 pub returns-in-Trapped-clause-asks : goal.returns-in-Trapped-clause-asks
@@ -212,8 +212,8 @@ returns-in-Trapped-clause-asks c = λ read.
     let q : c.args.code.now.module ≡ s.module.now = ap (λ (x : FunctionCode). x.module) c.requires.here ∙ sym (ap (λ (x : State). x.module) c.self.view_is) in
     let cs = s.call_stack in
     let e : s.end ≡ None = ap (λ (x : State). x.ended) c.self.view_is ∙ c.requires.runs in
-    let h = rw (c.in-Trapped.is, q) at (c.in-Ok.ensures.asks (suc (length cs)) read) in
-    let t = waits_as s.module.now read s.globals cs s.running c.args.given false h in
+    let h = rw (c.in-Trapped.is, q, c.deref_mut.ensures.value) at (c.in-Ok.ensures.asks (suc (length cs)) read) in
+    let t = waits_as s.module.now read s.globals cs s.running.value c.args.given false h in
     rw (← c.self.view_is, e) t
 
 pub returns-in-Ok-Caller-clause-asks : goal.returns-in-Ok-Caller-clause-asks
@@ -222,8 +222,8 @@ returns-in-Ok-Caller-clause-asks c = λ read.
     let q : c.args.code.now.module ≡ s.module.now = ap (λ (x : FunctionCode). x.module) c.requires.here ∙ sym (ap (λ (x : State). x.module) c.self.view_is) in
     let cs = s.call_stack in
     let e : s.end ≡ None = ap (λ (x : State). x.ended) c.self.view_is ∙ c.requires.runs in
-    let h = rw (c.in-Left.is, q) at (c.in-Ok.ensures.asks (suc (length cs)) read) in
-    let t = waits_as s.module.now read s.globals cs s.running c.args.given false h in
+    let h = rw (c.in-Left.is, q, c.deref_mut.ensures.value) at (c.in-Ok.ensures.asks (suc (length cs)) read) in
+    let t = waits_as s.module.now read s.globals cs s.running.value c.args.given false h in
     rw (← c.self.view_is, e) t
 
 pub returns-in-Ok-Outside-clause-asks : goal.returns-in-Ok-Outside-clause-asks
@@ -232,8 +232,8 @@ returns-in-Ok-Outside-clause-asks c = λ read.
     let q : c.args.code.now.module ≡ s.module.now = ap (λ (x : FunctionCode). x.module) c.requires.here ∙ sym (ap (λ (x : State). x.module) c.self.view_is) in
     let cs = s.call_stack in
     let e : s.end ≡ None = ap (λ (x : State). x.ended) c.self.view_is ∙ c.requires.runs in
-    let h = rw (c.in-Left.is, q) at (c.in-Ok.ensures.asks (suc (length cs)) read) in
-    let t = waits_as s.module.now read s.globals cs s.running c.args.given false h in
+    let h = rw (c.in-Left.is, q, c.deref_mut.ensures.value) at (c.in-Ok.ensures.asks (suc (length cs)) read) in
+    let t = waits_as s.module.now read s.globals cs s.running.value c.args.given false h in
     rw (← c.self.view_is, e) t
 
 pub returns-in-Ok-Entered-clause-asks : goal.returns-in-Ok-Entered-clause-asks
@@ -242,8 +242,8 @@ returns-in-Ok-Entered-clause-asks c = λ read.
     let q : c.args.code.now.module ≡ s.module.now = ap (λ (x : FunctionCode). x.module) c.requires.here ∙ sym (ap (λ (x : State). x.module) c.self.view_is) in
     let cs = s.call_stack in
     let e : s.end ≡ None = ap (λ (x : State). x.ended) c.self.view_is ∙ c.requires.runs in
-    let h = rw (c.in-Calling.is, q) at (c.in-Ok.ensures.asks (suc (length cs)) read) in
-    let t = waits_as s.module.now read s.globals cs s.running c.args.given false h in
+    let h = rw (c.in-Calling.is, q, c.deref_mut.ensures.value) at (c.in-Ok.ensures.asks (suc (length cs)) read) in
+    let t = waits_as s.module.now read s.globals cs s.running.value c.args.given false h in
     rw (← c.self.view_is, e) t
 
 pub returns-in-Ok-TooDeep-clause-asks : goal.returns-in-Ok-TooDeep-clause-asks
@@ -252,8 +252,8 @@ returns-in-Ok-TooDeep-clause-asks c = λ read.
     let q : c.args.code.now.module ≡ s.module.now = ap (λ (x : FunctionCode). x.module) c.requires.here ∙ sym (ap (λ (x : State). x.module) c.self.view_is) in
     let cs = s.call_stack in
     let e : s.end ≡ None = ap (λ (x : State). x.ended) c.self.view_is ∙ c.requires.runs in
-    let h = rw (c.in-Calling.is, q) at (c.in-Ok.ensures.asks (suc (length cs)) read) in
-    let t = waits_as s.module.now read s.globals cs s.running c.args.given false h in
+    let h = rw (c.in-Calling.is, q, c.deref_mut.ensures.value) at (c.in-Ok.ensures.asks (suc (length cs)) read) in
+    let t = waits_as s.module.now read s.globals cs s.running.value c.args.given false h in
     rw (← c.self.view_is, e) t
 
 pub returns-in-Asking-clause-asks : goal.returns-in-Asking-clause-asks
@@ -262,18 +262,18 @@ returns-in-Asking-clause-asks c = λ read.
     let q : c.args.code.now.module ≡ s.module.now = ap (λ (x : FunctionCode). x.module) c.requires.here ∙ sym (ap (λ (x : State). x.module) c.self.view_is) in
     let cs = s.call_stack in
     let e : s.end ≡ None = ap (λ (x : State). x.ended) c.self.view_is ∙ c.requires.runs in
-    let h = rw (c.in-Asking.is, q) at (c.in-Ok.ensures.asks (suc (length cs)) read) in
-    let t = waits_as s.module.now read s.globals cs s.running c.args.given true h in
+    let h = rw (c.in-Asking.is, q, c.deref_mut.ensures.value) at (c.in-Ok.ensures.asks (suc (length cs)) read) in
+    let t = waits_as s.module.now read s.globals cs s.running.value c.args.given true h in
     rw (← c.self.view_is, e) t
 
 pub invariant_of-self-in-Asking : goal.invariant_of-self-in-Asking
 invariant_of-self-in-Asking c =
-    let h = rw c.in-Asking.is at (c.in-Ok.ensures.stepped 0) in
+    let h = rw (c.in-Asking.is, c.deref_mut.ensures.value) at (c.in-Ok.ensures.stepped 0) in
     rw (h.0, h.1) c.self.invariant
 
 pub returns-in-Asking-clause-kept : goal.returns-in-Asking-clause-kept
 returns-in-Asking-clause-kept c = λ _.
-    let h = rw c.in-Asking.is at (c.in-Ok.ensures.stepped 0) in
+    let h = rw (c.in-Asking.is, c.deref_mut.ensures.value) at (c.in-Ok.ensures.stepped 0) in
     rw (h.0, h.1) c.self.view_is
 
 abbrev code_of : Module → ℕ → FunctionCode
@@ -283,7 +283,7 @@ pub returns-in-Within-clause-runs_on : goal.returns-in-Within-clause-runs_on
 returns-in-Within-clause-runs_on c = λ _.
     let s = c.self.inside in
     let e : s.end ≡ None = ap (λ (x : State). x.ended) c.self.view_is ∙ c.requires.runs in
-    let h = rw c.in-Within.is at (c.in-Ok.ensures.stepped 0) in
+    let h = rw (c.in-Within.is, c.deref_mut.ensures.value) at (c.in-Ok.ensures.stepped 0) in
     let here = c.requires.here ∙ ap (λ (x : State). code_of x.module x.running.func) (sym c.self.view_is) in
     (e, here ∙ ap (code_of s.module.now) (sym h.1))
 
@@ -293,6 +293,6 @@ unreachable-requires-in_default c =
     let q : c.args.code.now.module ≡ s.module.now = ap (λ (x : FunctionCode). x.module) c.requires.here ∙ sym (ap (λ (x : State). x.module) c.self.view_is) in
     let cs = s.call_stack in
     let e : s.end ≡ None = ap (λ (x : State). x.ended) c.self.view_is ∙ c.requires.runs in
-    let h = rw (c.in-Left.is, q) at (c.in-Ok.ensures.stepped (suc (length cs))) in
-    let stuck = h.0 ∙ ap back (sym (rw (c.module.ensures, q, h.1.0) at c.in_default.ensures)) in
-    has_step s.module.now (value_or_zero c.args.given) s.running cs s.globals s.end e c.self.invariant (thread_stuck s.module.now (value_or_zero c.args.given) s.globals cs s.running c.step_in_frame.new.running c.step_in_frame.new.globals (stuck, h.1))
+    let h = rw (c.in-Left.is, q, c.deref_mut.ensures.value) at (c.in-Ok.ensures.stepped (suc (length cs))) in
+    let stuck = h.0 ∙ ap back (sym (rw (c.module.ensures, q, c.deref.ensures, h.1.0) at c.in_default.ensures)) in
+    has_step s.module.now (value_or_zero c.args.given) s.running.value cs s.globals s.end e c.self.invariant (thread_stuck s.module.now (value_or_zero c.args.given) s.globals cs s.running.value c.step_in_frame.new.running c.step_in_frame.new.globals (stuck, h.1))
