@@ -12,39 +12,10 @@ use Rattle.wm_machine.specs.State.{State, as_need, config_of, need_in, need_of}
 use Rattle.wm_machine.specs.Step.{access_of, next_config, step}
 use Rattle.wm_machine.specs.Term.{Config, Step, ReducesTo, NoStep}
 
-is_none : (op : Option OpFields) → as_need op ≡ need.Local → op ≡ None
-is_none None h = refl
-is_none (Some op) h = absurd (cc h)
-
-makes_none : (end : Option End) (s : State) → need_in end 0 s ≡ need.Local → access_of (step s.module 0 (config_of s)) ≡ None
-makes_none None s h = is_none (access_of (step s.module 0 (config_of s))) h
-makes_none (Some end) s h = absurd (cc h)
-
--- a step that needs nothing makes no access
-pub local_makes_none : (s : State) → need_of 0 s ≡ need.Local → access_of (step s.module 0 (config_of s)) ≡ None
-local_makes_none s h = makes_none s.ended s h
-
-running : (end : Option End) (s : State) → need_in end 0 s ≡ need.Local → end ≡ None
-running None s h = refl
-running (Some end) s h = absurd (cc h)
-
--- a thread with a step that needs nothing hasn't ended
-pub local_runs : (s : State) → need_of 0 s ≡ need.Local → s.ended ≡ None
-local_runs s h = running s.ended s h
-
 -- a step that doesn't wait for a value makes no access
 pub makes_none_unasked : (op : Option OpFields) → false ≡ is_some op → op ≡ None
 makes_none_unasked None h = refl
 makes_none_unasked (Some op) h = absurd (cc h)
-
-asks_none_locally : (op : Option OpFields) → true ≡ is_some op → HasNoLocalStep (as_need op)
-asks_none_locally None h = absurd (cc h)
-asks_none_locally (Some op) h = tt
-
--- a step that waits for a value isn't local
-pub waits_at_no_local_step : (end : Option End) (s : State) (read : ℕ) → true ≡ is_some (access_of (step s.module read (config_of s))) → HasNoLocalStep (need_in end read s)
-waits_at_no_local_step None s read h = asks_none_locally (access_of (step s.module read (config_of s))) h
-waits_at_no_local_step (Some end) s read h = tt
 
 accesses : (op : Option OpFields) → true ≡ is_some op → (n : Need) → n ≡ as_need op → (n ≡ need.Local) ⊎ ((end : End) × (n ≡ need.Ended end)) → ⊥
 accesses None h n e other = absurd (cc h)
