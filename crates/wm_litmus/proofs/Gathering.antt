@@ -11,45 +11,23 @@ use Rattle.wm_run.specs.declared.plan.Plan.{Plan}
 use Rattle.wm_run.specs.Run.{Record}
 use Rattle.wm_litmus.specs.Counts.{Counts}
 use Rattle.wm_litmus.specs.Outcomes.{outcome_text}
-use Rattle.wm_litmus.specs.Rounds.{AreKept, CountsMore, CountsRound, HasMade, IsAllowedRound, IsKept, outcomes}
+use Rattle.wm_litmus.specs.Rounds.{CountsRun, HasMade, IsAllowedRound, outcomes}
 
 pub none_made : («module» : Module) (plan : Plan) (counts : BTreeMap (String Global) ℕ) → Counts [] counts
     → HasMade «module» plan 0 counts
 none_made «module» plan counts h = record { runs = []; many = refl; allowed = λ k d inside. absurd (omega arith); counted = h }
 
-one_more : (runs : List Record) (run : Record) (number : ℕ) → length runs ≡ number → length (runs ++ run ∷ []) ≡ number + 1
-one_more runs run number is = length-append runs (run ∷ []) ∙ ap (λ n. n + 1) is
-
-pub made_more : («module» : Module) (plan : Plan) (number : ℕ) (old new : BTreeMap (String Global) ℕ) → number + 1 < 2 ^ 64
-    → HasMade «module» plan number old → CountsRound «module» plan old new → HasMade «module» plan (number + 1) new
-made_more «module» plan number old new small h r = record {
-  runs = h.runs ++ r.run ∷ [];
-  many = one_more h.runs r.run number h.many;
-  allowed = All-push (IsAllowedRound «module» plan) h.runs r.run h.allowed r.allowed;
+pub made_more : («module» : Module) (plan : Plan) (number : ℕ) (old new : BTreeMap (String Global) ℕ) (run : Record) → number + 1 < 2 ^ 64
+    → HasMade «module» plan number old → IsAllowedRound «module» plan run → CountsRun run old new → HasMade «module» plan (number + 1) new
+made_more «module» plan number old new run small h allowed counted = record {
+  runs = h.runs ++ run ∷ [];
+  many = length-append h.runs (run ∷ []) ∙ ap (λ n. n + 1) h.many;
+  allowed = All-push (IsAllowedRound «module» plan) h.runs run h.allowed allowed;
   counted =
-      let many : length (outcomes h.runs) ≡ number = length-map h.runs (λ (run : Record). outcome_text run.log) ∙ h.many in
+      let many : length (outcomes h.runs) ≡ number = length-map h.runs (λ (r : Record). outcome_text r.log) ∙ h.many in
       let few : length (outcomes h.runs) + 1 < 2 ^ 64 = subst (λ (n : ℕ). n + 1 < 2 ^ 64) (sym many) small in
-      subst (λ came. Counts came new) (sym (map-append (λ (run : Record). outcome_text run.log) h.runs (r.run ∷ []))) (r.counted (outcomes h.runs) h.counted few);
+      subst (λ came. Counts came new) (sym (map-append (λ (r : Record). outcome_text r.log) h.runs (run ∷ []))) (counted (outcomes h.runs) h.counted few);
 }
-
--- ---- rounds that are kept until they are counted
-
-pub kept_more : («module» : Module) (plan : Plan) (number : ℕ) (runs : List Record) (run : Record) → AreKept «module» plan number runs → IsKept «module» plan run
-    → AreKept «module» plan (number + 1) (runs ++ run ∷ [])
-kept_more «module» plan number runs run kept is = record {
-  many = one_more runs run number kept.many;
-  each = All-push (IsKept «module» plan) runs run kept.each is;
-}
-
-pub counts_none : («module» : Module) (plan : Plan) (counts : BTreeMap (String Global) ℕ) → CountsMore «module» plan 0 counts counts
-counts_none «module» plan counts before small h = let same : before ≡ before + 0 = omega arith in subst (λ (n : ℕ). HasMade «module» plan n counts) same h
-
-pub counts_one_more : («module» : Module) (plan : Plan) (number : ℕ) (first old new : BTreeMap (String Global) ℕ) → CountsMore «module» plan number first old → CountsRound «module» plan old new
-    → CountsMore «module» plan (number + 1) first new
-counts_one_more «module» plan number first old new counted r before small h =
-    let same : (before + number) + 1 ≡ before + (number + 1) = omega arith in
-    let few : (before + number) + 1 < 2 ^ 64 = omega (arith, small) in
-    subst (λ (n : ℕ). HasMade «module» plan n new) same (made_more «module» plan (before + number) old new few (counted before (omega (arith, few)) h) r)
 
 -- ---- runs that are there
 

@@ -1,8 +1,11 @@
 -- The answers of the command `run`.
-use Rattle.std.specs.Prelude.{◌≡◌, ◌≢◌, ◌+◌, ◌<◌, ◌^◌, ℕ, List, ◌++◌, MatchOption, Option, String, true, codes, length, map, string_bytes}
+use Rattle.std.specs.Prelude.{◌≡◌, ◌≢◌, ◌<◌, ◌^◌, ℕ, List, ◌++◌, IfOk, MatchOption, Option, Result, String, true, codes, length, map, string_bytes}
+use denote.Ref.{Bor}
 use Rattle.std.specs.BTreeMap.{BTreeMap}
+use Rattle.std.specs.declared.alloc.AllocError.{AllocError}
 use Rattle.std.specs.declared.alloc.Global.{Global}
 use Rattle.std.specs.Fmt.{decimal}
+use Rattle.std.specs.Fn.{FnReturnsAt, Shared}
 use Rattle.std.specs.List.{All}
 use Rattle.wm_ast.specs.declared.module.Module.{Module}
 use Rattle.wm_check.specs.declared.verdict.Certificate.{Certificate}
@@ -17,7 +20,6 @@ use Rattle.wm_logfile.specs.declared.fault.DocFault.TheVariants.{TooLarge}
 use Rattle.wm_run.specs.declared.fault.RunFault.{RunFault}
 use Rattle.wm_run.specs.declared.fault.RunFault.TheVariants.{OutOfMemory}
 use Rattle.wm_run.specs.declared.plan.Plan.{Plan}
-use Rattle.wm_run.specs.Own.{IsWithinPlan}
 use Rattle.wm_run.specs.Rounds.{IsRound, IsRoundFault}
 use Rattle.wm_run.specs.Run.{Record}
 use Rattle.wm_litmus.specs.declared.answer.Answer.{Answer}
@@ -47,12 +49,6 @@ outcomes runs = map (λ (run : Record). outcome_text run.log) runs
 abbrev pub CountsRun : Record → BTreeMap (String Global) ℕ → BTreeMap (String Global) ℕ → Type 0
 CountsRun run old new = CountsOneMore (outcome_text run.log) old new
 
--- a round was made, is allowed, and was counted
-pub record CountsRound («module» : Module) (plan : Plan) (old new : BTreeMap (String Global) ℕ) : Type 0 where
-  pub run : Record
-  pub allowed : IsAllowedRound «module» plan run
-  pub counted : CountsRun run old new
-
 -- this number of rounds were made, each is allowed, and their outcomes are counted
 pub record HasMade («module» : Module) (plan : Plan) (number : ℕ) (counts : BTreeMap (String Global) ℕ) : Type 0 where
   pub runs : List Record
@@ -60,19 +56,9 @@ pub record HasMade («module» : Module) (plan : Plan) (number : ℕ) (counts : 
   pub allowed : All (IsAllowedRound «module» plan) runs
   pub counted : Counts (outcomes runs) counts
 
--- a round of the plan, within the limits of a document
-pub record IsKept («module» : Module) (plan : Plan) (run : Record) : Type 0 where
-  pub round : IsRound true «module» plan run
-  pub within : IsWithinPlan run
-
--- this number of such rounds
-pub record AreKept («module» : Module) (plan : Plan) (number : ℕ) (runs : List Record) : Type 0 where
-  pub many : length runs ≡ number
-  pub each : All (IsKept «module» plan) runs
-
--- this number of rounds more were made and counted
-abbrev pub CountsMore : Module → Plan → ℕ → BTreeMap (String Global) ℕ → BTreeMap (String Global) ℕ → Type 0
-CountsMore «module» plan number old new = (before : ℕ) → before + number < 2 ^ 64 → HasMade «module» plan before old → HasMade «module» plan (before + number) new
+-- this number of rounds were made and counted, if so many can be
+abbrev pub HasCounted : Module → Plan → ℕ → BTreeMap (String Global) ℕ → Type 0
+HasCounted «module» plan number counts = number < 2 ^ 64 → HasMade «module» plan number counts
 
 -- a table, and the number of rounds
 abbrev pub rounds_text : List ℕ → ℕ → List ℕ
@@ -102,9 +88,18 @@ abbrev pub RunsOver : Module → Rounds → Answer → Type 0
 RunsOver «module» rounds answer =
     (module_bytes : List ℕ) → IsModuleOf module_bytes «module» → AnswersRounds module_bytes rounds.plan rounds.count answer.status (string_bytes answer.text)
 
--- a round that was counted, or the answer to all
-abbrev pub CountsOrAnswers : Module → Rounds → BTreeMap (String Global) ℕ → BTreeMap (String Global) ℕ → Option Answer → Type 0
-CountsOrAnswers «module» rounds old new answer = MatchOption answer (CountsRound «module» rounds.plan old new) (RunsOver «module» rounds)
+-- what judging a round gives: nothing if it is allowed, else the answer to all
+abbrev pub IsJudged : Module → Rounds → Record → Option Answer → Type 0
+IsJudged «module» rounds run answer = MatchOption answer (IsAllowedRound «module» rounds.plan run) (RunsOver «module» rounds)
+
+-- the answer to all was found
+abbrev pub HasAnswer : Module → Rounds → Option Answer → Type 0
+HasAnswer «module» rounds answer = MatchOption answer ⊥ (RunsOver «module» rounds)
+
+-- a judge may be called for this round, and then it judges it
+pub record CanJudge {J : Type 0} (judge : Shared J (Bor Record × Unit {0}) (Result (Option Answer) AllocError)) (f : J) («module» : Module) (rounds : Rounds) (run : Record) : Type 0 where
+  pub can : (p : Bor Record) → p.now ≡ run → judge.pre f (p, tt)
+  pub judged : (result : Result (Option Answer) AllocError) → FnReturnsAt judge f run result → IfOk result (IsJudged «module» rounds run)
 
 -- the status and the text that answer the words of rounds of the module of a file, whose bytes may be known: the answer
 -- to the rounds that a word of their number and the words of the starts spell, or a refusal of the first word that

@@ -1,162 +1,121 @@
 //! The command `run`: rounds of a module's threads, which run at the same time.
-ghost use Rattle.std.specs.Prelude.{IfErr, IfOk, MatchOption, length, string_bytes, true};
+ghost use Rattle.std.specs.Prelude.{IfOk, string_bytes, true};
+ghost use Rattle.std.specs.Thread.{IsSync};
 ghost use Rattle.wm_ast.specs.declared.module.Module.{Module};
-ghost use Rattle.wm_litmus.specs.Rounds.{AnswersRounds, AreKept, CountsMore, CountsOrAnswers, IsKept, RunsOver};
+ghost use Rattle.wm_litmus.specs.Rounds.{AnswersRounds, CanJudge, HasAnswer, HasCounted, IsJudged, RunsOver};
 ghost use Rattle.wm_run.specs.Own.{IsWithinPlan};
-ghost use Rattle.wm_run.specs.Rounds.{IsRound, IsRoundFault};
-ghost use Rattle.wm_run.specs.declared.plan.Plan.{Plan};
+ghost use Rattle.wm_run.specs.Rounds.{IsRound};
+ghost use Rattle.wm_words.specs.declared.words.Rounds.{Rounds};
 
 use crate::answer::Answer;
 use crate::own::check_own;
 use crate::table::Table;
-use std::alloc::AllocError;
+use std::alloc::{AllocError, Global};
 use std::sync::Wait;
 use std::thread::Threads;
 use wm_check::{Unread, Verdict, read_module};
-use wm_run::{OpenGate, Plan, Run, RunFault, Taker, run_rounds};
+use wm_run::{OpenGate, Run, RunFault, Taker, run_rounds};
 use wm_valid::ValidModule;
 use wm_words::Rounds;
 
-/// Counts the outcome of a round; if the round isn't allowed, it gives the answer to the whole command.
-fn count_round<R: AllocGlobal + Threads + Sync>(
+/// Judges a round. None if it is allowed, else the answer to the whole command.
+fn judge_round<R: AllocGlobal + Threads + Sync>(
     rt: &R,
     module: &ValidModule,
     rounds: &Rounds,
     run: &Run,
-    table: &mut Table,
 ) -> Result<Option<Answer>, AllocError>
     requires round { IsRound true «module».now rounds.now.plan run.now }
     requires within { IsWithinPlan run.now }
-    ensures { IfOk result (CountsOrAnswers «module».now rounds.now table.old.counts table.new.counts) }
+    ensures { IfOk result (IsJudged «module».now rounds.now run.now) }
 {
     let checked = check_own(rt, module, run)?;
     if let Verdict::Allowed(_) = checked.verdict {
-        table.count(rt.alloc(), run)?;
         return Ok(None);
     }
     Ok(Some(Answer::of_verdict(rt.alloc(), &checked.verdict)?))
 }
 
-/// Keeps rounds of a plan.
+/// Counts the outcomes of rounds, until one of them isn't allowed: that gives the answer to the whole command.
 #[derive(Drop)]
-struct Keeper<'a> {
+struct Counter<'a, J> {
+    alloc: Global,
     module: &'a ValidModule,
-    plan: &'a Plan,
-    runs: Vec<Run>,
+    rounds: &'a Rounds,
+    judge: J,
+    table: Table,
+    answer: Option<Answer>,
 }
 
-impl<'a> Taker for Keeper<'a> {
-    ghost Task = { Module × Plan };
+impl<'a, J: Fn(&Run) -> Result<Option<Answer>, AllocError>> Taker for Counter<'a, J> {
+    ghost Task = { Module × Rounds × J };
 
-    ghost task = { λ c. (c.module.now, c.plan.now) };
+    ghost task = { λ c. (c.module.now, c.rounds.now, c.judge) };
 
-    ghost takes = { λ task run. IsKept task.0 task.1 run };
+    ghost takes = { λ task run. CanJudge J.Fn task.2 task.0 task.1 run };
 
-    ghost has_taken = { λ c taken. AreKept c.module.now c.plan.now taken c.runs.items };
+    ghost has_taken = { λ c taken. HasCounted c.module.now c.rounds.now.plan taken c.table.counts };
 
-    ghost is_done = { λ c. ⊥ };
+    ghost is_done = { λ c. HasAnswer c.module.now c.rounds.now c.answer };
 
-    fn take<R: AllocGlobal + Threads + Sync>(
-        &mut self,
-        _rt: &R,
-        run: Run,
-    ) -> Result<bool, AllocError> {
-        self.runs.push(run)?;
-        Ok(true)
-    }
-}
-
-/// This number of rounds.
-fn batch<'a, R: AllocGlobal + Threads + Wait + Sync>(
-    rt: &R,
-    module: &'a ValidModule,
-    plan: &'a Plan,
-    count: u32,
-) -> Result<Vec<Run>, RunFault>
-    ensures kept { IfOk result (λ runs. AreKept «module».now plan.now count runs.items) }
-    ensures refused { IfErr result (IsRoundFault «module».now plan.now) }
-{
-    let keeper = Keeper {
-        module,
-        plan,
-        runs: Vec::new(rt.alloc()),
-    };
-    let (keeper, made) = run_rounds(rt, rt.alloc(), module, plan, &OpenGate, count, keeper);
-    let Keeper {
-        module: _,
-        plan: _,
-        runs,
-    } = keeper;
-    match made {
-        Ok(true) => Ok(runs),
-        Ok(false) => unreachable!(),
-        Err(fault) => Err(fault),
-    }
-}
-
-/// Counts the outcomes of rounds; if one of them isn't allowed, it gives the answer to the whole command.
-fn count_rounds<R: AllocGlobal + Threads + Sync>(
-    rt: &R,
-    module: &ValidModule,
-    rounds: &Rounds,
-    runs: &[Run],
-    table: &mut Table,
-) -> Result<Option<Answer>, AllocError>
-    requires { AreKept «module».now rounds.now.plan (length runs.now) runs.now }
-    ensures { IfOk result (λ answer. MatchOption answer
-        (CountsMore «module».now rounds.now.plan (length runs.now) table.old.counts table.new.counts)
-        (RunsOver «module».now rounds.now)) }
-{
-    for run in runs {
-        if let Some(answer) = count_round(rt, module, rounds, run, table)? {
-            return Ok(Some(answer));
+    fn take(&mut self, run: Run) -> Result<bool, AllocError> {
+        match (self.judge)(&run)? {
+            None => {
+                self.table.count(self.alloc, &run)?;
+                Ok(true)
+            }
+            Some(answer) => {
+                self.answer = Some(answer);
+                Ok(false)
+            }
         }
-    }
-    Ok(None)
-}
-
-/// How many rounds are made by threads that are started once, and kept until they are counted.
-const BATCH: u32 = 16;
-
-/// Makes at most [`BATCH`] of the rounds and counts their outcomes; if one of them isn't allowed or can't be made, it
-/// gives the answer to the whole command.
-fn count_batch<R: AllocGlobal + Threads + Wait + Sync>(
-    rt: &R,
-    module: &ValidModule,
-    rounds: &Rounds,
-    count: u32,
-    table: &mut Table,
-) -> Result<Option<Answer>, AllocError>
-    ensures { IfOk result (λ answer. MatchOption answer
-        (CountsMore «module».now rounds.now.plan count table.old.counts table.new.counts)
-        (RunsOver «module».now rounds.now)) }
-{
-    match batch(rt, module, &rounds.plan, count) {
-        Ok(runs) => count_rounds(rt, module, rounds, runs.as_slice(), table),
-        Err(RunFault::OutOfMemory) => Err(AllocError),
-        Err(fault) => Ok(Some(Answer::refused_run(rt.alloc(), fault)?)),
     }
 }
 
 /// The answer to rounds of a module.
-fn make_rounds<R: AllocGlobal + Threads + Wait + Sync>(
+fn make_rounds<'a, R: AllocGlobal + Threads + Wait + Sync>(
     rt: &R,
-    module: &ValidModule,
-    rounds: &Rounds,
+    module: &'a ValidModule,
+    rounds: &'a Rounds,
 ) -> Result<Answer, AllocError>
     ensures { IfOk result (RunsOver «module».now rounds.now) }
 {
-    let mut table = Table::new(rt.alloc());
-    let mut made = 0;
-    while made < rounds.count {
-        let count = BATCH.min(rounds.count - made);
-        if let Some(answer) = count_batch(rt, module, rounds, count, &mut table)? {
-            return Ok(answer);
+    let alloc = rt.alloc();
+    let counter = Counter {
+        alloc,
+        module,
+        rounds,
+        judge: |run: &Run| -> Result<Option<Answer>, AllocError>
+            requires sync { IsSync R.row }
+            requires round { IsRound true «module».now rounds.now.plan run.now }
+            requires within { IsWithinPlan run.now }
+            ensures { IfOk result (IsJudged «module».entry.now rounds.entry.now run.now) }
+        { judge_round(rt, module, rounds, run) },
+        table: Table::new(alloc),
+        answer: None,
+    };
+    let (counter, made) = run_rounds(
+        rt,
+        alloc,
+        module,
+        &rounds.plan,
+        &OpenGate,
+        rounds.count,
+        counter,
+    );
+    let Counter { table, answer, .. } = counter;
+    match made {
+        Ok(true) => {
+            let text = table.text(alloc)?;
+            Answer::rounds(alloc, text.as_str(), rounds.count)
         }
-        made += count;
+        Ok(false) => match answer {
+            Some(answer) => Ok(answer),
+            None => unreachable!(),
+        },
+        Err(RunFault::OutOfMemory) => Err(AllocError),
+        Err(fault) => Answer::refused_run(alloc, fault),
     }
-    let table = table.text(rt.alloc())?;
-    Answer::rounds(rt.alloc(), table.as_str(), rounds.count)
 }
 
 /// The answer to the bytes of a module, for rounds of its threads. It may wait for these threads.

@@ -20,3 +20,4 @@ pub mod Ends
 pub mod Gathered
 pub mod Rounds
 pub mod Crew
+pub mod Series

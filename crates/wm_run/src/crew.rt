@@ -15,6 +15,7 @@ use crate::gathering::gather;
 use crate::own::own_runs_are_allowed;
 use crate::plan::Plan;
 use crate::run::Run;
+use crate::spread::Spread;
 use crate::worker::work;
 use std::alloc::{AllocError, Global};
 use std::sync::Wait;
@@ -159,12 +160,14 @@ pub trait Serves {
 
 impl<'a, R: Wait, N: Over + Assigned, G: Gate, B: Collects<N>> Serves for Crew<'a, R, N, G, B> {
     fn serve(&self, thread: u32) {
+        let mut spread = Spread::new(thread);
         let mut heard = 0;
         for _ in self.rt.forever() {
             match self.next_round(heard) {
                 Some(rings) => heard = rings,
                 None => return,
             }
+            spread.pause();
             self.work_once(thread);
         }
     }

@@ -19,6 +19,7 @@ mod run;
 mod runner;
 mod script;
 mod series;
+mod spread;
 mod taker;
 mod traced;
 mod tracing;

@@ -2,9 +2,8 @@
 ghost use Rattle.std.specs.Prelude.{◌≡◌, ◌⊎◌, IfErr, IfOk, MatchBool, OnOk, length};
 ghost use Rattle.wm_recorder.specs.Locked.{IsOver};
 ghost use Rattle.wm_run.specs.Crew.{CanMakeRounds};
-ghost use Rattle.wm_run.specs.Own.{IsWithinPlan};
-ghost use Rattle.wm_run.specs.Rounds.{IsReady, IsRound, IsRoundFault, IsRoundPlan};
-ghost use Rattle.wm_run.specs.Run.{Record};
+ghost use Rattle.wm_run.specs.Rounds.{IsReady, IsRoundFault, IsRoundPlan};
+ghost use Rattle.wm_run.specs.Series.{TakesRounds};
 
 use crate::assigned::Assigned;
 use crate::board::{Collects, LockedBoard, empty_slots};
@@ -24,14 +23,12 @@ use wm_recorder::{Over, Recorder};
 use wm_valid::ValidModule;
 
 /// Makes this number of rounds, or fewer if the taker wants no more.
-fn make_rounds<
-    R: AllocGlobal + Threads + Wait + Sync,
-    N: Over + Assigned,
-    G: Gate,
-    B: Collects<N>,
-    T: Taker,
->(rt: &R, crew: &Crew<'_, R, N, G, B>, count: u32, mut taker: T) -> (T, Result<bool, RunFault>)
-    requires takes { (run : Record) → IsRound N.is_open N.program N.plan run → IsWithinPlan run → T.takes (T.task taker) run }
+fn make_rounds<R: Wait, N: Over + Assigned, G: Gate, B: Collects<N>, T: Taker>(
+    crew: &Crew<'_, R, N, G, B>,
+    count: u32,
+    mut taker: T,
+) -> (T, Result<bool, RunFault>)
+    requires takes { TakesRounds N.is_open N.program N.plan (T.takes (T.task taker)) }
     requires begins { T.has_taken taker 0 }
     requires ready { IsReady N.program N.plan }
     ensures same { T.task result.0 ≡ T.task taker }
@@ -43,7 +40,7 @@ fn make_rounds<
             Ok(run) => run,
             Err(fault) => return (taker, Err(fault)),
         };
-        match taker.take(rt, run) {
+        match taker.take(run) {
             Ok(true) => {}
             Ok(false) => return (taker, Ok(false)),
             Err(_) => return (taker, Err(RunFault::OutOfMemory)),
@@ -56,7 +53,7 @@ fn make_rounds<
 fn run_in<
     's,
     E: 's,
-    R: AllocGlobal + Threads + Wait + Sync,
+    R: Threads + Wait + Sync,
     N: Over + Assigned + Send + Sync,
     G: Gate + Sync,
     B: Collects<N> + Sync,
@@ -69,7 +66,7 @@ fn run_in<
     count: u32,
     taker: T,
 ) -> (T, Result<bool, RunFault>)
-    requires takes { (run : Record) → IsRound N.is_open N.program N.plan run → IsWithinPlan run → T.takes (T.task taker) run }
+    requires takes { TakesRounds N.is_open N.program N.plan (T.takes (T.task taker)) }
     requires begins { T.has_taken taker 0 }
     requires ready { IsReady N.program N.plan }
     ensures same { T.task result.0 ≡ T.task taker }
@@ -78,7 +75,7 @@ fn run_in<
 {
     let mut started = Vec::new(alloc);
     let made = match start_crew(scope, crew, crew.workers(), &mut started) {
-        Ok(()) => make_rounds(rt, crew, count, taker),
+        Ok(()) => make_rounds(crew, count, taker),
         Err(_) => (taker, Err(RunFault::OutOfMemory)),
     };
     crew.end();
@@ -91,7 +88,7 @@ fn run_in<
 /// Makes the rounds in a scope that borrows what the crew shares.
 fn run_scoped<
     N: Over + Assigned + Send + Sync,
-    R: AllocGlobal + Threads + Wait + Sync,
+    R: Threads + Wait + Sync,
     G: Gate + Sync,
     B: Collects<N> + Sync,
     T: Taker,
@@ -102,7 +99,7 @@ fn run_scoped<
     count: u32,
     taker: T,
 ) -> (T, Result<bool, RunFault>)
-    requires takes { (run : Record) → IsRound N.is_open N.program N.plan run → IsWithinPlan run → T.takes (T.task taker) run }
+    requires takes { TakesRounds N.is_open N.program N.plan (T.takes (T.task taker)) }
     requires begins { T.has_taken taker 0 }
     requires ready { IsReady N.program N.plan }
     ensures same { T.task result.0 ≡ T.task taker }
@@ -113,7 +110,7 @@ fn run_scoped<
         thread::scope_env(),
         rt,
         |scope| -> (T, Result<bool, RunFault>)
-            requires takes { (run : Record) → IsRound N.is_open N.program N.plan run → IsWithinPlan run → T.takes (T.task taker) run }
+            requires takes { TakesRounds N.is_open N.program N.plan (T.takes (T.task taker)) }
             requires begins { T.has_taken taker 0 }
             requires ready { IsReady N.program N.plan }
             ensures same { T.task result.0 ≡ T.task taker }
@@ -127,7 +124,7 @@ fn run_scoped<
 fn run_crew<
     'a,
     N: Over + Assigned + Send + Sync,
-    R: AllocGlobal + Threads + Wait + Sync,
+    R: Threads + Wait + Sync,
     G: Gate + Sync,
     B: Collects<N> + Sync,
     T: Taker,
@@ -147,7 +144,7 @@ fn run_crew<
     requires of_gate { G.is_open gate.now ≡ N.is_open }
     requires can { CanMakeRounds N.program N.plan N.initial N.threads }
     requires over { IsOver N.initial N.threads recorder }
-    requires takes { (run : Record) → IsRound N.is_open N.program N.plan run → IsWithinPlan run → T.takes (T.task taker) run }
+    requires takes { TakesRounds N.is_open N.program N.plan (T.takes (T.task taker)) }
     requires begins { T.has_taken taker 0 }
     requires ready { IsReady N.program N.plan }
     ensures same { T.task result.0 ≡ T.task taker }
@@ -159,12 +156,7 @@ fn run_crew<
 }
 
 /// Makes the rounds over a recorder and a board, each under a lock.
-fn run_over<
-    N: Over + Assigned + Send + Sync,
-    R: AllocGlobal + Threads + Wait + Sync,
-    G: Gate + Sync,
-    T: Taker,
->(
+fn run_over<N: Over + Assigned + Send + Sync, R: Threads + Wait + Sync, G: Gate + Sync, T: Taker>(
     rt: &R,
     alloc: Global,
     module: &ValidModule,
@@ -179,7 +171,7 @@ fn run_over<
     requires of_gate { G.is_open gate.now ≡ N.is_open }
     requires can { CanMakeRounds N.program N.plan N.initial N.threads }
     requires over { IsOver N.initial N.threads recorder }
-    requires takes { (run : Record) → IsRound N.is_open N.program N.plan run → IsWithinPlan run → T.takes (T.task taker) run }
+    requires takes { TakesRounds N.is_open N.program N.plan (T.takes (T.task taker)) }
     requires begins { T.has_taken taker 0 }
     requires ready { IsReady N.program N.plan }
     ensures same { T.task result.0 ≡ T.task taker }
@@ -203,7 +195,7 @@ fn run_over<
 ///
 /// Those of [`crate::run_round`], and `OutOfMemory` if the taker finds no memory. `Plan` and `Start` come before any
 /// thread is started; else every thread that was started is joined.
-pub fn run_rounds<R: AllocGlobal + Threads + Wait + Sync, G: Gate + Sync, T: Taker>(
+pub fn run_rounds<R: Threads + Wait + Sync, G: Gate + Sync, T: Taker>(
     rt: &R,
     alloc: Global,
     module: &ValidModule,
@@ -212,8 +204,7 @@ pub fn run_rounds<R: AllocGlobal + Threads + Wait + Sync, G: Gate + Sync, T: Tak
     count: u32,
     taker: T,
 ) -> (T, Result<bool, RunFault>)
-    requires takes { (run : Record) → IsRound (G.is_open gate.now) «module».now plan.now run → IsWithinPlan run
-        → T.takes (T.task taker) run }
+    requires takes { TakesRounds (G.is_open gate.now) «module».now plan.now (T.takes (T.task taker)) }
     requires begins { T.has_taken taker 0 }
     ensures same { T.task result.0 ≡ T.task taker }
     ensures taken { IfOk result.1 (λ all. MatchBool all (T.has_taken result.0 count) (T.is_done result.0)) }

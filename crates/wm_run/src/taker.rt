@@ -4,7 +4,6 @@ ghost use Rattle.wm_run.specs.Run.{Record};
 
 use crate::run::Run;
 use std::alloc::AllocError;
-use std::thread::Threads;
 
 /// Takes the rounds of a plan, one after the other.
 pub trait Taker: Drop {
@@ -28,11 +27,7 @@ pub trait Taker: Drop {
     /// # Errors
     ///
     /// Only if an allocation fails.
-    fn take<R: AllocGlobal + Threads + Sync>(
-        &mut self,
-        rt: &R,
-        run: Run,
-    ) -> Result<bool, AllocError>
+    fn take(&mut self, run: Run) -> Result<bool, AllocError>
         requires takes { takes (task self.old) run }
         ensures same { task self.new ≡ task self.old }
         ensures taken { IfOk result (λ more.

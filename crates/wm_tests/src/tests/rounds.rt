@@ -1,5 +1,5 @@
 //! Rounds of store buffering, with gates that hold threads back.
-ghost use Rattle.std.specs.Prelude.{false};
+ghost use Rattle.std.specs.Prelude.{false, tt, ⊤};
 
 use super::calls::module_of;
 use super::modules::{ARGUMENT, STORE_BUFFERING};
@@ -11,7 +11,7 @@ use std::test::Fail;
 use std::thread::{Threads, yield_now};
 use wm_event::{End, Start};
 use wm_list::{List, Text};
-use wm_run::{Gate, OpenGate, Plan, Run, run_round};
+use wm_run::{Gate, OpenGate, Plan, Run, Taker, run_round, run_rounds};
 use wm_valid::ValidModule;
 
 /// How often a gate looks whether another thread has come.
@@ -211,6 +211,66 @@ fn a_worker_reads_back_what_it_stored(rt: HostRuntime) -> Result<(), Fail> {
         let ends = round(&rt, &ARGUMENT, &plan, &OpenGate);
         same(&rt, ends, [Some(End::Done(Some(7))); 2]);
     }
+    drop(plan);
+    Ok(())
+}
+
+/// Takes rounds until it has this number, and notes how many of them ended with 7 in both threads.
+#[derive(Drop)]
+struct UpTo {
+    limit: u32,
+    taken: u32,
+    sevens: u32,
+}
+
+impl Taker for UpTo {
+    ghost Task = { Unit {0} };
+
+    ghost task = { λ _. tt };
+
+    ghost takes = { λ _ _. ⊤ };
+
+    ghost has_taken = { λ _ _. ⊤ };
+
+    ghost is_done = { λ _. ⊤ };
+
+    fn take(&mut self, run: Run) -> Result<bool, AllocError> {
+        self.taken = self.taken.saturating_add(1);
+        if ends(&run) == [Some(End::Done(Some(7))); 2] {
+            self.sevens = self.sevens.saturating_add(1);
+        }
+        Ok(self.taken < self.limit)
+    }
+}
+
+/// How many of five rounds a taker takes that wants up to `limit`, how many of these ended with 7 in both threads, and
+/// whether all five were made; None if no round is made.
+fn taken_of_five<R: AllocGlobal + Threads + Wait + Sync>(
+    rt: &R,
+    plan: &Plan,
+    limit: u32,
+) -> Option<(u32, u32, bool)> {
+    let taker = UpTo {
+        limit,
+        taken: 0,
+        sevens: 0,
+    };
+    let Ok(Some(module)) = module_of(rt.alloc(), &ARGUMENT) else {
+        return None;
+    };
+    let (taker, made) = run_rounds(rt, rt.alloc(), &module, plan, &OpenGate, 5, taker);
+    drop(module);
+    match made {
+        Ok(all) => Some((taker.taken, taker.sevens, all)),
+        Err(_) => None,
+    }
+}
+
+#[test]
+fn rounds_come_one_by_one_until_the_taker_wants_no_more(rt: HostRuntime) -> Result<(), Fail> {
+    let plan = plan(rt.alloc(), &[("f", Some(0)), ("f", Some(4))], 256)?;
+    same(&rt, taken_of_five(&rt, &plan, 3), Some((3, 3, false)));
+    same(&rt, taken_of_five(&rt, &plan, 9), Some((5, 5, true)));
     drop(plan);
     Ok(())
 }

@@ -5,21 +5,14 @@ use Rattle.wm_litmus.specs.Own.{IsMadeOf, run_text}
 use Rattle.wm_litmus.specs.Prints.{ended}
 use Rattle.wm_litmus.specs.Rounds.AnswersRounds.{too_large}
 use Rattle.wm_litmus.proofs.OwnVerdicts.{only_large}
-use Rattle.wm_litmus.proofs.rounds.count_round.Goals as goal
+use Rattle.wm_litmus.proofs.rounds.judge_round.Goals as goal
 
 pub returns-in-Allowed : goal.returns-in-Allowed
-returns-in-Allowed g c =
-    let run = c.args.run.now in
-    let certificate = c.in-Allowed.field-0 in
-    record {
-      run = run;
-      allowed = record {
-        round = c.requires.round;
-        certificate = certificate;
-        says = subst (λ v. SaysOver c.args.module.now (run_text run) v) c.in-Allowed.is c.in_ok-checked.ensures.says;
-      };
-      counted = c.in_ok-count.ensures;
-    }
+returns-in-Allowed g c = record {
+  round = c.requires.round;
+  certificate = c.in-Allowed.field-0;
+  says = subst (λ v. SaysOver c.args.module.now (run_text c.args.run.now) v) c.in-Allowed.is c.in_ok-checked.ensures.says;
+}
 
 pub returns : goal.returns
 returns g c = λ module_bytes modules.
