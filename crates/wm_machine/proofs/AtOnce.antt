@@ -1,6 +1,6 @@
 -- An instruction that is decided and performed at once, seen from outside.
-use Rattle.std.proofs.Common.{◌≡◌, ℕ, zero, suc, ◌+◌, List, [], ◌∷◌, Option, Some, None, refl, sym, ap, ◌∙◌, subst}
-use Rattle.std.specs.Prelude.{Bool, true, false, Result, Ok, Err, drop, is_some, slice_get, slice_set}
+use Rattle.std.proofs.Common.{◌≡◌, ℕ, zero, suc, ◌+◌, List, [], ◌∷◌, Option, Some, None, refl, sym, ap, ◌∙◌}
+use Rattle.std.specs.Prelude.{true, false, Result, Ok, Err, drop, is_some, slice_get, slice_set}
 use Rattle.wm_num.specs.Binary.{binary_meaning}
 use Rattle.wm_num.specs.Comparison.{comparison_meaning}
 use Rattle.wm_num.specs.declared.operator.Comparison.TheVariants.{Eq}
@@ -25,7 +25,7 @@ use Rattle.wm_machine.specs.Inside.{StepsTo, asks_value, call_step, made_of, out
 use Rattle.wm_machine.specs.State.{value_or_zero}
 use Rattle.wm_machine.specs.Step.{act, chosen, computed, continue_with, reduce, truth, with_number, with_value}
 use Rattle.wm_machine.specs.Stepping.{AsksForValue, StepsAs}
-use Rattle.wm_machine.specs.Term.{Here, Leaves, Next, Reduced, Stuck, Term, Traps, Vars}
+use Rattle.wm_machine.specs.Term.{Here, Leaves, Next, Reduced, Term, Vars}
 use Rattle.wm_machine.specs.Values.{number_at}
 use Rattle.wm_machine.specs.Within.{StandsAt}
 use Rattle.wm_machine.proofs.Lift.{labels_lift, labels_next, labels_stuck, labels_traps}

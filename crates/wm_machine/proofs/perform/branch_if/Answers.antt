@@ -1,4 +1,4 @@
-use Rattle.std.proofs.Common.{ap, refl, sym, subst, ◌≡◌, ◌+◌, ◌∙◌, Some, None, ℕ, Option}
+use Rattle.std.proofs.Common.{ap, sym, subst, ◌≡◌, ◌+◌, ◌∙◌, Some, None}
 use Rattle.std.specs.Prelude.{Ok, Err, drop}
 use Rattle.wm_num.specs.declared.operator.Width.TheVariants.{W32}
 use Rattle.wm_ast.specs.declared.instr.Instr.TheVariants.{BrIf}
