@@ -1,5 +1,5 @@
 //! Rounds of store buffering, with gates that hold threads back.
-ghost use Rattle.std.specs.Prelude.{false, tt, ⊤};
+ghost use Rattle.std.specs.Prelude.{false, ⊤};
 
 use super::calls::module_of;
 use super::modules::{ARGUMENT, STORE_BUFFERING};
