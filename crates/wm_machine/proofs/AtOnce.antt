@@ -19,11 +19,14 @@ use Rattle.wm_machine.specs.declared.fault.StepFault.TheVariants.{Stuck as Stuck
 use Rattle.wm_machine.specs.declared.value.TypedValue.{TypedValue}
 use Rattle.wm_machine.specs.declared.value.TypedValue.TheVariants.{I32}
 use Rattle.wm_machine.specs.AtOnce.{Does, HasEffect, is_at_once, at_next}
+use Rattle.wm_machine.specs.Branching.{BranchesAs, is_branch}
+use Rattle.wm_machine.specs.declared.branching.Branching.TheVariants as branching
+use Rattle.wm_machine.specs.declared.branching.Branching.TheVariants.{NotTaken}
 use Rattle.wm_machine.specs.Configuration.{left_of}
 use Rattle.wm_machine.specs.Functions.{continuation}
 use Rattle.wm_machine.specs.Inside.{StepsTo, asks_value, call_step, made_of, out_of_labels, seen, unanswered, vars_of}
 use Rattle.wm_machine.specs.State.{value_or_zero}
-use Rattle.wm_machine.specs.Step.{act, chosen, computed, continue_with, reduce, truth, with_number, with_value}
+use Rattle.wm_machine.specs.Step.{act, chosen, computed, continue_with, label_of_index, reduce, truth, with_number, with_value}
 use Rattle.wm_machine.specs.Stepping.{AsksForValue, StepsAs}
 use Rattle.wm_machine.specs.Term.{Here, Leaves, Next, Reduced, Term, Vars}
 use Rattle.wm_machine.specs.Values.{number_at}
@@ -75,6 +78,9 @@ made_at_once m depth read func vars operands (instr.Binary op width) rest h =
     made_with_numbers (number_at width operands 1) (number_at width operands 0)
     (λ a b. computed vars (drop 2 operands) rest width (binary_meaning op width a b))
     (λ a b. made_computed vars (drop 2 operands) rest width (binary_meaning op width a b))
+made_at_once m depth read func vars operands (instr.Br l) rest h = refl
+made_at_once m depth read func vars operands (instr.BrTable ls l) rest h =
+    made_with_number (number_at W32 operands 0) (λ i. Leaves (label_of_index (slice_get ls i) l) (drop 1 operands)) (λ i. refl)
 made_at_once m depth read func vars operands (instr.BrIf l) rest h =
     made_with_number (number_at W32 operands 0) (λ c. chosen c (Leaves l (drop 1 operands)) (continue_with vars (drop 1 operands) rest))
     (λ c. made_chosen c (Leaves l (drop 1 operands)) (continue_with vars (drop 1 operands) rest) refl refl)
@@ -135,16 +141,17 @@ pub effect_asks : (m : Module) (i : Instr) (given : Option ℕ) (globals : List 
 effect_asks m i given globals old new result stands h effect =
     at_once_asks m i given globals old result stands h (effect_waits m i old new result effect)
 
--- ---- `br_if`
+-- ---- a branch instruction
 
-pub passes_over : (a : CallFrame) (label : ℕ) → number_at W32 a.control_stack.operands 0 ≡ Some 0
-    → HasEffect (instr.BrIf label) a (at_next a.locals (drop 1 a.control_stack.operands) a) (Ok Within)
-passes_over a label zero_there = λ m depth read globals rest. (rw zero_there refl, refl)
+pub goes_on : (a : CallFrame) (i : Instr) → BranchesAs i a.control_stack.operands NotTaken
+    → HasEffect i a (at_next a.locals (drop 1 a.control_stack.operands) a) (Ok Within)
+goes_on a i h = λ m depth read globals rest. (h m depth read a.func (vars_of a globals) rest, refl)
 
-pub lacks_condition : (a : CallFrame) (label : ℕ) → number_at W32 a.control_stack.operands 0 ≡ None → HasEffect (instr.BrIf label) a a (Err StuckFault)
-lacks_condition a label none = λ m depth read globals rest. (rw none refl, refl)
+pub lacks_operand : (a : CallFrame) (i : Instr) → BranchesAs i a.control_stack.operands branching.Stuck → HasEffect i a a (Err StuckFault)
+lacks_operand a i h = λ m depth read globals rest. (h m depth read a.func (vars_of a globals) rest, refl)
 
-pub branches_if_not_zero : (m : Module) (depth read func : ℕ) (vars : Vars) (operands : List TypedValue) (label condition : ℕ) (rest : List Instr)
-    → (condition ≡ 0 → ⊥) → number_at W32 operands 0 ≡ Some condition → act m depth read func vars operands (instr.BrIf label) rest ≡ Leaves label (drop 1 operands)
-branches_if_not_zero m depth read func vars operands label zero rest some there = absurd (some refl)
-branches_if_not_zero m depth read func vars operands label (suc c) rest some there = rw there refl
+pub branch_is_at_once : (i : Instr) → is_branch i ≡ true → is_at_once i ≡ true
+branch_is_at_once (instr.Br l) h = refl
+branch_is_at_once (instr.BrIf l) h = refl
+branch_is_at_once (instr.BrTable ls l) h = refl
+branch_is_at_once _ h = cc

@@ -94,7 +94,6 @@ made_does m depth read func vars operands instrs (action.Replace n v) = refl
 made_does m depth read func vars operands instrs (action.SetGlobal x v) = refl
 made_does m depth read func vars operands instrs (action.Access op kind n) = refl
 made_does m depth read func vars operands instrs (action.Enter b n) = made_enter (block_in m.funcs func b) vars _ instrs
-made_does m depth read func vars operands instrs (action.Branch l n) = refl
 made_does m depth read func vars operands instrs action.Return = refl
 made_does m depth read func vars operands instrs (action.Call f) = made_invoke (callable m f) depth f vars operands _
 

@@ -10,7 +10,7 @@ use Rattle.wm_machine.specs.declared.action.Action.{Action}
 use Rattle.wm_machine.specs.declared.action.Action.TheVariants as action
 use Rattle.wm_machine.specs.Functions.{callable}
 use Rattle.wm_machine.specs.Accesses.{loaded}
-use Rattle.wm_machine.specs.Term.{Vars, Here, Reduced, Next, Leaves, Returns, Traps, Stuck}
+use Rattle.wm_machine.specs.Term.{Vars, Here, Reduced, Next, Returns, Traps, Stuck}
 use Rattle.wm_machine.specs.Step.{continue_with, after, enter, invoke, push_optional, act}
 
 -- the effect of the action on the innermost place
@@ -25,7 +25,6 @@ does m depth read func vars operands instrs (action.Access op kind popped) =
     Next (Some op) vars (Here (push_optional (loaded kind read) (drop popped operands)) (after instrs))
 does m depth read func vars operands instrs (action.Enter block popped) =
     enter (block_in m.funcs func block) vars (drop popped operands) instrs
-does m depth read func vars operands instrs (action.Branch label popped) = Leaves label (drop popped operands)
 does m depth read func vars operands instrs action.Return = Returns operands
 does m depth read func vars operands instrs (action.Call callee) =
     invoke (callable m callee) depth callee vars operands (after instrs)
@@ -38,7 +37,6 @@ popped_by (action.Replace popped pushed) = popped
 popped_by (action.SetGlobal x v) = 1
 popped_by (action.Access op kind popped) = popped
 popped_by (action.Enter block popped) = popped
-popped_by (action.Branch label popped) = popped
 popped_by action.Return = 0
 popped_by (action.Call callee) = 0
 
@@ -50,7 +48,6 @@ SetsWithin (action.Replace popped pushed) globals = ⊤
 SetsWithin (action.SetGlobal x v) globals = x < length globals
 SetsWithin (action.Access op kind popped) globals = ⊤
 SetsWithin (action.Enter block popped) globals = ⊤
-SetsWithin (action.Branch label popped) globals = ⊤
 SetsWithin action.Return globals = ⊤
 SetsWithin (action.Call callee) globals = ⊤
 
@@ -62,7 +59,6 @@ SetsNothing (action.Replace popped pushed) = ⊤
 SetsNothing (action.SetGlobal x v) = ⊥
 SetsNothing (action.Access op kind popped) = ⊤
 SetsNothing (action.Enter block popped) = ⊤
-SetsNothing (action.Branch label popped) = ⊤
 SetsNothing action.Return = ⊤
 SetsNothing (action.Call callee) = ⊤
 
@@ -74,7 +70,6 @@ op_of (action.Trap kind) = None
 op_of (action.Replace popped pushed) = None
 op_of (action.SetGlobal x v) = None
 op_of (action.Enter block popped) = None
-op_of (action.Branch label popped) = None
 op_of action.Return = None
 op_of (action.Call callee) = None
 

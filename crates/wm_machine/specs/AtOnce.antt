@@ -22,7 +22,9 @@ is_at_once (instr.I32Const n) = true
 is_at_once (instr.Eqz width) = true
 is_at_once (instr.Compare op width) = true
 is_at_once (instr.Binary op width) = true
+is_at_once (instr.Br l) = true
 is_at_once (instr.BrIf l) = true
+is_at_once (instr.BrTable ls l) = true
 is_at_once _ = false
 
 -- the call at its next instruction, with these locals and operands

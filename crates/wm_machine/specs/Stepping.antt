@@ -89,6 +89,10 @@ MakesStep given old new o = waits o ≡ false → next_config (step old.module (
 abbrev pub KeepsThread : State → State → StepOutcome → Type 0
 KeepsThread old new o = waits o ≡ true → new ≡ old
 
+-- a step with the value that its access reads, if it was made
+abbrev pub IsStepWith : Option ℕ → State → State → StepOutcome → Type 0
+IsStepWith given old new o = WaitsForAccess given old o × MakesStep given old new o × KeepsThread old new o
+
 -- the thread hasn't ended, and this is the code of its running call
 abbrev pub RunsOn : FunctionCode → State → StepOutcome → Type 0
 RunsOn code new o = o ≡ outcome.Made → (new.ended ≡ None) × IsRunningCode code new

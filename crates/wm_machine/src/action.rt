@@ -20,8 +20,6 @@ pub enum Action {
     Access(Op, AccessKind, usize),
     /// Enters a block, after popping this number of operands.
     Enter { block: usize, popped: usize },
-    /// Branches out of blocks, after popping this number of operands.
-    Branch { label: u32, popped: usize },
     Return,
     Call(u32),
 }

@@ -1,5 +1,5 @@
 //! The instructions that loops mostly consist of, each decided and performed at once (Core 1.0, section 4.4).
-ghost use Rattle.std.specs.Prelude.{◌^◌, ◌≡◌, ◌≤◌, ◌<◌, ◌+◌, OnErr, IfErr, IfOk, drop, length, ◌∷◌};
+ghost use Rattle.std.specs.Prelude.{◌^◌, ◌≡◌, ◌≤◌, ◌<◌, ◌+◌, IfErr, IfOk, drop, length, ◌∷◌};
 ghost use Rattle.wm_ast.specs.declared.instr.Instr.{Instr};
 ghost use Rattle.wm_machine.specs.AtOnce.{HasEffect, at_next};
 
@@ -46,19 +46,34 @@ pub fn get_local(running: &mut CallFrame, index: u32) -> Result<Flow, StepFault>
     }
 }
 
-/// `local.set`, and `local.tee`, which pops nothing.
+/// `local.set`.
 #[inline(always)]
-pub fn set_local(running: &mut CallFrame, index: u32, popped: usize) -> Result<Flow, StepFault>
-    requires popped { popped ≤ 1 }
-    requires followed { running.old.control_stack.at + 1 < 2 ^ 64 }
-    ensures set { popped ≡ 1 → HasEffect (Instr.LocalSet index) running.old running.new result }
-    ensures tee { popped ≡ 0 → HasEffect (Instr.LocalTee index) running.old running.new result }
+pub fn set_local(running: &mut CallFrame, index: u32) -> Result<Flow, StepFault>
+    requires { running.old.control_stack.at + 1 < 2 ^ 64 }
+    ensures { HasEffect (Instr.LocalSet index) running.old running.new result }
 {
     let next = running.control_stack.at() + 1;
     match running.control_stack.operand(0) {
         Some(value) if running.locals.has(index as usize) => {
             running.locals.set(index as usize, value)?;
-            running.control_stack.pop(popped);
+            running.control_stack.pop(1);
+            running.control_stack.set_at(next);
+            Ok(Flow::Within)
+        }
+        _ => Err(StepFault::Stuck),
+    }
+}
+
+/// `local.tee`.
+#[inline(always)]
+pub fn tee_local(running: &mut CallFrame, index: u32) -> Result<Flow, StepFault>
+    requires { running.old.control_stack.at + 1 < 2 ^ 64 }
+    ensures { HasEffect (Instr.LocalTee index) running.old running.new result }
+{
+    let next = running.control_stack.at() + 1;
+    match running.control_stack.operand(0) {
+        Some(kept) if running.locals.has(index as usize) => {
+            running.locals.set(index as usize, kept)?;
             running.control_stack.set_at(next);
             Ok(Flow::Within)
         }

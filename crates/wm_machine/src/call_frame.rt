@@ -39,6 +39,14 @@ pub enum StepOutcome {
     NeedsReply,
 }
 
+/// The steps that a thread has made.
+#[derive(Clone, Copy)]
+pub struct Progress {
+    pub made: u32,
+    /// The outcome of the last one that was tried; `Made` if none was.
+    pub last: StepOutcome,
+}
+
 /// The outcome of a step within a call.
 #[derive(Clone, Copy)]
 pub enum Flow {

@@ -15,7 +15,6 @@ use crate::numeric::{converted, counted, number};
 use crate::value::TypedValue;
 use wm_ast::{BlockType, Else, Instr, Module};
 use wm_event::TrapKind;
-use wm_list::List;
 use wm_num::Width;
 
 /// `if`: enters its second block if the topmost operand is 0, otherwise the first.
@@ -38,28 +37,6 @@ fn entered(
         Some(_) => Action::Enter {
             block: first,
             popped: 1,
-        },
-        None => Action::Stuck,
-    }
-}
-
-/// `br_table`: branches to the label at the index that is the topmost operand, or to the default label if the index is
-/// past the list.
-fn branch_by_table(control_stack: &ControlStack, labels: &List<u32>, default: u32) -> Action
-    ensures means { (m : Module) (vars : Vars) → Acts m (Instr.BrTable labels.now default) vars control_stack.now.operands result }
-    ensures room { popped_by result ≤ length control_stack.now.operands }
-    ensures sets { SetsNothing result }
-{
-    match number(control_stack, 0, Width::W32) {
-        Some(index) => match labels.get(index as usize) {
-            Some(label) => Action::Branch {
-                label: *label,
-                popped: 1,
-            },
-            None => Action::Branch {
-                label: default,
-                popped: 1,
-            },
         },
         None => Action::Stuck,
     }
@@ -145,11 +122,6 @@ pub fn decide(
             else_block,
             else_part,
         } => entered(control_stack, *result, *then_block, *else_block, *else_part),
-        Instr::Br(label) => Action::Branch {
-            label: *label,
-            popped: 0,
-        },
-        Instr::BrTable(labels, default) => branch_by_table(control_stack, labels, *default),
         Instr::Return => Action::Return,
         Instr::Call(func) => Action::Call(*func),
         Instr::Drop => dropped(control_stack),
@@ -168,6 +140,8 @@ pub fn decide(
         | Instr::Eqz(_)
         | Instr::Compare(_, _)
         | Instr::Binary(_, _)
-        | Instr::BrIf(_) => unreachable!(),
+        | Instr::Br(_)
+        | Instr::BrIf(_)
+        | Instr::BrTable(_, _) => unreachable!(),
     }
 }

@@ -6,10 +6,10 @@ ghost use Rattle.wm_machine.specs.Step.{next_config, result_of, step};
 ghost use Rattle.wm_machine.specs.Start.{started, started_in};
 ghost use Rattle.wm_machine.specs.Functions.{callable as callable_in};
 ghost use Rattle.wm_machine.specs.Inside.{as_list};
-ghost use Rattle.wm_machine.specs.Stepping.{EndsAtLast, HasEnded, HasStep, IsIn, IsStartFault, KeepsThread, HasNoLocalStep, IsRunningCode, MakesStep, NeedsAccess, RunsLocally, RunsOn, WaitsForAccess};
+ghost use Rattle.wm_machine.specs.Stepping.{EndsAtLast, HasEnded, HasStep, IsIn, IsStartFault, KeepsThread, HasNoLocalStep, IsRunningCode, IsStepWith, MakesStep, NeedsAccess, RunsLocally, RunsOn, WaitsForAccess};
 
 use crate::call::{call, returned};
-use crate::call_frame::{CallFrame, Flow, Invocation, ReturnTo, StepOutcome};
+use crate::call_frame::{CallFrame, Flow, Invocation, Progress, ReturnTo, StepOutcome};
 use crate::call_stack::{CallStack, boxed};
 use crate::code::Code;
 use crate::control_stack::ControlStack;
@@ -243,6 +243,40 @@ impl<'m> Thread<'m> {
         }
     }
 
+    /// Makes steps of a thread that hasn't ended, at most `most`: one with the value that its access reads, or some
+    /// without a value. It stops at an access that isn't made, and at the thread's end.
+    ///
+    /// Every step of a thread is made here: a step that several functions call would not be inlined in this loop.
+    fn steps(&mut self, given: Option<u64>, most: u32) -> Result<Progress, AdvanceFault>
+        requires { self.old.ended ≡ None }
+        ensures one { most ≡ 1 → IfOk result (λ progress. IsStepWith given self.old self.new progress.last) }
+        ensures locally { given ≡ None → IfOk result (λ progress. RunsLocally progress.made self.old self.new) }
+        ensures most { IfOk result (λ progress. progress.made ≤ most) }
+        ensures stops { IfOk result (λ progress. progress.made < most → (read : ℕ) → HasNoLocalStep (need_of read self.new)) }
+        ensures one_err { most ≡ 1 → OnErr result (self.new ≡ self.old) }
+        ensures err { given ≡ None → OnErr result ((count : ℕ) × RunsLocally count self.old self.new) }
+        ensures same { self.new.module ≡ self.old.module }
+    {
+        let mut code = Code::of(self.module, self.running.func);
+        for made in 0..most {
+            let last = self.step_in(&mut code, given)?;
+            match last {
+                StepOutcome::NeedsReply => return Ok(Progress { made, last }),
+                StepOutcome::Last => {
+                    return Ok(Progress {
+                        made: made + 1,
+                        last,
+                    });
+                }
+                StepOutcome::Made => {}
+            }
+        }
+        Ok(Progress {
+            made: most,
+            last: StepOutcome::Made,
+        })
+    }
+
     /// Makes a step of a thread that hasn't ended, with the value that its access reads. Without a value, an access
     /// isn't made.
     fn step_with(&mut self, given: Option<u64>) -> Result<StepOutcome, AdvanceFault>
@@ -253,8 +287,10 @@ impl<'m> Thread<'m> {
         ensures err { OnErr result (self.new ≡ self.old) }
         ensures same { self.new.module ≡ self.old.module }
     {
-        let mut code = Code::of(self.module, self.running.func);
-        self.step_in(&mut code, given)
+        match self.steps(given, 1) {
+            Ok(progress) => Ok(progress.last),
+            Err(fault) => Err(fault),
+        }
     }
 
     /// Makes the next step if it needs nothing; otherwise it reports what the step needs, and nothing changes. So it
@@ -302,16 +338,10 @@ impl<'m> Thread<'m> {
         if self.end.is_some() {
             return Ok(0);
         }
-        let mut code = Code::of(self.module, self.running.func);
-        for made in 0..most {
-            match self.step_in(&mut code, None) {
-                Err(fault) => return Err(fault),
-                Ok(StepOutcome::NeedsReply) => return Ok(made),
-                Ok(StepOutcome::Last) => return Ok(made + 1),
-                Ok(StepOutcome::Made) => {}
-            }
+        match self.steps(None, most) {
+            Ok(progress) => Ok(progress.made),
+            Err(fault) => Err(fault),
         }
-        Ok(most)
     }
 
     /// Makes one step of a thread that hasn't ended, with the reply to its access exactly if `next` returns `Access`.

@@ -1,6 +1,6 @@
 use Rattle.std.proofs.Common.{refl}
-use Rattle.wm_ast.specs.declared.instr.Instr.TheVariants.{Binary, BrIf, Compare, Eqz, I32Const, LocalGet, LocalSet, LocalTee}
-use Rattle.wm_machine.proofs.AtOnce.{at_once_asks, effect_asks, effect_steps}
+use Rattle.wm_ast.specs.declared.instr.Instr.TheVariants.{Binary, Compare, Eqz, I32Const, LocalGet, LocalSet, LocalTee}
+use Rattle.wm_machine.proofs.AtOnce.{effect_asks, effect_steps}
 use Rattle.wm_machine.proofs.perform.follow.Goals as goal
 
 pub returns-in-LocalGet-clause-stepped : goal.returns-in-LocalGet-clause-stepped
@@ -16,22 +16,22 @@ returns-in-LocalGet-clause-asks c =
 pub returns-in-LocalSet-clause-stepped : goal.returns-in-LocalSet-clause-stepped
 returns-in-LocalSet-clause-stepped c =
     let stands = rw c.in-LocalSet.is at c.requires.stands in
-    effect_steps c.args.code.now.module (LocalSet c.in-LocalSet.index) c.args.given c.args.globals.now c.args.running.now c.set_local.new.running c.set_local.result stands (c.set_local.ensures.set refl)
+    effect_steps c.args.code.now.module (LocalSet c.in-LocalSet.index) c.args.given c.args.globals.now c.args.running.now c.set_local.new.running c.set_local.result stands c.set_local.ensures
 
 pub returns-in-LocalSet-clause-asks : goal.returns-in-LocalSet-clause-asks
 returns-in-LocalSet-clause-asks c =
     let stands = rw c.in-LocalSet.is at c.requires.stands in
-    effect_asks c.args.code.now.module (LocalSet c.in-LocalSet.index) c.args.given c.args.globals.now c.args.running.now c.set_local.new.running c.set_local.result stands refl (c.set_local.ensures.set refl)
+    effect_asks c.args.code.now.module (LocalSet c.in-LocalSet.index) c.args.given c.args.globals.now c.args.running.now c.set_local.new.running c.set_local.result stands refl c.set_local.ensures
 
 pub returns-in-LocalTee-clause-stepped : goal.returns-in-LocalTee-clause-stepped
 returns-in-LocalTee-clause-stepped c =
     let stands = rw c.in-LocalTee.is at c.requires.stands in
-    effect_steps c.args.code.now.module (LocalTee c.in-LocalTee.index) c.args.given c.args.globals.now c.args.running.now c.set_local-in-LocalTee.new.running c.set_local-in-LocalTee.result stands (c.set_local-in-LocalTee.ensures.tee refl)
+    effect_steps c.args.code.now.module (LocalTee c.in-LocalTee.index) c.args.given c.args.globals.now c.args.running.now c.tee_local.new.running c.tee_local.result stands c.tee_local.ensures
 
 pub returns-in-LocalTee-clause-asks : goal.returns-in-LocalTee-clause-asks
 returns-in-LocalTee-clause-asks c =
     let stands = rw c.in-LocalTee.is at c.requires.stands in
-    effect_asks c.args.code.now.module (LocalTee c.in-LocalTee.index) c.args.given c.args.globals.now c.args.running.now c.set_local-in-LocalTee.new.running c.set_local-in-LocalTee.result stands refl (c.set_local-in-LocalTee.ensures.tee refl)
+    effect_asks c.args.code.now.module (LocalTee c.in-LocalTee.index) c.args.given c.args.globals.now c.args.running.now c.tee_local.new.running c.tee_local.result stands refl c.tee_local.ensures
 
 pub returns-in-I32Const-clause-stepped : goal.returns-in-I32Const-clause-stepped
 returns-in-I32Const-clause-stepped c =
@@ -73,13 +73,8 @@ returns-in-Binary-clause-asks c =
     let stands = rw c.in-Binary.is at c.requires.stands in
     effect_asks c.args.code.now.module (Binary c.in-Binary.op c.in-Binary.width) c.args.given c.args.globals.now c.args.running.now c.calculate.new.running c.calculate.result stands refl c.calculate.ensures
 
-pub branch_if-requires-clause-stands : goal.branch_if-requires-clause-stands
-branch_if-requires-clause-stands c = rw c.in-BrIf.is at c.requires.stands
+pub returns-in-Br-clause-stepped : goal.returns-in-Br-clause-stepped
+returns-in-Br-clause-stepped c = c.branch_by.ensures.stepped c.args.given c.args.globals.now
 
-pub returns-in-BrIf-clause-stepped : goal.returns-in-BrIf-clause-stepped
-returns-in-BrIf-clause-stepped c = c.branch_if.ensures.stepped c.args.given c.args.globals.now
-
-pub returns-in-BrIf-clause-asks : goal.returns-in-BrIf-clause-asks
-returns-in-BrIf-clause-asks c =
-    let stands = rw c.in-BrIf.is at c.requires.stands in
-    at_once_asks c.args.code.now.module (BrIf c.in-BrIf.label) c.args.given c.args.globals.now c.args.running.now c.branch_if.result stands refl c.branch_if.ensures.asks
+pub returns-in-Br-clause-asks : goal.returns-in-Br-clause-asks
+returns-in-Br-clause-asks c = c.branch_by.ensures.asks c.args.given c.args.globals.now
