@@ -33,6 +33,9 @@ SWITCH = "IS_PLANTED"
 # the program's bytes it is found once, and a copy of the program has another number there.
 SWITCHES = "wm_access"
 NONE_IS_ON = 0x5D8E_F1C3_97A2_64B9
+# How long a row of the gate may take with and without its bug. Without it each takes a second; with threads one after
+# the other it would take minutes, since each waits for the other as long as its steps last.
+SECONDS = "30"
 
 
 def planted(words):
@@ -75,11 +78,18 @@ def plant(edit, folder, is_on):
             file.write(text)
 
 
-def built(folder, niceness):
+def quick_program(folder, niceness):
     """The program of the copy, or nothing if it is not built."""
     words = ["nice", "-n", str(niceness), f"{folder}/wmlab", "--which"]
     ran = subprocess.run(words, stdout=subprocess.PIPE, text=True, check=False)
     return ran.stdout.strip() if ran.returncode == 0 else None
+
+
+def built(edit, folder, niceness=0):
+    """The program of a copy with the edit alone, or nothing if it is not built."""
+    copy_sources(folder)
+    plant(edit, folder, "true")
+    return quick_program(folder, niceness)
 
 
 def red_rows(program, words):
@@ -94,16 +104,14 @@ def seen(program, words):
     """Whether rows fail on a program with a planted bug, and what to say of it."""
     red, is_run = red_rows(program, words)
     if not is_run:
-        return False, f"no row has these words: {words}"
+        return False, f"no row has the words {words[0]}"
     return bool(red), f"{len(red)} rows see it, {red[0]}" if red else "no row sees it"
 
 
 def tried(edit, niceness):
     """Whether rows fail on a program with this planted bug, and what to say of it."""
     with tempfile.TemporaryDirectory() as folder:
-        copy_sources(folder)
-        plant(edit, folder, "true")
-        program = built(folder, niceness)
+        program = built(edit, folder, niceness)
         if not program:
             return False, "it is not built"
         return seen(program, ["long.rows"] if NEEDS_LONG in edit else ["--without", "long.rows"])
@@ -116,7 +124,7 @@ def built_together(listed, folder, niceness):
         plant(edit, folder, f"({SWITCHES}::planted_bug() == {number})")
     with open(f"{folder}/crates/{SWITCHES}/src/lib.rt", "a", encoding="utf-8") as file:
         file.write(f"\n/// Which planted bug is on.\npub fn planted_bug() -> u64 {{\n    {NONE_IS_ON}\n}}\n")
-    program = built(folder, niceness)
+    program = quick_program(folder, niceness)
     if not program:
         return None
     with open(program, "rb") as file:
@@ -142,12 +150,12 @@ def try_together(tally, rows, niceness):
         count = program.count(NONE_IS_ON.to_bytes(8, "little"))
         tally.check(count == 1, f"the program has {count} switches, not one")
         for number, (edit, row) in enumerate(rows.items(), 1):
-            is_seen, said = seen(copy_with(program, number, folder), [row])
+            is_seen, said = seen(copy_with(program, number, folder), [row, "--seconds", SECONDS])
             tally.check(is_seen, edit, said)
             print(f"{edit}: {said}", flush=True)
         without = copy_with(program, NONE_IS_ON, folder)
         for row in sorted(set(rows.values())):
-            red, is_run = red_rows(without, [row])
+            red, is_run = red_rows(without, [row, "--seconds", SECONDS])
             tally.check(is_run and not red, f"{row}: it fails without a planted bug")
 
 
