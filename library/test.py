@@ -24,9 +24,9 @@ LOGS = sorted(glob.glob(f"{TOP}/examples/*.json"))
 MODULES = [f"{TOP}/examples/{name}.wasm" for name in ("store-buffering", "every-trap", "floats", "mixed-widths")]
 
 
-def run(*words, **options):
+def run(*words, timeout=300, **options):
     """The lines that a command prints, and its status."""
-    ran = subprocess.run(words, check=False, capture_output=True, text=True, timeout=300, **options)
+    ran = subprocess.run(words, check=False, capture_output=True, text=True, timeout=timeout, **options)
     return ran.stdout.splitlines(), ran.stderr, ran.returncode
 
 
@@ -85,7 +85,8 @@ def check_harness(room):
 
 
 with tempfile.TemporaryDirectory() as folder:
-    built = run(f"{TOP}/library/build", folder)
+    # The gate builds the program again at the same time.
+    built = run(f"{TOP}/library/build", folder, timeout=900)
     TALLY.check(built[2] == 0 and os.path.getsize(f"{folder}/libwmlab.a") > 0, "library/build", built)
     if built[2] == 0:
         check_answers(folder)

@@ -23,7 +23,7 @@ import tempfile
 import threading
 import time
 
-from wmlabtools import TOP, edits, harness, prover
+from wmlabtools import TOP, by_contract, edits, harness, prover
 
 # The seconds after which a library that was being written is whole.
 SETTLED = 5
@@ -123,23 +123,22 @@ def wait_for_library(crate, start, until):
 
 
 class Copy:
-    """A copy of a crate in a folder, in which functions are proved. What was proved is kept there, so that an edit
-    costs only what it changes."""
+    """A copy of a crate in a folder, in which functions are proved. Others that have files of a proof are taken by
+    their contracts, which `rt ci` has proved. What was proved is kept, so that an edit costs only what it changes."""
 
     def __init__(self, crate, room):
-        self.crate, self.room = crate, room
+        self.crate, self.room, self.top = crate, room, f"{TOP}/crates/{crate}"
         kept = f"{room}/kept"
         os.makedirs(kept)
-        self.words = prover.check_words(crate, "--incremental", kept)
+        self.words = prover.check_words(crate, "--allow-holes", "--incremental", kept)
         for part in ("src", "specs", "proofs"):
-            if os.path.isdir(f"{TOP}/crates/{crate}/{part}"):
-                shutil.copytree(f"{TOP}/crates/{crate}/{part}", f"{room}/{part}")
+            if os.path.isdir(f"{self.top}/{part}"):
+                shutil.copytree(f"{self.top}/{part}", f"{room}/{part}")
+        self.others = by_contract.ByContract(crate, self.top, room)
 
-    def write(self, texts):
-        for path, text in texts.items():
-            copied = path.replace(f"{TOP}/crates/{self.crate}", self.room, 1)
-            with open(copied, "w", encoding="utf-8") as file:
-                file.write(text)
+    def write(self, texts, functions):
+        """Writes changed texts of files, with these functions as they are."""
+        self.others.leave(functions, {os.path.relpath(path, self.top): text for path, text in texts.items()})
 
     def prove(self, functions):
         """What the prover says of these functions, and of what they call."""
@@ -182,9 +181,10 @@ def refusals(copy, batch):
     changed = {}
     for edit in batch:
         changed = edits.changed_files(edit, changed_before=changed)
-    copy.write(changed)
-    said = copy.prove(sorted(set(batch.values())))
-    copy.write({path: edits.text_of(path) for path in changed})
+    functions = sorted(set(batch.values()))
+    copy.write(changed, functions)
+    said = copy.prove(functions)
+    copy.write({path: edits.text_of(path) for path in changed}, functions)
     answers = {}
     for edit, function in batch.items():
         goal = goal_of(said, copy.crate, function)

@@ -15,6 +15,7 @@ import glob
 import os
 import re
 import shlex
+import signal
 import subprocess
 import sys
 import tempfile
@@ -23,7 +24,6 @@ import time
 from wmlabtools import TOP, harness
 
 PAGES = ("README.md", "examples/README.md", "docs/*.md")
-SECONDS = 120
 # `«TEXT»*N` is TEXT N times, joined by commas, with the number of the copy, from 0, for each `%`, and more for
 # `%+MORE`.
 REPEATED = re.compile(r"«([^«»]*)»\*(\d+)")
@@ -228,7 +228,19 @@ def write_files(row, folder):
             file.write(bytes.fromhex(text) if name.endswith(".wasm") else text.encode())
 
 
-def run(row, program):
+def finished(words, folder, seconds):
+    """The process with what it wrote, or nothing if it has not ended after so long; then what it started is ended."""
+    streams = {"stdin": subprocess.DEVNULL, "stdout": subprocess.PIPE, "stderr": subprocess.PIPE}
+    with subprocess.Popen(words, cwd=folder, start_new_session=True, **streams) as started:
+        try:
+            out, err = started.communicate(timeout=seconds)
+        except subprocess.TimeoutExpired:
+            os.killpg(started.pid, signal.SIGKILL)
+            return None
+    return subprocess.CompletedProcess(words, started.returncode, out, err)
+
+
+def run(row, program, limit):
     """The lines that came, in the form in which they are compared, or a sentence on why there are none; and the
     seconds."""
     start = time.monotonic()
@@ -240,12 +252,9 @@ def run(row, program):
         write_files(row, folder)
         # The words are the shell's, but for `*` and `?`: scripts of turns have a `*`.
         words = ["sh", "-f", "-c", f'wmlab() {{ {shlex.quote(program)} "$@"; }}\n{row.command}']
-        try:
-            ran = subprocess.run(
-                words, cwd=folder, stdin=subprocess.DEVNULL, capture_output=True, timeout=SECONDS, check=False
-            )
-        except subprocess.TimeoutExpired:
-            return [f"it did not end in {SECONDS} s"], time.monotonic() - start
+        ran = finished(words, folder, limit)
+        if not ran:
+            return [f"it did not end in {limit} s"], time.monotonic() - start
     out = lines_of(ran.stdout)
     err = [f"! {line}" for line in lines_of(ran.stderr)]
     return out + err + ([f"[{ran.returncode}]"] if ran.returncode else []), time.monotonic() - start
@@ -336,6 +345,7 @@ def main():
         "--without", action="append", default=[], metavar="WORD", help="leave out the rows with this word"
     )
     parser.add_argument("--times", type=int, default=0, metavar="N", help="print the N rows that took longest")
+    parser.add_argument("--seconds", type=int, default=120, metavar="N", help="how long a row may take")
     parser.add_argument("--jobs", type=int, default=os.cpu_count(), help="rows that run side by side")
     parser.add_argument(
         "words", nargs="*", metavar="WORD", help="run only the rows with one of these words in file or title"
@@ -351,7 +361,7 @@ def main():
     rows = [row for row in rows if not any(word in row.name() for word in options.without)]
     changed, times = [], []
     with concurrent.futures.ThreadPoolExecutor(options.jobs) as pool:
-        for row, (got, seconds) in zip(rows, pool.map(lambda row: run(row, program), rows)):
+        for row, (got, seconds) in zip(rows, pool.map(lambda row: run(row, program, options.seconds), rows)):
             times.append((seconds, row))
             is_right = fits(row.wanted(), got)
             tally.check(
