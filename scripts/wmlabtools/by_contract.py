@@ -52,6 +52,12 @@ def is_head(line):
     return line.endswith(" {") and not re.match(r" *(ensures|requires|ghost)\b", line)
 
 
+def owner_of(function):
+    """The function that a closure is written in, as `a::f` of `a::fn::f::map`; or the function, if it is no closure."""
+    module, is_closure, path = function.partition("::fn::")
+    return f"{module}::{path.rpartition('::')[0]}" if is_closure else function
+
+
 class ByContract:
     """A copied crate whose functions are taken by their contracts, but for some."""
 
@@ -64,15 +70,17 @@ class ByContract:
         taken by its contract."""
         texts = {}
         for function, folder in self.folders.items():
-            path = source_of(self.original, function)
+            path, owner = source_of(self.original, function), owner_of(function)
             if path not in texts:
                 with open(f"{self.original}/{path}", encoding="utf-8") as file:
                     texts[path] = changed.get(path) or file.read()
-            if function in functions:
+            if owner in functions:
                 self.give_proof(folder)
-            else:
+                continue
+            self.take_proof(folder)
+            if owner == function:
                 texts[path] = without_body(texts[path], function.split("::")[-1])
-                self.take_proof(function, folder)
+                self.leave_hole(function, folder)
         for path, text in {**changed, **texts}.items():
             with open(f"{self.room}/{path}", "w", encoding="utf-8") as file:
                 file.write(text)
@@ -84,10 +92,12 @@ class ByContract:
             elif os.path.isfile(f"{self.room}/{folder}/{name}"):
                 os.remove(f"{self.room}/{folder}/{name}")
 
-    def take_proof(self, function, folder):
-        for name in FILES[:-1]:
+    def take_proof(self, folder):
+        for name in FILES:
             if os.path.isfile(f"{self.room}/{folder}/{name}"):
                 os.remove(f"{self.room}/{folder}/{name}")
+
+    def leave_hole(self, function, folder):
         hole = HOLE.format(crate=self.crate, path=function.replace("::", "."), name=function.split("::")[-1])
         with open(f"{self.room}/{folder}/Proof.antt", "w", encoding="utf-8") as file:
             file.write(hole)
