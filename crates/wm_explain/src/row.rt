@@ -1,41 +1,69 @@
 //! The table of events.
 
-use crate::named_site::{NamedSite, NamedSites};
+use crate::named_site::NamedSites;
+use itoa::Buffer;
 use std::alloc::{AllocError, Global};
 use std::fmt;
-use std::thread::Threads;
 use wm_event::{Candidate, Event, EventId, EventKey};
 use wm_hb::{WriterRun, writer_runs};
 use wm_list::List;
-use wm_machine::CodePosition;
-use wm_phrase::{EventPhrase, ValueForm, WritersPhrase};
-use wm_sites::ModuleCode;
+use wm_phrase::{EventPhrase, ValueForm, WritersPhrase, write_id, write_key};
 
-/// An event in a table: its place in the order, its name, what it does, and who wrote what it read.
+/// An event in a table: its place in the order, its name, what it does, who wrote what it read, and the instruction that
+/// makes it.
 #[derive(Clone, Copy)]
 struct EventRow<'a> {
     /// From 1, since Init is at 0.
     place: usize,
     event: &'a Event,
     form: ValueForm,
-    /// The bytes that it read, by their writers.
+    /// The writer of all bytes that it read, if they have the same one.
+    writer: Option<EventId>,
+    /// The bytes that it read, by their writers, if they have different ones.
     runs: &'a [WriterRun],
+    /// Empty if it is not known.
+    site: &'a str,
 }
 
-impl fmt::Display for EventRow<'_> {
-    fn fmt<W: fmt::Write>(&self, f: &mut fmt::Formatter<W>) -> fmt::Result {
+/// What fills a place up to the width of its column.
+const PADDING: &str = "       ";
+
+/// Writes a place, to the right in its column.
+fn write_place<W: fmt::Write>(out: &mut W, place: usize) -> fmt::Result {
+    let mut digits = Buffer::new();
+    let number = digits.format(place);
+    out.write_str(PADDING.get(number.len()..).unwrap_or(""))?;
+    out.write_str(number)
+}
+
+impl EventRow<'_> {
+    /// Writes the row.
+    fn write_to<W: fmt::Write>(&self, out: &mut W) -> fmt::Result {
         let EventRow {
             place,
             event,
             form,
+            writer,
             runs,
+            site,
         } = *self;
-        let key = event.key();
-        write!(f, "{place:>7}  {key}  {}", EventPhrase { event, form })?;
-        if runs.is_empty() {
-            return Ok(());
+        write_place(out, place)?;
+        out.write_str("  ")?;
+        write_key(out, event.key())?;
+        out.write_str("  ")?;
+        EventPhrase { event, form }.write_to(out)?;
+        if let Some(writer) = writer {
+            out.write_str("; read from ")?;
+            write_id(out, writer)?;
+        } else if !runs.is_empty() {
+            out.write_str("; read ")?;
+            WritersPhrase(runs).write_to(out)?;
         }
-        write!(f, "; read {}", WritersPhrase(runs))
+        if !site.is_empty() {
+            out.write_str("; ")?;
+            out.write_str(site)?;
+        }
+        out.write_str("\n")
     }
 }
 
@@ -83,6 +111,9 @@ impl MixedAddresses {
 
     /// How the values of an event are shown: in hex too if it accesses one of the addresses.
     fn form_of(&self, event: &Event) -> ValueForm {
+        if self.sorted.is_empty() {
+            return ValueForm::Decimal;
+        }
         for byte in 0..event.width.bytes() {
             let address = u64::from(event.address).saturating_add(u64::from(byte));
             if self.sorted.binary_search(&address).is_ok() {
@@ -112,31 +143,12 @@ impl<'a> EventTables<'a> {
         }
     }
 
-    /// Tables of a candidate's events, with the instructions of a module that make them. Without their positions, the
-    /// threads are followed to find them.
-    ///
-    /// # Errors
-    ///
-    /// Only if an allocation fails.
-    pub(crate) fn over<R: AllocGlobal + Threads + Sync>(
-        rt: &R,
-        code: ModuleCode<'a>,
-        candidate: &'a Candidate<'a>,
-        positions: Option<Vec<List<CodePosition>>>,
-    ) -> Result<Self, AllocError> {
-        let sites = NamedSites::of(rt, code, candidate.log(), positions)?;
-        Ok(EventTables {
-            alloc: rt.alloc(),
+    /// Tables of a candidate's events, with the instructions that make them.
+    pub(crate) fn over(alloc: Global, candidate: &'a Candidate<'a>, sites: NamedSites<'a>) -> Self {
+        EventTables {
+            alloc,
             candidate,
             sites: Some(sites),
-        })
-    }
-
-    /// The instruction that makes an event, if there is one.
-    fn site(&mut self, key: EventKey) -> Result<Option<NamedSite<'_>>, AllocError> {
-        match &mut self.sites {
-            Some(sites) => sites.site(key),
-            None => Ok(None),
         }
     }
 
@@ -151,18 +163,34 @@ impl<'a> EventTables<'a> {
         let (Some(event), Some(place)) = (self.candidate.event(id), self.candidate.place(id)) else {
             return Ok(());
         };
-        let runs = writer_runs(self.alloc, self.candidate, key)?;
+        let writers = self.candidate.writers(key);
+        let is_mixed = is_mixed(writers);
+        let writer = if is_mixed {
+            None
+        } else {
+            writers.first().copied()
+        };
+        let runs = if is_mixed {
+            writer_runs(self.alloc, self.candidate, key)?
+        } else {
+            List::new(self.alloc)
+        };
+        let site = match &mut self.sites {
+            Some(sites) => sites.text(key)?,
+            None => "",
+        };
         let row = EventRow {
             place: place.saturating_add(1),
             event,
             form: mixed.form_of(event),
+            writer,
             runs: runs.as_slice(),
+            site,
         };
-        write!(text, "{row}")?;
-        if let Some(site) = self.site(key)? {
-            write!(text, "; {site}")?;
+        match row.write_to(text) {
+            Ok(()) => Ok(()),
+            Err(_) => Err(AllocError),
         }
-        Ok(text.push_str("\n")?)
     }
 
     /// Adds a table of these events.
