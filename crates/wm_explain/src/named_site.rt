@@ -32,25 +32,28 @@ impl fmt::Display for NamedSite<'_> {
     }
 }
 
-/// How many texts of instructions are kept.
+/// How the row of an event ends whose instruction is not known.
+pub(crate) const ROW_END: &str = "\n";
+
+/// How many ends of rows are kept.
 const SLOTS: usize = 256;
 
-/// The text of the instruction at which a thread makes an event.
+/// How the rows of a thread's events end that are made at a position: with the instruction there.
 #[derive(Drop)]
-struct SiteText {
+struct RowEnd {
     thread: u32,
     position: CodePosition,
     text: String,
 }
 
-/// The texts that were written last, each in a slot that its thread and position decide: most threads make their events at
+/// The ends of rows that were written last, each in a slot that its thread and position decide: most threads make their events at
 /// few instructions.
 #[derive(Drop)]
-struct RecentTexts {
-    slots: Vec<Option<SiteText>>,
+struct RecentEnds {
+    slots: Vec<Option<RowEnd>>,
 }
 
-/// The slot of the text for a position of a thread. The factors are primes, so that neighbours have different slots.
+/// The slot of the end for a position of a thread. The factors are primes, so that neighbours have different slots.
 fn slot_of(thread: u32, position: CodePosition) -> usize {
     let CodePosition { func, block, at } = position;
     (thread as usize)
@@ -61,17 +64,17 @@ fn slot_of(thread: u32, position: CodePosition) -> usize {
         % SLOTS
 }
 
-impl RecentTexts {
-    /// No texts.
+impl RecentEnds {
+    /// No ends.
     fn none(alloc: Global) -> Result<Self, AllocError> {
         let mut slots = Vec::new(alloc);
         for _slot in 0..SLOTS {
             slots.push(None)?;
         }
-        Ok(RecentTexts { slots })
+        Ok(RecentEnds { slots })
     }
 
-    /// The text of the instruction at which a thread makes an event, if it is kept.
+    /// How the rows of a thread's events at a position end, if that is kept.
     fn get(&self, thread: u32, position: CodePosition) -> Option<&str> {
         match self.slots.get(slot_of(thread, position)) {
             Some(Some(kept)) if kept.thread == thread && kept.position == position => {
@@ -81,10 +84,10 @@ impl RecentTexts {
         }
     }
 
-    /// Keeps a text in its slot.
-    fn keep(&mut self, text: SiteText) {
-        if let Some(slot) = self.slots.get_mut(slot_of(text.thread, text.position)) {
-            *slot = Some(text);
+    /// Keeps an end in its slot.
+    fn keep(&mut self, end: RowEnd) {
+        if let Some(slot) = self.slots.get_mut(slot_of(end.thread, end.position)) {
+            *slot = Some(end);
         }
     }
 }
@@ -96,7 +99,7 @@ pub(crate) struct NamedSites<'a> {
     log: &'a Log,
     sites: RunSites<'a>,
     names: FunctionNames<'a>,
-    recent: RecentTexts,
+    recent: RecentEnds,
 }
 
 impl<'a> NamedSites<'a> {
@@ -144,7 +147,7 @@ impl<'a> NamedSites<'a> {
             log,
             sites,
             names: FunctionNames::of(alloc, code)?,
-            recent: RecentTexts::none(alloc)?,
+            recent: RecentEnds::none(alloc)?,
         })
     }
 
@@ -154,38 +157,55 @@ impl<'a> NamedSites<'a> {
         thread.get(key.number as usize).copied()
     }
 
-    /// The text of the instruction that makes an event; empty if the instruction is not found.
-    fn written(&mut self, key: EventKey) -> Result<String, AllocError> {
-        let Some(thread) = self.log.threads().get(key.thread as usize) else {
-            return Ok(String::new(self.alloc));
-        };
-        let Some(site) = self.sites.site(key)? else {
-            return Ok(String::new(self.alloc));
-        };
-        let start = thread.start.name.as_str();
-        let function = self.names.name(start, site.function as usize);
-        let site = NamedSite { site, function };
-        format!(in self.alloc; "{site}")
-    }
-
-    /// The instruction that makes an event, as `at 0x2e, instruction 2 of "a"`; empty if its thread doesn't make it.
+    /// The instruction that makes an event; None if its thread doesn't make it.
     ///
     /// # Errors
     ///
     /// Only if an allocation fails.
-    pub(crate) fn text(&mut self, key: EventKey) -> Result<&str, AllocError> {
+    fn site(&mut self, key: EventKey) -> Result<Option<NamedSite<'_>>, AllocError> {
+        let Some(thread) = self.log.threads().get(key.thread as usize) else {
+            return Ok(None);
+        };
+        let Some(site) = self.sites.site(key)? else {
+            return Ok(None);
+        };
+        let start = thread.start.name.as_str();
+        let function = self.names.name(start, site.function as usize);
+        Ok(Some(NamedSite { site, function }))
+    }
+
+    /// How the row of an event ends, as `; at 0x2e, instruction 2 of "a"` and a newline; only with the newline if its thread
+    /// doesn't make it.
+    ///
+    /// # Errors
+    ///
+    /// Only if an allocation fails.
+    pub(crate) fn row_end(&mut self, key: EventKey) -> Result<&str, AllocError> {
+        let alloc = self.alloc;
         let Some(position) = self.position(key) else {
-            return Ok("");
+            return Ok(ROW_END);
         };
         if self.recent.get(key.thread, position).is_none() {
-            let text = self.written(key)?;
-            self.recent.keep(SiteText {
+            let text = match self.site(key)? {
+                Some(site) => format!(in alloc; "; {site}{ROW_END}")?,
+                None => String::from_str(alloc, ROW_END)?,
+            };
+            self.recent.keep(RowEnd {
                 thread: key.thread,
                 position,
                 text,
             });
         }
-        Ok(self.recent.get(key.thread, position).unwrap_or(""))
+        Ok(self.recent.get(key.thread, position).unwrap_or(ROW_END))
+    }
+
+    /// The instruction that makes an event, as `at 0x2e, instruction 2 of "a"`; empty if its thread doesn't make it.
+    fn place(&mut self, key: EventKey) -> Result<String, AllocError> {
+        let alloc = self.alloc;
+        match self.site(key)? {
+            Some(site) => format!(in alloc; "{site}"),
+            None => Ok(String::new(alloc)),
+        }
     }
 }
 
@@ -203,10 +223,10 @@ pub(crate) fn event_places(
     let mut places = Vec::new(alloc);
     for id in ids {
         let place = match *id {
-            EventId::Init => "",
-            EventId::At(key) => sites.text(key)?,
+            EventId::Init => String::new(alloc),
+            EventId::At(key) => sites.place(key)?,
         };
-        places.push(String::from_str(alloc, place)?)?;
+        places.push(place)?;
     }
     Ok(places)
 }

@@ -1,6 +1,6 @@
 //! The table of events.
 
-use crate::named_site::NamedSites;
+use crate::named_site::{NamedSites, ROW_END};
 use itoa::Buffer;
 use std::alloc::{AllocError, Global};
 use std::fmt;
@@ -21,8 +21,8 @@ struct EventRow<'a> {
     writer: Option<EventId>,
     /// The bytes that it read, by their writers, if they have different ones.
     runs: &'a [WriterRun],
-    /// Empty if it is not known.
-    site: &'a str,
+    /// How the row ends: with the instruction that makes the event, if it is known.
+    end: &'a str,
 }
 
 /// What fills a place up to the width of its column.
@@ -45,7 +45,7 @@ impl EventRow<'_> {
             form,
             writer,
             runs,
-            site,
+            end,
         } = *self;
         write_place(out, place)?;
         out.write_str("  ")?;
@@ -59,11 +59,7 @@ impl EventRow<'_> {
             out.write_str("; read ")?;
             WritersPhrase(runs).write_to(out)?;
         }
-        if !site.is_empty() {
-            out.write_str("; ")?;
-            out.write_str(site)?;
-        }
-        out.write_str("\n")
+        out.write_str(end)
     }
 }
 
@@ -175,9 +171,9 @@ impl<'a> EventTables<'a> {
         } else {
             List::new(self.alloc)
         };
-        let site = match &mut self.sites {
-            Some(sites) => sites.text(key)?,
-            None => "",
+        let end = match &mut self.sites {
+            Some(sites) => sites.row_end(key)?,
+            None => ROW_END,
         };
         let row = EventRow {
             place: place.saturating_add(1),
@@ -185,7 +181,7 @@ impl<'a> EventTables<'a> {
             form: mixed.form_of(event),
             writer,
             runs: runs.as_slice(),
-            site,
+            end,
         };
         match row.write_to(text) {
             Ok(()) => Ok(()),

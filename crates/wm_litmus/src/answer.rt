@@ -146,17 +146,13 @@ impl Answer {
         Ok(Answer { text, status: 0 })
     }
 
-    /// The line of a verdict, and the sentences that explain it. The line is put before them, so that they are not copied.
-    pub fn explained(
-        alloc: Global,
-        verdict: &Verdict,
-        reasons: String,
-    ) -> Result<Answer, AllocError>
-        ensures { IfOk result (PrintsReasons verdict.now (string_bytes reasons)) }
+    /// The line of a verdict, and the sentences that explain it.
+    pub fn explained(alloc: Global, verdict: &Verdict, reasons: &str) -> Result<Answer, AllocError>
+        ensures { IfOk result (PrintsReasons verdict.now reasons.now) }
     {
-        let Answer { text: line, status } = Answer::of_verdict(alloc, verdict)?;
-        let mut text = reasons;
-        text.insert_str(0, line.as_str())?;
+        let line = verdict_line(alloc, verdict)?;
+        let text = format!(in alloc; "{line}\n{reasons}")?;
+        let status = verdict_status_of(verdict);
         Ok(Answer { text, status })
     }
 
