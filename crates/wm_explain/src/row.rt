@@ -9,8 +9,7 @@ use wm_hb::{WriterRun, writer_runs};
 use wm_list::List;
 use wm_phrase::{EventPhrase, ValueForm, WritersPhrase, write_id, write_key};
 
-/// An event in a table: its place in the order, its name, what it does, who wrote what it read, and the instruction that
-/// makes it.
+/// An event in a table: its place in the order, its name, what it does, and who wrote what it read.
 #[derive(Clone, Copy)]
 struct EventRow<'a> {
     /// From 1, since Init is at 0.
@@ -21,8 +20,6 @@ struct EventRow<'a> {
     writer: Option<EventId>,
     /// The bytes that it read, by their writers, if they have different ones.
     runs: &'a [WriterRun],
-    /// How the row ends: with the instruction that makes the event, if it is known.
-    end: &'a str,
 }
 
 /// What fills a place up to the width of its column.
@@ -37,7 +34,7 @@ fn write_place<W: fmt::Write>(out: &mut W, place: usize) -> fmt::Result {
 }
 
 impl EventRow<'_> {
-    /// Writes the row.
+    /// Writes the row, without its end.
     fn write_to<W: fmt::Write>(&self, out: &mut W) -> fmt::Result {
         let EventRow {
             place,
@@ -45,7 +42,6 @@ impl EventRow<'_> {
             form,
             writer,
             runs,
-            end,
         } = *self;
         write_place(out, place)?;
         out.write_str("  ")?;
@@ -54,12 +50,13 @@ impl EventRow<'_> {
         EventPhrase { event, form }.write_to(out)?;
         if let Some(writer) = writer {
             out.write_str("; read from ")?;
-            write_id(out, writer)?;
-        } else if !runs.is_empty() {
-            out.write_str("; read ")?;
-            WritersPhrase(runs).write_to(out)?;
+            return write_id(out, writer);
         }
-        out.write_str(end)
+        if runs.is_empty() {
+            return Ok(());
+        }
+        out.write_str("; read ")?;
+        WritersPhrase(runs).write_to(out)
     }
 }
 
@@ -171,22 +168,21 @@ impl<'a> EventTables<'a> {
         } else {
             List::new(self.alloc)
         };
-        let end = match &mut self.sites {
-            Some(sites) => sites.row_end(key)?,
-            None => ROW_END,
-        };
         let row = EventRow {
             place: place.saturating_add(1),
             event,
             form: mixed.form_of(event),
             writer,
             runs: runs.as_slice(),
-            end,
         };
-        match row.write_to(text) {
-            Ok(()) => Ok(()),
-            Err(_) => Err(AllocError),
+        if row.write_to(text).is_err() {
+            return Err(AllocError);
         }
+        match &mut self.sites {
+            Some(sites) => text.push_str(sites.row_end(key)?)?,
+            None => text.push_str(ROW_END)?,
+        }
+        Ok(())
     }
 
     /// Adds a table of these events.
