@@ -1,5 +1,5 @@
 -- A thread's log compared with its run.
-use Rattle.std.specs.Prelude.{◌≡◌, ℕ, List, Option, Some, None, slice_get}
+use Rattle.std.specs.Prelude.{◌≡◌, ℕ, Option, Some, None, slice_get}
 use Rattle.wm_ast.specs.declared.module.Module.{Module}
 use Rattle.wm_event.specs.Limits.{max_steps}
 use Rattle.wm_event.specs.declared.event.Event.{Event}

@@ -7,6 +7,7 @@ ghost use Rattle.wm_replay.specs.Following.{HasPlaces};
 use std::alloc::{AllocError, Global};
 use std::fmt;
 use wm_event::{End, Event, MAX_STEPS, OpFields, ThreadLog};
+use wm_list::List;
 use wm_machine::{CodePosition, Need, Thread};
 use wm_phrase::{EndPhrase, EventPhrase, OpPhrase};
 use wm_replay::follow;
@@ -28,7 +29,7 @@ pub(crate) enum Next {
 }
 
 /// How far a thread runs by its log, and what comes next.
-#[derive(Clone, Copy)]
+#[derive(Drop)]
 pub(crate) struct Compared {
     /// How many steps it makes.
     pub steps: u32,
@@ -40,6 +41,8 @@ pub(crate) struct Compared {
     pub made: Next,
     /// The position of the thread in its code then.
     pub position: CodePosition,
+    /// The positions in the code at which it makes its events, in order.
+    pub positions: List<CodePosition>,
 }
 
 /// What the log has next, after the given number of events.
@@ -88,6 +91,7 @@ pub(crate) fn compare(
         logged: log_next(stated.events.as_slice(), followed.events),
         made: module_next(&followed.thread),
         position: followed.thread.position(),
+        positions: followed.positions,
     }))
 }
 

@@ -11,8 +11,8 @@ mod remedy;
 mod replay;
 mod row;
 mod rule;
+mod some_sites;
 mod start_refusal;
 
-pub use named_site::event_places;
 pub use reasons::{explain_events, explain_refusal, explain_run, explain_shape};
-pub use replay::module_does;
+pub use replay::{PictureNotes, picture_notes};

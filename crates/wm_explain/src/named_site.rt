@@ -4,7 +4,7 @@ use crate::function_name::{BriefName, FunctionName, FunctionNames};
 use std::alloc::{AllocError, Global};
 use std::fmt;
 use std::thread::Threads;
-use wm_event::{EventKey, Log, ThreadLog};
+use wm_event::{EventId, EventKey, Log};
 use wm_list::List;
 use wm_machine::CodePosition;
 use wm_races::Site;
@@ -32,12 +32,74 @@ impl fmt::Display for NamedSite<'_> {
     }
 }
 
+/// How the row of an event ends whose instruction is not known.
+pub(crate) const ROW_END: &str = "\n";
+
+/// How many ends of rows are kept.
+const SLOTS: usize = 256;
+
+/// How the rows of a thread's events end that are made at a position: with the instruction there.
+#[derive(Drop)]
+struct RowEnd {
+    thread: u32,
+    position: CodePosition,
+    text: String,
+}
+
+/// The ends of rows that were written last, each in a slot that its thread and position decide: most threads make their events at
+/// few instructions.
+#[derive(Drop)]
+struct RecentEnds {
+    slots: Vec<Option<RowEnd>>,
+}
+
+/// The slot of the end for a position of a thread. The factors are primes, so that neighbours have different slots.
+fn slot_of(thread: u32, position: CodePosition) -> usize {
+    let CodePosition { func, block, at } = position;
+    (thread as usize)
+        .wrapping_mul(61)
+        .wrapping_add(func.wrapping_mul(31))
+        .wrapping_add(block.wrapping_mul(7))
+        .wrapping_add(at)
+        % SLOTS
+}
+
+impl RecentEnds {
+    /// No ends.
+    fn none(alloc: Global) -> Result<Self, AllocError> {
+        let mut slots = Vec::new(alloc);
+        for _slot in 0..SLOTS {
+            slots.push(None)?;
+        }
+        Ok(RecentEnds { slots })
+    }
+
+    /// How the rows of a thread's events at a position end, if that is kept.
+    fn get(&self, thread: u32, position: CodePosition) -> Option<&str> {
+        match self.slots.get(slot_of(thread, position)) {
+            Some(Some(kept)) if kept.thread == thread && kept.position == position => {
+                Some(kept.text.as_str())
+            }
+            _ => None,
+        }
+    }
+
+    /// Keeps an end in its slot.
+    fn keep(&mut self, end: RowEnd) {
+        if let Some(slot) = self.slots.get_mut(slot_of(end.thread, end.position)) {
+            *slot = Some(end);
+        }
+    }
+}
+
 /// The instructions that make the events of a log, with the names of their functions.
 #[derive(Drop)]
 pub(crate) struct NamedSites<'a> {
+    alloc: Global,
     log: &'a Log,
     sites: RunSites<'a>,
     names: FunctionNames<'a>,
+    recent: RecentEnds,
 }
 
 impl<'a> NamedSites<'a> {
@@ -56,8 +118,43 @@ impl<'a> NamedSites<'a> {
             Some(positions) => RunSites::at(rt.alloc(), code, positions)?,
             None => RunSites::of(rt, code, log)?,
         };
-        let names = FunctionNames::of(rt.alloc(), code)?;
-        Ok(NamedSites { log, sites, names })
+        NamedSites::new(rt.alloc(), code, log, sites)
+    }
+
+    /// The instructions at these positions, at which the threads of a log make its events.
+    ///
+    /// # Errors
+    ///
+    /// Only if an allocation fails.
+    pub(crate) fn at(
+        alloc: Global,
+        code: ModuleCode<'a>,
+        log: &'a Log,
+        positions: Vec<List<CodePosition>>,
+    ) -> Result<Self, AllocError> {
+        NamedSites::new(alloc, code, log, RunSites::at(alloc, code, positions)?)
+    }
+
+    /// These instructions with the names of their functions.
+    fn new(
+        alloc: Global,
+        code: ModuleCode<'a>,
+        log: &'a Log,
+        sites: RunSites<'a>,
+    ) -> Result<Self, AllocError> {
+        Ok(NamedSites {
+            alloc,
+            log,
+            sites,
+            names: FunctionNames::of(alloc, code)?,
+            recent: RecentEnds::none(alloc)?,
+        })
+    }
+
+    /// The position at which an event is made; None if its thread doesn't make it.
+    fn position(&self, key: EventKey) -> Option<CodePosition> {
+        let thread = self.sites.positions.get(key.thread as usize)?;
+        thread.get(key.number as usize).copied()
     }
 
     /// The instruction that makes an event; None if its thread doesn't make it.
@@ -65,7 +162,7 @@ impl<'a> NamedSites<'a> {
     /// # Errors
     ///
     /// Only if an allocation fails.
-    pub(crate) fn site(&mut self, key: EventKey) -> Result<Option<NamedSite<'_>>, AllocError> {
+    fn site(&mut self, key: EventKey) -> Result<Option<NamedSite<'_>>, AllocError> {
         let Some(thread) = self.log.threads().get(key.thread as usize) else {
             return Ok(None);
         };
@@ -76,43 +173,60 @@ impl<'a> NamedSites<'a> {
         let function = self.names.name(start, site.function as usize);
         Ok(Some(NamedSite { site, function }))
     }
-}
 
-/// The places of a thread's events in the module.
-fn thread_places(
-    alloc: Global,
-    sites: &mut NamedSites,
-    thread: &ThreadLog,
-) -> Result<Vec<String>, AllocError> {
-    let mut places = Vec::new(alloc);
-    for event in thread.events.as_slice() {
-        let place = match sites.site(event.key())? {
-            Some(site) => format!(in alloc; "{site}")?,
-            None => String::new(alloc),
+    /// How the row of an event ends, as `; at 0x2e, instruction 2 of "a"` and a newline; only with the newline if its thread
+    /// doesn't make it.
+    ///
+    /// # Errors
+    ///
+    /// Only if an allocation fails.
+    pub(crate) fn row_end(&mut self, key: EventKey) -> Result<&str, AllocError> {
+        let alloc = self.alloc;
+        let Some(position) = self.position(key) else {
+            return Ok(ROW_END);
         };
-        places.push(place)?;
+        if self.recent.get(key.thread, position).is_none() {
+            let text = match self.site(key)? {
+                Some(site) => format!(in alloc; "; {site}{ROW_END}")?,
+                None => String::from_str(alloc, ROW_END)?,
+            };
+            self.recent.keep(RowEnd {
+                thread: key.thread,
+                position,
+                text,
+            });
+        }
+        Ok(self.recent.get(key.thread, position).unwrap_or(ROW_END))
     }
-    Ok(places)
+
+    /// The instruction that makes an event, as `at 0x2e, instruction 2 of "a"`; empty if its thread doesn't make it.
+    fn place(&mut self, key: EventKey) -> Result<String, AllocError> {
+        let alloc = self.alloc;
+        match self.site(key)? {
+            Some(site) => format!(in alloc; "{site}"),
+            None => Ok(String::new(alloc)),
+        }
+    }
 }
 
-/// For each event of a log, by thread and number, the instruction that makes it, as `at 0x2e, instruction 2 of "a"`.
-/// The string is empty if the thread doesn't make the event. `positions` are those at which the threads make the events,
-/// if they are known; otherwise the threads are followed to find them.
+/// For each of these events of a log, the instruction that makes it, as `at 0x2e, instruction 2 of "a"`. The string is
+/// empty if its thread doesn't make the event, or for Init.
 ///
 /// # Errors
 ///
 /// Only if an allocation fails.
-pub fn event_places<R: AllocGlobal + Threads + Sync>(
-    rt: &R,
-    code: ModuleCode,
-    log: &Log,
-    positions: Option<Vec<List<CodePosition>>>,
-) -> Result<Vec<Vec<String>>, AllocError> {
-    let alloc = rt.alloc();
-    let mut sites = NamedSites::of(rt, code, log, positions)?;
+pub(crate) fn event_places(
+    alloc: Global,
+    sites: &mut NamedSites,
+    ids: &[EventId],
+) -> Result<Vec<String>, AllocError> {
     let mut places = Vec::new(alloc);
-    for thread in log.threads() {
-        places.push(thread_places(alloc, &mut sites, thread)?)?;
+    for id in ids {
+        let place = match *id {
+            EventId::Init => String::new(alloc),
+            EventId::At(key) => sites.place(key)?,
+        };
+        places.push(place)?;
     }
     Ok(places)
 }

@@ -1,6 +1,7 @@
 //! The reasons for a verdict.
 
 use crate::allowed::{allowed_reason, permitted_reason};
+use crate::named_site::NamedSites;
 use crate::replay::replay_reason;
 use crate::row::EventTables;
 use crate::rule::rule_reason;
@@ -64,9 +65,13 @@ pub fn explain_run<R: AllocGlobal + Threads + Sync>(
 ) -> Result<String, AllocError> {
     match verdict {
         Verdict::Refused(_) => Ok(String::new(rt.alloc())),
-        Verdict::Allowed(_) => allowed_reason(EventTables::over(rt, code, candidate, positions)?),
+        Verdict::Allowed(_) => {
+            let sites = NamedSites::of(rt, code, candidate.log(), positions)?;
+            allowed_reason(EventTables::over(rt.alloc(), candidate, sites))
+        }
         Verdict::Broken(Breach::Rule(fault)) => {
-            rule_reason(EventTables::over(rt, code, candidate, positions)?, fault)
+            let sites = NamedSites::of(rt, code, candidate.log(), positions)?;
+            rule_reason(EventTables::over(rt.alloc(), candidate, sites), fault)
         }
         Verdict::Broken(Breach::Replay(answer)) => replay_reason(rt, code, candidate, *answer),
     }

@@ -1,16 +1,20 @@
 //! Why a thread's log isn't its run.
 
 use crate::compared::{Compared, Next, compare};
+use crate::named_site::{NamedSites, event_places};
 use crate::position::position_phrase;
 use crate::row::EventTables;
-use crate::rule::add_fault_events;
+use crate::rule::events_of;
+use crate::some_sites::{ComparedRun, sites_of};
 use crate::start_refusal::start_reason;
 use std::alloc::{AllocError, Global};
 use std::cmp::Ordering;
 use std::fmt;
 use std::thread::Threads;
 use wm_check::{Breach, Verdict};
-use wm_event::{Candidate, Judgement, MAX_STEPS, OpKind, Rule, RuleFault, ThreadLog};
+use wm_event::{Candidate, EventId, Judgement, MAX_STEPS, OpKind, Rule, RuleFault, ThreadLog};
+use wm_list::List;
+use wm_machine::CodePosition;
 use wm_phrase::{AndEndPhrase, Count, EndPhrase, JsonText};
 use wm_replay::{Place, ReplayAnswer};
 use wm_rules::judge;
@@ -42,7 +46,7 @@ impl fmt::Display for MatchPhrase {
 fn add_difference(text: &mut String, compared: &Compared) -> Result<(), AllocError> {
     let steps = Count(u64::from(compared.steps), "step");
     let events = Count(compared.events as u64, "event");
-    let Compared { logged, made, .. } = *compared;
+    let (logged, made) = (compared.logged, compared.made);
     writeln!(
         text,
         "Run again with the values that its reads have in the log, it makes {steps} and {events} as logged. Next,\n  the log has     {logged}\n  the module has  {made}"
@@ -213,16 +217,19 @@ fn add_fault(
 }
 
 /// Adds the events of a violation of the memory rules.
-fn add_fault_table<R: AllocGlobal + Threads + Sync>(
-    rt: &R,
+fn add_fault_table(
+    alloc: Global,
     text: &mut String,
     code: ModuleCode,
     candidate: &Candidate,
+    run: ComparedRun,
     fault: &RuleFault,
 ) -> Result<(), AllocError> {
     text.push_str("The events of the violation, with their places in the order:\n")?;
-    let mut tables = EventTables::over(rt, code, candidate, None)?;
-    add_fault_events(text, &mut tables, fault, &[])
+    let ids = events_of(alloc, candidate, fault, &[])?;
+    let sites = sites_of(alloc, code, candidate.log(), ids.as_slice(), Some(run))?;
+    let mut tables = EventTables::over(alloc, candidate, sites);
+    tables.add(text, ids.as_slice())
 }
 
 /// Why the log of a thread that starts isn't its run.
@@ -278,7 +285,11 @@ fn differing_reason<R: AllocGlobal + Threads + Sync>(
         Judgement::Valid => text.push_str("The memory rules allow the events as logged.\n")?,
         Judgement::Broken(fault) => {
             add_fault(&mut text, thread, &compared, &fault)?;
-            add_fault_table(rt, &mut text, code, candidate, &fault)?;
+            let run = ComparedRun {
+                number,
+                compared: &compared,
+            };
+            add_fault_table(alloc, &mut text, code, candidate, run, &fault)?;
         }
     }
     Ok(text)
@@ -308,23 +319,66 @@ pub(crate) fn replay_reason<R: AllocGlobal + Threads + Sync>(
     }
 }
 
-/// What the module does where a thread differs from its log, as `plain read of 4 bytes at address 4`. The string is
-/// empty if no thread that starts differs.
-///
-/// # Errors
-///
-/// Only if an allocation fails.
-pub fn module_does(
+/// What a picture shows of the module.
+#[derive(Drop)]
+pub struct PictureNotes {
+    /// For each event that the picture shows, the instruction that makes it, as `at 0x2e, instruction 2 of "a"`; empty if
+    /// its thread doesn't make it.
+    pub places: Vec<String>,
+    /// What the module does where a thread differs from its log, as `plain read of 4 bytes at address 4`; empty if no
+    /// thread that starts differs.
+    pub module_does: String,
+}
+
+/// The thread that differs from its log, compared with it; None if no thread that starts differs.
+fn compare_differing(
     alloc: Global,
     module: &ValidModule,
     verdict: &Verdict,
     candidate: &Candidate,
-) -> Result<String, AllocError> {
+) -> Result<Option<(usize, Compared)>, AllocError> {
     let Verdict::Broken(Breach::Replay(ReplayAnswer::Differs(number, _))) = verdict else {
-        return Ok(String::new(alloc));
+        return Ok(None);
     };
     match compare_thread(alloc, module, candidate, *number)? {
-        Some(compared) => format!(in alloc; "{}", compared.made),
-        None => Ok(String::new(alloc)),
+        Some(compared) => Ok(Some((*number, compared))),
+        None => Ok(None),
     }
+}
+
+/// What a picture of a candidate that shows these events shows of the module; `verdict` is a check's verdict on the
+/// candidate. `positions` are those at which the threads make the events, if they are known; otherwise the threads are
+/// followed up to the last of these events.
+///
+/// # Errors
+///
+/// Only if an allocation fails.
+pub fn picture_notes(
+    alloc: Global,
+    code: ModuleCode,
+    verdict: &Verdict,
+    candidate: &Candidate,
+    positions: Option<Vec<List<CodePosition>>>,
+    ids: &[EventId],
+) -> Result<PictureNotes, AllocError> {
+    let differing = compare_differing(alloc, code.module, verdict, candidate)?;
+    let log = candidate.log();
+    let (run, module_does) = match &differing {
+        Some((number, compared)) => {
+            let run = ComparedRun {
+                number: *number,
+                compared,
+            };
+            (Some(run), format!(in alloc; "{}", compared.made)?)
+        }
+        None => (None, String::new(alloc)),
+    };
+    let mut sites = match positions {
+        Some(positions) => NamedSites::at(alloc, code, log, positions)?,
+        None => sites_of(alloc, code, log, ids, run)?,
+    };
+    Ok(PictureNotes {
+        places: event_places(alloc, &mut sites, ids)?,
+        module_does,
+    })
 }

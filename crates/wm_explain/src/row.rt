@@ -1,15 +1,13 @@
 //! The table of events.
 
-use crate::named_site::{NamedSite, NamedSites};
+use crate::named_site::{NamedSites, ROW_END};
+use itoa::Buffer;
 use std::alloc::{AllocError, Global};
 use std::fmt;
-use std::thread::Threads;
 use wm_event::{Candidate, Event, EventId, EventKey};
 use wm_hb::{WriterRun, writer_runs};
 use wm_list::List;
-use wm_machine::CodePosition;
-use wm_phrase::{EventPhrase, ValueForm, WritersPhrase};
-use wm_sites::ModuleCode;
+use wm_phrase::{EventPhrase, ValueForm, WritersPhrase, write_id, write_key};
 
 /// An event in a table: its place in the order, its name, what it does, and who wrote what it read.
 #[derive(Clone, Copy)]
@@ -18,24 +16,47 @@ struct EventRow<'a> {
     place: usize,
     event: &'a Event,
     form: ValueForm,
-    /// The bytes that it read, by their writers.
+    /// The writer of all bytes that it read, if they have the same one.
+    writer: Option<EventId>,
+    /// The bytes that it read, by their writers, if they have different ones.
     runs: &'a [WriterRun],
 }
 
-impl fmt::Display for EventRow<'_> {
-    fn fmt<W: fmt::Write>(&self, f: &mut fmt::Formatter<W>) -> fmt::Result {
+/// What fills a place up to the width of its column.
+const PADDING: &str = "       ";
+
+/// Writes a place, to the right in its column.
+fn write_place<W: fmt::Write>(out: &mut W, place: usize) -> fmt::Result {
+    let mut digits = Buffer::new();
+    let number = digits.format(place);
+    out.write_str(PADDING.get(number.len()..).unwrap_or(""))?;
+    out.write_str(number)
+}
+
+impl EventRow<'_> {
+    /// Writes the row, without its end.
+    fn write_to<W: fmt::Write>(&self, out: &mut W) -> fmt::Result {
         let EventRow {
             place,
             event,
             form,
+            writer,
             runs,
         } = *self;
-        let key = event.key();
-        write!(f, "{place:>7}  {key}  {}", EventPhrase { event, form })?;
+        write_place(out, place)?;
+        out.write_str("  ")?;
+        write_key(out, event.key())?;
+        out.write_str("  ")?;
+        EventPhrase { event, form }.write_to(out)?;
+        if let Some(writer) = writer {
+            out.write_str("; read from ")?;
+            return write_id(out, writer);
+        }
         if runs.is_empty() {
             return Ok(());
         }
-        write!(f, "; read {}", WritersPhrase(runs))
+        out.write_str("; read ")?;
+        WritersPhrase(runs).write_to(out)
     }
 }
 
@@ -83,6 +104,9 @@ impl MixedAddresses {
 
     /// How the values of an event are shown: in hex too if it accesses one of the addresses.
     fn form_of(&self, event: &Event) -> ValueForm {
+        if self.sorted.is_empty() {
+            return ValueForm::Decimal;
+        }
         for byte in 0..event.width.bytes() {
             let address = u64::from(event.address).saturating_add(u64::from(byte));
             if self.sorted.binary_search(&address).is_ok() {
@@ -112,31 +136,12 @@ impl<'a> EventTables<'a> {
         }
     }
 
-    /// Tables of a candidate's events, with the instructions of a module that make them. Without their positions, the
-    /// threads are followed to find them.
-    ///
-    /// # Errors
-    ///
-    /// Only if an allocation fails.
-    pub(crate) fn over<R: AllocGlobal + Threads + Sync>(
-        rt: &R,
-        code: ModuleCode<'a>,
-        candidate: &'a Candidate<'a>,
-        positions: Option<Vec<List<CodePosition>>>,
-    ) -> Result<Self, AllocError> {
-        let sites = NamedSites::of(rt, code, candidate.log(), positions)?;
-        Ok(EventTables {
-            alloc: rt.alloc(),
+    /// Tables of a candidate's events, with the instructions that make them.
+    pub(crate) fn over(alloc: Global, candidate: &'a Candidate<'a>, sites: NamedSites<'a>) -> Self {
+        EventTables {
+            alloc,
             candidate,
             sites: Some(sites),
-        })
-    }
-
-    /// The instruction that makes an event, if there is one.
-    fn site(&mut self, key: EventKey) -> Result<Option<NamedSite<'_>>, AllocError> {
-        match &mut self.sites {
-            Some(sites) => sites.site(key),
-            None => Ok(None),
         }
     }
 
@@ -151,18 +156,33 @@ impl<'a> EventTables<'a> {
         let (Some(event), Some(place)) = (self.candidate.event(id), self.candidate.place(id)) else {
             return Ok(());
         };
-        let runs = writer_runs(self.alloc, self.candidate, key)?;
+        let writers = self.candidate.writers(key);
+        let is_mixed = is_mixed(writers);
+        let writer = if is_mixed {
+            None
+        } else {
+            writers.first().copied()
+        };
+        let runs = if is_mixed {
+            writer_runs(self.alloc, self.candidate, key)?
+        } else {
+            List::new(self.alloc)
+        };
         let row = EventRow {
             place: place.saturating_add(1),
             event,
             form: mixed.form_of(event),
+            writer,
             runs: runs.as_slice(),
         };
-        write!(text, "{row}")?;
-        if let Some(site) = self.site(key)? {
-            write!(text, "; {site}")?;
+        if row.write_to(text).is_err() {
+            return Err(AllocError);
         }
-        Ok(text.push_str("\n")?)
+        match &mut self.sites {
+            Some(sites) => text.push_str(sites.row_end(key)?)?,
+            None => text.push_str(ROW_END)?,
+        }
+        Ok(())
     }
 
     /// Adds a table of these events.

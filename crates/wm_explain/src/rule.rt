@@ -279,7 +279,11 @@ fn add_chain(text: &mut String, chain: &FaultChain) -> Result<(), AllocError> {
 }
 
 /// The events of a fault and of the chains that it rests on, each once, in their order; Init first.
-fn events_of(
+///
+/// # Errors
+///
+/// Only if an allocation fails.
+pub(crate) fn events_of(
     alloc: Global,
     candidate: &Candidate,
     fault: &RuleFault,
@@ -302,21 +306,6 @@ fn events_of(
     Ok(ids)
 }
 
-/// Adds the rows of the events of a fault and of these chains.
-///
-/// # Errors
-///
-/// Only if an allocation fails.
-pub(crate) fn add_fault_events(
-    text: &mut String,
-    tables: &mut EventTables,
-    fault: &RuleFault,
-    chains: &[FaultChain],
-) -> Result<(), AllocError> {
-    let ids = events_of(tables.alloc, tables.candidate, fault, chains)?;
-    tables.add(text, ids.as_slice())
-}
-
 /// Why a run breaks a memory rule: the rule, the fault in a sentence, its events, a shortest chain for each
 /// happens-before that it rests on, and whether other writers or another order could mend it.
 ///
@@ -337,7 +326,8 @@ pub(crate) fn rule_reason(
         None => List::new(alloc),
     };
     text.push_str("The events, with their places in the order:\n")?;
-    add_fault_events(&mut text, &mut tables, fault, chains.as_slice())?;
+    let ids = events_of(alloc, candidate, fault, chains.as_slice())?;
+    tables.add(&mut text, ids.as_slice())?;
     for chain in chains.as_slice() {
         add_chain(&mut text, chain)?;
     }

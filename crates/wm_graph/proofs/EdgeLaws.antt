@@ -1,5 +1,5 @@
 -- No edge is missing.
-use Rattle.std.proofs.Common.{◌≡◌, ◌+◌, ◌<◌, ◌++◌, ℕ, List, get_or, length, [], ◌∷◌, All, Contains, Some, ap, drop, slice_get, subst, sym, ◌∙◌}
+use Rattle.std.proofs.Common.{◌≡◌, ◌<◌, ◌++◌, ℕ, List, get_or, length, [], ◌∷◌, All, subst, sym, ◌∙◌}
 use Rattle.std.proofs.lemmas.List.Elements.{All-weaker, Contains-append_left}
 use Rattle.std.proofs.lemmas.Option.{get_or_from_slice_get, same_Some, slice_get-get_or, slice_get_within}
 use Rattle.std.specs.List.{HoldsAt}
@@ -9,9 +9,10 @@ use Rattle.wm_event.specs.Witness.{writers_in}
 use Rattle.wm_event.specs.declared.event.Event.{Event}
 use Rattle.wm_event.specs.declared.event.EventKey.{EventKey}
 use Rattle.wm_event.specs.declared.log.ThreadLog.{ThreadLog}
-use Rattle.wm_graph.specs.Edges.{AreComplete, HasEdge, HasEdgesOf, HasEdgesTo, HasReads, Keeps, ReadsByte}
+use Rattle.wm_graph.specs.Edges.{AreComplete, HasEdge, HasEdgesOf, HasEdgesTo, HasReads, HasShownEdgesTo, Keeps, ReadsByte}
 use Rattle.wm_graph.specs.declared.edges.Edge.{Edge}
 use Rattle.wm_graph.specs.declared.edges.EdgeKind.{EdgeKind}
+use Rattle.wm_graph.specs.declared.shown.Shown.{Shown}
 use Rattle.wm_graph.specs.declared.edges.EdgeKind.TheVariants.{Sequenced}
 use Rattle.wm_hb.specs.ReadsFrom.{AreFromWriters, NamesByte}
 use Rattle.wm_hb.specs.declared.reads_from.WriterRun.{WriterRun}
@@ -43,11 +44,16 @@ kept_edges_to x old new event keeps there = (
   λ k w reads. kept_edge old new (ReadsByte k) w (key_of event) keeps (there.1 k w reads),
 )
 
-pub kept_edges_of : (x : LoggedRun) (old new : List Edge) (thread : ThreadLog) → Keeps old new → HasEdgesOf x old thread → HasEdgesOf x new thread
-kept_edges_of x old new thread keeps there = All-weaker (HasEdgesTo x old) (HasEdgesTo x new) (λ event edges. kept_edges_to x old new event keeps edges) thread.events there
+pub kept_shown_edges_to : (x : LoggedRun) (shown : Shown) (old new : List Edge) (event : Event) → Keeps old new → HasShownEdgesTo x shown old event → HasShownEdgesTo x shown new event
+kept_shown_edges_to x shown old new event keeps there = λ is_shown. kept_edges_to x old new event keeps (there is_shown)
 
-pub kept_complete : (x : LoggedRun) (old new : List Edge) → Keeps old new → AreComplete x old → AreComplete x new
-kept_complete x old new keeps complete = All-weaker (HasEdgesOf x old) (HasEdgesOf x new) (λ thread edges. kept_edges_of x old new thread keeps edges) x.log complete
+pub kept_edges_of : (x : LoggedRun) (shown : Shown) (old new : List Edge) (thread : ThreadLog) → Keeps old new → HasEdgesOf x shown old thread → HasEdgesOf x shown new thread
+kept_edges_of x shown old new thread keeps there =
+    All-weaker (HasShownEdgesTo x shown old) (HasShownEdgesTo x shown new) (λ event edges. kept_shown_edges_to x shown old new event keeps edges) thread.events there
+
+pub kept_complete : (x : LoggedRun) (shown : Shown) (old new : List Edge) → Keeps old new → AreComplete x shown old → AreComplete x shown new
+kept_complete x shown old new keeps complete =
+    All-weaker (HasEdgesOf x shown old) (HasEdgesOf x shown new) (λ thread edges. kept_edges_of x shown old new thread keeps edges) x.log complete
 
 -- the byte of a read is in a run of its writer, so its edge is there
 pub reads_of_runs : (x : LoggedRun) (edges : List Edge) (reader : EventKey) (runs : List WriterRun) → AreFromWriters (writers_in x.witness reader) runs

@@ -16,6 +16,8 @@ use Rattle.wm_graph.specs.declared.edges.Edge.{Edge}
 use Rattle.wm_graph.specs.declared.edges.EdgeKind.{EdgeKind}
 use Rattle.wm_graph.specs.declared.edges.EdgeKind.TheVariants.{Sequenced, ReadsFrom as ReadsBytes, Order, Coherence, FromRead}
 use Rattle.wm_graph.specs.declared.edges.ReadsFrom.{ReadsFrom as Bytes}
+use Rattle.wm_graph.specs.declared.shown.Shown.{Shown}
+use Rattle.wm_graph.specs.Shown.{IsShown}
 
 -- b is the next event of a's thread
 abbrev pub IsNext : EventId → EventKey → Type 0
@@ -89,13 +91,17 @@ HasReads x edges b = (k : ℕ) (w : EventId) → ReadsFrom (execution x) b k w �
 abbrev pub HasEdgesTo : LoggedRun → List Edge → Event → Type 0
 HasEdgesTo x edges event = HasSequenced edges (key_of event) × HasReads x edges (key_of event)
 
--- all edges to the events of a thread are included
-abbrev pub HasEdgesOf : LoggedRun → List Edge → ThreadLog → Type 0
-HasEdgesOf x edges thread = All (HasEdgesTo x edges) thread.events
+-- all edges to an event are included, if it is shown
+abbrev pub HasShownEdgesTo : LoggedRun → Shown → List Edge → Event → Type 0
+HasShownEdgesTo x shown edges event = IsShown shown (key_of event) → HasEdgesTo x edges event
 
--- all edges to all events of the log are included
-abbrev pub AreComplete : LoggedRun → List Edge → Type 0
-AreComplete x edges = All (HasEdgesOf x edges) x.log
+-- all edges to the events of a thread that are shown are included
+abbrev pub HasEdgesOf : LoggedRun → Shown → List Edge → ThreadLog → Type 0
+HasEdgesOf x shown edges thread = All (HasShownEdgesTo x shown edges) thread.events
+
+-- all edges to all events of the log that are shown are included
+abbrev pub AreComplete : LoggedRun → Shown → List Edge → Type 0
+AreComplete x shown edges = All (HasEdgesOf x shown edges) x.log
 
 -- these edges are still among those
 abbrev pub Keeps : List Edge → List Edge → Type 0

@@ -1,3 +1,4 @@
 pub mod Chains
 pub mod Columns
 pub mod Edges
+pub mod Shown

@@ -5,9 +5,11 @@
 pub struct Caption<'a> {
     /// The line of the verdict.
     pub title: &'a str,
-    /// The place in the module where each event is made, by thread and number; none, or an empty string, if it is not
-    /// known.
-    pub places: &'a [Vec<String>],
+    /// The place in the module where each event is made that is shown, in the order of [`Sketch::events`]; none, or an empty
+    /// string, if it is not known.
+    ///
+    /// [`Sketch::events`]: crate::Sketch::events
+    pub places: &'a [String],
     /// What the module does where a thread differs from its log; empty if no thread does.
     pub module_does: &'a str,
 }
@@ -19,17 +21,6 @@ impl<'a> Caption<'a> {
             title,
             places: &[],
             module_does: "",
-        }
-    }
-
-    /// The place in the module where an event of a thread is made; empty if it is not known.
-    pub(crate) fn place(&self, thread: u32, number: u32) -> &'a str {
-        match self.places.get(thread as usize) {
-            Some(places) => match places.get(number as usize) {
-                Some(place) => place.as_str(),
-                None => "",
-            },
-            None => "",
         }
     }
 }

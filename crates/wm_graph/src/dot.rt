@@ -11,16 +11,17 @@ use crate::picture::{Picture, picture_of};
 use crate::shown::Shown;
 use std::alloc::{AllocError, Global};
 use std::fmt;
+use std::slice::Iter;
 use wm_check::{Breach, Verdict};
 use wm_event::{Candidate, EventId};
 use wm_replay::{Place, ReplayAnswer};
 
-/// Adds the node of an event; the node of an atomic event has two borders.
+/// Adds the node of an event that is made at this place in the module; the node of an atomic event has two borders.
 fn add_node(
     text: &mut String,
     node: &Node,
     candidate: &Candidate,
-    caption: Caption,
+    place: &str,
 ) -> Result<(), AllocError> {
     let key = node.event.key();
     let id = EventId::At(key);
@@ -30,7 +31,7 @@ fn add_node(
         place: candidate.place(id).unwrap_or(0).saturating_add(1),
         share: InitialShare::of(candidate.writers(key)),
     };
-    let made = PlaceLabel(caption.place(key.thread, key.number));
+    let made = PlaceLabel(place);
     let border = if node.event.is_atomic() {
         ", peripheries=2"
     } else {
@@ -43,13 +44,14 @@ fn add_node(
     )
 }
 
-/// Adds the events of a thread that are shown, with the number of events left out between them.
+/// Adds the events of a thread that are shown, with the number of events left out between them. Each takes the next place
+/// in the module.
 fn add_nodes(
     text: &mut String,
     column: &Column,
     shown: &Shown,
     candidate: &Candidate,
-    caption: Caption,
+    places: &mut Iter<String>,
 ) -> Result<(), AllocError> {
     let mut last = None;
     let mut left_out = 0usize;
@@ -59,7 +61,11 @@ fn add_nodes(
             left_out = left_out.saturating_add(1);
             continue;
         }
-        add_node(text, node, candidate, caption)?;
+        let place = match places.next() {
+            Some(place) => place.as_str(),
+            None => "",
+        };
+        add_node(text, node, candidate, place)?;
         if left_out > 0 {
             add_gap(text, last, left_out, id)?;
         }
@@ -124,20 +130,17 @@ fn add_module_does(
     }
 }
 
-/// Adds the column of a thread, under the name of its function. The column of a thread that differs from its log is
-/// red.
+/// Adds the column of a thread, under the name of its function, with the next places in the module. The column of a thread
+/// that differs from its log is red.
 fn add_column(
     text: &mut String,
     number: usize,
     column: &Column,
-    shown: &Shown,
-    drawing: Drawing,
+    sketch: &Sketch,
+    caption: Caption,
+    places: &mut Iter<String>,
 ) -> Result<(), AllocError> {
-    let Drawing {
-        caption,
-        verdict,
-        candidate,
-    } = drawing;
+    let (verdict, candidate) = (sketch.verdict, sketch.candidate);
     let function = match candidate.log().threads().get(number) {
         Some(thread) => thread.start.name.as_str(),
         None => "",
@@ -154,7 +157,7 @@ fn add_column(
             "    color=\"{FAULT_COLOUR}\";\n    fontcolor=\"{FAULT_COLOUR}\";"
         )?;
     }
-    add_nodes(text, column, shown, candidate, caption)?;
+    add_nodes(text, column, &sketch.picture.shown, candidate, places)?;
     if differs {
         add_module_does(text, number, verdict, caption)?;
     }
@@ -163,7 +166,7 @@ fn add_column(
 }
 
 /// Adds the node of Init, above the first event of each thread that is shown.
-fn add_init(text: &mut String, picture: &Picture, shown: &Shown) -> Result<(), AllocError> {
+fn add_init(text: &mut String, picture: &Picture) -> Result<(), AllocError> {
     let colour = if picture.is_init_marked {
         FAULT_COLOUR
     } else {
@@ -175,7 +178,7 @@ fn add_init(text: &mut String, picture: &Picture, shown: &Shown) -> Result<(), A
     )?;
     for column in picture.columns.as_slice() {
         let first = column.nodes.as_slice().iter().find(|node: &&Node| -> bool {
-            shown.has(EventId::At(node.event.key()))
+            picture.shown.has_listed(node.event.key())
         });
         if let Some(node) = first {
             let name = NodeName(EventId::At(node.event.key()));
@@ -183,14 +186,6 @@ fn add_init(text: &mut String, picture: &Picture, shown: &Shown) -> Result<(), A
         }
     }
     Ok(())
-}
-
-/// What is drawn in addition to a picture's data.
-#[derive(Clone, Copy)]
-struct Drawing<'a> {
-    caption: Caption<'a>,
-    verdict: &'a Verdict,
-    candidate: &'a Candidate<'a>,
 }
 
 /// The second line of the title, if not all events are shown.
@@ -210,58 +205,79 @@ impl fmt::Display for CountLabel {
     }
 }
 
-/// A picture as text for Graphviz.
-fn print(alloc: Global, picture: &Picture, drawing: Drawing) -> Result<String, AllocError> {
-    let Drawing {
-        caption,
-        verdict,
-        candidate,
-    } = drawing;
-    let shown = Shown::of(alloc, picture, candidate)?;
+/// An execution before it is drawn: which of its events the picture shows, and how they are connected.
+#[derive(Drop)]
+pub struct Sketch<'a> {
+    picture: Picture,
+    verdict: &'a Verdict,
+    candidate: &'a Candidate<'a>,
+}
+
+impl<'a> Sketch<'a> {
+    /// The sketch of a candidate; `verdict` is a check's verdict on it.
+    ///
+    /// If there are more than 60 events, those of the fault are shown with their neighbours, or without a fault the
+    /// first 60 of the order.
+    ///
+    /// # Errors
+    ///
+    /// Only if an allocation fails.
+    pub fn of(
+        alloc: Global,
+        verdict: &'a Verdict,
+        candidate: &'a Candidate<'a>,
+    ) -> Result<Self, AllocError> {
+        Ok(Sketch {
+            picture: picture_of(alloc, verdict, candidate)?,
+            verdict,
+            candidate,
+        })
+    }
+
+    /// The events that are shown, thread by thread.
+    ///
+    /// # Errors
+    ///
+    /// Only if an allocation fails.
+    pub fn events(&self, alloc: Global) -> Result<Vec<EventId>, AllocError> {
+        let Picture { shown, columns, .. } = &self.picture;
+        shown.ids(alloc, columns.as_slice())
+    }
+
+    /// The execution as text for Graphviz. It has a column for each thread with the name of its function; a node for
+    /// Init and for each event that is shown, with its place in the order and, if `caption` has it, in the module; edges
+    /// for sequenced-before (`sb`), reads-from (`rf`, with the bytes if a read has several writers), synchronizes-with
+    /// (`sw`), and for the order if it contradicts one of these. The events of a fault and the chains of happens-before
+    /// that it rests on are red, with what else it needs: the order of its writes, and that one overwrites the other
+    /// (`co`) after the read took its byte (`fr`). If a thread differs from its log, that thread is red, with what the
+    /// module does instead. The label of a read from Init states that; the read has an edge only if it is the fault.
+    ///
+    /// # Errors
+    ///
+    /// Only if an allocation fails.
+    pub fn draw(&self, alloc: Global, caption: Caption) -> Result<String, AllocError> {
+        let picture = &self.picture;
+        let mut text = begin(alloc, caption, &picture.shown)?;
+        add_init(&mut text, picture)?;
+        let mut places = caption.places.iter();
+        for (number, column) in picture.columns.as_slice().iter().enumerate() {
+            add_column(&mut text, number, column, self, caption, &mut places)?;
+        }
+        let drawn = drawn_edges(alloc, picture, self.verdict)?;
+        add_lines(&mut text, drawn.as_slice())?;
+        text.push_str("}\n")?;
+        Ok(text)
+    }
+}
+
+/// The beginning of a picture.
+fn begin(alloc: Global, caption: Caption, shown: &Shown) -> Result<String, AllocError> {
     let title = LabelText(caption.title);
     let count = CountLabel {
         shown: shown.count(),
         total: shown.total,
     };
-    let mut text = format!(in alloc;
+    format!(in alloc;
         "digraph execution {{\n  label=\"{title}{count}\";\n  labelloc=\"t\";\n  nodesep=0.6;\n  ranksep=0.7;\n  fontname=\"monospace\";\n  node [shape=\"box\", fontname=\"monospace\"];\n  edge [fontname=\"monospace\"];\n"
-    )?;
-    add_init(&mut text, picture, &shown)?;
-    for (number, column) in picture.columns.as_slice().iter().enumerate() {
-        add_column(&mut text, number, column, &shown, drawing)?;
-    }
-    let drawn = drawn_edges(alloc, picture, verdict, &shown)?;
-    add_lines(&mut text, drawn.as_slice())?;
-    text.push_str("}\n")?;
-    Ok(text)
-}
-
-/// The execution of a candidate as text for Graphviz; `verdict` is a check's verdict on it. It has a column for each
-/// thread with the name of its function; a node for Init and for each event, with its place in the order and, if
-/// `caption` has it, in the module; edges for sequenced-before (`sb`), reads-from (`rf`, with the bytes if a read has
-/// several writers), synchronizes-with (`sw`), and for the order if it contradicts one of these. The events of a fault
-/// and the chains of happens-before that it rests on are red, with what else it needs: the order of its writes, and
-/// that one overwrites the other (`co`) after the read took its byte (`fr`). If a thread differs from its log, that
-/// thread is red, with what the module does instead. The label of a read from Init states that; the read has an edge
-/// only if it is the fault.
-///
-/// If there are more than 60 events, those of the fault are shown with their neighbours, or without a fault the first
-/// 60 of the order.
-///
-/// # Errors
-///
-/// Only if an allocation fails.
-pub fn draw(
-    alloc: Global,
-    caption: Caption,
-    verdict: &Verdict,
-    candidate: &Candidate,
-) -> Result<String, AllocError> {
-    let picture = picture_of(alloc, verdict, candidate)?;
-    let drawing = Drawing {
-        caption,
-        verdict,
-        candidate,
-    };
-    print(alloc, &picture, drawing)
+    )
 }

@@ -94,9 +94,9 @@ pub(crate) fn drawn_edges(
     alloc: Global,
     picture: &Picture,
     verdict: &Verdict,
-    shown: &Shown,
 ) -> Result<Vec<DrawnEdge>, AllocError> {
     let mut drawn = Vec::new(alloc);
+    let shown = &picture.shown;
     add_edges(&mut drawn, shown, picture.edges.as_slice(), verdict)?;
     add_links(&mut drawn, shown, picture)?;
     add_edges(&mut drawn, shown, picture.fault_edges.as_slice(), verdict)?;

@@ -5,9 +5,10 @@ ghost use Rattle.wm_event.specs.declared.event.EventId.TheVariants.{At};
 ghost use Rattle.wm_event.specs.declared.event.EventKey.{EventKey};
 ghost use Rattle.wm_event.specs.LoggedRun.{LoggedRun};
 ghost use Rattle.wm_event.specs.Witness.{writers_in};
-ghost use Rattle.wm_graph.specs.Edges.{AreComplete, HasEdgesOf, HasEdgesTo, HasReads, HasSequenced, IsNext, IsRight, Keeps, ReadsByte, SyncsWith, sequenced};
+ghost use Rattle.wm_graph.specs.Edges.{AreComplete, HasEdgesOf, HasEdgesTo, HasReads, HasSequenced, HasShownEdgesTo, IsNext, IsRight, Keeps, ReadsByte, SyncsWith, sequenced};
 ghost use Rattle.wm_hb.specs.ReadsFrom.{AreFromWriters, NamesByte};
 
+use crate::shown::Shown;
 use std::alloc::{AllocError, Global};
 use wm_event::{Candidate, Event, EventId, EventKey, ThreadLog};
 use wm_hb::{WriterRun, synchronizes, writer_runs};
@@ -191,36 +192,60 @@ fn add_event(
     Ok(())
 }
 
-/// Adds the edges to the events of a thread.
+/// Adds the edges to an event, if it is shown.
+fn add_shown_event(
+    alloc: Global,
+    edges: &mut List<Edge>,
+    candidate: &Candidate,
+    shown: &Shown,
+    event: &Event,
+) -> Result<(), AllocError>
+    requires { All (IsRight candidate.now) edges.old }
+    ensures right { All (IsRight candidate.now) edges.new }
+    ensures kept { OnOk result (Keeps edges.old edges.new) }
+    ensures complete { OnOk result (HasShownEdgesTo candidate.now shown.now edges.new event.now) }
+{
+    if !shown.has_listed(event.key()) {
+        return Ok(());
+    }
+    add_event(alloc, edges, candidate, event)
+}
+
+/// Adds the edges to the events of a thread that are shown.
 fn add_thread(
     alloc: Global,
     edges: &mut List<Edge>,
     candidate: &Candidate,
+    shown: &Shown,
     thread: &ThreadLog,
 ) -> Result<(), AllocError>
     requires { All (IsRight candidate.now) edges.old }
     ensures right { All (IsRight candidate.now) edges.new }
     ensures kept { OnOk result (Keeps edges.old edges.new) }
-    ensures complete { OnOk result (HasEdgesOf candidate.now edges.new thread.now) }
+    ensures complete { OnOk result (HasEdgesOf candidate.now shown.now edges.new thread.now) }
 {
     for event in thread.events.as_slice() {
-        add_event(alloc, edges, candidate, event)?;
+        add_shown_event(alloc, edges, candidate, shown, event)?;
     }
     Ok(())
 }
 
-/// The edges to the events of a candidate's log, thread by thread.
+/// The edges to the events of a candidate's log that are shown, thread by thread.
 ///
 /// # Errors
 ///
 /// Only if an allocation fails.
-pub(crate) fn edges(alloc: Global, candidate: &Candidate) -> Result<List<Edge>, AllocError>
+pub(crate) fn edges(
+    alloc: Global,
+    candidate: &Candidate,
+    shown: &Shown,
+) -> Result<List<Edge>, AllocError>
     ensures right { IfOk result (All (IsRight candidate.now)) }
-    ensures complete { IfOk result (AreComplete candidate.now) }
+    ensures complete { IfOk result (AreComplete candidate.now shown.now) }
 {
     let mut edges = List::new(alloc);
     for thread in candidate.log().threads() {
-        add_thread(alloc, &mut edges, candidate, thread)?;
+        add_thread(alloc, &mut edges, candidate, shown, thread)?;
     }
     Ok(edges)
 }

@@ -13,4 +13,4 @@ mod picture;
 mod shown;
 
 pub use caption::Caption;
-pub use dot::draw;
+pub use dot::Sketch;

@@ -8,20 +8,22 @@ ghost use Rattle.wm_graph.specs.Edges.{AreComplete, IsRight};
 use crate::columns::{Column, columns, is_marked};
 use crate::edges::{Edge, edges};
 use crate::fault_edges::fault_edges;
+use crate::shown::{FaultParts, Shown};
 use std::alloc::{AllocError, Global};
 use wm_check::{Breach, Verdict};
 use wm_event::{Candidate, EventId};
 use wm_hb::{FaultChain, fault_chains};
 use wm_list::List;
 
-/// The picture of an execution: a column of nodes for each thread, a node for Init, the edges to the events, and what
-/// the fault of a memory rule needs in addition.
+/// The picture of an execution: a column of nodes for each thread, a node for Init, which events are
+/// shown, the edges to these, and what the fault of a memory rule needs in addition.
 #[derive(Drop)]
 pub(crate) struct Picture {
     /// Whether the verdict names Init.
     pub is_init_marked: bool,
     pub columns: List<Column>,
-    /// The edges to the events, thread by thread.
+    pub shown: Shown,
+    /// The edges to the events that are shown, thread by thread.
     pub edges: List<Edge>,
     /// A shortest chain for each happens-before that the fault rests on.
     pub chains: List<FaultChain>,
@@ -75,15 +77,25 @@ pub(crate) fn picture_of(
     ensures columns { IfOk result (λ p. AreColumnsOf candidate.now.log p.columns) }
     ensures marks { IfOk result (λ p. All (λ column. All (IsMarkedBy verdict.now) column.nodes) p.columns) }
     ensures edges { IfOk result (λ p. All (IsRight candidate.now) p.edges) }
-    ensures complete { IfOk result (λ p. AreComplete candidate.now p.edges) }
+    ensures complete { IfOk result (λ p. AreComplete candidate.now p.shown p.edges) }
     ensures chains { IfOk result (λ p. HasChains candidate.now verdict.now p.chains) }
     ensures fault_edges { IfOk result (λ p. All (IsRight candidate.now) p.fault_edges) }
 {
+    let columns = columns(alloc, candidate.log(), verdict)?;
+    let chains = chains_of(alloc, verdict, candidate)?;
+    let fault_edges = fault_edges_of(alloc, verdict, candidate)?;
+    let fault = FaultParts {
+        chains: chains.as_slice(),
+        edges: fault_edges.as_slice(),
+    };
+    let shown = Shown::of(alloc, candidate, columns.as_slice(), fault)?;
+    let edges = edges(alloc, candidate, &shown)?;
     Ok(Picture {
         is_init_marked: is_marked(verdict, EventId::Init),
-        columns: columns(alloc, candidate.log(), verdict)?,
-        edges: edges(alloc, candidate)?,
-        chains: chains_of(alloc, verdict, candidate)?,
-        fault_edges: fault_edges_of(alloc, verdict, candidate)?,
+        columns,
+        shown,
+        edges,
+        chains,
+        fault_edges,
     })
 }

@@ -1,12 +1,24 @@
 //! Which events of an execution a picture shows.
+ghost use Rattle.std.specs.Prelude.{◌≡◌, ◌↔◌, IsTrue};
+ghost use Rattle.wm_graph.specs.Shown.{IsShown, shown_in};
 
+use crate::columns::Column;
 use crate::edges::{Edge, EdgeKind};
-use crate::picture::Picture;
 use std::alloc::{AllocError, Global};
 use wm_event::{Candidate, EventId, EventKey};
+use wm_hb::FaultChain;
+use wm_list::List;
 
 /// Up to this number of events, all are shown.
 const MAX_SHOWN: usize = 60;
+
+/// What a picture shows of the fault of a verdict.
+#[derive(Clone, Copy)]
+pub(crate) struct FaultParts<'a> {
+    pub chains: &'a [FaultChain],
+    /// The edges that the fault needs in addition to its chains.
+    pub edges: &'a [Edge],
+}
 
 /// The events of a picture that are shown: all if there are at most 60. Otherwise, the events that the verdict marks
 /// and those of the fault's chains, with their neighbours: the events before and after them in their threads, and the
@@ -14,32 +26,47 @@ const MAX_SHOWN: usize = 60;
 #[derive(Drop)]
 pub(crate) struct Shown {
     /// Whether an event is shown, by thread and number.
-    events: Vec<Vec<bool>>,
+    events: Vec<List<bool>>,
     /// How many events there are.
     pub total: usize,
 }
 
 impl Shown {
-    /// No event of a picture is shown.
-    fn none(alloc: Global, picture: &Picture) -> Result<Shown, AllocError> {
+    /// All events of these columns are shown, or none.
+    fn same(alloc: Global, columns: &[Column], is_shown: bool) -> Result<Shown, AllocError> {
         let mut events = Vec::new(alloc);
         let mut total = 0usize;
-        for column in picture.columns.as_slice() {
+        for column in columns {
             let count = column.nodes.len();
-            events.push(vec![in alloc; false; count]?)?;
+            events.push(List::from_vec(vec![in alloc; is_shown; count]?))?;
             total = total.saturating_add(count);
         }
         Ok(Shown { events, total })
+    }
+
+    /// Whether a listed event is shown; None if there is no such event.
+    fn at(&self, key: EventKey) -> Option<bool>
+        ensures { result ≡ shown_in self.now.events.items key }
+    {
+        let events = self.events.get(key.thread as usize)?;
+        events.get(key.number as usize).copied()
+    }
+
+    /// Whether a listed event is shown.
+    pub(crate) fn has_listed(&self, key: EventKey) -> bool
+        ensures { IsTrue result ↔ IsShown self.now key }
+    {
+        match self.at(key) {
+            Some(is_shown) => is_shown,
+            None => false,
+        }
     }
 
     /// Whether an event is shown; Init is.
     pub(crate) fn has(&self, id: EventId) -> bool {
         match id {
             EventId::Init => true,
-            EventId::At(EventKey { thread, number }) => match self.events.get(thread as usize) {
-                Some(events) => events.get(number as usize) == Some(&true),
-                None => false,
-            },
+            EventId::At(key) => self.has_listed(key),
         }
     }
 
@@ -47,8 +74,8 @@ impl Shown {
     fn add(&mut self, id: EventId) {
         if let EventId::At(EventKey { thread, number }) = id {
             if let Some(events) = self.events.get_mut(thread as usize) {
-                if let Some(is_shown) = events.get_mut(number as usize) {
-                    *is_shown = true;
+                if (number as usize) < events.len() {
+                    events.set(number as usize, true);
                 }
             }
         }
@@ -68,33 +95,28 @@ impl Shown {
     }
 
     /// Shows the first events of the order, at most [`MAX_SHOWN`].
-    fn add_first(&mut self, picture: &Picture, candidate: &Candidate) {
-        for column in picture.columns.as_slice() {
-            for node in column.nodes.as_slice() {
-                let id = EventId::At(node.event.key());
-                if candidate.place(id).unwrap_or(MAX_SHOWN) < MAX_SHOWN {
-                    self.add(id);
-                }
-            }
+    fn add_first(&mut self, candidate: &Candidate) {
+        for key in candidate.witness().order.as_slice().iter().take(MAX_SHOWN) {
+            self.add(EventId::At(*key));
         }
     }
 
     /// Shows the events that the verdict marks, and both ends of the edges that its fault needs.
-    fn add_marked(&mut self, picture: &Picture) {
-        for column in picture.columns.as_slice() {
+    fn add_marked(&mut self, columns: &[Column], fault: FaultParts) {
+        for column in columns {
             for node in column.nodes.as_slice() {
                 if node.is_marked {
                     self.add(EventId::At(node.event.key()));
                 }
             }
         }
-        for chain in picture.chains.as_slice() {
+        for chain in fault.chains {
             self.add(chain.from);
             for link in chain.links.as_slice() {
                 self.add(EventId::At(link.event));
             }
         }
-        for edge in picture.fault_edges.as_slice() {
+        for edge in fault.edges {
             if let EdgeKind::Coherence | EdgeKind::FromRead = edge.kind {
                 self.add(edge.from);
                 self.add(EventId::At(edge.to));
@@ -102,54 +124,77 @@ impl Shown {
         }
     }
 
+    /// Shows the neighbours of an event.
+    fn add_neighbours_of(&mut self, candidate: &Candidate, key: EventKey) {
+        let EventKey { thread, number } = key;
+        if let Some(number) = number.checked_sub(1) {
+            self.add(EventId::At(EventKey { thread, number }));
+        }
+        if let Some(number) = number.checked_add(1) {
+            self.add(EventId::At(EventKey { thread, number }));
+        }
+        for writer in candidate.writers(key) {
+            self.add(*writer);
+        }
+    }
+
     /// Shows the neighbours of the events that another choice shows.
-    fn add_neighbours(&mut self, picture: &Picture, chosen: &Shown) {
-        for edge in picture.edges.as_slice() {
-            let Edge { from, to, kind } = *edge;
-            let to = EventId::At(to);
-            match kind {
-                EdgeKind::Sequenced if chosen.has(from) || chosen.has(to) => {
-                    self.add(from);
-                    self.add(to);
+    fn add_neighbours(&mut self, columns: &[Column], candidate: &Candidate, chosen: &Shown) {
+        for column in columns {
+            for node in column.nodes.as_slice() {
+                let key = node.event.key();
+                if chosen.has_listed(key) {
+                    self.add_neighbours_of(candidate, key);
                 }
-                EdgeKind::ReadsFrom(_) if chosen.has(to) => self.add(from),
-                _ => {}
             }
         }
     }
 
-    /// The events of a picture that are shown.
+    /// The events that a picture with these columns shows.
     ///
     /// # Errors
     ///
     /// Only if an allocation fails.
     pub(crate) fn of(
         alloc: Global,
-        picture: &Picture,
         candidate: &Candidate,
+        columns: &[Column],
+        fault: FaultParts,
     ) -> Result<Shown, AllocError> {
-        let mut chosen = Shown::none(alloc, picture)?;
-        if chosen.total > MAX_SHOWN {
-            chosen.add_marked(picture);
+        let mut chosen = Shown::same(alloc, columns, false)?;
+        if chosen.total <= MAX_SHOWN {
+            return Shown::same(alloc, columns, true);
         }
-        let mut shown = Shown::none(alloc, picture)?;
+        chosen.add_marked(columns, fault);
+        let mut shown = Shown::same(alloc, columns, false)?;
         if chosen.count() > 0 {
-            shown.add_marked(picture);
-            shown.add_neighbours(picture, &chosen);
-        } else if shown.total > MAX_SHOWN {
-            shown.add_first(picture, candidate);
+            shown.add_marked(columns, fault);
+            shown.add_neighbours(columns, candidate, &chosen);
         } else {
-            shown.add_all();
+            shown.add_first(candidate);
         }
         Ok(shown)
     }
 
-    /// Shows all events.
-    fn add_all(&mut self) {
-        for events in self.events.iter_mut() {
-            for is_shown in events.iter_mut() {
-                *is_shown = true;
+    /// The events of these columns that are shown, in the order of the columns.
+    ///
+    /// # Errors
+    ///
+    /// Only if an allocation fails.
+    pub(crate) fn ids(
+        &self,
+        alloc: Global,
+        columns: &[Column],
+    ) -> Result<Vec<EventId>, AllocError> {
+        let mut ids = Vec::new(alloc);
+        for column in columns {
+            for node in column.nodes.as_slice() {
+                let key = node.event.key();
+                if self.has_listed(key) {
+                    ids.push(EventId::At(key))?;
+                }
             }
         }
+        Ok(ids)
     }
 }

@@ -14,7 +14,7 @@ use std::thread::Threads;
 use wm_check::{Breach, Certificate, Refusal, Verdict, count_events};
 use wm_event::{Candidate, Initial, Judgement, Log, ShapeFault, Witness};
 use wm_explain::{explain_events, explain_refusal, explain_shape};
-use wm_graph::{Caption, draw};
+use wm_graph::{Caption, Sketch};
 use wm_logfile::{DocFault, read_document};
 use wm_rules::judge;
 
@@ -104,7 +104,8 @@ fn graph_log<R: AllocGlobal + Threads + Sync>(
     let verdict = verdict_of(&judgement, &candidate);
     let title = rules_line(rt.alloc(), &judgement)?;
     let caption = Caption::titled(title.as_str());
-    let picture = draw(rt.alloc(), caption, &verdict, &candidate)?;
+    let sketch = Sketch::of(rt.alloc(), &verdict, &candidate)?;
+    let picture = sketch.draw(rt.alloc(), caption)?;
     Ok(Answer::pictured(&verdict, picture))
 }
 

@@ -11,8 +11,8 @@ use std::alloc::{AllocError, Global};
 use std::thread::Threads;
 use wm_check::{CheckedLog, Refusal, Unread, Verdict, check_log, read_module};
 use wm_event::Candidate;
-use wm_explain::{event_places, explain_refusal, explain_run, explain_shape, module_does};
-use wm_graph::{Caption, draw};
+use wm_explain::{explain_refusal, explain_run, explain_shape, picture_notes};
+use wm_graph::{Caption, Sketch};
 use wm_list::List;
 use wm_machine::CodePosition;
 use wm_sites::ModuleCode;
@@ -105,29 +105,36 @@ pub(crate) fn explain_answer<R: AllocGlobal + Threads + Sync>(
     }
 }
 
-/// The picture of a candidate with this verdict, with the places of its events in the module.
-fn picture_of<R: AllocGlobal + Threads + Sync>(
-    rt: &R,
+/// The picture of a candidate with this verdict, with the places in the module of the events that it shows.
+fn picture_of(
+    alloc: Global,
     code: ModuleCode,
     verdict: &Verdict,
     candidate: &Candidate,
     positions: Option<Vec<List<CodePosition>>>,
 ) -> Result<String, AllocError> {
-    let alloc = rt.alloc();
     let title = verdict_line(alloc, verdict)?;
-    let places = event_places(rt, code, candidate.log(), positions)?;
-    let does = module_does(alloc, code.module, verdict, candidate)?;
+    let sketch = Sketch::of(alloc, verdict, candidate)?;
+    let events = sketch.events(alloc)?;
+    let notes = picture_notes(
+        alloc,
+        code,
+        verdict,
+        candidate,
+        positions,
+        events.as_slice(),
+    )?;
     let caption = Caption {
         title: title.as_str(),
-        places: places.as_slice(),
-        module_does: does.as_str(),
+        places: notes.places.as_slice(),
+        module_does: notes.module_does.as_str(),
     };
-    draw(alloc, caption, verdict, candidate)
+    sketch.draw(alloc, caption)
 }
 
 /// The picture of what was checked; if that is refused, the line of the refusal.
-fn show_checked<R: AllocGlobal + Threads + Sync>(
-    rt: &R,
+fn show_checked(
+    alloc: Global,
     code: ModuleCode,
     checked: &CheckedLog,
     positions: Option<Vec<List<CodePosition>>>,
@@ -137,10 +144,10 @@ fn show_checked<R: AllocGlobal + Threads + Sync>(
 {
     match &checked.candidate {
         Some(candidate) => {
-            let picture = picture_of(rt, code, &checked.verdict, candidate, positions)?;
+            let picture = picture_of(alloc, code, &checked.verdict, candidate, positions)?;
             Ok(Answer::pictured(&checked.verdict, picture))
         }
-        None => Answer::of_verdict(rt.alloc(), &checked.verdict),
+        None => Answer::of_verdict(alloc, &checked.verdict),
     }
 }
 
@@ -159,7 +166,7 @@ fn show_log<R: AllocGlobal + Threads + Sync>(
         module,
         bytes: module_bytes,
     };
-    show_checked(rt, code, &checked, positions)
+    show_checked(rt.alloc(), code, &checked, positions)
 }
 
 /// The execution that these bytes record, for Graphviz; if they are refused, the line of the refusal.

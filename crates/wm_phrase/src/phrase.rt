@@ -1,5 +1,6 @@
 //! Events, writers and ends in words.
 
+use crate::writing::{write_id, write_number};
 use std::fmt;
 use wm_access::{AccessWidth, RmwOperator};
 use wm_event::{End, Event, OpFields, OpKind};
@@ -55,6 +56,16 @@ impl fmt::Display for ValuePhrase {
     }
 }
 
+/// The bytes of an access of this width, before its address.
+fn bytes_at(width: AccessWidth) -> &'static str {
+    match width {
+        AccessWidth::One => " of 1 byte at address ",
+        AccessWidth::Two => " of 2 bytes at address ",
+        AccessWidth::Four => " of 4 bytes at address ",
+        AccessWidth::Eight => " of 8 bytes at address ",
+    }
+}
+
 /// Whether an access is atomic, what it does, its range and its values.
 #[derive(Clone, Copy)]
 pub struct EventPhrase<'a> {
@@ -71,38 +82,56 @@ impl<'a> EventPhrase<'a> {
         }
     }
 
-    /// A value of the event.
-    fn value(&self, value: u64) -> ValuePhrase {
-        ValuePhrase {
-            value,
-            width: self.event.width,
-            form: self.form,
+    /// Whether the event is atomic, and what it does.
+    fn deed(&self) -> &'static str {
+        let event = self.event;
+        match (event.is_atomic(), event.reads(), event.writes()) {
+            (false, true, true) => "plain update",
+            (false, true, false) => "plain read",
+            (false, false, _) => "plain write",
+            (true, true, true) => "atomic update",
+            (true, true, false) => "atomic read",
+            (true, false, _) => "atomic write",
         }
+    }
+
+    /// Writes a value of the event.
+    fn write_value<W: fmt::Write>(&self, out: &mut W, value: u64) -> fmt::Result {
+        let EventPhrase { event, form } = *self;
+        let width = event.width;
+        match form {
+            ValueForm::Decimal => write_number(out, value),
+            ValueForm::WithHex => write!(out, "{}", ValuePhrase { value, width, form }),
+        }
+    }
+
+    /// Writes the phrase, as its `Display` does.
+    ///
+    /// # Errors
+    ///
+    /// Only if the writer fails.
+    pub fn write_to<W: fmt::Write>(&self, out: &mut W) -> fmt::Result {
+        let event = self.event;
+        out.write_str(self.deed())?;
+        out.write_str(bytes_at(event.width))?;
+        write_number(out, u64::from(event.address))?;
+        if event.reads() {
+            out.write_str(", which reads ")?;
+            self.write_value(out, event.read)?;
+            if !event.writes() {
+                return Ok(());
+            }
+            out.write_str(" and writes ")?;
+        } else {
+            out.write_str(", which writes ")?;
+        }
+        self.write_value(out, event.written)
     }
 }
 
 impl fmt::Display for EventPhrase<'_> {
     fn fmt<W: fmt::Write>(&self, f: &mut fmt::Formatter<W>) -> fmt::Result {
-        let event = self.event;
-        let order = order_word(event.is_atomic());
-        let size = Count(u64::from(event.width.bytes()), "byte");
-        let address = event.address;
-        let read = self.value(event.read);
-        let written = self.value(event.written);
-        match (event.reads(), event.writes()) {
-            (true, true) => write!(
-                f,
-                "{order} update of {size} at address {address}, which reads {read} and writes {written}"
-            ),
-            (true, false) => write!(
-                f,
-                "{order} read of {size} at address {address}, which reads {read}"
-            ),
-            (false, _) => write!(
-                f,
-                "{order} write of {size} at address {address}, which writes {written}"
-            ),
-        }
+        self.write_to(f)
     }
 }
 
@@ -153,18 +182,31 @@ impl fmt::Display for OpPhrase {
 #[derive(Clone, Copy)]
 pub struct WritersPhrase<'a>(pub &'a [WriterRun]);
 
-impl fmt::Display for WritersPhrase<'_> {
-    fn fmt<W: fmt::Write>(&self, f: &mut fmt::Formatter<W>) -> fmt::Result {
+impl WritersPhrase<'_> {
+    /// Writes the phrase, as its `Display` does.
+    ///
+    /// # Errors
+    ///
+    /// Only if the writer fails.
+    pub fn write_to<W: fmt::Write>(&self, out: &mut W) -> fmt::Result {
         if let [run] = self.0 {
-            return write!(f, "from {}", run.writer);
+            out.write_str("from ")?;
+            return write_id(out, run.writer);
         }
         for (position, run) in self.0.iter().enumerate() {
             if position > 0 {
-                f.write_str(", ")?;
+                out.write_str(", ")?;
             }
-            write!(f, "{} from {}", BytesPhrase(*run), run.writer)?;
+            write!(out, "{} from ", BytesPhrase(*run))?;
+            write_id(out, run.writer)?;
         }
         Ok(())
+    }
+}
+
+impl fmt::Display for WritersPhrase<'_> {
+    fn fmt<W: fmt::Write>(&self, f: &mut fmt::Formatter<W>) -> fmt::Result {
+        self.write_to(f)
     }
 }
 

@@ -6,5 +6,5 @@ use Rattle.wm_graph.proofs.edges.edges.Given as goal
 abbrev pub invariant-loop-thread : goal.invariant-loop-thread
 invariant-loop-thread l = record {
   right : All (IsRight l.candidate) l.edges;
-  complete : AllWithin (HasEdgesOf l.candidate l.edges) l.candidate.log 0 l.thread-index;
+  complete : AllWithin (HasEdgesOf l.candidate l.shown l.edges) l.candidate.log 0 l.thread-index;
 }
