@@ -1,12 +1,19 @@
 -- The events that a picture shows.
-use Rattle.std.specs.Prelude.{◌≡◌, List, Option, Bool, Some, true, option_and_then, slice_get}
+use Rattle.std.specs.Prelude.{◌≡◌, ℕ, List, Bool, Some, true, MatchOption, option_and_then, slice_get, ⊤}
 use Rattle.wm_event.specs.declared.event.EventKey.{EventKey}
 use Rattle.wm_graph.specs.declared.shown.Shown.{Shown}
 
--- whether an event is shown, if it is there, by thread and number
-abbrev pub shown_in : List (List Bool) → EventKey → Option Bool
-shown_in shown key = option_and_then (λ (events : List Bool). slice_get events key.number) (slice_get shown key.thread)
+-- up to this number of events, all are shown
+abbrev pub max_shown : ℕ
+max_shown = 60
 
--- a listed event is shown
+-- the mark of an event is set; marks are by thread and number
+abbrev pub IsMarkedIn : List (List Bool) → EventKey → Type 0
+IsMarkedIn marks key = option_and_then (λ (events : List Bool). slice_get events key.number) (slice_get marks key.thread) ≡ Some true
+
+-- a listed event is shown: all are, or it is marked
 abbrev pub IsShown : Shown → EventKey → Type 0
-IsShown shown key = shown_in shown.events.items key ≡ Some true
+IsShown shown key = MatchOption shown.marks ⊤ (λ marks. IsMarkedIn marks.items key)
+
+abbrev pub ShowsAll : Shown → Type 0
+ShowsAll shown = (key : EventKey) → IsShown shown key

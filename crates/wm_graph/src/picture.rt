@@ -1,9 +1,10 @@
 //! The picture of an execution, as data.
-ghost use Rattle.std.specs.Prelude.{◌↔◌, All, IfOk, IsTrue};
+ghost use Rattle.std.specs.Prelude.{◌≤◌, ◌↔◌, All, IfOk, IsTrue, length};
 ghost use Rattle.wm_event.specs.declared.event.EventId.TheVariants.{Init};
 ghost use Rattle.wm_graph.specs.Chains.{HasChains};
 ghost use Rattle.wm_graph.specs.Columns.{AreColumnsOf, IsMarked, IsMarkedBy};
 ghost use Rattle.wm_graph.specs.Edges.{AreComplete, IsRight};
+ghost use Rattle.wm_graph.specs.Shown.{ShowsAll, max_shown};
 
 use crate::columns::{Column, columns, is_marked};
 use crate::edges::{Edge, edges};
@@ -77,6 +78,7 @@ pub(crate) fn picture_of(
     ensures columns { IfOk result (λ p. AreColumnsOf candidate.now.log p.columns) }
     ensures marks { IfOk result (λ p. All (λ column. All (IsMarkedBy verdict.now) column.nodes) p.columns) }
     ensures edges { IfOk result (λ p. All (IsRight candidate.now) p.edges) }
+    ensures few { IfOk result (λ p. length candidate.now.witness.order ≤ max_shown → ShowsAll p.shown) }
     ensures complete { IfOk result (λ p. AreComplete candidate.now p.shown p.edges) }
     ensures chains { IfOk result (λ p. HasChains candidate.now verdict.now p.chains) }
     ensures fault_edges { IfOk result (λ p. All (IsRight candidate.now) p.fault_edges) }

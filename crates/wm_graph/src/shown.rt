@@ -1,6 +1,6 @@
 //! Which events of an execution a picture shows.
-ghost use Rattle.std.specs.Prelude.{◌≡◌, ◌↔◌, IsTrue};
-ghost use Rattle.wm_graph.specs.Shown.{IsShown, shown_in};
+ghost use Rattle.std.specs.Prelude.{◌≤◌, ◌↔◌, IfOk, IsTrue, length};
+ghost use Rattle.wm_graph.specs.Shown.{IsMarkedIn, IsShown, ShowsAll, max_shown};
 
 use crate::columns::Column;
 use crate::edges::{Edge, EdgeKind};
@@ -25,40 +25,40 @@ pub(crate) struct FaultParts<'a> {
 /// writers that they read from. If the verdict marks no event, the first 60 of the order.
 #[derive(Drop)]
 pub(crate) struct Shown {
-    /// Whether an event is shown, by thread and number.
-    events: Vec<List<bool>>,
+    /// Whether an event is shown, by thread and number; None if all are.
+    marks: Option<Vec<List<bool>>>,
     /// How many events there are.
     pub total: usize,
 }
 
+/// Marks for the events of these columns, of which none is set.
+fn no_marks(alloc: Global, columns: &[Column]) -> Result<Vec<List<bool>>, AllocError> {
+    let mut marks = Vec::new(alloc);
+    for column in columns {
+        let count = column.nodes.len();
+        marks.push(List::from_vec(vec![in alloc; false; count]?))?;
+    }
+    Ok(marks)
+}
+
+/// Whether the mark of an event is set.
+fn is_marked(marks: &[List<bool>], key: EventKey) -> bool
+    ensures { IsTrue result ↔ IsMarkedIn marks.now key }
+{
+    match marks.get(key.thread as usize) {
+        Some(events) => matches!(events.get(key.number as usize), Some(true)),
+        None => false,
+    }
+}
+
 impl Shown {
-    /// All events of these columns are shown, or none.
-    fn same(alloc: Global, columns: &[Column], is_shown: bool) -> Result<Shown, AllocError> {
-        let mut events = Vec::new(alloc);
-        let mut total = 0usize;
-        for column in columns {
-            let count = column.nodes.len();
-            events.push(List::from_vec(vec![in alloc; is_shown; count]?))?;
-            total = total.saturating_add(count);
-        }
-        Ok(Shown { events, total })
-    }
-
-    /// Whether a listed event is shown; None if there is no such event.
-    fn at(&self, key: EventKey) -> Option<bool>
-        ensures { result ≡ shown_in self.now.events.items key }
-    {
-        let events = self.events.get(key.thread as usize)?;
-        events.get(key.number as usize).copied()
-    }
-
     /// Whether a listed event is shown.
     pub(crate) fn has_listed(&self, key: EventKey) -> bool
         ensures { IsTrue result ↔ IsShown self.now key }
     {
-        match self.at(key) {
-            Some(is_shown) => is_shown,
-            None => false,
+        match &self.marks {
+            None => true,
+            Some(marks) => is_marked(marks.as_slice(), key),
         }
     }
 
@@ -72,8 +72,8 @@ impl Shown {
 
     /// Shows an event.
     fn add(&mut self, id: EventId) {
-        if let EventId::At(EventKey { thread, number }) = id {
-            if let Some(events) = self.events.get_mut(thread as usize) {
+        if let (EventId::At(EventKey { thread, number }), Some(marks)) = (id, &mut self.marks) {
+            if let Some(events) = marks.get_mut(thread as usize) {
                 if (number as usize) < events.len() {
                     events.set(number as usize, true);
                 }
@@ -83,8 +83,11 @@ impl Shown {
 
     /// How many events are shown.
     pub(crate) fn count(&self) -> usize {
+        let Some(marks) = &self.marks else {
+            return self.total;
+        };
         let mut count = 0usize;
-        for events in self.events.as_slice() {
+        for events in marks.as_slice() {
             for is_shown in events.as_slice() {
                 if *is_shown {
                     count = count.saturating_add(1);
@@ -160,13 +163,22 @@ impl Shown {
         candidate: &Candidate,
         columns: &[Column],
         fault: FaultParts,
-    ) -> Result<Shown, AllocError> {
-        let mut chosen = Shown::same(alloc, columns, false)?;
-        if chosen.total <= MAX_SHOWN {
-            return Shown::same(alloc, columns, true);
+    ) -> Result<Shown, AllocError>
+        ensures few { IfOk result (λ shown. length candidate.now.witness.order ≤ max_shown → ShowsAll shown) }
+    {
+        let total = candidate.witness().order.len();
+        if total <= MAX_SHOWN {
+            return Ok(Shown { marks: None, total });
         }
+        let mut chosen = Shown {
+            marks: Some(no_marks(alloc, columns)?),
+            total,
+        };
         chosen.add_marked(columns, fault);
-        let mut shown = Shown::same(alloc, columns, false)?;
+        let mut shown = Shown {
+            marks: Some(no_marks(alloc, columns)?),
+            total,
+        };
         if chosen.count() > 0 {
             shown.add_marked(columns, fault);
             shown.add_neighbours(columns, candidate, &chosen);
