@@ -167,11 +167,15 @@ def main():
     parser.add_argument("--nice", type=int, default=0, metavar="N", help="the niceness of the builds")
     parser.add_argument("names", nargs="*", metavar="NAME")
     options = parser.parse_args()
+    if options.gate and options.names:
+        parser.error("--gate tries all of its bugs, and takes no names")
     tally = harness.Tally()
     rows = rows_of_gate()
     for edit in rows:
         tally.check(os.path.isfile(f"{TOP}/{edit}"), f"{LIST} names {edit}, which is not there")
     listed = [edit for edit in planted(options.names) if edit in rows or not options.gate]
+    if not listed:
+        parser.error(f"there is no planted bug to try {' '.join(options.names)}".rstrip())
     to_try = []
     for edit in listed:
         changed = edits.changed_files(edit)
