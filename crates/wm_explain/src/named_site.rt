@@ -46,8 +46,8 @@ struct RowEnd {
     text: String,
 }
 
-/// The ends of rows that were written last, each in a slot that its thread and position decide: most threads make their events at
-/// few instructions.
+/// The ends of rows that were written last, each in a slot that its thread and position decide: most threads make their
+/// events at few instructions.
 #[derive(Drop)]
 struct RecentEnds {
     slots: Vec<Option<RowEnd>>,
@@ -174,8 +174,8 @@ impl<'a> NamedSites<'a> {
         Ok(Some(NamedSite { site, function }))
     }
 
-    /// How the row of an event ends, as `; at 0x2e, instruction 2 of "a"` and a newline; only with the newline if its thread
-    /// doesn't make it.
+    /// How the row of an event ends, as `; at 0x2e, instruction 2 of "a"` and a newline; only with the newline if its
+    /// thread doesn't make it.
     ///
     /// # Errors
     ///

@@ -56,7 +56,7 @@ pub record HasMade («module» : Module) (plan : Plan) (number : ℕ) (counts : 
   pub allowed : All (IsAllowedRound «module» plan) runs
   pub counted : Counts (outcomes runs) counts
 
--- this number of rounds were made and counted, if so many can be
+-- this number of rounds, if it is below 2^64, were made and counted
 abbrev pub HasCounted : Module → Plan → ℕ → BTreeMap (String Global) ℕ → Type 0
 HasCounted «module» plan number counts = number < 2 ^ 64 → HasMade «module» plan number counts
 
@@ -96,9 +96,13 @@ IsJudged «module» rounds run answer = MatchOption answer (IsAllowedRound «mod
 abbrev pub HasAnswer : Module → Rounds → Option Answer → Type 0
 HasAnswer «module» rounds answer = MatchOption answer ⊥ (RunsOver «module» rounds)
 
+-- how functions of this type are called with a run that is lent to them: when they may be, and what they answer
+abbrev pub Judge : Type 0 → Type 1
+Judge J = Shared J (Bor Record × Unit {0}) (Result (Option Answer) AllocError)
+
 -- a judge may be called for this round, and then it judges it
-pub record CanJudge {J : Type 0} (judge : Shared J (Bor Record × Unit {0}) (Result (Option Answer) AllocError)) (f : J) («module» : Module) (rounds : Rounds) (run : Record) : Type 0 where
-  pub can : (p : Bor Record) → p.now ≡ run → judge.pre f (p, tt)
+pub record CanJudge {J : Type 0} (judge : Judge J) (f : J) («module» : Module) (rounds : Rounds) (run : Record) : Type 0 where
+  pub can : (lent : Bor Record) → lent.now ≡ run → judge.pre f (lent, tt)
   pub judged : (result : Result (Option Answer) AllocError) → FnReturnsAt judge f run result → IfOk result (IsJudged «module» rounds run)
 
 -- the status and the text that answer the words of rounds of the module of a file, whose bytes may be known: the answer

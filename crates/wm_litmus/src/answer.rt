@@ -146,12 +146,19 @@ impl Answer {
         Ok(Answer { text, status: 0 })
     }
 
-    /// The line of a verdict, and the sentences that explain it.
-    pub fn explained(alloc: Global, verdict: &Verdict, reasons: &str) -> Result<Answer, AllocError>
-        ensures { IfOk result (PrintsReasons verdict.now reasons.now) }
+    /// The line of a verdict, and the sentences that explain it. These can be long, so the line is put before them
+    /// where they are.
+    pub fn explained(
+        alloc: Global,
+        verdict: &Verdict,
+        reasons: String,
+    ) -> Result<Answer, AllocError>
+        ensures { IfOk result (PrintsReasons verdict.now (string_bytes reasons)) }
     {
-        let line = verdict_line(alloc, verdict)?;
-        let text = format!(in alloc; "{line}\n{reasons}")?;
+        let mut line = verdict_line(alloc, verdict)?;
+        line.push('\n')?;
+        let mut text = reasons;
+        text.insert_str(0, line.as_str())?;
         let status = verdict_status_of(verdict);
         Ok(Answer { text, status })
     }

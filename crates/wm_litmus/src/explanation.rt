@@ -49,7 +49,7 @@ fn explain_checked<R: AllocGlobal + Threads + Sync>(
     ensures { IfOk result (Explains checked.now.verdict) }
 {
     let reasons = reasons_of(rt, code, checked, positions, document_bytes)?;
-    Answer::explained(rt.alloc(), &checked.verdict, reasons.as_str())
+    Answer::explained(rt.alloc(), &checked.verdict, reasons)
 }
 
 /// The answer to a document over a module.
@@ -80,7 +80,7 @@ fn explain_unread(
     ensures { IfOk result (Explains (Refused refusal)) }
 {
     let reasons = explain_refusal(alloc, &refusal, module_bytes, document_bytes)?;
-    Answer::explained(alloc, &Verdict::Refused(refusal), reasons.as_str())
+    Answer::explained(alloc, &Verdict::Refused(refusal), reasons)
 }
 
 /// The line of the check of these bytes, and its explanation.

@@ -2,7 +2,7 @@
 
 use itoa::Buffer;
 use std::fmt;
-use wm_event::{EventId, EventKey};
+use wm_event::{EventId, EventKey, MAX_THREADS};
 
 /// Writes a number in decimal.
 ///
@@ -14,14 +14,25 @@ pub fn write_number<W: fmt::Write>(out: &mut W, number: u64) -> fmt::Result {
     out.write_str(digits.format(number))
 }
 
+/// The number of each thread of a log with the dot that follows it in the names of its events, to be written at once.
+const THREADS: [&str; MAX_THREADS] = [
+    "0.", "1.", "2.", "3.", "4.", "5.", "6.", "7.", "8.", "9.", "10.", "11.", "12.", "13.", "14.",
+    "15.",
+];
+
 /// Writes the name of a listed event, as `0.1`.
 ///
 /// # Errors
 ///
 /// Only if the writer fails.
 pub fn write_key<W: fmt::Write>(out: &mut W, key: EventKey) -> fmt::Result {
-    write_number(out, u64::from(key.thread))?;
-    out.write_str(".")?;
+    match THREADS.get(key.thread as usize) {
+        Some(thread) => out.write_str(thread)?,
+        None => {
+            write_number(out, u64::from(key.thread))?;
+            out.write_str(".")?;
+        }
+    }
     write_number(out, u64::from(key.number))
 }
 

@@ -2,4 +2,4 @@ use Rattle.std.proofs.lemmas.Result.{IfOk-weaker}
 use Rattle.wm_litmus.proofs.explanation.explain_unread.Goals as goal
 
 pub returns : goal.returns
-returns c = IfOk-weaker c.explained.result _ _ (λ answer prints. (c.as_str.result.now, prints)) c.explained.ensures
+returns c = IfOk-weaker c.explained.result _ _ (λ answer prints. (_, prints)) c.explained.ensures
