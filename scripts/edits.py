@@ -7,9 +7,14 @@
     scripts/edits.py --sync          copies those that edits/gate.txt lists to crates/CRATE/must-fail/
     scripts/edits.py --functions     tries those that edits/gate.txt lists with a function, on that function alone;
                                      with --until FILE beside `rt ci`: it waits for each library until FILE is there
+    scripts/edits.py --by-function [CRATE..]
+                                     tries those of these crates or of all, the gate's too, each on the function that
+                                     it changes (most of an hour on four processors)
+    scripts/edits.py --unedited [CRATE..]
+                                     asks whether the functions that --by-function tries pass there without an edit
 
-Each is tried on a copy, over the proofs that are there. --functions needs what `rt ci` left in out/: it has proved the
-functions without the edits. The last line is `N passed, N failed`.
+Each is tried on a copy, over the proofs that are there. The last three need what `rt ci` left in out/: it has proved
+the functions without the edits. The last line is `N passed, N failed`.
 """
 import argparse
 import concurrent.futures
@@ -23,7 +28,7 @@ import tempfile
 import threading
 import time
 
-from wmlabtools import TOP, by_contract, edits, harness, prover
+from wmlabtools import TOP, by_contract, changed_function, edits, harness, prover
 
 # The seconds after which a library that was being written is whole.
 SETTLED = 5
@@ -154,22 +159,26 @@ class Copy:
 # proof, unless the proof names what an edit took away: that shows nothing about the contract.
 VERDICT = re.compile(r"fn (\S+): (not proved|no proof)\b")
 OPEN = re.compile(r"note: src/\S+:\d+:\d+: it is not proved that ")
-PLACE = re.compile(r"\./(proofs/\S+):\d+:\d+: error")
+PLACE = re.compile(r"\./proofs/(\S+)/\w+\.antt:\d+:\d+: error")
 NAMES = re.compile(r"has no field|is not in scope|has no `|was not admitted")
 
 
 def goal_of(said, crate, function):
-    """The line of what the prover said that names an open goal of a function's contract, or nothing."""
-    proofs = f"proofs/{function.replace('::', '/')}/"
+    """The line of what the prover said that names an open goal of the contract of a function, or of a closure in it;
+    or nothing."""
+
+    def is_meant(name):
+        return by_contract.owner_of(name) == function
+
     of_proofs, of_function = [], []
     for line in said.split("\n"):
         place, verdict = PLACE.match(line), VERDICT.match(line)
-        if place and place[1].startswith(proofs) and not NAMES.search(line):
+        if place and is_meant(place[1].replace("/", "::")) and not NAMES.search(line):
             of_proofs.append(line)
         elif OPEN.match(line):
             of_function.append(line)
-        elif verdict and verdict[1] == f"{crate}::{function}":
-            return next(iter(of_proofs + of_function), None)
+        elif verdict and is_meant(verdict[1].removeprefix(f"{crate}::")) and of_proofs + of_function:
+            return (of_proofs + of_function)[0]
         elif line.startswith("fn "):
             of_function = []
     return None
@@ -260,6 +269,59 @@ def try_functions(tally, jobs, until):
                 print(f"{edit}: {said}", flush=True)
 
 
+def by_crates(crates):
+    """The edits of these crates, or of all, by their crates: each with the function that edits/gate.txt names, or else
+    with those that it changes. The crates with the most edits come first."""
+    listed, found = edits.gate_edits(), {}
+    for edit in edits.all_edits(crates):
+        functions = [listed[edit]] if listed.get(edit) else changed_function.changed_functions(edit)
+        found.setdefault(edit.split("/")[1], {})[edit] = functions
+    return dict(sorted(found.items(), key=lambda each: -len(each[1])))
+
+
+def try_each_function(crate, listed):
+    """For each edit of a crate, with its functions, whether one of them is refused, and what is said of it."""
+    answers = {edit: (False, "it changes no function") for edit in listed}
+    answers.update(try_crate(crate, {edit: functions[0] for edit, functions in listed.items() if functions}))
+    for edit, functions in listed.items():
+        for function in functions[1:]:
+            if not answers[edit][0]:
+                answers.update(try_crate(crate, {edit: function}))
+    for edit, (is_refused, said) in answers.items():
+        print(f"{edit}: {'refused' if is_refused else 'NOT REFUSED'}: {said}", flush=True)
+    return answers
+
+
+def try_by_function(tally, crates, jobs):
+    by_crate = by_crates(crates)
+    with concurrent.futures.ThreadPoolExecutor(jobs) as pool:
+        for answers in pool.map(try_each_function, by_crate, by_crate.values()):
+            for edit, (is_refused, said) in answers.items():
+                tally.check(is_refused, edit, said)
+
+
+def unedited(crate, listed):
+    """For each function of the edits of a crate, whether it is proved over contracts as it is, and what is said."""
+    functions = sorted({function for functions in listed.values() for function in functions})
+    why = changed_since(crate)
+    if why or not functions:
+        return {crate: (False, why or "its edits change no function")}
+    with tempfile.TemporaryDirectory() as room:
+        copy = Copy(crate, room)
+        copy.write({}, functions)
+        said = copy.prove(functions)
+    proved = set(re.findall(rf"(?m)^fn {crate}::(\S+): proved$", said))
+    return {f"{crate}::{function}": (function in proved, said[-500:]) for function in functions}
+
+
+def try_unedited(tally, crates, jobs):
+    by_crate = by_crates(crates)
+    with concurrent.futures.ThreadPoolExecutor(jobs) as pool:
+        for answers in pool.map(unedited, by_crate, by_crate.values()):
+            for function, (is_proved, said) in answers.items():
+                tally.check(is_proved, f"{function} is not proved without an edit", said)
+
+
 def main():
     parser = argparse.ArgumentParser(description=__doc__, formatter_class=argparse.RawDescriptionHelpFormatter)
     parser.add_argument(
@@ -267,6 +329,8 @@ def main():
     )
     parser.add_argument("--sync", action="store_true", help="only copy those of edits/gate.txt into the crates")
     parser.add_argument("--functions", action="store_true", help="only try those of edits/gate.txt with a function")
+    parser.add_argument("--by-function", action="store_true", help="try each on the function that it changes")
+    parser.add_argument("--unedited", action="store_true", help="ask whether these functions pass without an edit")
     parser.add_argument("--until", metavar="FILE", help="wait for the libraries of `rt ci` until FILE is there")
     parser.add_argument("--all", action="store_true", help="try the gate's edits too")
     parser.add_argument("--jobs", type=int, default=os.cpu_count(), help="crates that are tried side by side")
@@ -279,6 +343,10 @@ def main():
         check(tally)
     elif options.functions:
         try_functions(tally, options.jobs, options.until)
+    elif options.by_function:
+        try_by_function(tally, options.crates, options.jobs)
+    elif options.unedited:
+        try_unedited(tally, options.crates, options.jobs)
     else:
         try_all(tally, options.crates, options.jobs, options.all)
     tally.end()

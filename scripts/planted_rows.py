@@ -35,7 +35,7 @@ SWITCHES = "wm_access"
 NONE_IS_ON = 0x5D8E_F1C3_97A2_64B9
 # How long a row of the gate may take with and without its bug. Without it each takes a second; with threads one after
 # the other it would take minutes, since each waits for the other as long as its steps last.
-SECONDS = "30"
+SECONDS = "15"
 
 
 def planted(words):

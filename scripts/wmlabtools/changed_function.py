@@ -1,0 +1,98 @@
+"""The functions that a must-fail edit changes, as the prover names them: `module::function`, `module::Type::function`,
+or `module::TypeTrait::function` in an `impl` of a trait."""
+import glob
+import os
+import re
+
+from . import TOP, edits
+
+FUNCTION = re.compile(r"(?m)^(?P<indent> {0,4})(?:pub(?:\([a-z]+\))? )?(?:extern .C. )?fn (?P<name>\w+)")
+IMPL = re.compile(r"(?m)^impl\b(?P<head>[^{;]*)\{$")
+CONSTANT = re.compile(r"(?m)^(?:pub(?:\([a-z]+\))? )?const (\w+)")
+# The end of an `impl` or a function at the left edge.
+END = re.compile(r"(?m)^\}")
+
+
+def parts_of(head):
+    """The parts of a text outside of < and >, and those between them; the > of an arrow is no bracket."""
+    outside, inside, depth = [""], [], 0
+    for before, character in zip(" " + head, head):
+        if character == "<":
+            depth += 1
+            if depth == 1:
+                inside.append("")
+                continue
+        elif character == ">" and before != "-":
+            depth -= 1
+            if depth == 0:
+                outside.append("")
+                continue
+        if depth:
+            inside[-1] += character
+        else:
+            outside[-1] += character
+    return outside, inside
+
+
+def last_name(path):
+    return path.strip(" &").split("::")[-1]
+
+
+def owner_of(head):
+    """The prover's name for what an `impl` is of: `Type`, `TypeTrait`, or `TypeTraitArgument`."""
+    outside, inside = parts_of(head)
+    if head.startswith("<"):
+        outside, inside = outside[1:], inside[1:]
+    of_trait, is_trait, of_type = "<>".join(outside).split(" where")[0].rpartition(" for ")
+    name = last_name(of_type.split("<>")[0])
+    if not is_trait:
+        return name
+    arguments = inside[0] if "<>" in of_trait and not inside[0].startswith("'") else ""
+    return name + last_name(of_trait.split("<>")[0]) + last_name(arguments)
+
+
+def module_of(path):
+    parts = path.removeprefix("src/").removesuffix(".rt").split("/")
+    return [] if parts in (["lib"], ["main"]) else parts
+
+
+def function_at(text, path, offset):
+    """The function of a file that has this offset in it, or None if there is none."""
+    owner, start = [], 0
+    for found in IMPL.finditer(text, 0, offset):
+        end = END.search(text, found.end())
+        if not end or end.start() >= offset:
+            owner, start = [owner_of(found["head"])], found.end()
+    indent = "    " if owner else ""
+    found = [each for each in FUNCTION.finditer(text, start, offset) if each["indent"] == indent]
+    if not found or re.search(rf"(?m)^{indent}\}}", text[found[-1].end() : offset]):
+        return None
+    return "::".join([*module_of(path), *owner, found[-1]["name"]])
+
+
+def functions_that_name(crate, word):
+    """The functions of a crate that have a word in them."""
+    functions = []
+    for file in sorted(glob.glob(f"{TOP}/crates/{crate}/src/**/*.rt", recursive=True)):
+        text, path = edits.text_of(file), file[file.index("/src/") + 1 :]
+        for found in re.finditer(rf"\b{word}\b", text):
+            functions.append(function_at(text, path, found.start()))
+    return [function for function in dict.fromkeys(functions) if function]
+
+
+def functions_of_file(crate, path, text):
+    """The function in which a file's new text first differs; or if that is a constant, the functions that name it."""
+    before, inside = edits.text_of(path), path[path.index("/src/") + 1 :]
+    offset = len(os.path.commonprefix([before, text]))
+    function = function_at(before, inside, offset)
+    if function:
+        return [function]
+    constants = CONSTANT.findall(before[:offset])
+    return functions_that_name(crate, constants[-1]) if constants else []
+
+
+def changed_functions(edit):
+    """The functions that an edit changes, or that name a constant that it changes."""
+    crate = edit.split("/")[1]
+    changed = edits.changed_files(edit).items()
+    return [function for path, text in changed for function in functions_of_file(crate, path, text)]
