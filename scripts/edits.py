@@ -201,42 +201,29 @@ def refusals(copy, batch):
     return answers
 
 
-FUNCTION = re.compile(r"\bfn (\w+)")
-
-
-def changes_only(edit, function):
-    """Whether all that an edit changes is in its function."""
-    changed = list(edits.changed_files(edit).items())
-    path, text = changed[0]
-    before = edits.text_of(path)
-    start = len(os.path.commonprefix([before, text]))
-    end = len(before) - len(os.path.commonprefix([before[::-1], text[::-1]]))
-    named = FUNCTION.findall(before[: max(start, end)])
-    return len(changed) == 1 and named == FUNCTION.findall(before[:start]) and named[-1:] == [function.split("::")[-1]]
-
-
 def next_batch(waiting, alone):
-    """Edits to try at the same time: of each function one, and none that changes what another has changed."""
-    batch, changed = {}, {}
+    """Edits to try at the same time: none that changes or tries a function that another one changes or tries."""
+    batch, changed, taken = {}, {}, set()
     for edit, function in waiting.items():
-        if edit in alone or function in batch.values():
+        meant = {function} if edit in alone else {function, *changed_function.bodies_changed(edit)}
+        if edit in alone or taken & meant:
             continue
         tried = edits.changed_files(edit, changed_before=changed)
         if not isinstance(tried, str):
-            batch[edit], changed = function, tried
+            batch[edit], changed, taken = function, tried, taken | meant
     return batch or dict([next(iter(waiting.items()))])
 
 
 def try_crate(crate, listed):
     """For each edit of a crate, with its function, whether it is refused, and what is said of it. `rt ci` has proved
-    the functions without the edits. An edit is tried alone if it changes more than its function, or if it is not
-    refused beside others, since its function calls theirs, say."""
+    the functions without the edits. An edit is tried alone if it changes more than bodies of functions, or if it is
+    not refused beside others, since its function calls theirs, say."""
     whys = {edit: changed_since(crate) or edits.changed_files(edit) for edit in listed}
     answers = {edit: (False, why) for edit, why in whys.items() if isinstance(why, str)}
     waiting = {edit: function for edit, function in listed.items() if edit not in answers}
     if not waiting:
         return answers
-    alone = {edit for edit, function in waiting.items() if not changes_only(edit, function)}
+    alone = {edit for edit in waiting if not changed_function.bodies_changed(edit)}
     with tempfile.TemporaryDirectory() as room:
         copy = Copy(crate, room)
         while waiting:

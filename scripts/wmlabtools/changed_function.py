@@ -1,5 +1,6 @@
 """The functions that a must-fail edit changes, as the prover names them: `module::function`, `module::Type::function`,
 or `module::TypeTrait::function` in an `impl` of a trait."""
+import difflib
 import glob
 import os
 import re
@@ -96,3 +97,27 @@ def changed_functions(edit):
     crate = edit.split("/")[1]
     changed = edits.changed_files(edit).items()
     return [function for path, text in changed for function in functions_of_file(crate, path, text)]
+
+
+def changed_lines(before, text):
+    """The offsets at which the lines that differ begin, after their indentation."""
+    lines = before.split("\n")
+    starts = [0]
+    for line in lines:
+        starts.append(starts[-1] + len(line) + 1)
+    matcher = difflib.SequenceMatcher(None, lines, text.split("\n"), autojunk=False)
+    for tag, first, last, _, _ in matcher.get_opcodes():
+        if tag != "equal":
+            for number in range(first, min(max(last, first + 1), len(lines))):
+                yield starts[number] + len(lines[number]) - len(lines[number].lstrip())
+
+
+def bodies_changed(edit):
+    """The functions whose bodies an edit changes, or None if it changes anything else."""
+    functions = set()
+    for path, text in edits.changed_files(edit).items():
+        before, inside = edits.text_of(path), path[path.index("/src/") + 1 :]
+        if re.findall(r"\bfn \w+", before) != re.findall(r"\bfn \w+", text):
+            return None
+        functions |= {function_at(before, inside, offset) for offset in changed_lines(before, text)}
+    return None if None in functions else functions
