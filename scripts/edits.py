@@ -1,20 +1,17 @@
 #!/usr/bin/env python3
 """The must-fail edits: wrong bodies, each of which the prover must refuse. edits/README.md describes them.
 
-    scripts/edits.py [CRATE..]       tries those that the gate leaves out, of these crates or of all (hours)
-    scripts/edits.py --all CRATE..   tries the gate's too
-    scripts/edits.py --check         asks whether each can still be applied, and whether the gate's copies are current
-    scripts/edits.py --sync          copies those that edits/gate.txt lists to crates/CRATE/must-fail/
-    scripts/edits.py --functions     tries those that edits/gate.txt lists with a function, on that function alone;
-                                     with --until FILE beside `rt ci`: it waits for each library until FILE is there
-    scripts/edits.py --by-function [CRATE..]
-                                     tries those of these crates or of all, the gate's too, each on the function that
-                                     it changes (most of an hour on four processors)
+    scripts/edits.py [CRATE..]       tries those of these crates or of all, each on the function that it changes or
+                                     that edits/gate.txt names (all take an hour on four processors)
     scripts/edits.py --unedited [CRATE..]
-                                     asks whether the functions that --by-function tries pass there without an edit
+                                     asks whether these functions pass there without an edit
+    scripts/edits.py --functions     tries those of edits/gate.txt; with --until FILE beside `rt ci`: it waits for each
+                                     library until FILE is there
+    scripts/edits.py --check         asks whether each can still be applied, and whether the gate's copies are current
+    scripts/edits.py --sync          copies those that edits/gate.txt lists without a function to crates/*/must-fail/
 
-Each is tried on a copy, over the proofs that are there. The last three need what `rt ci` left in out/: it has proved
-the functions without the edits. The last line is `N passed, N failed`.
+Each is tried on a copy, over the libraries that `rt ci` left in out/: it has proved the functions without the edits.
+The last line is `N passed, N failed`.
 """
 import argparse
 import concurrent.futures
@@ -67,48 +64,14 @@ def sync():
             shutil.copy(f"{TOP}/{edit}", f"{TOP}/{copy_of(edit)}")
 
 
-def linked(source, target):
-    """A copy that shares the file's blocks, if the file system can."""
-    try:
-        os.link(source, target)
-    except OSError:
-        shutil.copy2(source, target)
-
-
-def tried(room, crate):
-    """What `rt must-fail` prints of a crate in the copy."""
-    ran = subprocess.run(
-        ["rt", "must-fail", crate], cwd=room, stdout=subprocess.PIPE, stderr=subprocess.STDOUT, text=True, check=False
-    )
-    print(ran.stdout, end="", flush=True)
-    return ran.stdout.count(": refused, as it must be")
-
-
-def try_all(tally, crates, jobs, with_gate):
-    listed = [edit for edit in edits.all_edits(crates) if with_gate or edit not in edits.gate_edits()]
-    with tempfile.TemporaryDirectory() as room:
-        for name in ("crates.txt", "HANDLES"):
-            shutil.copy(f"{TOP}/{name}", room)
-        shutil.copytree(
-            f"{TOP}/crates", f"{room}/crates", copy_function=linked, ignore=shutil.ignore_patterns("must-fail")
-        )
-        by_crate = {}
-        for edit in listed:
-            by_crate.setdefault(edit.split("/")[1], []).append(edit)
-            os.makedirs(f"{room}/{os.path.dirname(copy_of(edit))}", exist_ok=True)
-            shutil.copy(f"{TOP}/{edit}", f"{room}/{copy_of(edit)}")
-        with concurrent.futures.ThreadPoolExecutor(jobs) as pool:
-            refused = pool.map(lambda crate: tried(room, crate), by_crate)
-            for (crate, names), count in zip(by_crate.items(), refused):
-                tally.add(count, len(names) - count)
-                print(f"{crate}: {count} of {len(names)} refused", flush=True)
-
-
 def changed_since(crate):
-    """What is said if a crate has no library, or one that is older than a file of the crate; else nothing."""
+    """What is said if a crate has no library, or one that is older than a file of the crate; else nothing. Of a crate
+    that no other uses there is none."""
     top = f"{TOP}/crates/{crate}"
+    if not any(crate in used for used in prover.dependencies().values()):
+        return None
     if not os.path.isdir(f"{top}/out/rlib"):
-        return f"{crate} has no library: run `rt ci {crate}` first"
+        return f"{crate} has no library: run `rt ci` first, or `rt lib` in crates/{crate}"
     proved = os.path.getmtime(f"{top}/out/rlib")
     for part in ("src", "specs", "proofs"):
         for path in glob.glob(f"{top}/{part}/**/*.*", recursive=True):
@@ -158,9 +121,18 @@ class Copy:
 # What the prover says of a function, after its open goals, each with its place in the source; and at a place of a
 # proof, unless the proof names what an edit took away: that shows nothing about the contract.
 VERDICT = re.compile(r"fn (\S+): (not proved|no proof)\b")
-OPEN = re.compile(r"note: src/\S+:\d+:\d+: it is not proved that ")
+OPEN = re.compile(r"note: src/\S+:\d+:\d+: (?:it is not proved that |`search` found no proof )")
 PLACE = re.compile(r"\./proofs/(\S+)/\w+\.antt:\d+:\d+: error")
 NAMES = re.compile(r"has no field|is not in scope|has no `|was not admitted")
+# Functions that call one another have one proof, in a folder whose name begins with a +, with their names in its goals.
+GOAL_OF_CYCLE = re.compile(r"error: `(\w+)-")
+
+
+def function_of(folder, line):
+    """The function that a line says something of, at a place of a proof in this folder."""
+    *outer, last = folder.split("/")
+    goal = GOAL_OF_CYCLE.search(line) if last.startswith("+") else None
+    return "::".join([*outer, goal[1] if goal else last])
 
 
 def goal_of(said, crate, function):
@@ -173,7 +145,7 @@ def goal_of(said, crate, function):
     of_proofs, of_function = [], []
     for line in said.split("\n"):
         place, verdict = PLACE.match(line), VERDICT.match(line)
-        if place and is_meant(place[1].replace("/", "::")) and not NAMES.search(line):
+        if place and is_meant(function_of(place[1], line)) and not NAMES.search(line):
             of_proofs.append(line)
         elif OPEN.match(line):
             of_function.append(line)
@@ -297,7 +269,7 @@ def unedited(crate, listed):
         copy = Copy(crate, room)
         copy.write({}, functions)
         said = copy.prove(functions)
-    proved = set(re.findall(rf"(?m)^fn {crate}::(\S+): proved$", said))
+    proved = set(re.findall(rf"(?m)^fn {crate}::(\S+): (?:proved|no holes)$", said))
     return {f"{crate}::{function}": (function in proved, said[-500:]) for function in functions}
 
 
@@ -316,13 +288,14 @@ def main():
     )
     parser.add_argument("--sync", action="store_true", help="only copy those of edits/gate.txt into the crates")
     parser.add_argument("--functions", action="store_true", help="only try those of edits/gate.txt with a function")
-    parser.add_argument("--by-function", action="store_true", help="try each on the function that it changes")
     parser.add_argument("--unedited", action="store_true", help="ask whether these functions pass without an edit")
     parser.add_argument("--until", metavar="FILE", help="wait for the libraries of `rt ci` until FILE is there")
-    parser.add_argument("--all", action="store_true", help="try the gate's edits too")
     parser.add_argument("--jobs", type=int, default=os.cpu_count(), help="crates that are tried side by side")
     parser.add_argument("crates", nargs="*", metavar="CRATE")
     options = parser.parse_args()
+    without = [crate for crate in options.crates if not os.path.isdir(f"{TOP}/edits/{crate}")]
+    if without:
+        parser.error(f"there are no edits of {' '.join(without)}")
     tally = harness.Tally()
     if options.sync:
         sync()
@@ -330,12 +303,10 @@ def main():
         check(tally)
     elif options.functions:
         try_functions(tally, options.jobs, options.until)
-    elif options.by_function:
-        try_by_function(tally, options.crates, options.jobs)
     elif options.unedited:
         try_unedited(tally, options.crates, options.jobs)
     else:
-        try_all(tally, options.crates, options.jobs, options.all)
+        try_by_function(tally, options.crates, options.jobs)
     tally.end()
 
 

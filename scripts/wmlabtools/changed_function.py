@@ -57,27 +57,40 @@ def module_of(path):
     return [] if parts in (["lib"], ["main"]) else parts
 
 
-def function_at(text, path, offset):
+def sources_of(crate):
+    """The sources of a crate, each with its path from `src/` on."""
+    files = sorted(glob.glob(f"{TOP}/crates/{crate}/src/**/*.rt", recursive=True))
+    return {file[file.index("/src/") + 1 :]: edits.text_of(file) for file in files}
+
+
+def module_of_type(crate, name, path):
+    """The module that declares a type, or that of this file if none of the crate does."""
+    declares = re.compile(rf"(?m)^(?:pub(?:\([a-z]+\))? )?(?:struct|enum) {re.escape(name)}\b")
+    declared = [module_of(each) for each, text in sources_of(crate).items() if declares.search(text)]
+    return declared[0] if len(declared) == 1 else module_of(path)
+
+
+def function_at(crate, text, path, offset):
     """The function of a file that has this offset in it, or None if there is none."""
-    owner, start = [], 0
+    module, owner, start = module_of(path), [], 0
     for found in IMPL.finditer(text, 0, offset):
         end = END.search(text, found.end())
         if not end or end.start() >= offset:
             owner, start = [owner_of(found["head"])], found.end()
+            module = module_of_type(crate, owner[0], path)
     indent = "    " if owner else ""
     found = [each for each in FUNCTION.finditer(text, start, offset) if each["indent"] == indent]
     if not found or re.search(rf"(?m)^{indent}\}}", text[found[-1].end() : offset]):
         return None
-    return "::".join([*module_of(path), *owner, found[-1]["name"]])
+    return "::".join([*module, *owner, found[-1]["name"]])
 
 
 def functions_that_name(crate, word):
     """The functions of a crate that have a word in them."""
     functions = []
-    for file in sorted(glob.glob(f"{TOP}/crates/{crate}/src/**/*.rt", recursive=True)):
-        text, path = edits.text_of(file), file[file.index("/src/") + 1 :]
+    for path, text in sources_of(crate).items():
         for found in re.finditer(rf"\b{word}\b", text):
-            functions.append(function_at(text, path, found.start()))
+            functions.append(function_at(crate, text, path, found.start()))
     return [function for function in dict.fromkeys(functions) if function]
 
 
@@ -85,7 +98,7 @@ def functions_of_file(crate, path, text):
     """The function in which a file's new text first differs; or if that is a constant, the functions that name it."""
     before, inside = edits.text_of(path), path[path.index("/src/") + 1 :]
     offset = len(os.path.commonprefix([before, text]))
-    function = function_at(before, inside, offset)
+    function = function_at(crate, before, inside, offset)
     if function:
         return [function]
     constants = CONSTANT.findall(before[:offset])
@@ -114,10 +127,10 @@ def changed_lines(before, text):
 
 def bodies_changed(edit):
     """The functions whose bodies an edit changes, or None if it changes anything else."""
-    functions = set()
+    crate, functions = edit.split("/")[1], set()
     for path, text in edits.changed_files(edit).items():
         before, inside = edits.text_of(path), path[path.index("/src/") + 1 :]
         if re.findall(r"\bfn \w+", before) != re.findall(r"\bfn \w+", text):
             return None
-        functions |= {function_at(before, inside, offset) for offset in changed_lines(before, text)}
+        functions |= {function_at(crate, before, inside, offset) for offset in changed_lines(before, text)}
     return None if None in functions else functions

@@ -44,7 +44,7 @@ def check_words(crate, *more):
     rlib = {name: f"{TOP}/crates/{name}/out/rlib" for name in stands_on}
     missing = [name for name, path in rlib.items() if not os.path.isdir(path)]
     if missing:
-        sys.exit(f"{' '.join(missing)}: no library there; run `rt ci {crate}` first")
+        sys.exit(f"{' '.join(missing)}: no library there; run `rt ci` first, or `rt lib` in crates/{crate}")
     root = "src/main.rt" if os.path.isfile(f"{TOP}/crates/{crate}/src/main.rt") else "src/lib.rt"
     words = [f"{place}/bin/rattle", "check", "--crate-name", crate, root]
     words += ["--extern", f"std={place}/rlibs/std.rlib", "-L", f"dependency={place}/rlibs"]
