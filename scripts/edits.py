@@ -269,7 +269,9 @@ def unedited(crate, listed):
         copy = Copy(crate, room)
         copy.write({}, functions)
         said = copy.prove(functions)
-    proved = set(re.findall(rf"(?m)^fn {crate}::(\S+): (?:proved|no holes)$", said))
+    # A hole in place of a proof is a function's that is taken by its contract.
+    passes = r"(?:proved$|no holes$|depends on a hole in `\S+\.Proof\.\w+_spec`)"
+    proved = set(re.findall(rf"(?m)^fn {crate}::(\S+): {passes}", said))
     return {f"{crate}::{function}": (function in proved, said[-500:]) for function in functions}
 
 
