@@ -1,20 +1,26 @@
 #!/usr/bin/env python3
 """Prints which functions take the prover longest: of each crate the seconds of its whole check, and of all crates
-together the slowest functions. It proves each crate from nothing, one after the other.
+together the slowest functions, with the part of the work that took most of each. It proves each crate from nothing,
+one after the other.
 
     scripts/slowest.py [--count N] [--tests] [CRATE..]      these crates, or all; it needs what `rt ci` left in out/
 
-Seconds are those of the processor. --tests checks the crates with their tests.
+Seconds are those of the processor. The prover takes a function apart into modules and writes a file for each when it is
+done with it; `strace` names these files as they are written. A module is counted to its function. `Lts` is the
+function's code under the rules for borrows: it grows with each owned value that is dropped at each exit. `Tie` ties it
+to the contract, and `Proof` is the proof. --tests checks the crates with their tests.
 """
 import argparse
 import re
 import resource
+import shutil
 import subprocess
 import sys
 
 from wmlabtools import TOP, prover
 
-CHECKED = re.compile(r"checked (\S+), \d+ of \d+")
+# A module's file that is written, with the crate, the module of the source, and the module's own name.
+WRITTEN = re.compile(r"(\d+) .*rattle-logic-built-[^/]*/Rattle-(\w+)-(?:proofs|specs)\.(\S*?)([^.]+)\.oantt\.tmp")
 
 
 def processor_seconds(process):
@@ -25,22 +31,29 @@ def processor_seconds(process):
 
 
 def checked(crate, more):
-    """The seconds of each function of a crate, and of the whole check; ends if the crate is not proved."""
-    words = prover.check_words(crate, "--progress", *more)
-    functions, before, lines = [], None, []
+    """The seconds of each part of each function of a crate; ends if the crate is not proved."""
+    words = prover.check_words(crate, *more)
+    functions, before = {}, None
+    traced = ["strace", "-f", "-e", "trace=openat", "-o", "|cat", *words]
+    is_proved = False
     with subprocess.Popen(
-        words, cwd=f"{TOP}/crates/{crate}", stdout=subprocess.PIPE, stderr=subprocess.STDOUT, text=True
+        traced, cwd=f"{TOP}/crates/{crate}", stdout=subprocess.PIPE, stderr=subprocess.STDOUT, text=True
     ) as ran:
         for line in ran.stdout:
-            lines.append(line)
-            found = CHECKED.match(line)
+            is_proved = is_proved or line.startswith("logic=proved")
+            found = WRITTEN.match(line)
             if found:
-                now = processor_seconds(ran.pid)
-                # What comes before the first function, reading the libraries, is no function's.
-                functions += [(now - before, found[1])] if before is not None else []
+                process, _, function, part = found.groups()
+                now = processor_seconds(process)
+                # What comes before the first module, reading the libraries, is no function's.
+                if before is not None:
+                    key = f"{crate}::{function.rstrip('.').replace('.', '::')}"
+                    parts = functions.setdefault(key, {})
+                    part = part.split("-")[0]
+                    parts[part] = parts.get(part, 0) + now - before
                 before = now
-    if ran.returncode:
-        sys.exit(f"{crate} is not proved:\n{''.join(lines[-20:])}")
+    if not is_proved:
+        sys.exit(f"{crate} is not proved")
     return functions
 
 
@@ -55,14 +68,18 @@ def main():
     parser.add_argument("--tests", action="store_true", help="check the crates with their tests")
     parser.add_argument("crates", nargs="*", metavar="CRATE")
     options = parser.parse_args()
-    functions = []
+    if not shutil.which("strace"):
+        sys.exit("this needs strace, of Debian's package of that name")
+    functions = {}
     for crate in options.crates or prover.dependencies():
         start = children_seconds()
         found = checked(crate, ["--test"] if options.tests else [])
-        functions += found
-        print(f"{children_seconds() - start:7.1f} s {crate}, {len(found)} functions", flush=True)
-    for seconds, name in sorted(functions, reverse=True)[: options.count]:
-        print(f"{seconds:7.1f} s {name}")
+        functions.update(found)
+        print(f"{children_seconds() - start:7.1f} s {crate}, {len(found)} functions and types", flush=True)
+    slowest = sorted(functions.items(), key=lambda each: -sum(each[1].values()))
+    for name, parts in slowest[: options.count]:
+        part = max(parts, key=parts.get)
+        print(f"{sum(parts.values()):7.1f} s {name}, {part} {parts[part]:.1f} s")
 
 
 if __name__ == "__main__":

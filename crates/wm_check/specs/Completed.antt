@@ -44,6 +44,11 @@ CompletesOver «module» log witness answer =
     (module_bytes document_bytes : List ℕ) → IsModuleOf module_bytes «module» → IsDocumentOf document_bytes log witness
     → CompletesDocument module_bytes document_bytes answer
 
+-- the same for these bytes of a document
+abbrev pub CompletesDocumentOver : Module → List ℕ → CompletedDocument → Type 0
+CompletesDocumentOver «module» document_bytes answer =
+    (module_bytes : List ℕ) → IsModuleOf module_bytes «module» → CompletesDocument module_bytes document_bytes answer
+
 -- the same for a candidate over the module's initial memory
 abbrev pub CompletesLog : Module → LoggedRun → CompletedDocument → Type 0
 CompletesLog «module» run answer =

@@ -211,6 +211,18 @@ pub fn check_log<'m, R: AllocGlobal + Threads + Sync>(
     }
 }
 
+/// The verdict on the bytes of a log over a valid module.
+fn verdict_over<R: AllocGlobal + Threads + Sync>(
+    rt: &R,
+    module: &ValidModule,
+    document_bytes: &[u8],
+) -> Result<Verdict, AllocError>
+    ensures { IfOk result (SaysOver «module».now document_bytes.now) }
+{
+    let checked = check_log(rt, module, document_bytes)?;
+    Ok(checked.verdict)
+}
+
 /// The verdict on the bytes, if both can be read.
 fn verdict_of<R: AllocGlobal + Threads + Sync>(
     rt: &R,
@@ -219,13 +231,15 @@ fn verdict_of<R: AllocGlobal + Threads + Sync>(
 ) -> Result<Verdict, AllocError>
     ensures { IfOk result (Says module_bytes.now document_bytes.now) }
 {
-    let module = match read_module(rt.alloc(), module_bytes) {
-        Ok(module) => module,
-        Err(Unread::Refused(refusal)) => return Ok(Verdict::Refused(refusal)),
-        Err(Unread::OutOfMemory) => return Err(AllocError),
-    };
-    let checked = check_log(rt, &module, document_bytes)?;
-    Ok(checked.verdict)
+    match read_module(rt.alloc(), module_bytes) {
+        Ok(module) => {
+            let verdict = verdict_over(rt, &module, document_bytes);
+            drop(module);
+            verdict
+        }
+        Err(Unread::Refused(refusal)) => Ok(Verdict::Refused(refusal)),
+        Err(Unread::OutOfMemory) => Err(AllocError),
+    }
 }
 
 /// Checks the bytes of a log against the bytes of a module, whoever made them, in the order decode, valid, document,

@@ -1,6 +1,6 @@
 //! The completion of a document against a module.
 ghost use Rattle.std.specs.Prelude.{◌≡◌, IfOk, string_bytes};
-ghost use Rattle.wm_check.specs.Completed.{CompletesOver, CompletesLog, CompletesDocument};
+ghost use Rattle.wm_check.specs.Completed.{CompletesDocument, CompletesDocumentOver, CompletesLog, CompletesOver};
 
 use crate::checker::{Unread, read_log, read_module};
 use crate::verdict::Refusal;
@@ -54,6 +54,22 @@ fn complete_over(
     }
 }
 
+/// The completion of the bytes of a log against a valid module.
+fn complete_document_over(
+    alloc: Global,
+    module: &ValidModule,
+    document_bytes: &[u8],
+) -> Result<CompletedDocument, AllocError>
+    ensures { IfOk result (CompletesDocumentOver «module».now document_bytes.now) }
+{
+    let mut room = ReadingRoom::new(alloc);
+    match read_log(alloc, &mut room, document_bytes) {
+        Ok((log, witness)) => complete_over(alloc, module, log, witness),
+        Err(Unread::Refused(refusal)) => Ok(CompletedDocument::Refused(refusal)),
+        Err(Unread::OutOfMemory) => Err(AllocError),
+    }
+}
+
 /// Completes the bytes of a log against the bytes of a module: each thread gets the steps and the end of its longest
 /// run that makes exactly its events, of at most 1,000,000 steps, as [`complete`] does. The steps and the ends in the
 /// document are ignored, and everything else stays as it is. Its parts are refused in the order decode, valid,
@@ -69,14 +85,12 @@ pub fn complete_document(
 ) -> Result<CompletedDocument, AllocError>
     ensures { IfOk result (CompletesDocument module_bytes.now document_bytes.now) }
 {
-    let module = match read_module(alloc, module_bytes) {
-        Ok(module) => module,
-        Err(Unread::Refused(refusal)) => return Ok(CompletedDocument::Refused(refusal)),
-        Err(Unread::OutOfMemory) => return Err(AllocError),
-    };
-    let mut room = ReadingRoom::new(alloc);
-    match read_log(alloc, &mut room, document_bytes) {
-        Ok((log, witness)) => complete_over(alloc, &module, log, witness),
+    match read_module(alloc, module_bytes) {
+        Ok(module) => {
+            let completed = complete_document_over(alloc, &module, document_bytes);
+            drop(module);
+            completed
+        }
         Err(Unread::Refused(refusal)) => Ok(CompletedDocument::Refused(refusal)),
         Err(Unread::OutOfMemory) => Err(AllocError),
     }

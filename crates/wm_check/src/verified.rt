@@ -87,11 +87,13 @@ pub fn verify(
 ) -> Result<Verdict, AllocError>
     ensures { IfOk result (Verifies module_bytes.now document_bytes.now) }
 {
-    let module = match read_module(alloc, module_bytes) {
-        Ok(module) => module,
-        Err(Unread::Refused(refusal)) => return Ok(Verdict::Refused(refusal)),
-        Err(Unread::OutOfMemory) => return Err(AllocError),
-    };
-    let mut room = ReadingRoom::new(alloc);
-    verify_log(alloc, &mut room, &module, document_bytes)
+    match read_module(alloc, module_bytes) {
+        Ok(module) => {
+            let verdict = verify_log(alloc, &mut ReadingRoom::new(alloc), &module, document_bytes);
+            drop(module);
+            verdict
+        }
+        Err(Unread::Refused(refusal)) => Ok(Verdict::Refused(refusal)),
+        Err(Unread::OutOfMemory) => Err(AllocError),
+    }
 }

@@ -15,6 +15,8 @@ use Rattle.wm_decode.specs.ReadingParts.{Read, func_type_at, imports_at, memorie
 use Rattle.wm_decode.specs.Module.{items_of, magic, memory_of, version}
 use Rattle.wm_decode.specs.declared.module.Front.{Front}
 use Rattle.wm_decode.specs.declared.module.Declared.{Declared}
+use Rattle.wm_decode.specs.declared.module.Definitions.{Definitions}
+use Rattle.wm_decode.specs.declared.module.Bodies.{Bodies}
 
 -- a custom section's name; the rest is skipped
 unfoldable pub custom_at : List ℕ → Read (List ℕ)
@@ -71,6 +73,20 @@ declared_at bounds bytes = do
   elements ← section_at no_items_at 9 exports.1
   Ok (record { types = front.0.types; indices = front.0.indices; memory = memory_of front.0.imported (option_flatten defined.0); globals = items_of globals.0; exports = items_of exports.0 }, elements.1)
 
+-- the contents of the sections up to the element section
+abbrev pub declared_with : Front → Definitions → Declared
+declared_with front definitions = record { types = front.types; indices = front.indices; memory = memory_of front.imported definitions.memory; globals = definitions.globals; exports = definitions.exports }
+
+-- the sections from the table section to the element section, behind these
+unfoldable pub definitions_at : Bounds → Front → List ℕ → Read Declared
+definitions_at bounds front bytes = do
+  tables ← section_at no_items_at 4 bytes
+  defined ← section_at (memories_at bounds (is_some front.imported)) 5 tables.1
+  globals ← section_at (vector_at global_at) 6 defined.1
+  exports ← section_at exports_at 7 globals.1
+  elements ← section_at no_items_at 9 exports.1
+  Ok (record { types = front.types; indices = front.indices; memory = memory_of front.imported (option_flatten defined.0); globals = items_of globals.0; exports = items_of exports.0 }, elements.1)
+
 -- the module with these contents of sections, if nothing comes after them and the counts agree
 abbrev pub agreed_module : Declared → Option ℕ → Option (List Func) → Option (List DataSegment) → List ℕ → Result Module Stop
 agreed_module declared count funcs segments (id ∷ rest) = Err (stop (section_fault id) (length (id ∷ rest)))
@@ -79,6 +95,18 @@ agreed_module declared count funcs segments [] =
     if agrees count (length (items_of segments)) then
     Ok (record { types = declared.types; funcs = items_of funcs; memory = declared.memory; globals = declared.globals; exports = declared.exports; «data» = items_of segments })
     else Err (stop CountMismatch 0)) else Err (stop CountMismatch 0)
+
+-- the module with these functions and segments
+abbrev pub module_with : Declared → Bodies → Module
+module_with declared bodies = record { types = declared.types; funcs = bodies.funcs; memory = declared.memory; globals = declared.globals; exports = declared.exports; «data» = bodies.segments }
+
+-- the sections after the element section, behind these
+unfoldable pub bodies_at : Bounds → Declared → List ℕ → Result Module Stop
+bodies_at bounds declared bytes = do
+  count ← section_at u32_at 12 bytes
+  code ← section_at (code_at bounds declared.types declared.indices) 10 count.1
+  segments ← section_at (segments_at count.0) 11 code.1
+  agreed_module declared count.0 code.0 segments.0 segments.1
 
 unfoldable pub module_at : Bounds → List ℕ → Result Module Stop
 module_at bounds bytes = do

@@ -9,6 +9,7 @@ ghost use Rattle.wm_decode.specs.Bounds.{profile};
 ghost use Rattle.wm_decode.specs.Implements.{Implements, Decodes, IsFaultOf, IsUnlessMemory, IsWithin, RefusedBy};
 ghost use Rattle.wm_decode.specs.Module.{items_of, magic, memory_of, version, SpellsWithin, IsPast, spells};
 ghost use Rattle.wm_decode.specs.ReadingModule.{agreed_module, behind, header_at, one_at, front_at, declared_at, module_at, whole_at};
+ghost use Rattle.wm_decode.specs.ReadingModule.{bodies_at, declared_with, definitions_at, module_with};
 
 use crate::bounds::MAX_MODULE_BYTES;
 use crate::code::Code;
@@ -147,33 +148,60 @@ fn read_front(alloc: Global, bytes: &[u8]) -> Result<(Front, &[u8]), ItemFault>
     Ok((front, rest))
 }
 
-/// Reads the sections up to the element section.
-#[tactic(auto, unfolding(crate::specs::ReadingModule::declared_at))]
-fn read_declared(alloc: Global, bytes: &[u8]) -> Result<(Declared, &[u8]), ItemFault>
-    ensures { Implements (λ x. (x.0, x.1.now)) result (declared_at profile bytes.now) }
+/// The contents of the sections from the table section to the element section.
+#[derive(Drop)]
+struct Definitions {
+    memory: Option<Limits>,
+    globals: List<GlobalEntry>,
+    exports: Exports,
+}
+
+/// Reads the sections from the table section to the element section, which come after those of `front`.
+#[tactic(auto, unfolding(crate::specs::ReadingModule::definitions_at))]
+fn read_definitions<'a>(
+    alloc: Global,
+    front: &Front,
+    bytes: &'a [u8],
+) -> Result<(Definitions, &'a [u8]), ItemFault>
+    ensures { Implements (λ x. (declared_with front.now x.0, x.1.now)) result (definitions_at profile front.now bytes.now) }
 {
-    let (front, rest) = read_front(alloc, bytes)?;
     let memories = Memories {
         imported: front.imported.is_some(),
     };
-    let (_, rest) = section(alloc, SectionId::Tables, &NoItems, rest)?;
+    let (_, rest) = section(alloc, SectionId::Tables, &NoItems, bytes)?;
     let (defined, rest) = section(alloc, SectionId::Memories, &memories, rest)?;
     let (globals, rest) = section(alloc, SectionId::Globals, &Globals, rest)?;
     let (exports, rest) = section(alloc, SectionId::Exports, &ExportNames, rest)?;
     let (_, rest) = section(alloc, SectionId::Elements, &NoItems, rest)?;
-    let Front {
-        types,
-        imported,
-        indices,
-    } = front;
-    let declared = Declared {
-        types,
-        indices,
-        memory: one_memory(imported, defined.flatten()),
+    let definitions = Definitions {
+        memory: defined.flatten(),
         globals: items_or_none(alloc, globals),
         exports: exports_or_none(alloc, exports),
     };
-    Ok((declared, rest))
+    Ok((definitions, rest))
+}
+
+/// The contents of the sections up to the element section.
+fn declared_with(front: Front, definitions: Definitions) -> Declared
+    ensures { result ≡ declared_with front definitions }
+{
+    Declared {
+        types: front.types,
+        indices: front.indices,
+        memory: one_memory(front.imported, definitions.memory),
+        globals: definitions.globals,
+        exports: definitions.exports,
+    }
+}
+
+/// Reads the sections up to the element section.
+#[tactic(auto, unfolding(crate::specs::ReadingModule::declared_at, crate::specs::ReadingModule::definitions_at))]
+fn read_declared(alloc: Global, bytes: &[u8]) -> Result<(Declared, &[u8]), ItemFault>
+    ensures { Implements (λ x. (x.0, x.1.now)) result (declared_at profile bytes.now) }
+{
+    let (front, rest) = read_front(alloc, bytes)?;
+    let (definitions, rest) = read_definitions(alloc, &front, rest)?;
+    Ok((declared_with(front, definitions), rest))
 }
 
 /// Why a section can't come here.
@@ -188,56 +216,72 @@ fn section_fault(id: u8) -> FaultKind
     }
 }
 
-/// The module with these contents of sections, unless something comes after them or the counts differ.
-fn agreed_module(
+/// The contents of the sections of code and of data.
+#[derive(Drop)]
+struct Bodies {
+    funcs: List<Func>,
+    segments: List<DataSegment>,
+}
+
+/// The functions and the segments, unless something comes after the sections or the counts differ.
+fn agreed_bodies(
     alloc: Global,
-    declared: Declared,
+    declared: &Declared,
     count: Option<u32>,
     funcs: Option<List<Func>>,
     segments: Option<List<DataSegment>>,
     rest: &[u8],
-) -> Result<Module, ItemFault>
-    ensures { Implements (λ x. x) result (agreed_module declared count funcs segments rest.now) }
+) -> Result<Bodies, ItemFault>
+    ensures { Implements (λ x. module_with declared.now x) result (agreed_module declared.now count funcs segments rest.now) }
 {
     if let [id, ..] = rest {
         return Err(ItemFault::WithLeft(section_fault(*id), rest.len()));
     }
     let funcs = items_or_none(alloc, funcs);
-    let data = items_or_none(alloc, segments);
-    if funcs.len() != declared.indices.len() || !is_agreed(count, data.len()) {
+    let segments = items_or_none(alloc, segments);
+    if funcs.len() != declared.indices.len() || !is_agreed(count, segments.len()) {
         return Err(ItemFault::WithLeft(FaultKind::CountMismatch, 0));
     }
-    let Declared {
-        types,
-        indices: _,
-        memory,
-        globals,
-        exports,
-    } = declared;
-    Ok(Module {
-        types,
-        funcs,
-        memory,
-        globals,
-        exports,
-        data,
-    })
+    Ok(Bodies { funcs, segments })
 }
 
-/// Reads a module.
-#[tactic(auto, unfolding(crate::specs::ReadingModule::module_at))]
-pub(crate) fn read_module(alloc: Global, bytes: &[u8]) -> Result<Module, ItemFault>
-    ensures { Implements (λ x. x) result (module_at profile bytes.now) }
+/// Reads the sections after the element section, which come after those of `declared`.
+#[tactic(auto, unfolding(crate::specs::ReadingModule::bodies_at))]
+fn read_bodies(alloc: Global, declared: &Declared, bytes: &[u8]) -> Result<Bodies, ItemFault>
+    ensures { Implements (λ x. module_with declared.now x) result (bodies_at profile declared.now bytes.now) }
 {
-    let (declared, rest) = read_declared(alloc, bytes)?;
-    let (count, rest) = section(alloc, SectionId::DataCount, &DataCount, rest)?;
+    let (count, rest) = section(alloc, SectionId::DataCount, &DataCount, bytes)?;
     let code = Code {
         types: declared.types.as_slice(),
         indices: declared.indices.as_slice(),
     };
     let (funcs, rest) = section(alloc, SectionId::Code, &code, rest)?;
     let (segments, rest) = section(alloc, SectionId::Data, &Segments { declared: count }, rest)?;
-    agreed_module(alloc, declared, count, funcs, segments, rest)
+    agreed_bodies(alloc, declared, count, funcs, segments, rest)
+}
+
+/// The module with these functions and segments.
+fn module_with(declared: Declared, bodies: Bodies) -> Module
+    ensures { result ≡ module_with declared bodies }
+{
+    Module {
+        types: declared.types,
+        funcs: bodies.funcs,
+        memory: declared.memory,
+        globals: declared.globals,
+        exports: declared.exports,
+        data: bodies.segments,
+    }
+}
+
+/// Reads a module.
+#[tactic(auto, unfolding(crate::specs::ReadingModule::module_at, crate::specs::ReadingModule::bodies_at))]
+pub(crate) fn read_module(alloc: Global, bytes: &[u8]) -> Result<Module, ItemFault>
+    ensures { Implements (λ x. x) result (module_at profile bytes.now) }
+{
+    let (declared, rest) = read_declared(alloc, bytes)?;
+    let bodies = read_bodies(alloc, &declared, rest)?;
+    Ok(module_with(declared, bodies))
 }
 
 /// Reads a module that isn't over the limit of bytes.

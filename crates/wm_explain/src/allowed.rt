@@ -33,7 +33,7 @@ fn add_events(text: &mut String, tables: &mut EventTables) -> Result<(), AllocEr
 /// # Errors
 ///
 /// Only if an allocation fails.
-pub(crate) fn allowed_reason(mut tables: EventTables) -> Result<String, AllocError> {
+pub(crate) fn allowed_reason(tables: &mut EventTables) -> Result<String, AllocError> {
     let threads = tables.candidate.log().threads();
     let mut text = String::new(tables.alloc);
     text.push_str(
@@ -46,7 +46,7 @@ pub(crate) fn allowed_reason(mut tables: EventTables) -> Result<String, AllocErr
     for (number, thread) in threads.iter().enumerate() {
         add_thread(&mut text, number, thread)?;
     }
-    add_events(&mut text, &mut tables)?;
+    add_events(&mut text, tables)?;
     Ok(text)
 }
 
@@ -56,11 +56,11 @@ pub(crate) fn allowed_reason(mut tables: EventTables) -> Result<String, AllocErr
 /// # Errors
 ///
 /// Only if an allocation fails.
-pub(crate) fn permitted_reason(mut tables: EventTables) -> Result<String, AllocError> {
+pub(crate) fn permitted_reason(tables: &mut EventTables) -> Result<String, AllocError> {
     let mut text = String::new(tables.alloc);
     text.push_str(
         "The memory rules allow the events with these writers in this order. No module was given, so the threads' runs were not checked: `explain MODULE DOC` checks them.\n",
     )?;
-    add_events(&mut text, &mut tables)?;
+    add_events(&mut text, tables)?;
     Ok(text)
 }

@@ -1,6 +1,6 @@
 //! The position of a thread in the code of its module.
 
-use crate::function_name::FunctionNames;
+use crate::function_name::{FunctionName, FunctionNames};
 use std::alloc::{AllocError, Global};
 use std::fmt;
 use wm_ast::{Instr, InstrText};
@@ -25,6 +25,37 @@ impl fmt::Display for InstrHere<'_> {
     }
 }
 
+/// The instruction at a position, with its offset; None if the module's bytes have none there.
+fn site_at(
+    alloc: Global,
+    code: ModuleCode,
+    position: CodePosition,
+) -> Result<Option<Site>, AllocError> {
+    let mut map = CodeMap::new(alloc, code)?;
+    map.site(position)
+}
+
+/// An instruction with its place in a function.
+fn phrase(
+    alloc: Global,
+    instr: InstrHere,
+    site: Option<Site>,
+    function: FunctionName,
+) -> Result<String, AllocError> {
+    match site {
+        Some(
+            Site {
+                instruction,
+                offset,
+                ..
+            },
+        ) => format!(in alloc;
+            "{instr} at 0x{offset:x}, instruction {instruction} of {function} (counted from 0, else and end included)"
+        ),
+        None => format!(in alloc; "{instr} in {function}"),
+    }
+}
+
 /// The position of a thread that starts with the export `start`: the instruction, its offset in the module's bytes, its
 /// number and its function.
 ///
@@ -38,24 +69,12 @@ pub(crate) fn position_phrase(
     position: CodePosition,
 ) -> Result<String, AllocError> {
     let CodePosition { func, block, at } = position;
-    let names = FunctionNames::of(alloc, code)?;
-    let name = names.name(start, func);
     let body = code.module.module().block(func, block);
     let instr = InstrHere {
         instr: body.and_then(|instrs| instrs.get(at)),
         block,
     };
-    let mut map = CodeMap::new(alloc, code)?;
-    match map.site(position)? {
-        Some(
-            Site {
-                instruction,
-                offset,
-                ..
-            },
-        ) => format!(in alloc;
-            "{instr} at 0x{offset:x}, instruction {instruction} of {name} (counted from 0, else and end included)"
-        ),
-        None => format!(in alloc; "{instr} in {name}"),
-    }
+    let site = site_at(alloc, code, position)?;
+    let names = FunctionNames::of(alloc, code)?;
+    phrase(alloc, instr, site, names.name(start, func))
 }

@@ -8,7 +8,7 @@ use crate::rule::rule_reason;
 use std::alloc::{AllocError, Global};
 use std::thread::Threads;
 use wm_check::{Breach, Refusal, Verdict};
-use wm_event::{Candidate, Judgement, Misshapen};
+use wm_event::{Candidate, Judgement, Misshapen, RuleFault};
 use wm_list::List;
 use wm_machine::CodePosition;
 use wm_refusal::{decode_reason, document_reason, shape_reason, valid_reason};
@@ -48,6 +48,25 @@ pub fn explain_shape(
     shape_reason(alloc, misshapen, memory_bytes)
 }
 
+/// Tables of a candidate's events, with the instructions that make them.
+fn tables_of<'a, R: AllocGlobal + Threads + Sync>(
+    rt: &R,
+    code: ModuleCode<'a>,
+    candidate: &'a Candidate<'a>,
+    positions: Option<Vec<List<CodePosition>>>,
+) -> Result<EventTables<'a>, AllocError> {
+    let sites = NamedSites::of(rt, code, candidate.log(), positions)?;
+    Ok(EventTables::over(rt.alloc(), candidate, sites))
+}
+
+/// What a run rests on whose events the memory rules allow, or why they don't.
+fn events_reason(mut tables: EventTables, fault: Option<&RuleFault>) -> Result<String, AllocError> {
+    match fault {
+        None => allowed_reason(&mut tables),
+        Some(fault) => rule_reason(&mut tables, fault),
+    }
+}
+
 /// Why a check gave its verdict on a candidate over the initial memory of a module, in sentences and a table. Events are
 /// shown with the byte offsets of the instructions that make them; `positions` are those at which the threads make the
 /// events, if they are known, otherwise the threads are followed to find them. Each line ends with a newline. The text is
@@ -65,13 +84,9 @@ pub fn explain_run<R: AllocGlobal + Threads + Sync>(
 ) -> Result<String, AllocError> {
     match verdict {
         Verdict::Refused(_) => Ok(String::new(rt.alloc())),
-        Verdict::Allowed(_) => {
-            let sites = NamedSites::of(rt, code, candidate.log(), positions)?;
-            allowed_reason(EventTables::over(rt.alloc(), candidate, sites))
-        }
+        Verdict::Allowed(_) => events_reason(tables_of(rt, code, candidate, positions)?, None),
         Verdict::Broken(Breach::Rule(fault)) => {
-            let sites = NamedSites::of(rt, code, candidate.log(), positions)?;
-            rule_reason(EventTables::over(rt.alloc(), candidate, sites), fault)
+            events_reason(tables_of(rt, code, candidate, positions)?, Some(fault))
         }
         Verdict::Broken(Breach::Replay(answer)) => replay_reason(rt, code, candidate, *answer),
     }
@@ -88,9 +103,9 @@ pub fn explain_events(
     judgement: &Judgement,
     candidate: &Candidate,
 ) -> Result<String, AllocError> {
-    let tables = EventTables::without_code(alloc, candidate);
+    let mut tables = EventTables::without_code(alloc, candidate);
     match judgement {
-        Judgement::Valid => permitted_reason(tables),
-        Judgement::Broken(fault) => rule_reason(tables, fault),
+        Judgement::Valid => permitted_reason(&mut tables),
+        Judgement::Broken(fault) => rule_reason(&mut tables, fault),
     }
 }

@@ -63,6 +63,23 @@ fn order_remedy(fault: &RuleFault) -> &'static str {
     }
 }
 
+/// Adds what a fault depends on with these writers that fit.
+fn add_writers(text: &mut String, writers: &Writers, fault: &RuleFault) -> Result<(), AllocError> {
+    match writers {
+        Writers::Only(_) => text.push_str(
+            "This rule doesn't depend on the order of the events. No other writer fits: with these values, no witness makes this run allowed.\n",
+        )?,
+        Writers::Several(writers) => {
+            text.push_str(
+                "This rule doesn't depend on the order of the events. With other writers, the same accesses may be allowed. Events whose value at the address is the value read:\n",
+            )?;
+            add_fits(text, writers)?;
+        }
+        Writers::Other => text.push_str(order_remedy(fault))?,
+    }
+    Ok(())
+}
+
 /// Adds what a fault depends on: on the order, or only on the writers; and for the writers whether others fit.
 ///
 /// # Errors
@@ -74,17 +91,6 @@ pub(crate) fn add_remedy(
     candidate: &Candidate,
     fault: &RuleFault,
 ) -> Result<(), AllocError> {
-    match writers_that_fit(alloc, candidate, fault)? {
-        Writers::Only(_) => text.push_str(
-            "This rule doesn't depend on the order of the events. No other writer fits: with these values, no witness makes this run allowed.\n",
-        )?,
-        Writers::Several(writers) => {
-            text.push_str(
-                "This rule doesn't depend on the order of the events. With other writers, the same accesses may be allowed. Events whose value at the address is the value read:\n",
-            )?;
-            add_fits(text, &writers)?;
-        }
-        Writers::Other => text.push_str(order_remedy(fault))?,
-    }
-    Ok(())
+    let writers = writers_that_fit(alloc, candidate, fault)?;
+    add_writers(text, &writers, fault)
 }

@@ -12,7 +12,7 @@ use std::cmp::Ordering;
 use std::fmt;
 use std::thread::Threads;
 use wm_check::{Breach, Verdict};
-use wm_event::{Candidate, EventId, Judgement, MAX_STEPS, OpKind, Rule, RuleFault, ThreadLog};
+use wm_event::{Candidate, EventId, Judgement, Log, MAX_STEPS, OpKind, Rule, RuleFault, ThreadLog};
 use wm_list::List;
 use wm_machine::CodePosition;
 use wm_phrase::{AndEndPhrase, Count, EndPhrase, JsonText};
@@ -264,6 +264,42 @@ fn compare_thread(
     compare(alloc, module, &threads[number], number)
 }
 
+/// Adds whether the memory rules allow the events.
+fn add_judgement<R: AllocGlobal + Threads + Sync>(
+    rt: &R,
+    text: &mut String,
+    code: ModuleCode,
+    candidate: &Candidate,
+    thread: LoggedThread,
+    compared: &Compared,
+) -> Result<(), AllocError> {
+    match judge(rt, candidate)? {
+        Judgement::Valid => Ok(text.push_str("The memory rules allow the events as logged.\n")?),
+        Judgement::Broken(fault) => {
+            add_fault(text, thread, compared, &fault)?;
+            let run = ComparedRun {
+                number: thread.number,
+                compared,
+            };
+            add_fault_table(rt.alloc(), text, code, candidate, run, &fault)
+        }
+    }
+}
+
+/// Why the log of a thread that was compared isn't its run, and whether the memory rules allow the events.
+fn compared_reason<R: AllocGlobal + Threads + Sync>(
+    rt: &R,
+    code: ModuleCode,
+    candidate: &Candidate,
+    thread: LoggedThread,
+    compared: &Compared,
+    place: Place,
+) -> Result<String, AllocError> {
+    let mut text = thread_reason(rt.alloc(), code, thread, compared, place)?;
+    add_judgement(rt, &mut text, code, candidate, thread, compared)?;
+    Ok(text)
+}
+
 /// Why the log of the thread of this number isn't its run, and whether the memory rules allow the events.
 fn differing_reason<R: AllocGlobal + Threads + Sync>(
     rt: &R,
@@ -276,23 +312,13 @@ fn differing_reason<R: AllocGlobal + Threads + Sync>(
     let Some(log) = candidate.log().threads().get(number) else {
         return Ok(String::new(alloc));
     };
-    let Some(compared) = compare_thread(alloc, code.module, candidate, number)? else {
-        return Ok(String::new(alloc));
-    };
-    let thread = LoggedThread { number, log };
-    let mut text = thread_reason(alloc, code, thread, &compared, place)?;
-    match judge(rt, candidate)? {
-        Judgement::Valid => text.push_str("The memory rules allow the events as logged.\n")?,
-        Judgement::Broken(fault) => {
-            add_fault(&mut text, thread, &compared, &fault)?;
-            let run = ComparedRun {
-                number,
-                compared: &compared,
-            };
-            add_fault_table(alloc, &mut text, code, candidate, run, &fault)?;
+    match compare_thread(alloc, code.module, candidate, number)? {
+        Some(compared) => {
+            let thread = LoggedThread { number, log };
+            compared_reason(rt, code, candidate, thread, &compared, place)
         }
+        None => Ok(String::new(alloc)),
     }
-    Ok(text)
 }
 
 /// Why a thread's log isn't its run: what the log has and what the module does at that point, and at which instruction;
@@ -346,6 +372,31 @@ fn compare_differing(
     }
 }
 
+/// For each of these events, the instruction that makes it; empty if its thread doesn't make it. `run` is a thread that
+/// was followed before.
+fn places_of(
+    alloc: Global,
+    code: ModuleCode,
+    log: &Log,
+    positions: Option<Vec<List<CodePosition>>>,
+    ids: &[EventId],
+    run: Option<ComparedRun>,
+) -> Result<Vec<String>, AllocError> {
+    let mut sites = match positions {
+        Some(positions) => NamedSites::at(alloc, code, log, positions)?,
+        None => sites_of(alloc, code, log, ids, run)?,
+    };
+    event_places(alloc, &mut sites, ids)
+}
+
+/// What the module does next in the thread that differs from its log; empty if none does.
+fn module_does(alloc: Global, run: Option<ComparedRun>) -> Result<String, AllocError> {
+    match run {
+        Some(run) => format!(in alloc; "{}", run.compared.made),
+        None => Ok(String::new(alloc)),
+    }
+}
+
 /// What a picture of a candidate that shows these events shows of the module; `verdict` is a check's verdict on the
 /// candidate. `positions` are those at which the threads make the events, if they are known; otherwise the threads are
 /// followed up to the last of these events.
@@ -362,23 +413,16 @@ pub fn picture_notes(
     ids: &[EventId],
 ) -> Result<PictureNotes, AllocError> {
     let differing = compare_differing(alloc, code.module, verdict, candidate)?;
-    let log = candidate.log();
-    let (run, module_does) = match &differing {
-        Some((number, compared)) => {
-            let run = ComparedRun {
-                number: *number,
-                compared,
-            };
-            (Some(run), format!(in alloc; "{}", compared.made)?)
-        }
-        None => (None, String::new(alloc)),
+    let run = match &differing {
+        Some((number, compared)) => Some(ComparedRun {
+            number: *number,
+            compared,
+        }),
+        None => None,
     };
-    let mut sites = match positions {
-        Some(positions) => NamedSites::at(alloc, code, log, positions)?,
-        None => sites_of(alloc, code, log, ids, run)?,
-    };
+    let places = places_of(alloc, code, candidate.log(), positions, ids, run)?;
     Ok(PictureNotes {
-        places: event_places(alloc, &mut sites, ids)?,
-        module_does,
+        places,
+        module_does: module_does(alloc, run)?,
     })
 }

@@ -175,12 +175,34 @@ impl<'a> EventTables<'a> {
             writer,
             runs: runs.as_slice(),
         };
+        self.write_row(text, row)
+    }
+
+    /// Writes a row with its end.
+    fn write_row(&mut self, text: &mut String, row: EventRow) -> Result<(), AllocError> {
         if row.write_to(text).is_err() {
             return Err(AllocError);
         }
         match &mut self.sites {
-            Some(sites) => text.push_str(sites.row_end(key)?)?,
+            Some(sites) => text.push_str(sites.row_end(row.event.key())?)?,
             None => text.push_str(ROW_END)?,
+        }
+        Ok(())
+    }
+
+    /// Adds the rows of these events.
+    fn add_rows(
+        &mut self,
+        text: &mut String,
+        ids: &[EventId],
+        mixed: &MixedAddresses,
+    ) -> Result<(), AllocError> {
+        text.push_str(HEAD)?;
+        for id in ids {
+            match *id {
+                EventId::Init => text.push_str(INIT_ROW)?,
+                EventId::At(key) => self.add_row(text, key, mixed)?,
+            }
         }
         Ok(())
     }
@@ -195,13 +217,6 @@ impl<'a> EventTables<'a> {
             return Ok(text.push_str("  none\n")?);
         }
         let mixed = MixedAddresses::of(self.alloc, self.candidate, ids)?;
-        text.push_str(HEAD)?;
-        for id in ids {
-            match *id {
-                EventId::Init => text.push_str(INIT_ROW)?,
-                EventId::At(key) => self.add_row(text, key, &mixed)?,
-            }
-        }
-        Ok(())
+        self.add_rows(text, ids, &mixed)
     }
 }

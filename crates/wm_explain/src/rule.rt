@@ -306,6 +306,22 @@ pub(crate) fn events_of(
     Ok(ids)
 }
 
+/// Adds the events of a fault in a table, and the chains that it rests on.
+fn add_grounds(
+    text: &mut String,
+    tables: &mut EventTables,
+    fault: &RuleFault,
+    chains: &[FaultChain],
+) -> Result<(), AllocError> {
+    text.push_str("The events, with their places in the order:\n")?;
+    let ids = events_of(tables.alloc, tables.candidate, fault, chains)?;
+    tables.add(text, ids.as_slice())?;
+    for chain in chains {
+        add_chain(text, chain)?;
+    }
+    Ok(())
+}
+
 /// Why a run breaks a memory rule: the rule, the fault in a sentence, its events, a shortest chain for each
 /// happens-before that it rests on, and whether other writers or another order could mend it.
 ///
@@ -313,7 +329,7 @@ pub(crate) fn events_of(
 ///
 /// Only if an allocation fails.
 pub(crate) fn rule_reason(
-    mut tables: EventTables,
+    tables: &mut EventTables,
     fault: &RuleFault,
 ) -> Result<String, AllocError> {
     let alloc = tables.alloc;
@@ -325,12 +341,7 @@ pub(crate) fn rule_reason(
         Some(chains) => chains,
         None => List::new(alloc),
     };
-    text.push_str("The events, with their places in the order:\n")?;
-    let ids = events_of(alloc, candidate, fault, chains.as_slice())?;
-    tables.add(&mut text, ids.as_slice())?;
-    for chain in chains.as_slice() {
-        add_chain(&mut text, chain)?;
-    }
+    add_grounds(&mut text, tables, fault, chains.as_slice())?;
     add_remedy(alloc, &mut text, candidate, fault)?;
     Ok(text)
 }

@@ -1,35 +1,48 @@
 -- The explanation of a run, and of a document alone.
-use Rattle.std.proofs.Common.{◌≡◌, ℕ, List, ◌++◌, refl, sym, subst, string_bytes, ◌∙◌, ap}
+use Rattle.std.proofs.Common.{◌≡◌, ℕ, List, ◌++◌, refl, ◌∙◌, ap}
 use Rattle.wm_event.specs.declared.log.ThreadLog.{ThreadLog}
+use Rattle.wm_event.specs.declared.shape_fault.ShapeFault.{ShapeFault}
 use Rattle.wm_event.specs.declared.witness.Witness.{Witness}
-use Rattle.wm_event.specs.LoggedRun.{LoggedRun}
+use Rattle.wm_event.specs.First.{IsFirst}
+use Rattle.wm_event.specs.LoggedRun.{LoggedRun, execution}
+use Rattle.wm_event.specs.Shape.{IsWellShaped, Misshapes, shape_rank}
 use Rattle.wm_logfile.specs.declared.fault.DocFault.{DocFault}
 use Rattle.wm_logfile.specs.declared.fault.DocFault.TheVariants.{OutOfMemory}
 use Rattle.wm_logfile.specs.DocumentBytes.{IsDocumentOf, IsNoDocument}
 use Rattle.wm_litmus.specs.declared.answer.Answer.{Answer}
-use Rattle.wm_litmus.specs.EventExplanation.{AnswersEventExplain, ExplainsFault, ExplainsRun, GainsReasons}
-use Rattle.wm_litmus.specs.Lines.{document_line_text}
+use Rattle.wm_litmus.specs.EventExplanation.{AnswersEventExplain, ExplainsExecution, ExplainsFault, ExplainsLine, ExplainsRun, ExplainsShape, GainsReasons}
+use Rattle.wm_litmus.specs.Lines.{document_line_text, judgement_text, shape_line_text}
 use Rattle.wm_litmus.specs.Prints.{Gives, Prints, ended}
-use Rattle.wm_litmus.specs.Rules.{AnswersRun, run_over}
+use Rattle.wm_litmus.specs.Rules.{run_over}
+use Rattle.wm_litmus.specs.Rules.AnswersRun.{judged, misshapen}
 use Rattle.wm_litmus.specs.Rules.AnswersRules.{read, refused}
 
--- reasons added to what `rules` answers explain it
-pub explains_run : (run : LoggedRun) (old new : Answer) (reasons : List ℕ) → AnswersRun run old.status (string_bytes old.text) → GainsReasons old reasons new
-    → Gives (ExplainsRun run) new
-explains_run run old new reasons answers gains = record {
-  line = string_bytes old.text;
-  reasons = reasons;
-  judged = subst (λ status. AnswersRun run status (string_bytes old.text)) (sym gains.status_is) answers;
-  text_is = gains.text_is;
-}
-
-pub explains_fault : (fault : DocFault) (old new : Answer) (reasons : List ℕ) → (fault ≡ OutOfMemory → ⊥) → Prints 2 (document_line_text fault) old
-    → GainsReasons old reasons new → ExplainsFault fault new
-explains_fault fault old new reasons answered prints gains = record {
-  answered = answered;
+-- reasons added to an answer of this line explain the line
+pub explains_line : (status : ℕ) (line : List ℕ) (old new : Answer) (reasons : List ℕ) → Prints status line old → GainsReasons old reasons new
+    → ExplainsLine status line new
+explains_line status line old new reasons prints gains = record {
   status_is = gains.status_is ∙ prints.status_is;
   reasons = reasons;
   text_is = gains.text_is ∙ ap (λ text. text ++ reasons) prints.text_is;
+}
+
+-- an explained judgement of a run's execution explains the run
+pub explains_judged : (run : LoggedRun) (answer : Answer) → IsWellShaped run → ExplainsExecution (execution run) answer → Gives (ExplainsRun run) answer
+explains_judged run answer shape explained = record {
+  line = ended (judgement_text explained.judgement);
+  reasons = explained.explains.reasons;
+  judged = judged explained.judgement shape explained.judges explained.explains.status_is refl;
+  text_is = explained.explains.text_is;
+}
+
+-- an explained refusal of a run's shape explains the run
+pub explains_misshapen : (run : LoggedRun) (fault : ShapeFault) (answer : Answer) → IsFirst shape_rank (Misshapes run) fault → ExplainsShape fault answer
+    → Gives (ExplainsRun run) answer
+explains_misshapen run fault answer first explained = record {
+  line = ended (shape_line_text fault);
+  reasons = explained.explains.reasons;
+  judged = misshapen fault first explained.explains.status_is refl;
+  text_is = explained.explains.text_is;
 }
 
 -- an explained run answers the document that records it
@@ -47,7 +60,7 @@ pub answers_fault : (bytes : List ℕ) (fault : DocFault) (answer : Answer) → 
     → ExplainsFault fault answer → Gives (AnswersEventExplain bytes) answer
 answers_fault bytes fault answer none explains = record {
   line = ended (document_line_text fault);
-  reasons = explains.reasons;
-  rules = refused fault (none explains.answered) explains.status_is refl;
-  text_is = explains.text_is;
+  reasons = explains.explains.reasons;
+  rules = refused fault (none explains.answered) explains.explains.status_is refl;
+  text_is = explains.explains.text_is;
 }

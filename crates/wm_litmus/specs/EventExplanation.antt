@@ -2,7 +2,10 @@
 use Rattle.std.specs.Prelude.{◌≡◌, ◌≢◌, ℕ, List, ◌++◌, string_bytes}
 use Rattle.wm_event.specs.declared.log.ThreadLog.{ThreadLog}
 use Rattle.wm_event.specs.declared.rule.Judgement.{Judgement}
+use Rattle.wm_event.specs.declared.shape_fault.ShapeFault.{ShapeFault}
+use Rattle.wm_event.specs.declared.shape_fault.ShapeFault.TheVariants.{OutOfMemory as ShapeOutOfMemory}
 use Rattle.wm_event.specs.declared.witness.Witness.{Witness}
+use Rattle.wm_event.specs.Execution.{Execution}
 use Rattle.wm_event.specs.Faults.{Judges}
 use Rattle.wm_event.specs.LoggedRun.{LoggedRun, execution}
 use Rattle.wm_event.specs.Shape.{IsWellShaped}
@@ -10,7 +13,7 @@ use Rattle.wm_logfile.specs.declared.fault.DocFault.{DocFault}
 use Rattle.wm_logfile.specs.declared.fault.DocFault.TheVariants.{OutOfMemory}
 use Rattle.wm_logfile.specs.DocumentBytes.{IsDocumentOf}
 use Rattle.wm_litmus.specs.declared.answer.Answer.{Answer}
-use Rattle.wm_litmus.specs.Lines.{document_line_text, judgement_status}
+use Rattle.wm_litmus.specs.Lines.{document_line_text, judgement_status, judgement_text, shape_line_text}
 use Rattle.wm_litmus.specs.Prints.{ended}
 use Rattle.wm_litmus.specs.Rules.{AnswersRules, AnswersRun, run_over}
 
@@ -21,12 +24,27 @@ pub record GainsReasons (old : Answer) (reasons : List ℕ) (new : Answer) : Typ
 
 -- ---- the command `explain`
 
--- an answer prints the refusal of a document, and sentences that aren't specified
+-- an answer prints this line, and sentences that aren't specified
+pub record ExplainsLine (status : ℕ) (line : List ℕ) (answer : Answer) : Type 0 where
+  pub status_is : answer.status ≡ status
+  pub reasons : List ℕ
+  pub text_is : string_bytes answer.text ≡ ended line ++ reasons
+
+-- an answer prints the refusal of a document, and sentences
 pub record ExplainsFault (fault : DocFault) (answer : Answer) : Type 0 where
   pub answered : fault ≢ OutOfMemory
-  pub status_is : answer.status ≡ 2
-  pub reasons : List ℕ
-  pub text_is : string_bytes answer.text ≡ ended (document_line_text fault) ++ reasons
+  pub explains : ExplainsLine 2 (document_line_text fault) answer
+
+-- an answer prints the refusal of a shape, and sentences
+pub record ExplainsShape (fault : ShapeFault) (answer : Answer) : Type 0 where
+  pub answered : fault ≢ ShapeOutOfMemory
+  pub explains : ExplainsLine 2 (shape_line_text fault) answer
+
+-- an answer prints the judgement of an execution, and sentences
+pub record ExplainsExecution (x : Execution) (answer : Answer) : Type 0 where
+  pub judgement : Judgement
+  pub judges : Judges x judgement
+  pub explains : ExplainsLine (judgement_status judgement) (judgement_text judgement) answer
 
 -- the status and the text that answer a run: those of `rules`, and sentences that aren't specified
 pub record ExplainsRun (run : LoggedRun) (status : ℕ) (text : List ℕ) : Type 0 where
@@ -43,6 +61,12 @@ pub record AnswersEventExplain (bytes : List ℕ) (status : ℕ) (text : List �
   pub text_is : text ≡ line ++ reasons
 
 -- ---- the command `graph`
+
+-- an answer has the status of the judgement of an execution, and a picture that isn't specified
+pub record GraphsExecution (x : Execution) (answer : Answer) : Type 0 where
+  pub judgement : Judgement
+  pub judges : Judges x judgement
+  pub status_is : answer.status ≡ judgement_status judgement
 
 -- the status and the text that answer a run: the status of its judgement with a picture that isn't specified; for a
 -- misshapen run the answer of `rules`

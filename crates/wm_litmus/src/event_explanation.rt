@@ -1,7 +1,9 @@
 //! The commands `explain` and `graph` for a document without a module: why `rules` gives its answer, in sentences and
 //! as a picture. The document is read and judged once.
 ghost use Rattle.std.specs.Prelude.{◌≡◌, ◌≤◌, IfOk};
-ghost use Rattle.wm_litmus.specs.EventExplanation.{AnswersEventExplain, AnswersEventGraph, ExplainsFault, ExplainsRun, GraphsRun};
+ghost use Rattle.wm_event.specs.LoggedRun.{execution};
+ghost use Rattle.wm_litmus.specs.EventExplanation.{AnswersEventExplain, AnswersEventGraph, ExplainsExecution, ExplainsFault, ExplainsRun};
+ghost use Rattle.wm_litmus.specs.EventExplanation.{ExplainsShape, GraphsExecution, GraphsRun};
 ghost use Rattle.wm_litmus.specs.Lines.{judgement_status, verdict_status};
 ghost use Rattle.wm_litmus.specs.Prints.{Gives};
 ghost use Rattle.wm_litmus.specs.Rules.{run_over};
@@ -12,11 +14,38 @@ use crate::line::rules_line;
 use std::alloc::{AllocError, Global};
 use std::thread::Threads;
 use wm_check::{Breach, Certificate, Refusal, Verdict, count_events};
-use wm_event::{Candidate, Initial, Judgement, Log, ShapeFault, Witness};
+use wm_event::{Candidate, Initial, Judgement, Log, Misshapen, Witness};
 use wm_explain::{explain_events, explain_refusal, explain_shape};
 use wm_graph::{Caption, Sketch};
 use wm_logfile::{DocFault, read_document};
 use wm_rules::judge;
+
+/// The judgement of a candidate, and its explanation.
+fn explain_candidate<R: AllocGlobal + Threads + Sync>(
+    rt: &R,
+    candidate: &Candidate,
+) -> Result<Answer, AllocError>
+    ensures { IfOk result (ExplainsExecution (execution candidate.now)) }
+{
+    let judgement = judge(rt, candidate)?;
+    let reasons = explain_events(rt.alloc(), &judgement, candidate)?;
+    let answer = Answer::judged(rt.alloc(), &judgement)?;
+    answer.with_reasons(reasons.as_str())
+}
+
+/// The refusal of a log and its witness over an initial memory of this number of bytes, and its explanation; an
+/// allocation failure is not an answer.
+fn explain_misshapen(
+    alloc: Global,
+    misshapen: &Misshapen,
+    memory_bytes: usize,
+) -> Result<Answer, AllocError>
+    ensures { IfOk result (ExplainsShape misshapen.now.fault) }
+{
+    let reasons = explain_shape(alloc, misshapen, memory_bytes)?;
+    let answer = Answer::refused_shape(alloc, misshapen.fault)?;
+    answer.with_reasons(reasons.as_str())
+}
 
 /// The explanation of a log with a witness, over this number of pages of zeros.
 fn explain_log<R: AllocGlobal + Threads + Sync>(
@@ -30,17 +59,8 @@ fn explain_log<R: AllocGlobal + Threads + Sync>(
 {
     let initial = Initial::zeros(rt.alloc(), pages);
     match Candidate::of(rt.alloc(), log, witness, &initial) {
-        Ok(candidate) => {
-            let judgement = judge(rt, &candidate)?;
-            let reasons = explain_events(rt.alloc(), &judgement, &candidate)?;
-            let answer = Answer::judged(rt.alloc(), &judgement)?;
-            answer.with_reasons(reasons.as_str())
-        }
-        Err(misshapen) => {
-            let reasons = explain_shape(rt.alloc(), &misshapen, initial.len())?;
-            let answer = Answer::refused_shape(rt.alloc(), misshapen.fault)?;
-            answer.with_reasons(reasons.as_str())
-        }
+        Ok(candidate) => explain_candidate(rt, &candidate),
+        Err(misshapen) => explain_misshapen(rt.alloc(), &misshapen, initial.len()),
     }
 }
 
@@ -84,6 +104,38 @@ fn verdict_of(judgement: &Judgement, candidate: &Candidate) -> Verdict
     }
 }
 
+/// The picture of a candidate with this verdict, under a title.
+fn picture_of(
+    alloc: Global,
+    verdict: &Verdict,
+    candidate: &Candidate,
+    title: &str,
+) -> Result<String, AllocError> {
+    let sketch = Sketch::of(alloc, verdict, candidate)?;
+    sketch.draw(alloc, Caption::titled(title))
+}
+
+/// The answer with the picture of a candidate with this judgement.
+fn draw(alloc: Global, candidate: &Candidate, judgement: &Judgement) -> Result<Answer, AllocError>
+    ensures { IfOk result (λ answer. answer.status ≡ judgement_status judgement.now) }
+{
+    let verdict = verdict_of(judgement, candidate);
+    let title = rules_line(alloc, judgement)?;
+    let picture = picture_of(alloc, &verdict, candidate, title.as_str())?;
+    Ok(Answer::pictured(&verdict, picture))
+}
+
+/// The picture of a candidate with its judgement.
+fn graph_candidate<R: AllocGlobal + Threads + Sync>(
+    rt: &R,
+    candidate: &Candidate,
+) -> Result<Answer, AllocError>
+    ensures { IfOk result (GraphsExecution (execution candidate.now)) }
+{
+    let judgement = judge(rt, candidate)?;
+    draw(rt.alloc(), candidate, &judgement)
+}
+
 /// The picture of a log with a witness, over this number of pages of zeros; if they are refused, the line of the
 /// refusal.
 fn graph_log<R: AllocGlobal + Threads + Sync>(
@@ -96,17 +148,10 @@ fn graph_log<R: AllocGlobal + Threads + Sync>(
     ensures { IfOk result (Gives (GraphsRun (run_over pages log witness))) }
 {
     let initial = Initial::zeros(rt.alloc(), pages);
-    let candidate = match Candidate::new(rt.alloc(), log, witness, &initial) {
-        Ok(candidate) => candidate,
-        Err(fault) => return Answer::refused_shape(rt.alloc(), fault),
-    };
-    let judgement = judge(rt, &candidate)?;
-    let verdict = verdict_of(&judgement, &candidate);
-    let title = rules_line(rt.alloc(), &judgement)?;
-    let caption = Caption::titled(title.as_str());
-    let sketch = Sketch::of(rt.alloc(), &verdict, &candidate)?;
-    let picture = sketch.draw(rt.alloc(), caption)?;
-    Ok(Answer::pictured(&verdict, picture))
+    match Candidate::new(rt.alloc(), log, witness, &initial) {
+        Ok(candidate) => graph_candidate(rt, &candidate),
+        Err(fault) => Answer::refused_shape(rt.alloc(), fault),
+    }
 }
 
 /// The execution that the bytes of a document record, for Graphviz; if the document is refused, the line of the

@@ -11,7 +11,7 @@ use std::alloc::{AllocError, Global};
 use std::thread::Threads;
 use wm_check::{CheckedLog, Refusal, Unread, Verdict, check_log, read_module};
 use wm_event::Candidate;
-use wm_explain::{explain_refusal, explain_run, explain_shape, picture_notes};
+use wm_explain::{PictureNotes, explain_refusal, explain_run, explain_shape, picture_notes};
 use wm_graph::{Caption, Sketch};
 use wm_list::List;
 use wm_machine::CodePosition;
@@ -105,6 +105,42 @@ pub(crate) fn explain_answer<R: AllocGlobal + Threads + Sync>(
     }
 }
 
+/// What a sketch of a candidate shows of the module.
+fn notes_of(
+    alloc: Global,
+    code: ModuleCode,
+    verdict: &Verdict,
+    candidate: &Candidate,
+    positions: Option<Vec<List<CodePosition>>>,
+    sketch: &Sketch,
+) -> Result<PictureNotes, AllocError> {
+    let events = sketch.events(alloc)?;
+    picture_notes(
+        alloc,
+        code,
+        verdict,
+        candidate,
+        positions,
+        events.as_slice(),
+    )
+}
+
+/// A sketch with these notes, under the line of the verdict.
+fn draw(
+    alloc: Global,
+    verdict: &Verdict,
+    sketch: &Sketch,
+    notes: &PictureNotes,
+) -> Result<String, AllocError> {
+    let title = verdict_line(alloc, verdict)?;
+    let caption = Caption {
+        title: title.as_str(),
+        places: notes.places.as_slice(),
+        module_does: notes.module_does.as_str(),
+    };
+    sketch.draw(alloc, caption)
+}
+
 /// The picture of a candidate with this verdict, with the places in the module of the events that it shows.
 fn picture_of(
     alloc: Global,
@@ -113,23 +149,9 @@ fn picture_of(
     candidate: &Candidate,
     positions: Option<Vec<List<CodePosition>>>,
 ) -> Result<String, AllocError> {
-    let title = verdict_line(alloc, verdict)?;
     let sketch = Sketch::of(alloc, verdict, candidate)?;
-    let events = sketch.events(alloc)?;
-    let notes = picture_notes(
-        alloc,
-        code,
-        verdict,
-        candidate,
-        positions,
-        events.as_slice(),
-    )?;
-    let caption = Caption {
-        title: title.as_str(),
-        places: notes.places.as_slice(),
-        module_does: notes.module_does.as_str(),
-    };
-    sketch.draw(alloc, caption)
+    let notes = notes_of(alloc, code, verdict, candidate, positions, &sketch)?;
+    draw(alloc, verdict, &sketch, &notes)
 }
 
 /// The picture of what was checked; if that is refused, the line of the refusal.

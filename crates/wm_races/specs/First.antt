@@ -16,6 +16,12 @@ pub record AreFirstRaces (x : Execution) (limit : ℕ) (found : FirstRaces) : Ty
   pub first : found.pairs ≡ take limit races
   pub total : found.total ≡ length races
 
+-- the number of races
+pub record IsRaceCount (x : Execution) (count : ℕ) : Type 0 where
+  pub races : List RacingPair
+  pub list : IsRaceList x races
+  pub total : count ≡ length races
+
 -- ---- what the parts of the search find
 
 -- the races of the event at a place

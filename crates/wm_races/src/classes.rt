@@ -196,6 +196,20 @@ impl ClassTable {
         Ok(ClassTable { of_byte })
     }
 
+    /// The classes of each byte that many events write and that is the first byte of an event.
+    pub fn of_candidate(
+        alloc: Global,
+        candidate: &Candidate,
+        sites: &[List<Site>],
+    ) -> Result<Self, AllocError>
+        requires { HasSites candidate.now.log sites.now }
+        ensures classes { IfOk result (HasClasses candidate.now) }
+        ensures sites { IfOk result (HasClassSites candidate.now sites.now) }
+    {
+        let firsts = Begins::of_events(alloc, candidate)?;
+        Self::of(alloc, candidate, sites, &firsts)
+    }
+
     /// The classes of a byte, if they are known.
     pub fn at(&self, address: u64) -> Option<&[Class]>
         ensures { IfSome result (λ classes. get nat_eq self.now.of_byte address ≡ Some classes.now) }

@@ -2,7 +2,7 @@
 ghost use Rattle.std.specs.Prelude.{◌≡◌, ◌<◌, ◌≤◌, List, IfOk, length, map, sum_by};
 ghost use Rattle.wm_event.specs.LoggedRun.{execution};
 ghost use Rattle.wm_races.specs.Classes.{HasClassSites, HasClasses};
-ghost use Rattle.wm_races.specs.First.{AreFirstRaces, AreRacesAt, one_site_table};
+ghost use Rattle.wm_races.specs.First.{AreFirstRaces, AreRacesAt, IsRaceCount, one_site_table};
 ghost use Rattle.wm_races.specs.Gathering.{count_of};
 ghost use Rattle.wm_races.specs.Groups.{first_pair};
 ghost use Rattle.wm_races.specs.Window.{HasBegins};
@@ -94,6 +94,70 @@ fn races_at(
     first_pairs(alloc, groups.as_slice())
 }
 
+/// How many races a candidate has. All events have the same site in `sites`.
+fn race_count(
+    rt: &(impl Threads + Sync),
+    alloc: Global,
+    before: &HappensBefore,
+    sites: &[List<Site>],
+) -> Result<u64, AllocError>
+    requires { sites.now ≡ one_site_table before.now.log }
+    ensures { IfOk result (IsRaceCount (execution before.now)) }
+{
+    let lines = races(rt, alloc, before, sites)?;
+    let total = count_in(lines.as_slice());
+    Ok(total)
+}
+
+/// The first of the `total` races of a candidate, at most `limit` of them, event by event.
+fn collect_races(
+    alloc: Global,
+    before: &HappensBefore,
+    begins: &Begins,
+    table: &ClassTable,
+    limit: usize,
+    total: u64,
+) -> Result<FirstRaces, AllocError>
+    requires begins { HasBegins before.now begins.now }
+    requires classes { HasClasses before.now table.now }
+    requires sites { (sites : List (List Site)) × HasClassSites before.now sites table.now }
+    requires total { IsRaceCount (execution before.now) total }
+    ensures { IfOk result (AreFirstRaces (execution before.now) limit) }
+{
+    let candidate = before.candidate();
+    let events = candidate.witness().order.len();
+    let mut pairs = Vec::new(alloc);
+    let mut place = 0usize;
+    while place < events && pairs.len() < limit && (pairs.len() as u64) < total {
+        let more = races_at(alloc, before, begins, table, place)?;
+        pairs.extend_from_slice(more.as_slice())?;
+        place += 1;
+    }
+    pairs.truncate(limit);
+    Ok(FirstRaces {
+        pairs: List::from_vec(pairs),
+        total,
+    })
+}
+
+/// The first races of a candidate, and how many there are. All events have the same site in `sites`.
+fn first_races_by(
+    rt: &(impl Threads + Sync),
+    alloc: Global,
+    before: &HappensBefore,
+    sites: &[List<Site>],
+    limit: usize,
+) -> Result<FirstRaces, AllocError>
+    requires { sites.now ≡ one_site_table before.now.log }
+    ensures { IfOk result (AreFirstRaces (execution before.now) limit) }
+{
+    let total = race_count(rt, alloc, before, sites)?;
+    let candidate = before.candidate();
+    let begins = Begins::of(alloc, candidate)?;
+    let table = ClassTable::of_candidate(alloc, candidate, sites)?;
+    collect_races(alloc, before, &begins, &table, limit, total)
+}
+
 /// The first races of a candidate whose order agrees with happens-before, at most `limit` of them, and how many there
 /// are. Races and their order are defined as for [`races`].
 ///
@@ -108,24 +172,6 @@ pub fn first_races(
 ) -> Result<FirstRaces, AllocError>
     ensures { IfOk result (AreFirstRaces (execution before.now) limit) }
 {
-    let candidate = before.candidate();
-    let sites = one_site(alloc, candidate.log())?;
-    let lines = races(rt, alloc, before, sites.as_slice())?;
-    let total = count_in(lines.as_slice());
-    let events = candidate.witness().order.len();
-    let begins = Begins::of(alloc, candidate)?;
-    let firsts = Begins::of_events(alloc, candidate)?;
-    let table = ClassTable::of(alloc, candidate, sites.as_slice(), &firsts)?;
-    let mut pairs = Vec::new(alloc);
-    let mut place = 0usize;
-    while place < events && pairs.len() < limit && (pairs.len() as u64) < total {
-        let more = races_at(alloc, before, &begins, &table, place)?;
-        pairs.extend_from_slice(more.as_slice())?;
-        place += 1;
-    }
-    pairs.truncate(limit);
-    Ok(FirstRaces {
-        pairs: List::from_vec(pairs),
-        total,
-    })
+    let sites = one_site(alloc, before.candidate().log())?;
+    first_races_by(rt, alloc, before, sites.as_slice(), limit)
 }

@@ -48,6 +48,45 @@ fn add_block(
     Ok(())
 }
 
+/// The races of a candidate, by the sites of their events. The first bytes of its writes and the classes of its bytes are
+/// given.
+fn report_races(
+    rt: &(impl Threads + Sync),
+    alloc: Global,
+    before: &HappensBefore,
+    begins: &Begins,
+    table: &ClassTable,
+    sites: &[List<Site>],
+) -> Result<List<SiteRace>, AllocError>
+    requires sites { HasSites before.now.log sites.now }
+    requires begins { HasBegins before.now begins.now }
+    requires classes { HasClasses before.now table.now }
+    requires class_sites { HasClassSites before.now sites.now table.now }
+    ensures { IfOk result (IsRaceReport (execution before.now) sites.now) }
+{
+    let candidate = before.candidate();
+    let _log = candidate.log();
+    let events = candidate.witness().order.len();
+    let mut report = Report::new(alloc);
+    let mut start = 0usize;
+    while start < events {
+        let count = BLOCK.min(events - start);
+        add_block(
+            rt,
+            alloc,
+            before,
+            begins,
+            table,
+            sites,
+            &mut report,
+            start,
+            count,
+        )?;
+        start += count;
+    }
+    Ok(report.into_lines())
+}
+
 /// The data races of a candidate whose order agrees with happens-before, by the sites of their events. `sites` has, for
 /// each thread, a list with a site for each of its events.
 ///
@@ -70,27 +109,7 @@ pub fn races(
     ensures { IfOk result (IsRaceReport (execution before.now) sites.now) }
 {
     let candidate = before.candidate();
-    let _log = candidate.log();
-    let events = candidate.witness().order.len();
     let begins = Begins::of(alloc, candidate)?;
-    let firsts = Begins::of_events(alloc, candidate)?;
-    let table = ClassTable::of(alloc, candidate, sites, &firsts)?;
-    let mut report = Report::new(alloc);
-    let mut start = 0usize;
-    while start < events {
-        let count = BLOCK.min(events - start);
-        add_block(
-            rt,
-            alloc,
-            before,
-            &begins,
-            &table,
-            sites,
-            &mut report,
-            start,
-            count,
-        )?;
-        start += count;
-    }
-    Ok(report.into_lines())
+    let table = ClassTable::of_candidate(alloc, candidate, sites)?;
+    report_races(rt, alloc, before, &begins, &table, sites)
 }

@@ -10,13 +10,14 @@ use Rattle.wm_event.specs.declared.log.ThreadLog.{ThreadLog}
 use Rattle.wm_memory.proofs.Listed.{get-end, get-front, length-by_thread}
 use Rattle.wm_memory.specs.Legal.{IsLegal}
 use Rattle.wm_memory.specs.Recorded.{by_thread, events_of, writers_of}
-use Rattle.wm_recorder.specs.Recorder.{Recording, IsRecording, initial_of, steps_of, threads_of}
+use Rattle.wm_recorder.specs.Recorder.{Recording, IsRecording, RecordsValid, initial_of, steps_of, threads_of}
 use Rattle.wm_replay.specs.Replay.{IsRun}
+use Rattle.wm_valid.specs.Valid.{IsInit}
 use Rattle.wm_run.specs.declared.ended.ThreadEnd.{ThreadEnd}
 use Rattle.wm_run.specs.Ends.{HasOneEach, IsEndIn, ends_of}
-use Rattle.wm_run.specs.Gathered.{AllAgree, AreLogsBy, IsGathered, log_by}
+use Rattle.wm_run.specs.Gathered.{AllAgree, AreGathered, AreLogsBy, IsGathered, log_by}
 use Rattle.wm_run.specs.Own.{IsOwnRun}
-use Rattle.wm_run.specs.Run.{Record}
+use Rattle.wm_run.specs.Run.{IsRunOver, Record}
 use Rattle.wm_run.proofs.OneEach.{one_more_end, some_end}
 
 pub logs_more : (ends : List ThreadEnd) (logs : List ThreadLog) (n : ℕ) (e : ThreadEnd) (new : ThreadLog) → length logs ≡ n → ends_of ends n ≡ 1 → IsEndIn ends n e → new ≡ log_by e
@@ -55,21 +56,29 @@ logged_events r ends logs k one_each agrees are = same_lists (map (λ (log : Thr
 
 -- ---- what the parts of a gathering state
 
-pub record IsWhole (r : Recording) (ends : List ThreadEnd) (logs : List ThreadLog) : Type 0 where
-  pub one_each : HasOneEach (threads_of r) ends
-  pub agrees : AllAgree r ends
-  pub logs_by : AreLogsBy (threads_of r) ends logs
+pub gathered_logs : (m : Module) (r : Recording) (ends : List ThreadEnd) (logs : List ThreadLog) (n : ℕ) → IsInit m (initial_of r) → n ≡ threads_of r → IsRecording r → HasOneEach n ends → AllAgree r ends
+    → AreLogsBy n ends logs → AreGathered m r ends logs
+gathered_logs m r ends logs n is_init count k one_each agrees logs_by =
+    let one : HasOneEach (threads_of r) ends = subst (λ i. HasOneEach i ends) count one_each in
+    let are : AreLogsBy (threads_of r) ends logs = subst (λ i. AreLogsBy i ends logs) count logs_by in
+    record { is_init = is_init; one_each = one; agrees = agrees; by_ends = are; events = logged_events r ends logs k one agrees are }
 
--- the parts speak of the ends and of the number of threads by other names
-pub whole : (r : Recording) (ends a b c : List ThreadEnd) (n : ℕ) (logs : List ThreadLog) → n ≡ threads_of r → a ≡ ends → b ≡ ends → c ≡ ends → HasOneEach n a → AllAgree r b → AreLogsBy n c logs → IsWhole r ends logs
-whole r ends a b c n logs count same_a same_b same_c one_each agrees logs_by = record {
-  one_each = subst (λ k. HasOneEach k ends) count (subst (HasOneEach n) same_a one_each);
-  agrees = subst (AllAgree r) same_b agrees;
-  logs_by = subst (λ k. AreLogsBy k ends logs) count (subst (λ x. AreLogsBy n x logs) same_c logs_by);
-}
-
-pub events_of_whole : (r : Recording) (ends : List ThreadEnd) (logs : List ThreadLog) → IsRecording r → IsWhole r ends logs → map (λ (log : ThreadLog). log.events) logs ≡ r.events
-events_of_whole r ends logs k w = logged_events r ends logs k w.one_each w.agrees w.logs_by
+-- the run speaks of the ends and of the logs by other names
+pub gathered_run : (m : Module) (r : Recording) (ends ends' : List ThreadEnd) (logs : List ThreadLog) (run : Record) → ends' ≡ ends → AreGathered m r ends' logs → IsRunOver r logs run → IsRecording r → RecordsValid r
+    → IsGathered m r ends run
+gathered_run m r ends ends' logs run same gathered over recording valid =
+    let g : AreGathered m r ends run.log = subst (AreGathered m r ends) (sym over.log) (subst (λ es. AreGathered m r es logs) same gathered) in
+    record {
+      is_init = g.is_init;
+      one_each = g.one_each;
+      agrees = g.agrees;
+      logs = g.by_ends;
+      events = g.events;
+      writers = over.writers;
+      order = over.order;
+      recording = recording;
+      valid = valid;
+    }
 
 -- ---- what is gathered is an own run
 

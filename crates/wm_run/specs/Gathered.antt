@@ -10,7 +10,7 @@ use Rattle.wm_run.specs.declared.fault.RunFault.{RunFault}
 use Rattle.wm_run.specs.declared.fault.RunFault.TheVariants as run
 use Rattle.wm_run.specs.Ends.{HasOneEach, IsEndIn, IsEndsFault}
 use Rattle.wm_run.specs.Reached.{thread_log}
-use Rattle.wm_run.specs.Run.{Record}
+use Rattle.wm_run.specs.Run.{AreLogsOver, Record}
 
 -- what is logged for a thread, by its end
 abbrev pub log_by : ThreadEnd → ThreadLog
@@ -43,6 +43,14 @@ pub record IsFirstSplit (r : Recording) (ends : List ThreadEnd) (t : ℕ) : Type
   pub there : t < threads_of r
   pub split : (e : ThreadEnd) × IsEndIn ends t e × (Agrees r e → ⊥)
   pub below : (k : ℕ) (e : ThreadEnd) → k < t → IsEndIn ends k e → Agrees r e
+
+-- the logs of the threads of the module that have these ends and whose accesses this recorder made
+pub record AreGathered (m : Module) (r : Recording) (ends : List ThreadEnd) (logs : List ThreadLog) : Type 0 where
+  pub is_init : IsInit m (initial_of r)
+  pub one_each : HasOneEach (threads_of r) ends
+  pub agrees : AllAgree r ends
+  pub by_ends : AreLogsBy (threads_of r) ends logs
+  pub events : AreLogsOver r logs
 
 -- the run of the module whose threads have these ends and whose accesses this recorder made
 pub record IsGathered (m : Module) (r : Recording) (ends : List ThreadEnd) (run : Record) : Type 0 where

@@ -1,5 +1,5 @@
 -- Why a worker stopped.
-use Rattle.std.specs.Prelude.{◌≡◌, Bool, List, true, false}
+use Rattle.std.specs.Prelude.{◌≡◌, ℕ, ◌≤◌, ◌⊎◌, Bool, List, true, false}
 use Rattle.wm_ast.specs.declared.module.Module.{Module}
 use Rattle.wm_event.specs.declared.event.Event.{Event}
 use Rattle.wm_machine.specs.Reach.{HasEnded}
@@ -7,7 +7,7 @@ use Rattle.wm_machine.specs.State.{State, config_of}
 use Rattle.wm_machine.specs.Term.{Config}
 use Rattle.wm_run.specs.declared.ended.Stop.{Stop}
 use Rattle.wm_run.specs.declared.ended.Stop.TheVariants.{Own, Gate, Memory}
-use Rattle.wm_run.specs.Reached.{is_before_access}
+use Rattle.wm_run.specs.Reached.{LeadsTo, is_before_access}
 
 abbrev pub is_own : Stop → Bool
 is_own Own = true
@@ -23,3 +23,10 @@ StopsFor is_open m c Memory = is_before_access m c ≡ true
 -- the thread stopped for this reason, unchanged, without a further event
 abbrev pub StopsAs : Bool → State → List Event → State → List Event → Stop → Type 0
 StopsAs is_open old events new more stop = (more ≡ events) × (new ≡ old) × StopsFor is_open old.module (config_of old) stop
+
+-- thread k made this number of steps, at most `limit`, with these events, and stopped there: it made all of them, or it
+-- stopped for this reason
+pub record HasStopped (is_open : Bool) (k : ℕ) (old new : State) (events : List Event) (limit made : ℕ) (stop : Stop) : Type 0 where
+  pub leads : LeadsTo old.module k (config_of old) events made (config_of new)
+  pub within : made ≤ limit
+  pub stops : ((stop ≡ Own) × (made ≡ limit)) ⊎ StopsFor is_open old.module (config_of new) stop

@@ -1,7 +1,7 @@
 //! Threads that make the rounds of a plan, one after the other, over one locked memory.
-ghost use Rattle.std.specs.Prelude.{◌≡◌, ◌≤◌, IfErr, IfOk};
+ghost use Rattle.std.specs.Prelude.{◌≡◌, ◌≤◌, IfErr, IfOk, Some, map};
 ghost use Rattle.wm_recorder.specs.Locked.{IsOver};
-ghost use Rattle.wm_run.specs.Crew.{CanMakeRounds};
+ghost use Rattle.wm_run.specs.Crew.{AreSlotsOf, CanMakeRounds};
 ghost use Rattle.wm_run.specs.Own.{IsWithinPlan};
 ghost use Rattle.wm_run.specs.Rounds.{IsReady, IsRound, IsRoundFault};
 
@@ -9,6 +9,7 @@ use crate::assigned::Assigned;
 use crate::bell::Bell;
 use crate::board::{Collects, empty_slots, ends_of};
 use crate::drains::drainer;
+use crate::ended::ThreadEnd;
 use crate::fault::RunFault;
 use crate::gate::Gate;
 use crate::gathering::gather;
@@ -23,6 +24,20 @@ use std::sync::atomic::{AtomicBool, Ordering};
 use std::thread::{JoinHandle, Scope, Threads};
 use wm_recorder::{LockedMemory, Over, Recorder};
 use wm_valid::ValidModule;
+
+/// The ends in the slots of a round. An error if a thread found no memory.
+fn all_ends(
+    alloc: Global,
+    is_short: bool,
+    slots: Vec<Option<ThreadEnd>>,
+) -> Result<Vec<ThreadEnd>, AllocError>
+    ensures { IfOk result (λ ends. slots.items ≡ map Some ends.items) }
+{
+    if is_short {
+        return Err(AllocError);
+    }
+    ends_of(alloc, slots)
+}
 
 /// What the threads of a crew share. Between two rounds they wait for the bell `begun`.
 #[derive(Drop)]
@@ -120,6 +135,25 @@ impl<'a, R: Wait, N: Over + Assigned, G: Gate, B: Collects<N>> Crew<'a, R, N, G,
         }
     }
 
+    /// Gathers a round from its recorder and its slots.
+    fn gather_round(
+        &self,
+        recorder: Recorder,
+        is_short: bool,
+        slots: Vec<Option<ThreadEnd>>,
+    ) -> Result<Run, RunFault>
+        requires ready { IsReady N.program N.plan }
+        requires over { IsOver N.initial N.threads recorder }
+        requires slots { AreSlotsOf N.is_open N.program N.plan slots.items }
+        ensures round { IfOk result (IsRound N.is_open N.program N.plan) }
+        ensures within { IfOk result IsWithinPlan }
+        ensures refused { IfErr result (IsRoundFault N.program N.plan) }
+    {
+        own_runs_are_allowed();
+        let ends = all_ends(self.alloc, is_short, slots)?;
+        gather(self.alloc, self.module, recorder, ends)
+    }
+
     /// Makes the round of this number, counted from 0.
     pub fn round(&self, number: u64) -> Result<Run, RunFault>
         requires { IsReady N.program N.plan }
@@ -127,7 +161,6 @@ impl<'a, R: Wait, N: Over + Assigned, G: Gate, B: Collects<N>> Crew<'a, R, N, G,
         ensures within { IfOk result IsWithinPlan }
         ensures refused { IfErr result (IsRoundFault N.program N.plan) }
     {
-        own_runs_are_allowed();
         let threads = self.plan.starts.len();
         let slots = empty_slots(self.alloc, threads)?;
         let recorder = Recorder::new(self.alloc, self.module.initial(), threads)?;
@@ -135,11 +168,7 @@ impl<'a, R: Wait, N: Over + Assigned, G: Gate, B: Collects<N>> Crew<'a, R, N, G,
         self.made.wait(self.rt, number);
         let recorder = self.memory.exchange(recorder);
         let (is_short, slots) = self.board.exchange(slots);
-        if is_short {
-            return Err(RunFault::OutOfMemory);
-        }
-        let ends = ends_of(self.alloc, slots)?;
-        gather(self.alloc, self.module, recorder, ends)
+        self.gather_round(recorder, is_short, slots)
     }
 
     /// Tells the threads that there is no other round.

@@ -2,16 +2,16 @@
 ghost use Rattle.std.specs.Prelude.{◌≡◌, ◌↔◌, ◌<◌, ◌≤◌, All, IfErr, IfNone, IfOk, IfSome, IsTrue, length};
 ghost use Rattle.wm_recorder.specs.Recorder.{threads_of};
 ghost use Rattle.wm_run.specs.Ends.{HasOneEach, ends_of};
-ghost use Rattle.wm_run.specs.Gathered.{Agrees, AllAgree, AreLogsBy, HasItsEvents, IsFirstSplit, IsGathered, IsGatherFault, StopsWhereFull, log_by};
+ghost use Rattle.wm_run.specs.Gathered.{Agrees, AllAgree, AreGathered, AreLogsBy, HasItsEvents, IsFirstSplit, IsGathered, IsGatherFault, StopsWhereFull, log_by};
 ghost use Rattle.wm_run.specs.Own.{IsOwnRun};
 
 use crate::ended::{Stop, ThreadEnd};
 use crate::ends::{end_of, ends_fault};
 use crate::fault::RunFault;
 use crate::launch::copy_start;
-use crate::run::Run;
+use crate::run::{Run, recorded_run};
 use std::alloc::{AllocError, Global};
-use wm_event::{Event, Log, MAX_EVENTS, ThreadLog, Witness};
+use wm_event::{Event, MAX_EVENTS, ThreadLog};
 use wm_list::List;
 use wm_recorder::Recorder;
 use wm_valid::ValidModule;
@@ -91,6 +91,30 @@ fn logs_by(alloc: Global, ends: &[ThreadEnd], threads: usize) -> Result<List<Thr
     Ok(List::from_vec(logs))
 }
 
+/// The logs of the threads that came to these ends over this recorder.
+fn gathered_logs(
+    alloc: Global,
+    module: &ValidModule,
+    recorder: &Recorder,
+    ends: &[ThreadEnd],
+) -> Result<List<ThreadLog>, RunFault>
+    ensures gathered { IfOk result (AreGathered «module».now recorder.now ends.now) }
+    ensures refused { IfErr result (IsGatherFault «module».now recorder.now ends.now) }
+{
+    if !recorder.initial().is_same(module.initial()) {
+        return Err(RunFault::Foreign);
+    }
+    let threads = recorder.threads();
+    if let Some(thread) = ends_fault(ends, threads) {
+        return Err(RunFault::Ends(thread));
+    }
+    if let Some(thread) = first_split(recorder, ends, threads) {
+        return Err(RunFault::Split(thread));
+    }
+    recorder.recorded_log_is_valid();
+    Ok(logs_by(alloc, ends, threads)?)
+}
+
 /// The run whose threads came to these ends over this recorder, an own run of the module. The ends are for this module,
 /// in any order.
 ///
@@ -111,21 +135,6 @@ pub fn gather(
     ensures own { IfOk result (IsOwnRun «module».now) }
     ensures refused { IfErr result (IsGatherFault «module».now recorder ends.items) }
 {
-    if !recorder.initial().is_same(module.initial()) {
-        return Err(RunFault::Foreign);
-    }
-    let threads = recorder.threads();
-    if let Some(thread) = ends_fault(ends.as_slice(), threads) {
-        return Err(RunFault::Ends(thread));
-    }
-    if let Some(thread) = first_split(&recorder, ends.as_slice(), threads) {
-        return Err(RunFault::Split(thread));
-    }
-    let logs = logs_by(alloc, ends.as_slice(), threads)?;
-    let parts = recorder.into_parts()?;
-    let witness = Witness {
-        writers: parts.writers,
-        order: parts.order,
-    };
-    Ok(Run::new(Log::new(logs), witness))
+    let logs = gathered_logs(alloc, module, &recorder, ends.as_slice())?;
+    Ok(recorded_run(recorder, logs)?)
 }

@@ -3,12 +3,15 @@ ghost use Rattle.std.specs.Prelude.{◌≡◌, IfOk, string_bytes};
 ghost use Rattle.serde_json.specs.Written.{compact_text};
 ghost use Rattle.wm_event.specs.Fitting.{FitsLog};
 ghost use Rattle.wm_logfile.specs.Document.{document_2};
-ghost use Rattle.wm_run.specs.Run.{IsReadAs};
+ghost use Rattle.wm_recorder.specs.Recorder.{IsRecording, RecordsValid};
+ghost use Rattle.wm_run.specs.Run.{AreLogsOver, IsReadAs, IsRunOver};
 
 use std::alloc::{AllocError, Global};
 use std::marker::Model;
-use wm_event::{Log, Witness};
+use wm_event::{Log, ThreadLog, Witness};
+use wm_list::List;
 use wm_logfile::write_document;
+use wm_recorder::Recorder;
 
 /// The log of a run with its witness. For each event of the log, the witness has the writer of each byte read.
 #[derive(Drop)]
@@ -52,6 +55,21 @@ impl Run {
     {
         &self.witness
     }
+}
+
+/// The run of these logs, whose events were recorded, with the recorded witness.
+pub(crate) fn recorded_run(recorder: Recorder, logs: List<ThreadLog>) -> Result<Run, AllocError>
+    requires { AreLogsOver recorder logs }
+    ensures run { IfOk result (IsRunOver recorder logs) }
+    ensures recording { IsRecording recorder }
+    ensures valid { RecordsValid recorder }
+{
+    let parts = recorder.into_parts()?;
+    let witness = Witness {
+        writers: parts.writers,
+        order: parts.order,
+    };
+    Ok(Run::new(Log::new(logs), witness))
 }
 
 /// The document of a run, in version 2, with no white space.

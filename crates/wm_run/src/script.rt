@@ -11,11 +11,11 @@ ghost use Rattle.wm_run.specs.Scripted.{HasScriptedRun, IsScripted, OneScriptedR
 use crate::fault::RunFault;
 use crate::launch::{copy_start, launch};
 use crate::plan::Plan;
-use crate::run::Run;
+use crate::run::{Run, recorded_run};
 use crate::runner::{Runner, end_of, take};
 use crate::turn::Turn;
 use std::alloc::{AllocError, Global};
-use wm_event::{Log, Start, ThreadLog, Witness};
+use wm_event::{Start, ThreadLog};
 use wm_list::List;
 use wm_recorder::Recorder;
 use wm_valid::ValidModule;
@@ -77,12 +77,8 @@ pub(crate) fn finish(
     ensures { IfOk result (IsFinished starts.now runners.now recorder) }
 {
     let logs = logs_of(alloc, starts, runners, &recorder)?;
-    let parts = recorder.into_parts()?;
-    let witness = Witness {
-        writers: parts.writers,
-        order: parts.order,
-    };
-    Ok(Run::new(Log::new(logs), witness))
+    recorder.recorded_log_is_valid();
+    recorded_run(recorder, logs)
 }
 
 /// The scripted run: the threads of the plan take the turns over one memory, whose store buffers drain when the script

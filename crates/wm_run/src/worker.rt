@@ -1,13 +1,15 @@
 //! The worker of one thread.
-ghost use Rattle.std.specs.Prelude.{◌≡◌, ◌+◌, ◌<◌, ◌≤◌, ◌^◌, ◌||◌, ℕ, Ok, None, true, length, IfOk, IfSome};
+ghost use Rattle.std.specs.Prelude.{◌≡◌, ◌+◌, ◌<◌, ◌≤◌, ◌^◌, ◌||◌, ℕ, Ok, None, [], true, length, IfErr, IfOk, IfSome};
 ghost use Rattle.wm_event.specs.Limits.{max_steps};
 ghost use Rattle.wm_logfile.specs.Document.{EndFits};
 ghost use Rattle.wm_machine.specs.Run.{end_of as config_end};
+ghost use Rattle.wm_machine.specs.Start.{started};
 ghost use Rattle.wm_machine.specs.State.{config_of, need_of};
+ghost use Rattle.wm_machine.specs.Stepping.{IsIn};
 ghost use Rattle.wm_machine.specs.declared.thread.Need.TheVariants as Need;
 ghost use Rattle.wm_run.specs.Reached.{HasRun, LeadsOn, is_before_access};
-ghost use Rattle.wm_run.specs.Stops.{StopsAs, is_own};
-ghost use Rattle.wm_run.specs.Worker.{IsGiven, IsWorkOf};
+ghost use Rattle.wm_run.specs.Stops.{HasStopped, StopsAs, is_own};
+ghost use Rattle.wm_run.specs.Worker.{IsGiven, IsWorkFault, IsWorkOf};
 
 use crate::ended::{Stop, ThreadEnd};
 use crate::fault::RunFault;
@@ -86,31 +88,104 @@ fn step<S: Shared, G: Gate>(
     }
 }
 
-/// The result of a thread after this number of steps.
+/// Starts a thread.
+fn start_thread<'m>(
+    alloc: Global,
+    module: &'m ValidModule,
+    thread: u32,
+    start: &Start,
+) -> Result<Thread<'m>, RunFault>
+    ensures ok { IfOk result (IsIn «module».now (started «module».now start.now.name start.now.args)) }
+    ensures refused { IfErr result (IsWorkFault «module».now thread start.now) }
+{
+    match Thread::start(alloc, module, start.name.as_str(), start.args.as_slice()) {
+        Ok(running) => Ok(running),
+        Err(StartFault::OutOfMemory) => Err(RunFault::OutOfMemory),
+        Err(fault) => Err(RunFault::Start(thread as usize, fault)),
+    }
+}
+
+/// Makes steps of a thread until it stops, at most `steps`. Returns how many it made, and why it stopped.
+fn run_until_stop<S: Shared, G: Gate>(
+    running: &mut Thread,
+    events: &mut Growing<Event>,
+    thread: u32,
+    steps: u32,
+    shared: &S,
+    gate: &G,
+) -> Result<(u32, Stop), AllocError>
+    requires few { steps ≤ max_steps }
+    requires first { events.old.items ≡ [] }
+    ensures same { running.new.module ≡ running.old.module }
+    ensures stopped { IfOk result (λ r.
+        HasStopped (G.is_open gate.now) thread running.old running.new events.new.items steps r.0 r.1) }
+{
+    let mut made = 0u32;
+    loop {
+        match running.run(steps - made) {
+            Ok(local) => made += local,
+            Err(AdvanceFault::OutOfMemory) => return Err(AllocError),
+        }
+        if made >= steps {
+            return Ok((steps, Stop::Own));
+        }
+        if let Some(stop) = step(running, events, thread, shared, gate)? {
+            return Ok((made, stop));
+        }
+        made += 1;
+    }
+}
+
+/// The steps of a thread from its start until it stopped.
+#[derive(Drop)]
+pub struct Stretch {
+    made: u32,
+    events: Growing<Event>,
+    stop: Stop,
+}
+
+/// Makes steps of a started thread until it stops, at most `steps`.
+fn make_steps<S: Shared, G: Gate>(
+    alloc: Global,
+    running: &mut Thread,
+    thread: u32,
+    steps: u32,
+    shared: &S,
+    gate: &G,
+) -> Result<Stretch, AllocError>
+    requires { steps ≤ max_steps }
+    ensures same { running.new.module ≡ running.old.module }
+    ensures stopped { IfOk result (λ r.
+        HasStopped (G.is_open gate.now) thread running.old running.new r.events.items steps r.made r.stop) }
+{
+    let mut events = Growing::new(alloc);
+    let (made, stop) = run_until_stop(running, &mut events, thread, steps, shared, gate)?;
+    Ok(Stretch { made, events, stop })
+}
+
+/// The result of a thread after these steps.
 fn finished(
     module: &ValidModule,
     thread: u32,
     start: Start,
-    running: &Thread,
-    steps: u32,
-    events: Growing<Event>,
-    stop: Stop,
+    running: Thread,
+    stretch: Stretch,
 ) -> ThreadEnd
-    requires same { running.now.module ≡ «module».now }
-    requires run { HasRun «module».now thread start events.items steps (config_of running.now) }
-    requires stopped { (is_own stop || is_before_access «module».now (config_of running.now)) ≡ true }
-    ensures given { IsGiven «module».now thread start steps stop result }
-    ensures end { result.end ≡ config_end (config_of running.now) }
+    requires same { running.module ≡ «module».now }
+    requires run { HasRun «module».now thread start stretch.events.items stretch.made (config_of running) }
+    requires stopped { (is_own stretch.stop || is_before_access «module».now (config_of running)) ≡ true }
+    ensures given { IsGiven «module».now thread start stretch.made stretch.stop result }
+    ensures end { result.end ≡ config_end (config_of running.entry) }
     ensures fits { EndFits result.end }
 {
     ThreadEnd {
         program: Snapshot::of(module),
         thread,
         start,
-        end: end_of(running),
-        steps,
-        events: events.into_list(),
-        stop,
+        end: end_of(&running),
+        steps: stretch.made,
+        events: stretch.events.into_list(),
+        stop: stretch.stop,
     }
 }
 
@@ -133,25 +208,7 @@ pub fn work<S: Shared, G: Gate>(
     ensures { IsWorkOf (G.is_open gate.now) «module».now thread start.now steps result }
 {
     let own = copy_start(alloc, start)?;
-    let name = start.name.as_str();
-    let mut running = match Thread::start(alloc, module, name, start.args.as_slice()) {
-        Ok(running) => running,
-        Err(StartFault::OutOfMemory) => return Err(RunFault::OutOfMemory),
-        Err(fault) => return Err(RunFault::Start(thread as usize, fault)),
-    };
-    let mut events = Growing::new(alloc);
-    let mut made = 0u32;
-    loop {
-        match running.run(steps - made) {
-            Ok(local) => made += local,
-            Err(AdvanceFault::OutOfMemory) => return Err(RunFault::OutOfMemory),
-        }
-        if made >= steps {
-            return Ok(finished(module, thread, own, &running, steps, events, Stop::Own));
-        }
-        if let Some(stop) = step(&mut running, &mut events, thread, shared, gate)? {
-            return Ok(finished(module, thread, own, &running, made, events, stop));
-        }
-        made += 1;
-    }
+    let mut running = start_thread(alloc, module, thread, start)?;
+    let stretch = make_steps(alloc, &mut running, thread, steps, shared, gate)?;
+    Ok(finished(module, thread, own, running, stretch))
 }

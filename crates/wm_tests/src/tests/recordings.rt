@@ -207,6 +207,19 @@ fn counting(alloc: Global) -> Result<Initial, AllocError> {
     Initial::of(alloc, &bytes)
 }
 
+/// Judges the history of this number, and compares some with the plain closure.
+fn is_valid_history<R: Abort + AllocGlobal + Threads + Sync>(
+    rt: &R,
+    number: u32,
+    candidate: &Candidate,
+) -> Result<(), Fail> {
+    assert!(rt; is_valid(rt, candidate)?, "history {number}");
+    if number % COMPARED == 0 {
+        assert!(rt; compares(rt, candidate)?, "history {number}");
+    }
+    Ok(())
+}
+
 /// Records `count` histories from a seed, and judges each.
 fn all_are_valid<R: Abort + AllocGlobal + Threads + Sync>(
     rt: &R,
@@ -217,10 +230,7 @@ fn all_are_valid<R: Abort + AllocGlobal + Threads + Sync>(
     let initial = counting(rt.alloc())?;
     for number in 0..count {
         let candidate = candidate_of(rt.alloc(), &initial, &mut random)?;
-        assert!(rt; is_valid(rt, &candidate)?, "history {number}");
-        if number % COMPARED == 0 {
-            assert!(rt; compares(rt, &candidate)?, "history {number}");
-        }
+        is_valid_history(rt, number, &candidate)?;
     }
     Ok(())
 }

@@ -1,14 +1,14 @@
 use Rattle.std.proofs.Common.{◌-◌, ◌≡◌, ◌≤◌, length}
 use Rattle.wm_machine.specs.State.{config_of}
 use Rattle.wm_run.specs.Reached.{LeadsTo}
-use Rattle.wm_run.proofs.worker.work.Given as goal
+use Rattle.wm_run.proofs.worker.run_until_stop.Given as goal
 
 abbrev pub invariant-loop-local : goal.invariant-loop-local
 invariant-loop-local g l = record {
   within : l.made ≤ l.steps;
-  program : l.running.module ≡ l.initial.running.module;
+  program : l.running.module ≡ l.fn.running.module;
   few : length l.events.items ≤ l.made;
-  leads : LeadsTo l.running.module l.thread (config_of l.initial.running) l.events.items l.made (config_of l.running);
+  leads : LeadsTo l.running.module l.thread (config_of l.fn.running) l.events.items l.made (config_of l.running);
 }
 
 abbrev pub decreases-loop-local : goal.decreases-loop-local

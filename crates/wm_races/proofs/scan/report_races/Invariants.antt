@@ -1,6 +1,6 @@
 use Rattle.std.proofs.Common.{◌-◌, ◌≤◌}
 use Rattle.wm_races.specs.Progress.{IsReportBelow}
-use Rattle.wm_races.proofs.scan.races.Given as goal
+use Rattle.wm_races.proofs.scan.report_races.Given as goal
 
 -- the races of the events so far are reported
 abbrev pub invariant-loop-start : goal.invariant-loop-start
