@@ -19,32 +19,37 @@ import sys
 
 from wmlabtools import TOP, prover
 
+# What `strace` says, beside what the prover says.
+TRACED = re.compile(r"\d+ (?:openat\(|\+\+\+|---|<\.\.\.)")
 # A module's file that is written, with the crate, the module of the source, and the module's own name.
 WRITTEN = re.compile(r"(\d+) .*rattle-logic-built-[^/]*/Rattle-(\w+)-(?:proofs|specs)\.(\S*?)([^.]+)\.oantt\.tmp")
 
 
 def processor_seconds(process):
-    """How long a process that runs has run on a processor, from the system's count of its ticks."""
-    with open(f"/proc/{process}/stat", encoding="utf-8") as file:
-        fields = file.read().rsplit(")", 1)[1].split()
+    """How long a process has run on a processor, from the system's count of its ticks; None if it has ended."""
+    try:
+        with open(f"/proc/{process}/stat", encoding="utf-8") as file:
+            fields = file.read().rsplit(")", 1)[1].split()
+    except (FileNotFoundError, ProcessLookupError):
+        return None
     return (int(fields[11]) + int(fields[12])) / 100
 
 
 def checked(crate, more):
     """The seconds of each part of each function of a crate; ends if the crate is not proved."""
     words = prover.check_words(crate, *more)
-    functions, before = {}, None
+    functions, before, said = {}, None, []
     traced = ["strace", "-f", "-e", "trace=openat", "-o", "|cat", *words]
-    is_proved = False
     with subprocess.Popen(
         traced, cwd=f"{TOP}/crates/{crate}", stdout=subprocess.PIPE, stderr=subprocess.STDOUT, text=True
     ) as ran:
         for line in ran.stdout:
-            is_proved = is_proved or line.startswith("logic=proved")
+            if not TRACED.match(line):
+                said.append(line)
             found = WRITTEN.match(line)
-            if found:
-                process, _, function, part = found.groups()
-                now = processor_seconds(process)
+            now = processor_seconds(found[1]) if found else None
+            if now is not None:
+                _, _, function, part = found.groups()
                 # What comes before the first module, reading the libraries, is no function's.
                 if before is not None:
                     key = f"{crate}::{function.rstrip('.').replace('.', '::')}"
@@ -52,8 +57,8 @@ def checked(crate, more):
                     part = part.split("-")[0]
                     parts[part] = parts.get(part, 0) + now - before
                 before = now
-    if not is_proved:
-        sys.exit(f"{crate} is not proved")
+    if not any(line.startswith("logic=proved") for line in said):
+        sys.exit(f"{crate} is not proved:\n{''.join(said[-20:])}")
     return functions
 
 
