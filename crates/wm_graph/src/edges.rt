@@ -49,8 +49,27 @@ pub(crate) struct Edge {
     pub kind: EdgeKind,
 }
 
+/// The edge of the order between the events of an edge, if the order lists the second event before the first.
+fn order_edge(candidate: &Candidate, edge: Edge) -> Option<Edge>
+    ensures { IfSome result (IsRight candidate.now) }
+{
+    let EventId::At(from) = edge.from else {
+        return None;
+    };
+    let first = candidate.place(edge.from)?;
+    let second = candidate.place(EventId::At(edge.to))?;
+    if second < first {
+        Some(Edge {
+            from: EventId::At(edge.to),
+            to: from,
+            kind: EdgeKind::Order,
+        })
+    } else {
+        None
+    }
+}
+
 /// Adds an edge, and an edge of the order if the order lists the edge's second event before its first.
-#[tactic(auto, using(crate::proofs::EdgeLaws::keeps_after, crate::proofs::EdgeLaws::keeps_pushed))]
 fn add_edge(edges: &mut List<Edge>, candidate: &Candidate, edge: Edge) -> Result<(), AllocError>
     requires edges { All (IsRight candidate.now) edges.old }
     requires edge { IsRight candidate.now edge }
@@ -59,19 +78,8 @@ fn add_edge(edges: &mut List<Edge>, candidate: &Candidate, edge: Edge) -> Result
     ensures added { OnOk result (Contains edges.new edge) }
 {
     edges.push(edge)?;
-    let EventId::At(from) = edge.from else {
-        return Ok(());
-    };
-    match (
-        candidate.place(edge.from),
-        candidate.place(EventId::At(edge.to)),
-    ) {
-        (Some(first), Some(second)) if second < first => edges.push(Edge {
-            from: EventId::At(edge.to),
-            to: from,
-            kind: EdgeKind::Order,
-        })?,
-        (_, _) => {}
+    if let Some(order) = order_edge(candidate, edge) {
+        edges.push(order)?;
     }
     Ok(())
 }

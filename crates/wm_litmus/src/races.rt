@@ -1,5 +1,6 @@
 //! The command `races`: the data races of an allowed run, by instructions or by events.
-ghost use Rattle.std.specs.Prelude.{◌≡◌, ◌≤◌, ℕ, IfOk, List, Some, string_bytes};
+ghost use Rattle.std.specs.Prelude.{◌≡◌, ◌≤◌, ℕ, IfOk, IfSome, List, Some, string_bytes};
+ghost use Rattle.wm_check.specs.Reading.{HasCandidate, IsCertified, IsRecordedOver, SaysOver};
 ghost use Rattle.wm_event.specs.LoggedRun.{execution};
 ghost use Rattle.wm_event.specs.Rules.{IsValid, KeepsOrder};
 ghost use Rattle.wm_litmus.specs.Races.{AnswersEventRaces, AnswersRaces, AnswersRunRaces, ListsFirst, RacesOver, ReportsOwnRaces, ReportsRaces, more_text, pair_text, shown_text, site_text, sites_text};
@@ -14,7 +15,7 @@ use crate::answer::Answer;
 use std::alloc::{AllocError, Global};
 use std::fmt;
 use std::thread::Threads;
-use wm_check::{Certificate, Unread, Verdict, check_log, count_events, read_module};
+use wm_check::{Certificate, CheckedLog, Unread, Verdict, check_log, count_events, read_module};
 use wm_event::{Candidate, Initial, Judgement, Log, Witness};
 use wm_hb::{HappensBefore, Ordered};
 use wm_list::List;
@@ -187,6 +188,31 @@ fn list_allowed<R: AllocGlobal + Threads + Sync>(
     )
 }
 
+/// The answer to a module's code and a document whose verdict and candidate these are.
+fn races_of_checked<R: AllocGlobal + Threads + Sync>(
+    rt: &R,
+    code: ModuleCode,
+    checked: &CheckedLog,
+    document_bytes: &[u8],
+) -> Result<Answer, AllocError>
+    requires verdict { SaysOver (code_in code).module document_bytes.now checked.now.verdict }
+    requires candidate { IfSome checked.now.candidate (IsRecordedOver (code_in code).module document_bytes.now) }
+    requires certified { IfSome checked.now.candidate (λ run. IsCertified run checked.now.verdict) }
+    requires refused { HasCandidate checked.now.verdict checked.now.candidate }
+    ensures { IfOk result (RacesOver (code_in code.exit) document_bytes.now) }
+{
+    match &checked.verdict {
+        Verdict::Allowed(certificate) => {
+            let Some(candidate) = &checked.candidate else {
+                unreachable!()
+            };
+            list_allowed(rt, code, *certificate, candidate)
+        }
+        Verdict::Refused(_) => Answer::of_verdict(rt.alloc(), &checked.verdict),
+        Verdict::Broken(_) => Answer::of_verdict(rt.alloc(), &checked.verdict),
+    }
+}
+
 /// The answer to a document over a module.
 fn races_of_log<R: AllocGlobal + Threads + Sync>(
     rt: &R,
@@ -196,17 +222,7 @@ fn races_of_log<R: AllocGlobal + Threads + Sync>(
     ensures { IfOk result (RacesOver (code_in code.exit) document_bytes.now) }
 {
     let checked = check_log(rt, code.module, document_bytes)?;
-    let verdict = &checked.verdict;
-    match verdict {
-        Verdict::Allowed(certificate) => {
-            let Some(candidate) = &checked.candidate else {
-                unreachable!()
-            };
-            list_allowed(rt, code, *certificate, candidate)
-        }
-        Verdict::Refused(_) => Answer::of_verdict(rt.alloc(), verdict),
-        Verdict::Broken(_) => Answer::of_verdict(rt.alloc(), verdict),
-    }
+    races_of_checked(rt, code, &checked, document_bytes)
 }
 
 /// The data races of the run that these bytes record, by the instructions that make their events; if the run isn't

@@ -95,7 +95,7 @@ fn races_at(
 }
 
 /// How many races a candidate has. All events have the same site in `sites`.
-fn race_count(
+fn count_races(
     rt: &(impl Threads + Sync),
     alloc: Global,
     before: &HappensBefore,
@@ -151,7 +151,7 @@ fn first_races_by(
     requires { sites.now ≡ one_site_table before.now.log }
     ensures { IfOk result (AreFirstRaces (execution before.now) limit) }
 {
-    let total = race_count(rt, alloc, before, sites)?;
+    let total = count_races(rt, alloc, before, sites)?;
     let candidate = before.candidate();
     let begins = Begins::of(alloc, candidate)?;
     let table = ClassTable::of_candidate(alloc, candidate, sites)?;

@@ -136,10 +136,10 @@ fn run_until_stop<S: Shared, G: Gate>(
     }
 }
 
-/// The steps of a thread from its start until it stopped.
+/// The steps that a thread made from its start until it stopped.
 #[derive(Drop)]
-pub struct Stretch {
-    made: u32,
+struct StepsMade {
+    count: u32,
     events: Growing<Event>,
     stop: Stop,
 }
@@ -152,15 +152,19 @@ fn make_steps<S: Shared, G: Gate>(
     steps: u32,
     shared: &S,
     gate: &G,
-) -> Result<Stretch, AllocError>
+) -> Result<StepsMade, AllocError>
     requires { steps ≤ max_steps }
     ensures same { running.new.module ≡ running.old.module }
     ensures stopped { IfOk result (λ r.
-        HasStopped (G.is_open gate.now) thread running.old running.new r.events.items steps r.made r.stop) }
+        HasStopped (G.is_open gate.now) thread running.old running.new r.events.items steps r.count r.stop) }
 {
     let mut events = Growing::new(alloc);
-    let (made, stop) = run_until_stop(running, &mut events, thread, steps, shared, gate)?;
-    Ok(Stretch { made, events, stop })
+    let (count, stop) = run_until_stop(running, &mut events, thread, steps, shared, gate)?;
+    Ok(StepsMade {
+        count,
+        events,
+        stop,
+    })
 }
 
 /// The result of a thread after these steps.
@@ -169,12 +173,12 @@ fn finished(
     thread: u32,
     start: Start,
     running: Thread,
-    stretch: Stretch,
+    made: StepsMade,
 ) -> ThreadEnd
     requires same { running.module ≡ «module».now }
-    requires run { HasRun «module».now thread start stretch.events.items stretch.made (config_of running) }
-    requires stopped { (is_own stretch.stop || is_before_access «module».now (config_of running)) ≡ true }
-    ensures given { IsGiven «module».now thread start stretch.made stretch.stop result }
+    requires run { HasRun «module».now thread start made.events.items made.count (config_of running) }
+    requires stopped { (is_own made.stop || is_before_access «module».now (config_of running)) ≡ true }
+    ensures given { IsGiven «module».now thread start made.count made.stop result }
     ensures end { result.end ≡ config_end (config_of running.entry) }
     ensures fits { EndFits result.end }
 {
@@ -183,9 +187,9 @@ fn finished(
         thread,
         start,
         end: end_of(&running),
-        steps: stretch.made,
-        events: stretch.events.into_list(),
-        stop: stretch.stop,
+        steps: made.count,
+        events: made.events.into_list(),
+        stop: made.stop,
     }
 }
 
@@ -209,6 +213,6 @@ pub fn work<S: Shared, G: Gate>(
 {
     let own = copy_start(alloc, start)?;
     let mut running = start_thread(alloc, module, thread, start)?;
-    let stretch = make_steps(alloc, &mut running, thread, steps, shared, gate)?;
-    Ok(finished(module, thread, own, running, stretch))
+    let made = make_steps(alloc, &mut running, thread, steps, shared, gate)?;
+    Ok(finished(module, thread, own, running, made))
 }

@@ -1,19 +1,32 @@
 use Rattle.std.proofs.Common.{All, subst, sym}
-use Rattle.std.proofs.lemmas.List.Elements.{All-push}
-use Rattle.wm_event.specs.Shape.{IsListedAt}
-use Rattle.wm_event.specs.declared.event.EventId.TheVariants.{At}
-use Rattle.wm_graph.specs.Edges.{IsRight}
-use Rattle.wm_graph.specs.declared.edges.EdgeKind.TheVariants.{Order}
+use Rattle.std.proofs.lemmas.List.Elements.{All-push, Contains-push}
+use Rattle.std.specs.List.{Contains}
+use Rattle.wm_graph.specs.Edges.{IsRight, Keeps}
+use Rattle.wm_graph.proofs.EdgeLaws.{keeps_after, keeps_pushed}
 use Rattle.wm_graph.proofs.edges.add_edge.Goals as goal
 
-pub returns-in_ok-push-in-Some-Some-clause-right : goal.returns-in_ok-push-in-Some-Some-clause-right
-returns-in_ok-push-in-Some-Some-clause-right c =
-    let x = c.args.candidate.now in
-    let edge = c.args.edge in
-    let first = c.in-Some-Some.first in
-    let second = c.in-Some-Some.second in
-    let all = subst (All (IsRight x)) (sym c.in_ok-push.ensures.ok) (All-push (IsRight x) c.args.edges.now edge c.requires.edges c.requires.edge) in
-    let from_listed = subst (IsListedAt x.witness.order first) c.in-At.is c.in-Some-Some.ensures.listed in
-    let order : IsRight x record { from = At edge.to; to = c.in-At.from; kind = Order } =
-    (second, first, c.in-Some-Some.ensures'.listed, from_listed, c.if-second-first.true) in
-    subst (All (IsRight x)) (sym c.in_ok-push-in-Some-Some.ensures.ok) (All-push (IsRight x) c.push.new.self _ all order)
+pub returns-in_ok-push-2-clause-right : goal.returns-in_ok-push-2-clause-right
+returns-in_ok-push-2-clause-right c =
+    let right = IsRight c.args.candidate.now in
+    let all = subst (All right) (sym c.in_ok-push.ensures.ok) (All-push right c.args.edges.now c.args.edge c.requires.edges c.requires.edge) in
+    subst (All right) (sym c.in_ok-push-2.ensures.ok) (All-push right c.push.new.self c.in-Some.order all c.in-Some.ensures)
+
+pub returns-in_ok-push-2-clause-kept : goal.returns-in_ok-push-2-clause-kept
+returns-in_ok-push-2-clause-kept c =
+    let one = subst (Keeps c.args.edges.now) (sym c.in_ok-push.ensures.ok) (keeps_pushed c.args.edges.now c.args.edge) in
+    let two = subst (Keeps c.push.new.self) (sym c.in_ok-push-2.ensures.ok) (keeps_pushed c.push.new.self c.in-Some.order) in
+    keeps_after c.args.edges.now c.push.new.self c.push-in-Some.new.self one two
+
+pub returns-in_ok-push-2-clause-added : goal.returns-in_ok-push-2-clause-added
+returns-in_ok-push-2-clause-added c =
+    let one = subst (λ edges. Contains edges c.args.edge) (sym c.in_ok-push.ensures.ok) (Contains-push c.args.edges.now c.args.edge) in
+    let two : Keeps c.push.new.self c.push-in-Some.new.self = subst (Keeps c.push.new.self) (sym c.in_ok-push-2.ensures.ok) (keeps_pushed c.push.new.self c.in-Some.order) in
+    two c.args.edge one
+
+pub returns-in_default-clause-right : goal.returns-in_default-clause-right
+returns-in_default-clause-right c =
+    let right = IsRight c.args.candidate.now in
+    subst (All right) (sym c.in_ok-push.ensures.ok) (All-push right c.args.edges.now c.args.edge c.requires.edges c.requires.edge)
+
+pub returns-in_default-clause-added : goal.returns-in_default-clause-added
+returns-in_default-clause-added c = subst (λ edges. Contains edges c.args.edge) (sym c.in_ok-push.ensures.ok) (Contains-push c.args.edges.now c.args.edge)

@@ -6,7 +6,7 @@ use Rattle.wm_races.specs.Report.{HasSites, IsRaceReport, IsReport}
 use Rattle.wm_races.specs.declared.site.Site.{Site}
 use Rattle.wm_races.specs.declared.site.SiteRace.{SiteRace}
 use Rattle.wm_races.proofs.OneSiteLaws.{has-one-site, one-line}
-use Rattle.wm_races.proofs.first.race_count.Goals as goal
+use Rattle.wm_races.proofs.first.count_races.Goals as goal
 
 pub races-requires-after_bounds : goal.races-requires-after_bounds
 races-requires-after_bounds g c κs within = subst (HasSites c.args.before.now.log) (sym c.requires) (has-one-site c.args.before.now.log)
