@@ -12,6 +12,7 @@ mod instructions;
 mod integers;
 mod lists;
 mod modules;
+mod output;
 mod reading;
 mod recorder;
 mod recordings;
