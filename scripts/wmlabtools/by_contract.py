@@ -1,9 +1,11 @@
-"""Taking the functions of a copied crate by their contracts: a function that has files of a proof loses its body, and
-its proof becomes a hole, as `rattle check --allow-holes` passes it. So what it calls need not be proved."""
+"""Taking the functions of a copied crate by their contracts: a function loses its body, and its proof becomes a hole,
+as `rattle check --allow-holes` passes it. So what it calls need not be proved."""
 import glob
 import os
 import re
 import shutil
+
+from . import changed_function
 
 # The files of a function's proof, which is in a folder of its own.
 FILES = ("Invariants.antt", "Answers.antt", "Proof.antt")
@@ -14,37 +16,29 @@ pub {name}_spec : {{M : Type 1}} → statement M
 """
 
 
-def functions_with_files(top):
-    """The functions of the crate in this folder that have files of a proof, each with their folder, but for cycles of
-    calls, whose folder has a + in its name."""
+def folders_of_proofs(top):
+    """The folders of functions, from the crate's own, that have files of a proof."""
     paths = [path for name in FILES for path in glob.glob(f"{top}/proofs/**/{name}", recursive=True)]
-    folders = sorted({os.path.relpath(os.path.dirname(path), f"{top}/proofs") for path in paths if "+" not in path})
-    return {folder.replace("/", "::"): f"proofs/{folder}" for folder in folders}
+    return sorted({os.path.relpath(os.path.dirname(path), top) for path in paths})
 
 
-def source_of(top, function):
-    """The file of src/ that has a function: its path has modules, and then perhaps a type."""
-    parts = function.split("::")[:-1]
-    while parts and not os.path.isfile(f"{top}/src/{'/'.join(parts)}.rt"):
-        parts.pop()
-    return f"src/{'/'.join(parts) or 'lib'}.rt"
+def function_of_folder(folder):
+    return folder.removeprefix("proofs/").replace("/", "::")
 
 
-def without_body(text, name):
-    """A text in which the function of this name has no body, as `rt fmt` lays it out; or the text as it is, if it has
-    several such functions, or one that does not end as expected."""
-    found = re.findall(rf"(?m)^( *)((?:pub(?:\([a-z]+\))? )?fn {re.escape(name)}\b)", text)
-    if len(found) != 1:
-        return text
-    indent, head = found[0]
-    before, after = text.split(indent + head, 1)
-    lines = after.split("\n")
+def without_body(text, head):
+    """A text in which the function whose head begins at this offset has no body, as `rt fmt` lays it out; or None, if
+    it does not end as expected."""
+    indent = re.match(" *", text[head:])[0]
+    lines = text[head:].split("\n")
+    if "{" in lines[0][:-1]:
+        return None
     begins = [number for number, line in enumerate(lines) if line == f"{indent}{{" or is_head(line)]
     ends = [number for number, line in enumerate(lines) if line == f"{indent}}}" and begins and number > begins[0]]
     if not ends:
-        return text
+        return None
     kept = [*lines[: begins[0] + 1], f"{indent}    unreachable!()", *lines[ends[0] :]]
-    return before + indent + head + "\n".join(kept)
+    return text[:head] + "\n".join(kept)
 
 
 def is_head(line):
@@ -63,27 +57,49 @@ class ByContract:
 
     def __init__(self, crate, original, room):
         self.crate, self.original, self.room = crate, original, room
-        self.folders = functions_with_files(original)
+        folders = folders_of_proofs(original)
+        # Functions that call one another have one proof, in a folder whose name begins with a +. They are left.
+        self.cycles = {function_of_folder(os.path.dirname(folder)) for folder in folders if "+" in folder}
+        self.folders = {function_of_folder(folder): folder for folder in folders if "+" not in folder}
+        self.functions = set()
+        for path, text in changed_function.sources_of(crate).items():
+            self.functions.update(changed_function.functions_in(crate, text, path))
 
     def leave(self, functions, changed):
         """Leaves these functions as they are, over the changed texts of some files of the original; each other one is
         taken by its contract."""
-        texts = {}
         for function, folder in self.folders.items():
-            path, owner = source_of(self.original, function), owner_of(function)
-            if path not in texts:
-                with open(f"{self.original}/{path}", encoding="utf-8") as file:
-                    texts[path] = changed.get(path) or file.read()
-            if owner in functions:
+            if owner_of(function) in functions:
                 self.give_proof(folder)
                 continue
             self.take_proof(folder)
-            if owner == function:
-                texts[path] = without_body(texts[path], function.split("::")[-1])
-                self.leave_hole(function, folder)
-        for path, text in {**changed, **texts}.items():
+            if owner_of(function) == function:
+                self.leave_hole(function)
+        for path, text in {**changed_function.sources_of(self.crate), **changed}.items():
             with open(f"{self.room}/{path}", "w", encoding="utf-8") as file:
-                file.write(text)
+                file.write(self.without_bodies(functions, path, text))
+
+    def without_bodies(self, functions, path, text):
+        """The text of a file in which other functions than these have no bodies, and holes as their proofs. What an
+        edit adds is left."""
+        heads = changed_function.functions_in(self.crate, text, path)
+        for function, head in sorted(heads.items(), key=lambda each: -each[1]):
+            if function in functions:
+                self.take_hole(function)
+                continue
+            is_known = function in self.functions and not self.is_unnamed(function, text, head)
+            shorter = without_body(text, head) if is_known and not self.may_be_in_cycle(function) else None
+            if shorter:
+                text = shorter
+                self.leave_hole(function)
+        return text
+
+    def may_be_in_cycle(self, function):
+        return function not in self.folders and function.rpartition("::")[0] in self.cycles
+
+    def is_unnamed(self, function, text, head):
+        """Whether a function's name is not certain: a trait with arguments has them in the name."""
+        return function not in self.folders and changed_function.is_of_trait(text, head)
 
     def give_proof(self, folder):
         for name in FILES:
@@ -97,7 +113,16 @@ class ByContract:
             if os.path.isfile(f"{self.room}/{folder}/{name}"):
                 os.remove(f"{self.room}/{folder}/{name}")
 
-    def leave_hole(self, function, folder):
+    def hole_of(self, function):
+        return f"{self.room}/proofs/{function.replace('::', '/')}/Proof.antt"
+
+    def leave_hole(self, function):
         hole = HOLE.format(crate=self.crate, path=function.replace("::", "."), name=function.split("::")[-1])
-        with open(f"{self.room}/{folder}/Proof.antt", "w", encoding="utf-8") as file:
+        os.makedirs(os.path.dirname(self.hole_of(function)), exist_ok=True)
+        with open(self.hole_of(function), "w", encoding="utf-8") as file:
             file.write(hole)
+
+    def take_hole(self, function):
+        """Takes the hole of a function away that has no files of a proof."""
+        if function not in self.folders and os.path.isfile(self.hole_of(function)):
+            os.remove(self.hole_of(function))

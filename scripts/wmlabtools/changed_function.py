@@ -85,6 +85,23 @@ def function_at(crate, text, path, offset):
     return "::".join([*module, *owner, found[-1]["name"]])
 
 
+def functions_in(crate, text, path):
+    """The functions of a file's text, each with the offset of its head."""
+    heads = {}
+    for found in FUNCTION.finditer(text):
+        function = function_at(crate, text, path, found.end())
+        # A method that a trait declares, or a function within another one, has no name of its own.
+        if function and function.split("::")[-1] == found["name"]:
+            heads[function] = found.start()
+    return heads
+
+
+def is_of_trait(text, offset):
+    """Whether this offset is in an `impl` of a trait."""
+    impls = [found for found in IMPL.finditer(text, 0, offset) if not END.search(text, found.end(), offset)]
+    return bool(impls) and " for " in impls[-1]["head"]
+
+
 def functions_that_name(crate, word):
     """The functions of a crate that have a word in them."""
     functions = []
