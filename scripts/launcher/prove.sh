@@ -29,10 +29,13 @@ report_progress() {
         [ -n "$name" ] || continue
         count=$((count + 1))
         if [ "$checked" -gt 0 ]; then done_now=$((done_now + $(bytes_of "$name"))); fi
-    done <<<"$finished"
+    done < <(printf '%s\n' "$finished")
     for name in $(crates); do
         all=$((all + 1))
-        grep -q "^$name " <<<"$finished" || todo=$((todo + $(bytes_of "$name")))
+        case $'\n'$finished in
+        *$'\n'"$name "*) ;;
+        *) todo=$((todo + $(bytes_of "$name"))) ;;
+        esac
     done
     if [ "$done_now" -gt 0 ]; then left="; about $(((seconds * todo / done_now + 59) / 60)) min left"; fi
     say "$count crates proved, $((all - count)) left after $((seconds / 60)) min$left"
