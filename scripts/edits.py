@@ -292,7 +292,7 @@ def main():
     parser.add_argument("--functions", action="store_true", help="only try those of edits/gate.txt with a function")
     parser.add_argument("--unedited", action="store_true", help="ask whether these functions pass without an edit")
     parser.add_argument("--until", metavar="FILE", help="wait for the libraries of `rt ci` until FILE is there")
-    parser.add_argument("--jobs", type=int, default=os.cpu_count(), help="crates that are tried side by side")
+    parser.add_argument("--jobs", type=int, default=harness.processors(), help="crates that are tried side by side")
     parser.add_argument("crates", nargs="*", metavar="CRATE")
     options = parser.parse_args()
     without = [crate for crate in options.crates if not os.path.isdir(f"{TOP}/edits/{crate}")]

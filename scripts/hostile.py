@@ -57,7 +57,7 @@ def answers(shows, words, line, data=b"", error="", status=None, **streams):
 
 def all_answer(cases):
     """Many short runs side by side: what each shows, its words, its input and its line."""
-    with concurrent.futures.ThreadPoolExecutor(os.cpu_count()) as pool:
+    with concurrent.futures.ThreadPoolExecutor(harness.processors()) as pool:
         for (shows, words, _, line), got in zip(cases, pool.map(lambda case: run(case[1], case[2]), cases)):
             check(told(words, got) == wanted(line), shows, got)
 

@@ -5,6 +5,7 @@ line is `N passed, N failed`.
 
     scripts/lint.py        it needs Debian's python3-pyflakes and shellcheck; what is missing is named and not counted
 """
+import concurrent.futures
 import os
 import shutil
 import subprocess
@@ -41,6 +42,20 @@ def long_lines(name):
         return [number for number, line in enumerate(file, 1) if len(line.rstrip("\n")) > COLUMNS]
 
 
+def lint_files(tally, tool, names):
+    """Each file by a run of the tool, as many at the same time as there are processors."""
+
+    def linted(name):
+        words = [*tool, name]
+        return subprocess.run(
+            words, cwd=TOP, stdout=subprocess.PIPE, stderr=subprocess.STDOUT, text=True, check=False
+        )
+
+    with concurrent.futures.ThreadPoolExecutor(harness.processors()) as pool:
+        for name, ran in zip(names, pool.map(linted, names)):
+            tally.check(ran.returncode == 0, f"{tool[0]} {name}", ran.stdout)
+
+
 def lint_crates(tally):
     count, wide = clauses.wide_lines()
     tally.check(count > 0, "the crates have clauses")
@@ -63,11 +78,7 @@ def main():
         if not shutil.which(tool[0]):
             print(f"{tool[0]} is not there: {len(names)} files are not looked at by it")
             continue
-        for name in names:
-            ran = subprocess.run(
-                [*tool, name], cwd=TOP, stdout=subprocess.PIPE, stderr=subprocess.STDOUT, text=True, check=False
-            )
-            tally.check(ran.returncode == 0, f"{tool[0]} {name}", ran.stdout)
+        lint_files(tally, tool, names)
     for name in by_language["python"] + by_language["sh"]:
         wide = long_lines(name)
         tally.check(not wide, f"{name} has lines of more than {COLUMNS} columns", wide)

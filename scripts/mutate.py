@@ -11,7 +11,6 @@ last line is `N passed, N failed`.
 """
 import concurrent.futures
 import glob
-import os
 import random
 import subprocess
 import tempfile
@@ -121,7 +120,7 @@ def main():
     parser.add_argument("--seed", type=int, default=1)
     options = parser.parse_args()
     program, tally = harness.program_of(options), harness.Tally()
-    with concurrent.futures.ThreadPoolExecutor(os.cpu_count()) as pool:
+    with concurrent.futures.ThreadPoolExecutor(harness.processors()) as pool:
         for wrong in pool.map(lambda number: case(program, options.seed, number), range(options.count)):
             tally.check(wrong is None, "a mutation", wrong)
     tally.end()

@@ -163,7 +163,7 @@ def main():
     parser = argparse.ArgumentParser(description=__doc__, formatter_class=argparse.RawDescriptionHelpFormatter)
     parser.add_argument("--check", action="store_true", help="ask only whether each can still be applied")
     parser.add_argument("--gate", action="store_true", help=f"only those of {LIST}, each on its row")
-    parser.add_argument("--jobs", type=int, default=os.cpu_count(), help="bugs that are tried side by side")
+    parser.add_argument("--jobs", type=int, default=harness.processors(), help="bugs that are tried side by side")
     parser.add_argument("--nice", type=int, default=0, metavar="N", help="the niceness of the builds")
     parser.add_argument("names", nargs="*", metavar="NAME")
     options = parser.parse_args()

@@ -346,7 +346,7 @@ def main():
     )
     parser.add_argument("--times", type=int, default=0, metavar="N", help="print the N rows that took longest")
     parser.add_argument("--seconds", type=int, default=120, metavar="N", help="how long a row may take")
-    parser.add_argument("--jobs", type=int, default=os.cpu_count(), help="rows that run side by side")
+    parser.add_argument("--jobs", type=int, default=harness.processors(), help="rows that run side by side")
     parser.add_argument(
         "words", nargs="*", metavar="WORD", help="run only the rows with one of these words in file or title"
     )

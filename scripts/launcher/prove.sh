@@ -16,36 +16,44 @@ crates_done() {
          END { for (name in checked) print name, checked[name] }' "$1"
 }
 
-# The bytes of a crate's sources and proofs, which its share of the work is taken to be.
-bytes_of() {
-    { find "$top/crates/$1/src" "$top/crates/$1/proofs" -type f -printf '%s\n' 2>/dev/null || true; } |
-        awk '{ sum += $1 } END { print sum + 0 }'
+# Of each crate the bytes of its sources and proofs, which its share of the work is taken to be.
+declare -A bytes
+
+measure_crates() {
+    local name
+    for name in $(crates); do
+        bytes[$name]=$(
+            { find "$top/crates/$name/src" "$top/crates/$name/proofs" -type f -printf '%s\n' 2>/dev/null || true; } |
+                awk '{ sum += $1 } END { print sum + 0 }'
+        )
+    done
 }
 
-# Prints how many crates are proved and left, and an estimate by those that were proved in this many seconds.
+# Prints how many crates are proved and left, and an estimate by those that were proved in this many seconds. It starts
+# no process, which an interrupt would end.
 report_progress() {
-    local seconds=$1 finished=$2 name checked left="" todo=0 done_now=0 count=0 all=0
-    while read -r name checked; do
-        [ -n "$name" ] || continue
-        count=$((count + 1))
-        if [ "$checked" -gt 0 ]; then done_now=$((done_now + $(bytes_of "$name"))); fi
-    done < <(printf '%s\n' "$finished")
-    for name in $(crates); do
-        all=$((all + 1))
+    local seconds=$1 finished=$2 name left="" todo=0 done_now=0 at
+    # shellcheck disable=SC2206 # the words are names and numbers
+    local words=($finished)
+    for ((at = 0; at < ${#words[@]}; at += 2)); do
+        if [ "${words[at + 1]}" -gt 0 ]; then done_now=$((done_now + ${bytes[${words[at]}]-0})); fi
+    done
+    for name in "${!bytes[@]}"; do
         case $'\n'$finished in
         *$'\n'"$name "*) ;;
-        *) todo=$((todo + $(bytes_of "$name"))) ;;
+        *) todo=$((todo + ${bytes[$name]})) ;;
         esac
     done
     if [ "$done_now" -gt 0 ]; then left="; about $(((seconds * todo / done_now + 59) / 60)) min left"; fi
-    say "$count crates proved, $((all - count)) left after $((seconds / 60)) min$left"
+    say "$((at / 2)) crates proved, $((${#bytes[@]} - at / 2)) left after $((seconds / 60)) min$left"
 }
 
 # Reports the progress of a process whenever a crate has been proved, and now and then in between.
 show_progress() {
     local tool=$1 log=$2 before=none finished said=$SECONDS start=$SECONDS
     while kill -0 "$tool" 2>/dev/null; do
-        finished=$(crates_done "$log")
+        # An interrupt ends this too.
+        finished=$(crates_done "$log") || break
         if [ "$finished" != "$before" ] || [ $((SECONDS - said)) -ge "$quiet" ]; then
             before=$finished
             said=$SECONDS
@@ -58,6 +66,7 @@ show_progress() {
 # `rt all check` keeps what it proved in crates/*/out, so that the next call goes on from there.
 prove_crates() {
     local log=$1 tool
+    measure_crates
     : >"$log"
     (cd "$top" && exec rt all check --jobs "${RT_JOBS:-$(nproc)}") </dev/null >>"$log" 2>&1 &
     tool=$!

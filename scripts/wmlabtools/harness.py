@@ -29,6 +29,11 @@ def files_below(parts):
                 yield os.path.relpath(os.path.join(folder, name), TOP)
 
 
+def processors():
+    """How many processors this process may use: those of `taskset`, if it was started by that."""
+    return len(os.sched_getaffinity(0))
+
+
 def find_program():
     """The program as the launcher finds it: `./wmlab --which` prints its path, and builds a quick one if there is
     none."""

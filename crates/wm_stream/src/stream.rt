@@ -1,5 +1,5 @@
 //! A stream of lines and the answers to them.
-ghost use Rattle.std.specs.Prelude.{◌≡◌, ◌<◌, IfOk, OnErr, length};
+ghost use Rattle.std.specs.Prelude.{◌≡◌, ◌≤◌, ◌<◌, IfOk, OnErr, OnOk, length};
 ghost use Rattle.std.specs.Io.KnownBytes.{Keeps};
 ghost use Rattle.wm_stream.specs.Stream.{AnswersAll, AnswersFirst, AnswersPart, AnswersPartFirst, Reads};
 ghost use Rattle.wm_stream.specs.declared.stream.StreamFault.TheVariants.{OutOfMemory};
@@ -10,6 +10,12 @@ use crate::lines::{begin_line, end_line, last_line, lines_in};
 use std::alloc::{AllocError, AllocGlobal};
 use std::io::{ErrorKind, Read, Write};
 use std::thread::Threads;
+
+/// How many bytes the first read asks for.
+const FIRST_PART: usize = 1 << 16;
+
+/// How many times as many bytes the next read asks for, if one was filled.
+const GROWTH: usize = 1 << 4;
 
 /// The most bytes that a read asks for. The lines that end among them are answered at the same time.
 const PART: usize = 1 << 24;
@@ -48,6 +54,16 @@ fn read_part<I: Read>(input: &mut I, buffer: &mut [u8]) -> Result<usize, StreamF
         }
     }
     Err(StreamFault::Read)
+}
+
+/// Makes the buffer longer for the next read, if one of `count` bytes has filled it. So short inputs need little memory.
+fn lengthen(buffer: &mut Vec<u8>, count: usize) -> Result<(), AllocError>
+    ensures { OnOk result (length buffer.old.items ≤ length buffer.new.items) }
+{
+    if count == buffer.len() && count < PART {
+        buffer.resize((GROWTH * count).min(PART), 0)?;
+    }
+    Ok(())
 }
 
 /// Answers the lines that a part of the input ends. `begun` is what comes before the part in its line, and afterwards
@@ -99,7 +115,7 @@ pub fn answer_lines<R: AllocGlobal + Threads + Sync, I: Read, O: Write, J: Answe
     ensures stopped { OnErr result
         (AnswersFirst (J.says judge.now) limit (I.remaining input.old) (O.contents out.old) (O.contents out.new)) }
 {
-    let mut buffer = vec![in rt.alloc(); 0u8; PART]?;
+    let mut buffer = vec![in rt.alloc(); 0u8; FIRST_PART]?;
     let mut begun = Vec::new(rt.alloc());
     let mut status = LineStatus::Allowed;
     for _ in 0..u64::MAX {
@@ -110,6 +126,7 @@ pub fn answer_lines<R: AllocGlobal + Threads + Sync, I: Read, O: Write, J: Answe
         }
         let part = &buffer.as_slice()[..count];
         status = status.worse(answer_part(rt, &mut begun, part, out, judge, limit)?);
+        lengthen(&mut buffer, count)?;
     }
     Err(StreamFault::Read)
 }

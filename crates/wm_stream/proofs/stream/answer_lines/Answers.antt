@@ -1,5 +1,5 @@
 use Rattle.std.proofs.Common.{◌≡◌, ℕ, List, [], length, take, refl, ap, subst, ◌∙◌, arith}
-use Rattle.wm_stream.specs.Answers.{Prints, PrintsFront}
+use Rattle.wm_stream.specs.Answers.{Prints, PrintsFront, worse}
 use Rattle.wm_stream.specs.Lines.{last_line}
 use Rattle.wm_stream.specs.Stream.{AnswersPart, AnswersPartFirst}
 use Rattle.wm_stream.proofs.Answering.{on_err}
@@ -89,6 +89,28 @@ returns-in_err-answer_part-clause-stopped g c =
     on_err c.from_residual-in_err-answer_part.result
     (stops_within says c.args.limit had mid left begun part c.loop.status old now new c.loop.invariant.answered c.in_ok-count.ensures.read.consumes first)
 
+pub returns-in_err-lengthen-clause-stopped : goal.returns-in_err-lengthen-clause-stopped
+returns-in_err-lengthen-clause-stopped g c =
+    let says = g.J.AnswersLines.says c.args.judge.now in
+    let had = g.I.Read.remaining c.args.input.now in
+    let mid = g.I.Read.remaining c.loop.input in
+    let left = g.I.Read.remaining c.read_part.new.input in
+    let old = g.O.Write.contents c.args.out.now in
+    let now = g.O.Write.contents c.loop.out in
+    let new = g.O.Write.contents c.answer_part.new.out in
+    let buffer = c.read_part.new.buffer in
+    let part = take c.in_ok-count.count buffer in
+    let begun = c.loop.begun.items in
+    let whole : c.as_slice-in-loop.result.now ≡ buffer =
+    c.as_slice-in-loop.ensures.value ∙ whole_buffer buffer c.loop.buffer.items c.loop.buffer.len (c.read_part.ensures.size ∙ c.as_mut_slice.ensures.len) in
+    let next = c.answer_part.new.begun.items in
+    let added = c.in_ok-answer_part.field-0 in
+    let answers : AnswersPart says c.args.limit begun part next now new added =
+    subst (λ bytes. AnswersPart says c.args.limit begun (take c.in_ok-count.count bytes) next now new added) whole c.in_ok-answer_part.ensures.answered in
+    on_err c.from_residual-in_err-lengthen.result
+    (stops says c.args.limit had left next (worse c.loop.status added) old new
+    (answers_more says c.args.limit had mid left begun next part c.loop.status added old now new c.loop.invariant.answered c.in_ok-count.ensures.read.consumes answers))
+
 pub loop-preserved : goal.loop-preserved
 loop-preserved g c =
     let says = g.J.AnswersLines.says c.args.judge.now in
@@ -108,7 +130,7 @@ loop-preserved g c =
     let answers : AnswersPart says c.args.limit begun part next now new added =
     subst (λ bytes. AnswersPart says c.args.limit begun (take c.in_ok-count.count bytes) next now new added) whole c.in_ok-answer_part.ensures.answered in
     record {
-      room = ap length (whole_buffer buffer c.loop.buffer.items c.loop.buffer.len (c.read_part.ensures.size ∙ c.as_mut_slice.ensures.len)) ∙ c.read_part.ensures.size ∙ ap length c.as_mut_slice.ensures.value ∙ c.loop.invariant.room;
+      room = grind (arith, c.loop.invariant.room, ap length (whole_buffer buffer c.loop.buffer.items c.loop.buffer.len (c.read_part.ensures.size ∙ c.as_mut_slice.ensures.len)) ∙ c.read_part.ensures.size ∙ ap length c.as_mut_slice.ensures.value, c.in_ok-lengthen.ensures);
       answered = rw c.worse-status.ensures
           (answers_more says c.args.limit had mid left begun next part c.loop.status added old now new c.loop.invariant.answered c.in_ok-count.ensures.read.consumes answers);
     }
