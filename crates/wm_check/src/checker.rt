@@ -16,7 +16,7 @@ use std::thread::Threads;
 use wm_decode::{DecodeFault, decode};
 use wm_event::{Candidate, Judgement, Log, Misshapen, ShapeFault, ThreadLog, Witness};
 use wm_list::List;
-use wm_logfile::{DocFault, ReadingRoom, read_document_in};
+use wm_logfile::{DocFault, read_document};
 use wm_machine::CodePosition;
 use wm_replay::{ReplayAnswer, Replayed, replay_with_positions};
 use wm_rules::judge;
@@ -47,16 +47,12 @@ pub fn read_module(alloc: Global, bytes: &[u8]) -> Result<ValidModule, Unread>
     }
 }
 
-/// The log with its witness that the bytes spell, read in this room.
-pub(crate) fn read_log(
-    alloc: Global,
-    room: &mut ReadingRoom,
-    bytes: &[u8],
-) -> Result<(Log, Witness), Unread>
+/// The log with its witness that the bytes spell.
+pub(crate) fn read_log(alloc: Global, bytes: &[u8]) -> Result<(Log, Witness), Unread>
     ensures read { IfOk result (λ p. IsDocumentOf bytes.now p.0 p.1) }
     ensures refused { IfErr result (IsUnreadDocument bytes.now) }
 {
-    match read_document_in(alloc, room, bytes) {
+    match read_document(alloc, bytes) {
         Ok(read) => Ok(read),
         Err(DocFault::OutOfMemory) => Err(Unread::OutOfMemory),
         Err(fault) => Err(Unread::Refused(Refusal::Document(fault))),
@@ -198,8 +194,7 @@ pub fn check_log<'m, R: AllocGlobal + Threads + Sync>(
     ensures positions { IfOk result (λ checked. IfSome checked.candidate (λ run.
         KeepsPositions «module».now run.log checked.verdict checked.positions)) }
 {
-    let mut room = ReadingRoom::new(rt.alloc());
-    match read_log(rt.alloc(), &mut room, document_bytes) {
+    match read_log(rt.alloc(), document_bytes) {
         Ok((log, witness)) => compare_log(rt, module, log, witness),
         Err(Unread::Refused(refusal)) => Ok(CheckedLog {
             verdict: Verdict::Refused(refusal),

@@ -6,7 +6,7 @@ use crate::checker::{Unread, read_log, read_module};
 use crate::verdict::Refusal;
 use std::alloc::{AllocError, Global};
 use wm_event::{Candidate, Log, ShapeFault, Witness};
-use wm_logfile::{ReadingRoom, write_document};
+use wm_logfile::write_document;
 use wm_replay::{Completion, ReplayAnswer, complete};
 use wm_valid::ValidModule;
 
@@ -62,8 +62,7 @@ fn complete_document_over(
 ) -> Result<CompletedDocument, AllocError>
     ensures { IfOk result (CompletesDocumentOver «module».now document_bytes.now) }
 {
-    let mut room = ReadingRoom::new(alloc);
-    match read_log(alloc, &mut room, document_bytes) {
+    match read_log(alloc, document_bytes) {
         Ok((log, witness)) => complete_over(alloc, module, log, witness),
         Err(Unread::Refused(refusal)) => Ok(CompletedDocument::Refused(refusal)),
         Err(Unread::OutOfMemory) => Err(AllocError),

@@ -6,7 +6,6 @@ use crate::checker::{Unread, count_events, read_log, read_module};
 use crate::verdict::{Breach, Certificate, Refusal, Verdict};
 use std::alloc::{AllocError, Global};
 use wm_event::{Candidate, Judgement, Log, ShapeFault, Witness};
-use wm_logfile::ReadingRoom;
 use wm_replay::without_run;
 use wm_rules::judge_sequentially;
 use wm_valid::ValidModule;
@@ -52,21 +51,19 @@ fn verify_pair(
 }
 
 /// Completes the bytes of a log against a valid module, as [`complete_document`](crate::complete_document) does, and
-/// checks the completed log. It starts no thread, so many logs can be verified at the same time, each with its own
-/// room.
+/// checks the completed log. It starts no thread, so many logs can be verified at the same time.
 ///
 /// # Errors
 ///
 /// Only if an allocation fails.
 pub fn verify_log(
     alloc: Global,
-    room: &mut ReadingRoom,
     module: &ValidModule,
     document_bytes: &[u8],
 ) -> Result<Verdict, AllocError>
     ensures { IfOk result (VerifiesOver «module».now document_bytes.now) }
 {
-    match read_log(alloc, room, document_bytes) {
+    match read_log(alloc, document_bytes) {
         Ok((log, witness)) => verify_pair(alloc, module, log, witness),
         Err(Unread::Refused(refusal)) => Ok(Verdict::Refused(refusal)),
         Err(Unread::OutOfMemory) => Err(AllocError),
@@ -89,7 +86,7 @@ pub fn verify(
 {
     match read_module(alloc, module_bytes) {
         Ok(module) => {
-            let verdict = verify_log(alloc, &mut ReadingRoom::new(alloc), &module, document_bytes);
+            let verdict = verify_log(alloc, &module, document_bytes);
             drop(module);
             verdict
         }

@@ -8,7 +8,6 @@ ghost use Rattle.wm_litmus.specs.Stream.{AnswersVerify, IsJudgeOf, IsLineOf, Jud
 use crate::answer::Answer;
 use std::alloc::{AllocError, Global};
 use wm_check::{Unread, Verdict, read_module, verify, verify_log};
-use wm_logfile::ReadingRoom;
 use wm_stream::{AnswersLines, LineAnswer, LineStatus};
 use wm_valid::ValidModule;
 
@@ -61,23 +60,12 @@ fn line_answer(alloc: Global, verdict: &Verdict) -> Result<LineAnswer, AllocErro
 }
 
 impl AnswersLines for Judge {
-    type Room = ReadingRoom;
-
     ghost says = { JudgesLine };
 
-    fn room(&self, alloc: Global) -> ReadingRoom {
-        ReadingRoom::new(alloc)
-    }
-
-    fn answer(
-        &self,
-        alloc: Global,
-        room: &mut ReadingRoom,
-        line: &[u8],
-    ) -> Result<LineAnswer, AllocError> {
+    fn answer(&self, alloc: Global, line: &[u8]) -> Result<LineAnswer, AllocError> {
         match self {
             Judge::Module(module) => {
-                let verdict = verify_log(alloc, room, module, line)?;
+                let verdict = verify_log(alloc, module, line)?;
                 line_answer(alloc, &verdict)
             }
             Judge::Refused(verdict) => line_answer(alloc, verdict),

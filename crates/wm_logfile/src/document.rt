@@ -154,27 +154,12 @@ fn document_of(alloc: Global, value: &Value) -> Result<(Log, Witness), DocFault>
     }
 }
 
-/// What is kept from one document to the next. Reading needs no memory between documents, so it is empty.
-#[derive(Drop)]
-pub struct ReadingRoom;
-
-impl ReadingRoom {
-    /// A room for any document.
-    pub fn new(_alloc: Global) -> ReadingRoom {
-        ReadingRoom
-    }
-}
-
-/// The same as [`read_document`], with a room that may have been used for other documents.
+/// The log and the witness that the bytes spell, in version 1 or 2. JSON's white space is allowed anywhere.
 ///
 /// # Errors
 ///
-/// The errors of [`read_document`].
-pub fn read_document_in(
-    alloc: Global,
-    _room: &mut ReadingRoom,
-    bytes: &[u8],
-) -> Result<(Log, Witness), DocFault>
+/// The first fault, in the order that [`DocFault`] states, and never `Misplaced`; `OutOfMemory` if an allocation fails.
+pub fn read_document(alloc: Global, bytes: &[u8]) -> Result<(Log, Witness), DocFault>
     // The bytes spell the pair that is read, and it is within the limits.
     ensures spelled { IfOk result (λ p. Spells bytes.now p.0 p.1) }
     ensures within { IfOk result (λ p. (length bytes.now ≤ max_document_bytes) × IsLog p.0
@@ -200,27 +185,6 @@ pub fn read_document_in(
         Err(e) if e.is_memory() => Err(DocFault::OutOfMemory),
         Err(_) => Err(DocFault::NotJson),
     }
-}
-
-/// The log and the witness that the bytes spell, in version 1 or 2. JSON's white space is allowed anywhere.
-///
-/// # Errors
-///
-/// The first fault, in the order that [`DocFault`] states, and never `Misplaced`; `OutOfMemory` if an allocation fails.
-pub fn read_document(alloc: Global, bytes: &[u8]) -> Result<(Log, Witness), DocFault>
-    // The bytes spell the pair that is read, and it is within the limits.
-    ensures spelled { IfOk result (λ p. Spells bytes.now p.0 p.1) }
-    ensures within { IfOk result (λ p. (length bytes.now ≤ max_document_bytes) × IsLog p.0
-        × IsWithinLimits p.0 p.1) }
-
-    // The bytes spell no other pair within the limits.
-    ensures only { IfOk result (λ p. IsOnlyPair bytes.now p.0 p.1) }
-
-    // Bytes are refused only if they spell no pair within the limits, with their fault, or because an allocation fails.
-    ensures refused { IfErr result (λ e. e ≢ DocFault.OutOfMemory → IsNoDocument bytes.now e) }
-{
-    let mut room = ReadingRoom::new(alloc);
-    read_document_in(alloc, &mut room, bytes)
 }
 
 /// A value spells at most one log with a witness, in whatever version and without regard to limits.

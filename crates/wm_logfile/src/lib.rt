@@ -33,7 +33,7 @@ mod thread;
 mod witness;
 mod words;
 
-pub use document::{ReadingRoom, one_pair, read_document, read_document_in};
+pub use document::{one_pair, read_document};
 pub use fault::DocFault;
 pub use law::fault_paths_lead_to_values;
 pub use migration::{migrate, write_and_read};

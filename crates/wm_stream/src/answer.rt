@@ -47,26 +47,14 @@ pub struct LineAnswer {
 
 /// Something that answers lines independently of one another.
 pub trait AnswersLines: Sync {
-    /// Memory that an answer uses, reused from one line to the next.
-    type Room: Drop + Send;
-
     // Whether a status and a text are an answer to a line.
     ghost says: { Self → List ℕ → LineStatus → List ℕ → Type 0 };
 
-    /// A room for any line.
-    fn room(&self, alloc: Global) -> Self::Room;
-
-    /// The answer to a line, given without its newline. Lines are answered at the same time, each by one thread, with a
-    /// room that may have been used for other lines.
+    /// The answer to a line, given without its newline. Lines are answered at the same time, each by one thread.
     ///
     /// # Errors
     ///
     /// Only if an allocation fails.
-    fn answer(
-        &self,
-        alloc: Global,
-        room: &mut Self::Room,
-        line: &[u8],
-    ) -> Result<LineAnswer, AllocError>
+    fn answer(&self, alloc: Global, line: &[u8]) -> Result<LineAnswer, AllocError>
         ensures { IfOk result (λ answer. says self.now line.now answer.status (string_bytes answer.text)) };
 }

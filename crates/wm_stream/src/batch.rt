@@ -26,9 +26,8 @@ fn answer_chunk<J: AnswersLines>(
 {
     let mut text = String::new(alloc);
     let mut status = LineStatus::Allowed;
-    let mut room = judge.room(alloc);
     for line in lines {
-        let answer = judge.answer(alloc, &mut room, line)?;
+        let answer = judge.answer(alloc, line)?;
         text.push_str(answer.text.as_str())?;
         status = status.worse(answer.status);
     }

@@ -3,7 +3,7 @@ use Rattle.serde_json.specs.View.{view}
 use Rattle.std.proofs.Common.{Ok}
 use Rattle.wm_logfile.proofs.Answer.{taken, spelled, within, only, refused}
 use Rattle.wm_logfile.proofs.Causes.{faults_of}
-use Rattle.wm_logfile.proofs.document.read_document_in.Goals as goal
+use Rattle.wm_logfile.proofs.document.read_document.Goals as goal
 
 pub returns-in-Ok-clause-spelled : goal.returns-in-Ok-clause-spelled
 returns-in-Ok-clause-spelled c = spelled c.args.bytes.now c.in-Ok.ensures.value (Ok c.in-Ok.pair) (taken c.args.bytes.now c.in-Ok.pair c.in-Ok.ensures)
