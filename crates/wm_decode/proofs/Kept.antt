@@ -16,7 +16,7 @@ use Rattle.wm_decode.specs.Reading.{◌>>=◌}
 use Rattle.wm_decode.specs.ReadingVectors.{u32_at, vector_at, name_at, filled_at, sized_at, more_at}
 use Rattle.wm_decode.specs.ReadingInstructions.{Reader, block_type_at, closed_with, opened_at, framed_with, if_with, instr_with, instrs_at, instrs_in, blocks_at}
 use Rattle.wm_decode.specs.ReadingParts.{byte_at, func_type_at, no_items_at, limits_at, import_at, imports_at, memories_at, indices_at, local_entry_at, locals_at, function_at, sized_function_at, more_functions_at, code_at}
-use Rattle.wm_decode.specs.ReadingModule.{header_at, customs_in, section_at, front_at, declared_at, module_at}
+use Rattle.wm_decode.specs.ReadingModule.{header_at, customs_in, section_at, front_at, definitions_at, declared_at, bodies_at, module_at}
 use Rattle.wm_decode.proofs.Steps.{bound, unmapped}
 
 module _ (w : Limit) where
@@ -210,14 +210,14 @@ module _ (w : Limit) where
         lead (section_at (indices_at b) 3 imported.1) (section_at (indices_at c) 3 imported.1) _ (section_kept indices_kept 3 imported.1)))))
 
     declared_kept : (bytes : List ℕ) → Kept (declared_at b bytes) (declared_at c bytes)
-    unfolding declared_at
+    unfolding declared_at definitions_at
     declared_kept bytes =
         bind (front_at b bytes) (front_at c bytes) _ _ (front_kept bytes) (λ front.
         next (section_at no_items_at 4 front.1) _ _ (λ tables.
         lead (section_at (memories_at b (is_some front.0.imported)) 5 tables.1) (section_at (memories_at c (is_some front.0.imported)) 5 tables.1) _ (section_kept (memories_kept (is_some front.0.imported)) 5 tables.1)))
 
     pub module_kept : (bytes : List ℕ) → Kept (module_at b bytes) (module_at c bytes)
-    unfolding module_at
+    unfolding module_at bodies_at
     module_kept bytes =
         bind (declared_at b bytes) (declared_at c bytes) _ _ (declared_kept bytes) (λ declared.
         next (section_at u32_at 12 declared.1) _ _ (λ count.

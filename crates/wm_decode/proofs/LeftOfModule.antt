@@ -16,7 +16,7 @@ use Rattle.wm_decode.specs.Implements.{Fails, IsFaultOf, in_module}
 use Rattle.wm_decode.specs.Module.{items_of, magic, version}
 use Rattle.wm_decode.specs.ReadingVectors.{u32_at, vector_at, sized_at}
 use Rattle.wm_decode.specs.ReadingParts.{func_type_at, imports_at, memories_at, indices_at, no_items_at, global_at, exports_at, code_at, segments_at, agrees}
-use Rattle.wm_decode.specs.ReadingModule.{custom_at, customs_at, customs_in, section_at, one_at, behind, header_at, front_at, declared_at, agreed_module, module_at, whole_at}
+use Rattle.wm_decode.specs.ReadingModule.{custom_at, customs_at, customs_in, section_at, one_at, behind, header_at, front_at, definitions_at, declared_at, agreed_module, bodies_at, module_at, whole_at}
 use Rattle.wm_decode.proofs.Left.{Within, Short, rest_of, self, step, test, more, go, then, sized_short, types_short, imports_short, indices_short, no_items_short, memories_short, globals_short, exports_short, u32_short, code_short, segments_short, custom_short}
 
 -- after the custom sections
@@ -74,7 +74,7 @@ module _ (bounds : Bounds) where
       go (length imported.1) _ _ (section_short (indices_at bounds) (indices_short bounds) 3 imported.1) (λ indices le2. le2))))))
 
   declared_short : Short (declared_at bounds)
-  unfolding declared_at
+  unfolding declared_at definitions_at
   declared_short bytes =
       then bytes _ _ (front_short bytes) (λ front.
       then front.1 _ _ (section_short no_items_at no_items_short 4 front.1) (λ tables.
@@ -90,7 +90,7 @@ module _ (bounds : Bounds) where
       test no_bytes n (eqb (length (items_of funcs)) (length declared.indices)) _ _ (test no_bytes n (agrees count (length (items_of segments))) _ _ (omega arith) (omega arith)) (omega arith)
 
   module_short : (bytes : List ℕ) → Within no_bytes (length bytes) (module_at bounds bytes)
-  unfolding module_at
+  unfolding module_at bodies_at
   module_short bytes =
       let n = length bytes in
       step rest_of no_bytes n _ _ (declared_short bytes) (λ declared le.

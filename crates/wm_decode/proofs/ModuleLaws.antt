@@ -24,7 +24,7 @@ use Rattle.wm_decode.specs.Module.{Customs, Section, AtMostOne, NoItems, header,
 use Rattle.wm_decode.specs.Reading.{◌>>=◌}
 use Rattle.wm_decode.specs.ReadingVectors.{u32_at, vector_at}
 use Rattle.wm_decode.specs.ReadingParts.{func_type_at, imports_at, memories_at, indices_at, no_items_at, global_at, exports_at, code_at, segments_at, agrees}
-use Rattle.wm_decode.specs.ReadingModule.{agreed_module, customs_in, section_at, header_at, one_at, front_at, declared_at, module_at}
+use Rattle.wm_decode.specs.ReadingModule.{agreed_module, customs_in, section_at, header_at, one_at, front_at, definitions_at, declared_at, bodies_at, module_at}
 use Rattle.wm_decode.proofs.Steps.{bound, met, ok_is, pair_is, fits_behind, answered}
 use Rattle.wm_decode.proofs.Lawful.{Lawful, number_lawful, vector_lawful}
 use Rattle.wm_decode.proofs.TypeLaws.{func_type_lawful, LimitedImport}
@@ -153,7 +153,7 @@ module _ (bounds : Bounds) where
   tables_from f bytes = section_at no_items_at 4 bytes >>= λ t. memories_from f t.1
 
   pub declared_steps : (bytes : List ℕ) → declared_at bounds bytes ≡ (front_at bounds bytes >>= λ f. tables_from f.0 f.1)
-  unfolding declared_at tables_from memories_from globals_from exports_from elements_from
+  unfolding declared_at definitions_at tables_from memories_from globals_from exports_from elements_from
   declared_steps bytes = refl
 
   tables_step : (f : Front) (bytes : List ℕ) (z : Declared × List ℕ) → tables_from f bytes ≡ Ok z → (x : Option ℕ × List ℕ) × (section_at no_items_at 4 bytes ≡ Ok x) × (memories_from f x.1 ≡ Ok z)
@@ -267,7 +267,7 @@ module _ (bounds : Bounds) where
   count_from d bytes = section_at u32_at 12 bytes >>= λ n. code_from d n.0 n.1
 
   pub module_steps : (bytes : List ℕ) → module_at bounds bytes ≡ (declared_at bounds bytes >>= λ d. count_from d.0 d.1)
-  unfolding module_at count_from code_from data_from finish
+  unfolding module_at bodies_at count_from code_from data_from finish
   module_steps bytes = refl
 
   count_step : (d : Declared) (bytes : List ℕ) (m : Module) → count_from d bytes ≡ Ok m → (x : Option ℕ × List ℕ) × (section_at u32_at 12 bytes ≡ Ok x) × (code_from d x.0 x.1 ≡ Ok m)

@@ -62,22 +62,7 @@ front_at bounds bytes = do
   indices ← section_at (indices_at bounds) 3 imported.1
   Ok (record { types = items_of types.0; imported = option_flatten imported.0; indices = items_of indices.0 }, indices.1)
 
--- the sections up to the element section
-unfoldable pub declared_at : Bounds → List ℕ → Read Declared
-declared_at bounds bytes = do
-  front ← front_at bounds bytes
-  tables ← section_at no_items_at 4 front.1
-  defined ← section_at (memories_at bounds (is_some front.0.imported)) 5 tables.1
-  globals ← section_at (vector_at global_at) 6 defined.1
-  exports ← section_at exports_at 7 globals.1
-  elements ← section_at no_items_at 9 exports.1
-  Ok (record { types = front.0.types; indices = front.0.indices; memory = memory_of front.0.imported (option_flatten defined.0); globals = items_of globals.0; exports = items_of exports.0 }, elements.1)
-
--- the contents of the sections up to the element section
-abbrev pub declared_with : Front → Definitions → Declared
-declared_with front definitions = record { types = front.types; indices = front.indices; memory = memory_of front.imported definitions.memory; globals = definitions.globals; exports = definitions.exports }
-
--- the sections from the table section to the element section, behind these
+-- the sections from the table section to the element section, after those of `front`
 unfoldable pub definitions_at : Bounds → Front → List ℕ → Read Declared
 definitions_at bounds front bytes = do
   tables ← section_at no_items_at 4 bytes
@@ -86,6 +71,16 @@ definitions_at bounds front bytes = do
   exports ← section_at exports_at 7 globals.1
   elements ← section_at no_items_at 9 exports.1
   Ok (record { types = front.types; indices = front.indices; memory = memory_of front.imported (option_flatten defined.0); globals = items_of globals.0; exports = items_of exports.0 }, elements.1)
+
+-- the sections up to the element section
+unfoldable pub declared_at : Bounds → List ℕ → Read Declared
+declared_at bounds bytes = do
+  front ← front_at bounds bytes
+  definitions_at bounds front.0 front.1
+
+-- the contents of the sections up to the element section
+abbrev pub declared_with : Front → Definitions → Declared
+declared_with front definitions = record { types = front.types; indices = front.indices; memory = memory_of front.imported definitions.memory; globals = definitions.globals; exports = definitions.exports }
 
 -- the module with these contents of sections, if nothing comes after them and the counts agree
 abbrev pub agreed_module : Declared → Option ℕ → Option (List Func) → Option (List DataSegment) → List ℕ → Result Module Stop
@@ -100,7 +95,7 @@ agreed_module declared count funcs segments [] =
 abbrev pub module_with : Declared → Bodies → Module
 module_with declared bodies = record { types = declared.types; funcs = bodies.funcs; memory = declared.memory; globals = declared.globals; exports = declared.exports; «data» = bodies.segments }
 
--- the sections after the element section, behind these
+-- the sections after the element section, after those of `declared`
 unfoldable pub bodies_at : Bounds → Declared → List ℕ → Result Module Stop
 bodies_at bounds declared bytes = do
   count ← section_at u32_at 12 bytes
@@ -111,10 +106,7 @@ bodies_at bounds declared bytes = do
 unfoldable pub module_at : Bounds → List ℕ → Result Module Stop
 module_at bounds bytes = do
   declared ← declared_at bounds bytes
-  count ← section_at u32_at 12 declared.1
-  code ← section_at (code_at bounds declared.0.types declared.0.indices) 10 count.1
-  segments ← section_at (segments_at count.0) 11 code.1
-  agreed_module declared.0 count.0 code.0 segments.0 segments.1
+  bodies_at bounds declared.0 declared.1
 
 -- a module that isn't over the limit of bytes
 unfoldable pub whole_at : List ℕ → Result Module Stop

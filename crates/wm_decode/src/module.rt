@@ -195,7 +195,7 @@ fn declared_with(front: Front, definitions: Definitions) -> Declared
 }
 
 /// Reads the sections up to the element section.
-#[tactic(auto, unfolding(crate::specs::ReadingModule::declared_at, crate::specs::ReadingModule::definitions_at))]
+#[tactic(auto, unfolding(crate::specs::ReadingModule::declared_at))]
 fn read_declared(alloc: Global, bytes: &[u8]) -> Result<(Declared, &[u8]), ItemFault>
     ensures { Implements (λ x. (x.0, x.1.now)) result (declared_at profile bytes.now) }
 {
@@ -275,7 +275,7 @@ fn module_with(declared: Declared, bodies: Bodies) -> Module
 }
 
 /// Reads a module.
-#[tactic(auto, unfolding(crate::specs::ReadingModule::module_at, crate::specs::ReadingModule::bodies_at))]
+#[tactic(auto, unfolding(crate::specs::ReadingModule::module_at))]
 pub(crate) fn read_module(alloc: Global, bytes: &[u8]) -> Result<Module, ItemFault>
     ensures { Implements (λ x. x) result (module_at profile bytes.now) }
 {
