@@ -65,18 +65,18 @@ show_progress() {
 
 # `rt all check` keeps what it proved in crates/*/out, so that the next call goes on from there.
 prove_crates() {
-    local log=$1 tool
+    local log=$1 tool="" is_stopped=""
     measure_crates
     : >"$log"
+    trap 'is_stopped=yes; if [ -n "$tool" ]; then kill "$tool" 2>/dev/null || true; fi' INT TERM HUP
     (cd "$top" && exec rt all check --jobs "${RT_JOBS:-$(nproc)}") </dev/null >>"$log" 2>&1 &
     tool=$!
-    # shellcheck disable=SC2064 # this process is meant
-    trap "is_stopped=yes; kill $tool 2>/dev/null || true" INT TERM HUP
+    if [ -n "$is_stopped" ]; then kill "$tool" 2>/dev/null || true; fi
     # What an interrupt ends here is no failure, and the shell need not tell of it.
     show_progress "$tool" "$log" || true
     wait "$tool" 2>/dev/null || true
     trap - INT TERM HUP
-    if [ -n "${is_stopped-}" ]; then
+    if [ -n "$is_stopped" ]; then
         say "stopped; ./wmlab --prove goes on from here"
         exit 130
     fi
