@@ -15,11 +15,13 @@ The last line is `N passed, N failed`.
 """
 import argparse
 import concurrent.futures
+import contextlib
 import filecmp
 import glob
 import os
 import re
 import shutil
+import signal
 import subprocess
 import tempfile
 import threading
@@ -29,6 +31,23 @@ from wmlabtools import TOP, by_contract, changed_function, edits, harness, prove
 
 # The seconds after which a library that was being written is whole.
 SETTLED = 5
+# Whether the script was interrupted.
+STOPPED = threading.Event()
+
+
+class Stopped(Exception):
+    """The script was interrupted, so nothing more is tried."""
+
+
+@contextlib.contextmanager
+def threads(count):
+    """A pool of threads. An interrupt ends what they do."""
+    with concurrent.futures.ThreadPoolExecutor(count) as pool:
+        try:
+            yield pool
+        except KeyboardInterrupt:
+            STOPPED.set()
+            raise
 
 
 def copy_of(edit):
@@ -84,7 +103,7 @@ def wait_for_library(crate, start, until):
     """Waits until `rt ci`, which began at the same time, has built the library of a crate, or has ended and so written
     the file `until`. A library from before the start is not meant."""
     last = f"{TOP}/crates/{crate}/out/rlib/{crate}.rlib/toolchain"
-    while not os.path.exists(until):
+    while not os.path.exists(until) and not STOPPED.is_set():
         if os.path.isfile(f"{last}/mir.json") and start <= os.path.getmtime(last) < time.time() - SETTLED:
             return
         time.sleep(1)
@@ -111,11 +130,17 @@ class Copy:
     def prove(self, functions):
         """What the prover says of these functions, and of what they call."""
         only = [word for function in functions for word in ("--only", f"{self.crate}::{function}")]
-        words = [*self.words, *only]
-        ran = subprocess.run(
-            words, cwd=self.room, stdout=subprocess.PIPE, stderr=subprocess.STDOUT, text=True, check=False
-        )
-        return ran.stdout
+        streams = {"stdout": subprocess.PIPE, "stderr": subprocess.STDOUT, "text": True}
+        said = None
+        with subprocess.Popen([*self.words, *only], cwd=self.room, **streams) as started:
+            while said is None:
+                with contextlib.suppress(subprocess.TimeoutExpired):
+                    said = started.communicate(timeout=1)[0]
+                if STOPPED.is_set():
+                    started.terminate()
+        if STOPPED.is_set() or started.returncode == -signal.SIGINT:
+            raise Stopped
+        return said
 
 
 # What the prover says of a function, after its open goals, each with its place in the source; and at a place of a
@@ -221,7 +246,7 @@ def try_functions(tally, jobs, until):
         with turns:
             return try_crate(crate, by_crate[crate])
 
-    with concurrent.futures.ThreadPoolExecutor(max(1, len(by_crate))) as pool:
+    with threads(max(1, len(by_crate))) as pool:
         for answers in pool.map(answered, by_crate):
             for edit, (is_refused, said) in answers.items():
                 tally.check(is_refused, edit, said)
@@ -253,7 +278,7 @@ def try_each_function(crate, listed):
 
 def try_by_function(tally, crates, jobs):
     by_crate = by_crates(crates)
-    with concurrent.futures.ThreadPoolExecutor(jobs) as pool:
+    with threads(jobs) as pool:
         for answers in pool.map(try_each_function, by_crate, by_crate.values()):
             for edit, (is_refused, said) in answers.items():
                 tally.check(is_refused, edit, said)
@@ -277,7 +302,7 @@ def unedited(crate, listed):
 
 def try_unedited(tally, crates, jobs):
     by_crate = by_crates(crates)
-    with concurrent.futures.ThreadPoolExecutor(jobs) as pool:
+    with threads(jobs) as pool:
         for answers in pool.map(unedited, by_crate, by_crate.values()):
             for function, (is_proved, said) in answers.items():
                 tally.check(is_proved, f"{function} is not proved without an edit", said)
@@ -313,4 +338,4 @@ def main():
 
 
 if __name__ == "__main__":
-    main()
+    harness.run_script(main)

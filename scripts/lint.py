@@ -86,4 +86,4 @@ def main():
 
 
 if __name__ == "__main__":
-    main()
+    harness.run_script(main)

@@ -7,6 +7,8 @@ last_lines=$(mktemp)
 # The parts that run beside others: for each name its process group, and the file of what it prints.
 declare -A beside=() beside_lines=()
 trap leave EXIT
+# Also after a part that has heeded the interrupt, and so ended by itself.
+trap 'exit 130' INT TERM HUP
 
 # Ends the parts that still run beside others, as after an interruption, and removes what was printed.
 leave() {

@@ -17,7 +17,7 @@ import shutil
 import subprocess
 import sys
 
-from wmlabtools import TOP, prover
+from wmlabtools import TOP, harness, prover
 
 # What `strace` says, beside what the prover says.
 TRACED = re.compile(r"\d+ (?:openat\(|\+\+\+|---|<\.\.\.)")
@@ -88,7 +88,4 @@ def main():
 
 
 if __name__ == "__main__":
-    try:
-        main()
-    except KeyboardInterrupt:
-        sys.exit(130)
+    harness.run_script(main)

@@ -73,6 +73,14 @@ def run(program, words, **streams):
     return (ran.stdout or b"").decode(errors="replace"), (ran.stderr or b"").decode(errors="replace"), ran.returncode
 
 
+def run_script(main):
+    """Runs a script. An interrupt ends it with status 130 and without its last line."""
+    try:
+        main()
+    except KeyboardInterrupt:
+        sys.exit(130)
+
+
 class Tally:
     """Counts what holds and what does not."""
 
