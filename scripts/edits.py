@@ -295,7 +295,8 @@ def unedited(crate, listed):
         copy.write({}, functions)
         said = copy.prove(functions)
     # A hole in place of a proof is a function's that is taken by its contract.
-    passes = r"(?:proved$|no holes$|depends on a hole in `\S+\.Proof\.\w+_spec`)"
+    holes = r"(?:`\S+\.Proof\.\w+_spec`|the same \d+ declarations as `)"
+    passes = rf"(?:proved$|no holes$|depends on a hole in {holes})"
     proved = set(re.findall(rf"(?m)^fn {crate}::(\S+): {passes}", said))
     return {f"{crate}::{function}": (function in proved, said[-500:]) for function in functions}
 
