@@ -1,29 +1,23 @@
 """Wall time, processor time and peak memory of a process."""
 import os
 import subprocess
+import sys
+import tempfile
 import time
+
+TIME = "/usr/bin/time"
 
 
 class Measured:
-    """The best of some runs: seconds of wall time, seconds of processor time, bytes of memory at most, and the first
-    line."""
+    """The best of some runs: seconds of wall time, seconds of processor time, and the first line."""
 
-    def __init__(self, wall, processor, peak, line):
-        self.wall, self.processor, self.peak, self.line = wall, processor, peak, line
-
-    @property
-    def mebibytes(self):
-        return self.peak / 2**20
+    def __init__(self, wall, processor, line):
+        self.wall, self.processor, self.line = wall, processor, line
 
 
 def best(runs):
-    """The least wall time and the least processor time of some runs, the most memory, and the last line."""
-    return Measured(
-        min(run.wall for run in runs),
-        min(run.processor for run in runs),
-        max(run.peak for run in runs),
-        runs[-1].line,
-    )
+    """The least wall time and the least processor time of some runs, and the last line."""
+    return Measured(min(run.wall for run in runs), min(run.processor for run in runs), runs[-1].line)
 
 
 def measure_both(ours, theirs, runs, stdin=None):
@@ -33,9 +27,9 @@ def measure_both(ours, theirs, runs, stdin=None):
 
 
 def measure(words, runs=5, stdin=None, cwd=None):
-    """The least wall time and the least processor time of some runs, and the most memory. `stdin` is the path of a
-    file. Standard error is taken with what is printed. A process that is ended by a signal has that as its line."""
-    walls, processors, peak, line = [], [], 0, ""
+    """The least wall time and the least processor time of some runs. `stdin` is the path of a file. Standard error is
+    taken with what is printed. A process that is ended by a signal has that as its line."""
+    walls, processors, line = [], [], ""
     for _ in range(runs):
         with open(stdin or os.devnull, "rb") as given:
             start = time.perf_counter()
@@ -47,15 +41,25 @@ def measure(words, runs=5, stdin=None, cwd=None):
             ran.stdout.close()
         walls.append(time.perf_counter() - start)
         processors.append(used.ru_utime + used.ru_stime)
-        peak = max(peak, used.ru_maxrss * 1024)
         if status & 127:
             line = f"signal {status & 127}"
-    return Measured(min(walls), min(processors), peak, line)
+    return Measured(min(walls), min(processors), line)
+
+
+def mebibytes(words, stdin=None, cwd=None):
+    """The peak memory of a run. GNU's `time` starts it: the system counts the memory of the process that starts
+    another, which is Python's else, to that of the other."""
+    if not os.access(TIME, os.X_OK):
+        sys.exit(f"{TIME} is not there: peak memory needs Debian's package time")
+    with open(stdin or os.devnull, "rb") as given, tempfile.NamedTemporaryFile("r") as told:
+        timed = [TIME, "--format", "%M", "--output", told.name, *words]
+        streams = {"stdin": given, "stdout": subprocess.DEVNULL, "stderr": subprocess.DEVNULL}
+        subprocess.run(timed, cwd=cwd, check=False, **streams)
+        return int(told.read().split()[-1]) / 1024
 
 
 def made_by_a_child(make, path):
-    """Writes what `make` gives to a file, in a child, so that this process stays small: the peak memory of a process
-    that it starts is at least its own."""
+    """Writes what `make` gives to a file, in a child, so that this process stays small, and starts others quickly."""
     child = os.fork()
     if child == 0:
         made = make()
