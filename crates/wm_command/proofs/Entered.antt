@@ -1,6 +1,6 @@
 -- The subcommand that was met, and what its words mean.
 use Rattle.std.proofs.Common.{◌≡◌, ℕ, zero, suc, ◌<◌, ◌≤◌, inl, inr, true, false, List, [], ◌∷◌, ◌++◌, codes, length, get_or, map, Option, None, Some, option_map, refl, sym, ap, ap₂, subst, ◌∙◌, arith, Bor}
-use Rattle.std.specs.Prelude.{Contains, IfSome, if◌then◌else◌}
+use Rattle.std.specs.Prelude.{Contains, IfSome}
 use Rattle.std.specs.Str.{bytes_eq}
 use Rattle.std.proofs.lemmas.List.{length-map}
 use Rattle.std.proofs.lemmas.Slice.Eq.{bytes_eq-Decides}
@@ -9,9 +9,11 @@ use Rattle.clap.specs.Words.{Row, Text, first_of, first_value, found_of, rows_of
 use Rattle.clap.specs.declared.parser.matches.ArgMatches.{ArgMatches}
 use Rattle.clap.specs.declared.parser.matches.Found.{Found}
 use Rattle.clap.proofs.WalkLemmas.{first_value-rows}
-use Rattle.wm_command.specs.Commands.{Form, HasFields, IsNamed, LacksField, LacksFields, Means, absent_of, fields_of, forms, name_of}
+use Rattle.wm_command.specs.Commands.{HasFields, IsNamed, LacksField, LacksFields, Means, NamesNoCommand, absent_of, fields_of, name_of, required_of}
 use Rattle.wm_command.specs.declared.command.Command.{Command}
-use Rattle.wm_command.specs.declared.command.Command.TheVariants.{Rules, Check, Migrate, Complete, Verify, Stream, Drive, Trace, Run, Races, EventRaces, Explain, ExplainEvents, Graph, GraphEvents, Help, Version}
+use Rattle.wm_command.specs.declared.command.Command.TheVariants.{OfRun, OfDocument, Stream, Drive, Trace, Run, Help, Version}
+use Rattle.wm_command.specs.declared.command.DocumentTask.TheVariants as document
+use Rattle.wm_command.specs.declared.command.RunTask.TheVariants as run
 
 -- the first parts of pairs
 first_parts : {X Y Z : Type 0} (f : X → Y) (g : X → Z) (o : Option X) → option_map f o ≡ option_map (λ (p : Y × Z). p.0) (option_map (λ x. (f x, g x)) o)
@@ -49,28 +51,23 @@ parts found name other rows others is also =
     let same = same_Some (name, rows) (other, others) (sym is ∙ also) in
     (ap (λ (p : Text × List Row). p.0) same, ap (λ (p : Text × List Row). p.1) same)
 
--- the words that the form of this name requires; none where no form has it
-abbrev pub required_in : List Form → Text → List Text
-required_in [] name = []
-required_in (form ∷ forms) name = if bytes_eq form.name name then form.required else required_in forms name
-
 -- the fields of each command begin with the words that its form requires
-fields_begin : (command : Command) → (others : List Text) × (map (λ (field : Text × Text). field.0) (fields_of command) ≡ required_in forms (name_of command) ++ others)
-fields_begin (Rules d) = ([], refl)
-fields_begin (Check m d) = ([], refl)
-fields_begin (Migrate d) = ([], refl)
-fields_begin (Complete m d) = ([], refl)
-fields_begin (Verify m d) = ([], refl)
+fields_begin : (command : Command) → (others : List Text) × (map (λ (field : Text × Text). field.0) (fields_of command) ≡ required_of (name_of command) ++ others)
+fields_begin (OfRun run.Check m d) = ([], refl)
+fields_begin (OfRun run.Complete m d) = ([], refl)
+fields_begin (OfRun run.Verify m d) = ([], refl)
+fields_begin (OfRun run.Races m d) = (codes "document" ∷ [], refl)
+fields_begin (OfRun run.Explain m d) = (codes "document" ∷ [], refl)
+fields_begin (OfRun run.Graph m d) = (codes "document" ∷ [], refl)
+fields_begin (OfDocument document.Rules d) = ([], refl)
+fields_begin (OfDocument document.Migrate d) = ([], refl)
+fields_begin (OfDocument document.Races d) = ([], refl)
+fields_begin (OfDocument document.Explain d) = ([], refl)
+fields_begin (OfDocument document.Graph d) = ([], refl)
 fields_begin (Stream m) = ([], refl)
 fields_begin (Drive m t) = ([], refl)
 fields_begin (Trace m t) = ([], refl)
 fields_begin (Run m r) = ([], refl)
-fields_begin (Races m d) = (codes "document" ∷ [], refl)
-fields_begin (EventRaces d) = ([], refl)
-fields_begin (Explain m d) = (codes "document" ∷ [], refl)
-fields_begin (ExplainEvents d) = ([], refl)
-fields_begin (Graph m d) = (codes "document" ∷ [], refl)
-fields_begin (GraphEvents d) = ([], refl)
 fields_begin Help = ([], refl)
 fields_begin Version = ([], refl)
 
@@ -87,9 +84,9 @@ lacks_more rows (id ∷ ids) others (inl none) = inl none
 lacks_more rows (id ∷ ids) others (inr lacks) = inr (lacks_more rows ids others lacks)
 
 -- a subcommand that lacks a word that its form requires is no command
-pub no_command : (name : Text) (rows : List Row) (ids : List Text) → required_in forms name ≡ ids → LacksField rows ids → (command : Command) → IsNamed name rows command → ⊥
+pub no_command : (name : Text) (rows : List Row) (ids : List Text) → required_of name ≡ ids → LacksField rows ids → NamesNoCommand name rows
 no_command name rows ids are lacks command is =
-    let same = sym are ∙ ap (required_in forms) is.0 in
+    let same = sym are ∙ ap required_of is.0 in
     let begin = fields_begin command in
     has_or_lacks rows (fields_of command) is.1
     (subst (LacksField rows) (ap (λ xs. xs ++ begin.0) same ∙ sym begin.1) (lacks_more rows ids begin.0 lacks))
@@ -101,7 +98,7 @@ means_some None found name rows is named = tt
 means_some (Some command) found name rows is named = (rows, is ∙ ap (λ (t : Text). Some (t, rows)) named.0, named.1, named.2)
 
 pub means_none : (found : Option (Text × List Row)) (name : Text) (rows : List Row) → found ≡ Some (name, rows)
-    → ((command : Command) → IsNamed name rows command → ⊥) → (command : Command) → Means found command → ⊥
+    → NamesNoCommand name rows → (command : Command) → Means found command → ⊥
 means_none found name rows is none command means =
     let same = parts found name (name_of command) rows means.0 is means.1 in
     none command (

@@ -6,7 +6,7 @@ use Rattle.wm_command.specs.Commands.{IsNoCommand, wmlab_app}
 
 -- the name of the command, and the values of its words
 read : List Text → Option (Text × Option Text × Option Text)
-read words = option_map (λ (p : Text × List Row). (p.0, first_of (codes "module") p.1, first_of (codes "document") p.1)) (subcommand_of wmlab_app words)
+read words = option_map (λ (p : Text × List Row). (p.0, first_of (codes "file") p.1, first_of (codes "document") p.1)) (subcommand_of wmlab_app words)
 
 check : List Text
 check = codes "check" ∷ codes "a.wasm" ∷ codes "-" ∷ []
@@ -27,7 +27,7 @@ migrate_is_taken : fault_of wmlab_app (codes "migrate" ∷ codes "-" ∷ []) ≡
 unfolding clap_on_literals
 migrate_is_taken = refl
 
-migrate_is_read : read (codes "migrate" ∷ codes "-" ∷ []) ≡ Some (codes "migrate", None, Some (codes "-"))
+migrate_is_read : read (codes "migrate" ∷ codes "-" ∷ []) ≡ Some (codes "migrate", Some (codes "-"), None)
 unfolding clap_on_literals read
 migrate_is_read = refl
 
@@ -58,24 +58,20 @@ stream_takes_no_document : IsNoCommand (codes "stream" ∷ codes "a.wasm" ∷ co
 unfolding clap_on_literals
 stream_takes_no_document command is = let none = is.taken in cc
 
--- the name, and the values of the words of `races`
-read_log : List Text → Option (Text × Option Text × Option Text)
-read_log words = option_map (λ (p : Text × List Row). (p.0, first_of (codes "file") p.1, first_of (codes "document") p.1)) (subcommand_of wmlab_app words)
-
 races_of_a_module_is_taken : fault_of wmlab_app (codes "races" ∷ codes "a.wasm" ∷ codes "-" ∷ []) ≡ []
 unfolding clap_on_literals
 races_of_a_module_is_taken = refl
 
-races_of_a_module_is_read : read_log (codes "races" ∷ codes "a.wasm" ∷ codes "-" ∷ []) ≡ Some (codes "races", Some (codes "a.wasm"), Some (codes "-"))
-unfolding clap_on_literals read_log
+races_of_a_module_is_read : read (codes "races" ∷ codes "a.wasm" ∷ codes "-" ∷ []) ≡ Some (codes "races", Some (codes "a.wasm"), Some (codes "-"))
+unfolding clap_on_literals read
 races_of_a_module_is_read = refl
 
 races_of_a_document_is_taken : fault_of wmlab_app (codes "races" ∷ codes "-" ∷ []) ≡ []
 unfolding clap_on_literals
 races_of_a_document_is_taken = refl
 
-races_of_a_document_is_read : read_log (codes "races" ∷ codes "-" ∷ []) ≡ Some (codes "races", Some (codes "-"), None)
-unfolding clap_on_literals read_log
+races_of_a_document_is_read : read (codes "races" ∷ codes "-" ∷ []) ≡ Some (codes "races", Some (codes "-"), None)
+unfolding clap_on_literals read
 races_of_a_document_is_read = refl
 
 races_takes_no_third_word : IsNoCommand (codes "races" ∷ codes "a.wasm" ∷ codes "-" ∷ codes "-" ∷ [])
@@ -101,8 +97,8 @@ explain_is_taken : fault_of wmlab_app explain ≡ []
 unfolding clap_on_literals explain
 explain_is_taken = refl
 
-explain_is_read : read_log explain ≡ Some (codes "explain", Some (codes "a.wasm"), Some (codes "-"))
-unfolding clap_on_literals read_log explain
+explain_is_read : read explain ≡ Some (codes "explain", Some (codes "a.wasm"), Some (codes "-"))
+unfolding clap_on_literals read explain
 explain_is_read = refl
 
 explain_of_a_document_is_taken : fault_of wmlab_app (codes "explain" ∷ codes "-" ∷ []) ≡ []

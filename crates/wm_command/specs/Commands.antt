@@ -1,6 +1,7 @@
 -- Which words are a command, by clap's own model of the parse.
-use Rattle.std.specs.Prelude.{◌≡◌, ◌⊎◌, true, List, [], ◌∷◌, ◌++◌, Option, None, Some, Contains, codes, fold, map}
+use Rattle.std.specs.Prelude.{◌≡◌, ◌⊎◌, true, List, [], ◌∷◌, ◌++◌, Option, None, Some, Contains, codes, fold, if◌then◌else◌, map}
 use Rattle.std.specs.List.{AllByRecursion}
+use Rattle.std.specs.Str.{bytes_eq}
 use Rattle.clap.specs.Lexer.{usize_max}
 use Rattle.clap.specs.Words.{AddsSubcommand, App, Row, Rule, Text, app_of, fault_of, first_of, found_of, new_app, new_rule, rows_of, subcommand_of, with_rule, with_subcommand}
 use Rattle.clap.specs.declared.builder.command.Command.{Command as Parser}
@@ -9,7 +10,11 @@ use Rattle.clap.specs.declared.builder.action.ArgAction.TheVariants.{Append, Set
 use Rattle.clap.specs.declared.error.kind.ErrorKind.{ErrorKind}
 use Rattle.clap.specs.declared.error.kind.ErrorKind.TheVariants as kind
 use Rattle.wm_command.specs.declared.command.Command.{Command}
-use Rattle.wm_command.specs.declared.command.Command.TheVariants.{Rules, Check, Migrate, Complete, Verify, Stream, Drive, Trace, Run, Races, EventRaces, Explain, ExplainEvents, Graph, GraphEvents, Help, Version}
+use Rattle.wm_command.specs.declared.command.Command.TheVariants.{OfRun, OfDocument, Stream, Drive, Trace, Run, Help, Version}
+use Rattle.wm_command.specs.declared.command.DocumentTask.{DocumentTask}
+use Rattle.wm_command.specs.declared.command.DocumentTask.TheVariants as document
+use Rattle.wm_command.specs.declared.command.RunTask.{RunTask}
+use Rattle.wm_command.specs.declared.command.RunTask.TheVariants as run
 use Rattle.wm_command.specs.declared.command.CommandFault.{CommandFault}
 use Rattle.wm_command.specs.declared.command.CommandFault.TheVariants.{Words, OutOfMemory}
 
@@ -29,14 +34,12 @@ pub record Form : Type 0 where
 abbrev pub plain_form : Text → Form
 plain_form name = record { name = name; required = []; optional = []; repeated = [] }
 
-abbrev pub document_form : Text → Form
-document_form name = record { name = name; required = codes "document" ∷ []; optional = []; repeated = [] }
+abbrev pub file_form : Text → Form
+file_form name = record { name = name; required = codes "file" ∷ []; optional = []; repeated = [] }
 
-abbrev pub module_form : Text → Form
-module_form name = record { name = name; required = codes "module" ∷ []; optional = []; repeated = [] }
-
+-- a module and a document
 abbrev pub checked_form : Text → Form
-checked_form name = record { name = name; required = codes "module" ∷ codes "document" ∷ []; optional = []; repeated = [] }
+checked_form name = record { name = name; required = codes "file" ∷ codes "document" ∷ []; optional = []; repeated = [] }
 
 -- a document, or a module and a document
 abbrev pub log_form : Text → Form
@@ -44,16 +47,16 @@ log_form name = record { name = name; required = codes "file" ∷ []; optional =
 
 -- a module, how its threads run, and their starts
 abbrev pub started_form : Text → Text → Form
-started_form name how = record { name = name; required = codes "module" ∷ how ∷ []; optional = []; repeated = codes "start" ∷ [] }
+started_form name how = record { name = name; required = codes "file" ∷ how ∷ []; optional = []; repeated = codes "start" ∷ [] }
 
 abbrev pub forms : List Form
 forms =
-    document_form (codes "rules")
+    file_form (codes "rules")
     ∷ checked_form (codes "check")
-    ∷ document_form (codes "migrate")
+    ∷ file_form (codes "migrate")
     ∷ checked_form (codes "complete")
     ∷ checked_form (codes "verify")
-    ∷ module_form (codes "stream")
+    ∷ file_form (codes "stream")
     ∷ started_form (codes "drive") (codes "turns")
     ∷ started_form (codes "trace") (codes "turns")
     ∷ started_form (codes "run") (codes "rounds")
@@ -63,6 +66,14 @@ forms =
     ∷ plain_form (codes "help")
     ∷ plain_form (codes "version")
     ∷ []
+
+-- the words that the form of this name requires; none where no form has it
+abbrev pub required_in : List Form → Text → List Text
+required_in [] name = []
+required_in (form ∷ forms) name = if bytes_eq form.name name then form.required else required_in forms name
+
+abbrev pub required_of : Text → List Text
+required_of = required_in forms
 
 -- ---- the parser of the table
 
@@ -99,50 +110,50 @@ wmlab_app = fold with_form empty_app forms
 
 -- ---- the words of a command
 
+abbrev pub run_task_name : RunTask → Text
+run_task_name run.Check = codes "check"
+run_task_name run.Complete = codes "complete"
+run_task_name run.Verify = codes "verify"
+run_task_name run.Races = codes "races"
+run_task_name run.Explain = codes "explain"
+run_task_name run.Graph = codes "graph"
+
+abbrev pub document_task_name : DocumentTask → Text
+document_task_name document.Rules = codes "rules"
+document_task_name document.Migrate = codes "migrate"
+document_task_name document.Races = codes "races"
+document_task_name document.Explain = codes "explain"
+document_task_name document.Graph = codes "graph"
+
 abbrev pub name_of : Command → Text
-name_of (Rules document) = codes "rules"
-name_of (Check file document) = codes "check"
-name_of (Migrate document) = codes "migrate"
-name_of (Complete file document) = codes "complete"
-name_of (Verify file document) = codes "verify"
+name_of (OfRun task file document) = run_task_name task
+name_of (OfDocument task document) = document_task_name task
 name_of (Stream file) = codes "stream"
 name_of (Drive file turns) = codes "drive"
 name_of (Trace file turns) = codes "trace"
 name_of (Run file rounds) = codes "run"
-name_of (Races file document) = codes "races"
-name_of (EventRaces document) = codes "races"
-name_of (Explain file document) = codes "explain"
-name_of (ExplainEvents document) = codes "explain"
-name_of (Graph file document) = codes "graph"
-name_of (GraphEvents document) = codes "graph"
 name_of Help = codes "help"
 name_of Version = codes "version"
 
 -- the name and the value of each word, except for those that may be repeated
 abbrev pub fields_of : Command → List (Text × Text)
-fields_of (Rules document) = (codes "document", document.now) ∷ []
-fields_of (Check file document) = (codes "module", file.now) ∷ (codes "document", document.now) ∷ []
-fields_of (Migrate document) = (codes "document", document.now) ∷ []
-fields_of (Complete file document) = (codes "module", file.now) ∷ (codes "document", document.now) ∷ []
-fields_of (Verify file document) = (codes "module", file.now) ∷ (codes "document", document.now) ∷ []
-fields_of (Stream file) = (codes "module", file.now) ∷ []
-fields_of (Drive file turns) = (codes "module", file.now) ∷ (codes "turns", turns.now) ∷ []
-fields_of (Trace file turns) = (codes "module", file.now) ∷ (codes "turns", turns.now) ∷ []
-fields_of (Run file rounds) = (codes "module", file.now) ∷ (codes "rounds", rounds.now) ∷ []
-fields_of (Races file document) = (codes "file", file.now) ∷ (codes "document", document.now) ∷ []
-fields_of (EventRaces document) = (codes "file", document.now) ∷ []
-fields_of (Explain file document) = (codes "file", file.now) ∷ (codes "document", document.now) ∷ []
-fields_of (ExplainEvents document) = (codes "file", document.now) ∷ []
-fields_of (Graph file document) = (codes "file", file.now) ∷ (codes "document", document.now) ∷ []
-fields_of (GraphEvents document) = (codes "file", document.now) ∷ []
+fields_of (OfRun task file document) = (codes "file", file.now) ∷ (codes "document", document.now) ∷ []
+fields_of (OfDocument task document) = (codes "file", document.now) ∷ []
+fields_of (Stream file) = (codes "file", file.now) ∷ []
+fields_of (Drive file turns) = (codes "file", file.now) ∷ (codes "turns", turns.now) ∷ []
+fields_of (Trace file turns) = (codes "file", file.now) ∷ (codes "turns", turns.now) ∷ []
+fields_of (Run file rounds) = (codes "file", file.now) ∷ (codes "rounds", rounds.now) ∷ []
 fields_of Help = []
 fields_of Version = []
 
 -- the words that a command of this name may have and this one doesn't have
+abbrev pub absent_of_task : DocumentTask → List Text
+absent_of_task document.Rules = []
+absent_of_task document.Migrate = []
+absent_of_task task = codes "document" ∷ []
+
 abbrev pub absent_of : Command → List Text
-absent_of (EventRaces document) = codes "document" ∷ []
-absent_of (ExplainEvents document) = codes "document" ∷ []
-absent_of (GraphEvents document) = codes "document" ∷ []
+absent_of (OfDocument task document) = absent_of_task task
 absent_of command = []
 
 -- the values of a subcommand's words
@@ -165,6 +176,9 @@ LacksField rows (id ∷ ids) = (first_of id rows ≡ None) ⊎ LacksField rows i
 -- a subcommand of this name with these rows is this command
 abbrev pub IsNamed : Text → List Row → Command → Type 0
 IsNamed name rows command = (name ≡ name_of command) × HasFields rows (fields_of command) × LacksFields rows (absent_of command)
+
+abbrev pub NamesNoCommand : Text → List Row → Type 0
+NamesNoCommand name rows = (command : Command) → IsNamed name rows command → ⊥
 
 -- the subcommand that was found, with the values of its words, is this command
 abbrev pub Means : Option (Text × List Row) → Command → Type 0

@@ -1,7 +1,7 @@
 //! The command line.
-ghost use Rattle.std.specs.Prelude.{◌≡◌, ◌∷◌, [], false, Err, IfOk, IfSome, None, Some, fold, map};
+ghost use Rattle.std.specs.Prelude.{◌≡◌, ◌∷◌, [], false, Err, IfOk, IfSome, None, Some, codes, fold, map};
 ghost use Rattle.clap.specs.Words.{app_of, first_of, kind_of, rule_of, subcommand_rows_of};
-ghost use Rattle.wm_command.specs.Commands.{AddsAs, HasFields, IsCommand, IsNamed, IsNoCommand, LacksField, Means, any_words_rule, checked_form, document_form, fault_of_kind, form_app, forms, log_form, module_form, optional_rule, plain_form, rows_in, started_form, with_form, wmlab_app, word_rule};
+ghost use Rattle.wm_command.specs.Commands.{AddsAs, HasFields, IsCommand, IsNamed, IsNoCommand, LacksField, Means, NamesNoCommand, absent_of_task, any_words_rule, checked_form, document_task_name, fault_of_kind, file_form, form_app, forms, log_form, optional_rule, plain_form, required_of, rows_in, run_task_name, started_form, with_form, wmlab_app, word_rule};
 ghost use Rattle.wm_command.specs.declared.command.Command.{Command};
 ghost use Rattle.wm_command.specs.declared.command.CommandFault.TheVariants.{OutOfMemory, Words};
 
@@ -9,39 +9,71 @@ use clap::error::ErrorKind;
 use clap::{Arg, ArgAction, ArgMatches, Command as Parser, Error};
 use std::alloc::{AllocError, Global};
 
+/// What is asked about the run of a document over a module.
+#[derive(Clone, Copy, Debug, PartialEq, Eq)]
+pub enum RunTask {
+    /// Checks the run.
+    Check,
+    /// Prints the document with the steps and the ends that its module gives it.
+    Complete,
+    /// Completes the document against its module, and checks it.
+    Verify,
+    /// Checks the run, and lists its data races by instructions.
+    Races,
+    /// Checks the run, and explains the answer.
+    Explain,
+    /// Checks the run, and draws it.
+    Graph,
+}
+
+/// What is asked about a document alone.
+#[derive(Clone, Copy, Debug, PartialEq, Eq)]
+pub enum DocumentTask {
+    /// Judges its run by the memory rules.
+    Rules,
+    /// Prints it in version 2.
+    Migrate,
+    /// Judges its run by the memory rules, and lists its data races by events.
+    Races,
+    /// Judges its run by the memory rules, and explains the answer.
+    Explain,
+    /// Judges its run by the memory rules, and draws it.
+    Graph,
+}
+
 /// A command of the program.
 #[derive(Clone, Copy, Debug, PartialEq, Eq)]
 pub enum Command<'a> {
-    /// Judges the run of a document by the memory rules.
-    Rules { document: &'a str },
-    /// Checks the run of a document against a module.
-    Check { module: &'a str, document: &'a str },
-    /// Prints a document in version 2.
-    Migrate { document: &'a str },
-    /// Prints a document with the steps and the ends that its module gives it.
-    Complete { module: &'a str, document: &'a str },
-    /// Completes a document against its module, and checks it.
-    Verify { module: &'a str, document: &'a str },
+    /// Answers what is asked about the run of a document over a module.
+    OfRun {
+        task: RunTask,
+        module: &'a str,
+        document: &'a str,
+    },
+    /// Answers what is asked about a document alone.
+    OfDocument {
+        task: DocumentTask,
+        document: &'a str,
+    },
     /// Verifies each line of the input as a document against a module.
-    Stream { module: &'a str },
+    Stream {
+        module: &'a str,
+    },
     /// Plays a script over a module; the remaining words are the starts of its threads.
-    Drive { module: &'a str, turns: &'a str },
+    Drive {
+        module: &'a str,
+        turns: &'a str,
+    },
     /// Plays a script over a module, and shows each of its turns.
-    Trace { module: &'a str, turns: &'a str },
+    Trace {
+        module: &'a str,
+        turns: &'a str,
+    },
     /// Makes this number of rounds of a module's threads; the remaining words are the starts of the threads.
-    Run { module: &'a str, rounds: &'a str },
-    /// Checks a run against a module, and lists its data races by instructions.
-    Races { module: &'a str, document: &'a str },
-    /// Judges a run by the memory rules, and lists its data races by events.
-    EventRaces { document: &'a str },
-    /// Checks a run against a module, and explains the answer.
-    Explain { module: &'a str, document: &'a str },
-    /// Judges a run by the memory rules, and explains the answer.
-    ExplainEvents { document: &'a str },
-    /// Checks a run against a module, and draws it.
-    Graph { module: &'a str, document: &'a str },
-    /// Judges a run by the memory rules, and draws it.
-    GraphEvents { document: &'a str },
+    Run {
+        module: &'a str,
+        rounds: &'a str,
+    },
     /// Prints how the program is used.
     Help,
     /// Prints the version.
@@ -107,18 +139,11 @@ fn plain_parser<'a>(alloc: Global, name: &'a str) -> Parser<'a>
     Parser::new(alloc, name)
 }
 
-/// A command with a document.
-fn document_parser<'a>(alloc: Global, name: &'a str) -> Result<Parser<'a>, AllocError>
-    ensures { IfOk result (AddsAs (form_app (document_form name.now))) }
+/// A command with one file.
+fn file_parser<'a>(alloc: Global, name: &'a str) -> Result<Parser<'a>, AllocError>
+    ensures { IfOk result (AddsAs (form_app (file_form name.now))) }
 {
-    Parser::new(alloc, name).arg(word(alloc, "document"))
-}
-
-/// A command with a module.
-fn module_parser<'a>(alloc: Global, name: &'a str) -> Result<Parser<'a>, AllocError>
-    ensures { IfOk result (AddsAs (form_app (module_form name.now))) }
-{
-    Parser::new(alloc, name).arg(word(alloc, "module"))
+    Parser::new(alloc, name).arg(word(alloc, "file"))
 }
 
 /// A command with a module and a document.
@@ -126,7 +151,7 @@ fn checked_parser<'a>(alloc: Global, name: &'a str) -> Result<Parser<'a>, AllocE
     ensures { IfOk result (AddsAs (form_app (checked_form name.now))) }
 {
     Parser::new(alloc, name)
-        .arg(word(alloc, "module"))?
+        .arg(word(alloc, "file"))?
         .arg(word(alloc, "document"))
 }
 
@@ -144,7 +169,7 @@ fn started_parser<'a>(alloc: Global, name: &'a str, how: &'a str) -> Result<Pars
     ensures { IfOk result (AddsAs (form_app (started_form name.now how.now))) }
 {
     Parser::new(alloc, name)
-        .arg(word(alloc, "module"))?
+        .arg(word(alloc, "file"))?
         .arg(word(alloc, how))?
         .arg(any_words(alloc, "start"))
 }
@@ -160,26 +185,11 @@ fn with_plain<'a>(
     parser.subcommand(plain_parser(alloc, name))
 }
 
-/// Adds a command with a document.
-fn with_document<'a>(
-    alloc: Global,
-    parser: Parser<'a>,
-    name: &'a str,
-) -> Result<Parser<'a>, AllocError>
-    ensures { IfOk result (λ more. app_of more ≡ with_form (app_of parser.entry) (document_form name.now)) }
+/// Adds a command with one file.
+fn with_file<'a>(alloc: Global, parser: Parser<'a>, name: &'a str) -> Result<Parser<'a>, AllocError>
+    ensures { IfOk result (λ more. app_of more ≡ with_form (app_of parser.entry) (file_form name.now)) }
 {
-    parser.subcommand(document_parser(alloc, name)?)
-}
-
-/// Adds a command with a module.
-fn with_module<'a>(
-    alloc: Global,
-    parser: Parser<'a>,
-    name: &'a str,
-) -> Result<Parser<'a>, AllocError>
-    ensures { IfOk result (λ more. app_of more ≡ with_form (app_of parser.entry) (module_form name.now)) }
-{
-    parser.subcommand(module_parser(alloc, name)?)
+    parser.subcommand(file_parser(alloc, name)?)
 }
 
 /// Adds a command with a module and a document.
@@ -216,12 +226,12 @@ fn with_started<'a>(
 fn with_commands<'a>(alloc: Global, parser: Parser<'a>) -> Result<Parser<'a>, AllocError>
     ensures { IfOk result (λ more. app_of more ≡ fold with_form (app_of parser.entry) forms) }
 {
-    let parser = with_document(alloc, parser, "rules")?;
+    let parser = with_file(alloc, parser, "rules")?;
     let parser = with_checked(alloc, parser, "check")?;
-    let parser = with_document(alloc, parser, "migrate")?;
+    let parser = with_file(alloc, parser, "migrate")?;
     let parser = with_checked(alloc, parser, "complete")?;
     let parser = with_checked(alloc, parser, "verify")?;
-    let parser = with_module(alloc, parser, "stream")?;
+    let parser = with_file(alloc, parser, "stream")?;
     let parser = with_started(alloc, parser, "drive", "turns")?;
     let parser = with_started(alloc, parser, "trace", "turns")?;
     let parser = with_started(alloc, parser, "run", "rounds")?;
@@ -263,78 +273,94 @@ fn two_words<'a>(words: &ArgMatches<'a>, first: &str, second: &str) -> Option<(&
     Some((one, two))
 }
 
+/// A task over a document.
+fn document_command<'a>(
+    name: &str,
+    task: DocumentTask,
+    words: &ArgMatches<'a>,
+) -> Option<Command<'a>>
+    requires named { name.now ≡ document_task_name task }
+    requires file { required_of name.now ≡ codes "file" ∷ [] }
+    requires none_optional { absent_of_task task ≡ [] }
+    ensures some { IfSome result (IsNamed name.now (rows_in words.now)) }
+    ensures none { result ≡ None → NamesNoCommand name.now (rows_in words.now) }
+{
+    let document = one_word(words, "file")?;
+    Some(Command::OfDocument { task, document })
+}
+
+/// A task over a module and a document.
+fn run_command<'a>(name: &str, task: RunTask, words: &ArgMatches<'a>) -> Option<Command<'a>>
+    requires named { name.now ≡ run_task_name task }
+    requires both { required_of name.now ≡ codes "file" ∷ codes "document" ∷ [] }
+    ensures some { IfSome result (IsNamed name.now (rows_in words.now)) }
+    ensures none { result ≡ None → NamesNoCommand name.now (rows_in words.now) }
+{
+    let (module, document) = two_words(words, "file", "document")?;
+    Some(Command::OfRun {
+        task,
+        module,
+        document,
+    })
+}
+
+/// A task over a module and a document if both are there, and else one over a document.
+fn log_command<'a>(
+    name: &str,
+    of_run: RunTask,
+    of_document: DocumentTask,
+    words: &ArgMatches<'a>,
+) -> Option<Command<'a>>
+    requires run_named { name.now ≡ run_task_name of_run }
+    requires document_named { name.now ≡ document_task_name of_document }
+    requires file { required_of name.now ≡ codes "file" ∷ [] }
+    ensures some { IfSome result (IsNamed name.now (rows_in words.now)) }
+    ensures none { result ≡ None → NamesNoCommand name.now (rows_in words.now) }
+{
+    let file = one_word(words, "file")?;
+    match one_word(words, "document") {
+        Some(document) => Some(Command::OfRun {
+            task: of_run,
+            module: file,
+            document,
+        }),
+        None => Some(Command::OfDocument {
+            task: of_document,
+            document: file,
+        }),
+    }
+}
+
 /// The command of this name, with its words.
 fn command_of<'a>(name: &str, words: &ArgMatches<'a>) -> Option<Command<'a>>
     ensures some { IfSome result (IsNamed name.now (rows_in words.now)) }
-    ensures none { result ≡ None → (command : Command) → IsNamed name.now (rows_in words.now) command → ⊥ }
+    ensures none { result ≡ None → NamesNoCommand name.now (rows_in words.now) }
 {
     match name {
-        "rules" => {
-            let document = one_word(words, "document")?;
-            Some(Command::Rules { document })
-        }
-        "check" => {
-            let (module, document) = two_words(words, "module", "document")?;
-            Some(Command::Check { module, document })
-        }
-        "migrate" => {
-            let document = one_word(words, "document")?;
-            Some(Command::Migrate { document })
-        }
-        "complete" => {
-            let (module, document) = two_words(words, "module", "document")?;
-            Some(Command::Complete { module, document })
-        }
-        "verify" => {
-            let (module, document) = two_words(words, "module", "document")?;
-            Some(Command::Verify { module, document })
-        }
+        "rules" => document_command(name, DocumentTask::Rules, words),
+        "check" => run_command(name, RunTask::Check, words),
+        "migrate" => document_command(name, DocumentTask::Migrate, words),
+        "complete" => run_command(name, RunTask::Complete, words),
+        "verify" => run_command(name, RunTask::Verify, words),
         "stream" => {
-            let module = one_word(words, "module")?;
+            let module = one_word(words, "file")?;
             Some(Command::Stream { module })
         }
         "drive" => {
-            let (module, turns) = two_words(words, "module", "turns")?;
+            let (module, turns) = two_words(words, "file", "turns")?;
             Some(Command::Drive { module, turns })
         }
         "trace" => {
-            let (module, turns) = two_words(words, "module", "turns")?;
+            let (module, turns) = two_words(words, "file", "turns")?;
             Some(Command::Trace { module, turns })
         }
         "run" => {
-            let (module, rounds) = two_words(words, "module", "rounds")?;
+            let (module, rounds) = two_words(words, "file", "rounds")?;
             Some(Command::Run { module, rounds })
         }
-        "races" => {
-            let file = one_word(words, "file")?;
-            match one_word(words, "document") {
-                Some(document) => Some(Command::Races {
-                    module: file,
-                    document,
-                }),
-                None => Some(Command::EventRaces { document: file }),
-            }
-        }
-        "explain" => {
-            let file = one_word(words, "file")?;
-            match one_word(words, "document") {
-                Some(document) => Some(Command::Explain {
-                    module: file,
-                    document,
-                }),
-                None => Some(Command::ExplainEvents { document: file }),
-            }
-        }
-        "graph" => {
-            let file = one_word(words, "file")?;
-            match one_word(words, "document") {
-                Some(document) => Some(Command::Graph {
-                    module: file,
-                    document,
-                }),
-                None => Some(Command::GraphEvents { document: file }),
-            }
-        }
+        "races" => log_command(name, RunTask::Races, DocumentTask::Races, words),
+        "explain" => log_command(name, RunTask::Explain, DocumentTask::Explain, words),
+        "graph" => log_command(name, RunTask::Graph, DocumentTask::Graph, words),
         "help" => Some(Command::Help),
         "version" => Some(Command::Version),
         _ => None,

@@ -3,4 +3,4 @@
 
 mod command;
 
-pub use command::{Command, CommandFault, read_command};
+pub use command::{Command, CommandFault, DocumentTask, RunTask, read_command};

@@ -9,9 +9,9 @@ use Rattle.wm_logfile.specs.declared.fault.DocFault.{DocFault}
 use Rattle.wm_logfile.specs.declared.fault.DocFault.TheVariants.{NotJson, BadShape, BadVersion, NumberRange, TooLarge, OutOfMemory, Misplaced}
 use Rattle.wm_logfile.specs.DocumentBytes.{IsNoDocument}
 use Rattle.wm_logfile.specs.Migration.{IsMisplaced}
-use Rattle.wm_litmus.specs.Replies.{AnswersCheck, AnswersMigrate}
-use Rattle.wm_litmus.specs.Replies.AnswersCheck.{allowed, refused_for, broken_by}
-use Rattle.wm_litmus.specs.Replies.AnswersMigrate.{misplaced, refused}
+use Rattle.wm_litmus.specs.Tasks.{AnswersCheck, AnswersMigrate}
+use Rattle.wm_litmus.specs.Tasks.AnswersCheck.{allowed, refused_for, broken_by}
+use Rattle.wm_litmus.specs.Tasks.AnswersMigrate.{misplaced, refused}
 use Rattle.wm_litmus.specs.Lines.{document_line_text, verdict_status, verdict_text}
 use Rattle.wm_litmus.specs.Prints.{ended}
 

@@ -10,5 +10,6 @@ pub mod RaceAnswers
 pub mod RaceTexts
 pub mod Explaining
 pub mod Streaming
+pub mod Statuses
 pub mod TraceTexts
 pub mod Telling

@@ -17,3 +17,4 @@ pub mod Rules
 pub mod Serving
 pub mod Stream
 pub mod Table
+pub mod Tasks

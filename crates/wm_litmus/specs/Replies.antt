@@ -2,71 +2,22 @@
 use Rattle.std.specs.Prelude.{◌≡◌, ◌<◌, ℕ, List, Option, drop, map}
 use Rattle.std.specs.Borrow.{Bor}
 use Rattle.std.specs.Io.KnownBytes.{Appends}
-use Rattle.wm_check.specs.declared.verdict.Breach.{Breach}
-use Rattle.wm_check.specs.declared.verdict.Breach.TheVariants.{Replay}
-use Rattle.wm_check.specs.declared.verdict.Certificate.{Certificate}
-use Rattle.wm_check.specs.declared.verdict.Refusal.{Refusal}
-use Rattle.wm_check.specs.declared.verdict.Verdict.TheVariants.{Allowed, Refused}
-use Rattle.wm_check.specs.declared.verdict.Verdict.TheVariants as verdict
-use Rattle.wm_check.specs.Completed.{HasNoRun, IsCompletedTo}
-use Rattle.wm_check.specs.Verdicts.{IsAllowed, IsBrokenBy, IsRefusedFor}
 use Rattle.wm_decode.specs.Bounds.{max_module_bytes}
-use Rattle.wm_logfile.specs.declared.fault.DocFault.{DocFault}
-use Rattle.wm_logfile.specs.declared.fault.DocFault.TheVariants.{Misplaced}
-use Rattle.wm_logfile.specs.DocumentBytes.{IsNoDocument}
-use Rattle.wm_logfile.specs.Migration.{IsMigrated, IsMisplaced}
-use Rattle.wm_replay.specs.declared.answer.ReplayAnswer.{ReplayAnswer}
 use Rattle.clap.specs.Words.{Text}
-use Rattle.wm_command.specs.declared.command.Command.TheVariants.{Rules, Check, Migrate, Complete, Verify, Stream, Drive, Trace, Run, Races, EventRaces, Explain, ExplainEvents, Graph, GraphEvents, Help, Version}
+use Rattle.wm_command.specs.declared.command.Command.TheVariants.{OfRun, OfDocument, Stream, Drive, Trace, Run, Help, Version}
+use Rattle.wm_command.specs.declared.command.DocumentTask.{DocumentTask}
+use Rattle.wm_command.specs.declared.command.RunTask.{RunTask}
 use Rattle.wm_command.specs.Commands.{IsCommand, IsNoCommand}
 use Rattle.wm_litmus.specs.Drive.{AnswersDrive, IsScriptAnswer}
-use Rattle.wm_litmus.specs.EventExplanation.{AnswersEventExplain, AnswersEventGraph}
-use Rattle.wm_litmus.specs.Explanation.{AnswersExplain, AnswersGraph}
 use Rattle.wm_litmus.specs.Help.{help_text, version_text}
-use Rattle.wm_litmus.specs.Races.{AnswersEventRaces, AnswersRaces}
 use Rattle.wm_litmus.specs.Rounds.{IsRoundsAnswer}
-use Rattle.wm_litmus.specs.Rules.{AnswersRules}
+use Rattle.wm_litmus.specs.Tasks.{AnswersDocumentTask, AnswersRunTask}
 use Rattle.wm_litmus.specs.Trace.{AnswersTrace}
 use Rattle.wm_litmus.specs.Input.{IsDocumentRead, IsReadOf}
 use Rattle.wm_stream.specs.Output.{AppendsFront}
 use Rattle.wm_litmus.specs.Prints.{ended}
-use Rattle.wm_litmus.specs.Stream.{AnswersFirstLines, AnswersStream, AnswersVerify}
-use Rattle.wm_litmus.specs.Lines.{document_line_text, verdict_text, words_line_text}
-
--- ---- the command `check`
-
--- the status and the text that answer a module and a document, by the verdict on them
-pub data AnswersCheck (module_bytes document_bytes : List ℕ) (status : ℕ) (text : List ℕ) : Type 0 where
-  allowed : (certificate : Certificate) → IsAllowed module_bytes document_bytes certificate
-      → status ≡ 0 → text ≡ ended (verdict_text (Allowed certificate)) → AnswersCheck module_bytes document_bytes status text
-  refused_for : (refusal : Refusal) → IsRefusedFor module_bytes document_bytes refusal
-      → status ≡ 2 → text ≡ ended (verdict_text (Refused refusal)) → AnswersCheck module_bytes document_bytes status text
-  broken_by : (breach : Breach) → IsBrokenBy module_bytes document_bytes breach
-      → status ≡ 1 → text ≡ ended (verdict_text (verdict.Broken breach)) → AnswersCheck module_bytes document_bytes status text
-
--- ---- the command `migrate`
-
--- the status and the text that answer a document: its text in version 2
-pub data AnswersMigrate (bytes : List ℕ) (status : ℕ) (text : List ℕ) : Type 0 where
-  migrated : (line : List ℕ) → IsMigrated bytes line
-      → status ≡ 0 → text ≡ ended line → AnswersMigrate bytes status text
-  misplaced : IsMisplaced bytes
-      → status ≡ 2 → text ≡ ended (document_line_text Misplaced) → AnswersMigrate bytes status text
-  refused : (fault : DocFault) → IsNoDocument bytes fault
-      → status ≡ 2 → text ≡ ended (document_line_text fault) → AnswersMigrate bytes status text
-
--- ---- the command `complete`
-
--- the status and the text that answer a module and a document: the document's text in version 2 with its steps and ends
-pub data AnswersComplete (module_bytes document_bytes : List ℕ) (status : ℕ) (text : List ℕ) : Type 0 where
-  completed : (line : List ℕ) → IsCompletedTo module_bytes document_bytes line
-      → status ≡ 0 → text ≡ ended line → AnswersComplete module_bytes document_bytes status text
-  refused_for : (refusal : Refusal) → IsRefusedFor module_bytes document_bytes refusal
-      → status ≡ 2 → text ≡ ended (verdict_text (Refused refusal)) → AnswersComplete module_bytes document_bytes status text
-  without_run : (answer : ReplayAnswer) → HasNoRun module_bytes document_bytes answer
-      → status ≡ 1 → text ≡ ended (verdict_text (verdict.Broken (Replay answer))) → AnswersComplete module_bytes document_bytes status text
-
--- ---- the program
+use Rattle.wm_litmus.specs.Stream.{AnswersFirstLines, AnswersStream}
+use Rattle.wm_litmus.specs.Lines.{words_line_text}
 
 abbrev pub words_of : List (Bor Text) → List Text
 words_of words = map (λ word. word.now) words
@@ -80,27 +31,27 @@ pub record Given : Type 0 where
 abbrev pub given : List Text → (List ℕ → Option (List ℕ)) → Option (List ℕ) → Given
 given words files input = record { words = words; files = files; input = input }
 
+-- the status and the text that answer a task over a module and a document, by what was read of both
+pub record IsRunAnswer (task : RunTask) (files : List ℕ → Option (List ℕ)) (input : Option (List ℕ)) (file document : Text) (status : ℕ) (text : List ℕ) : Type 0 where
+  pub module_bytes : List ℕ
+  pub module_read : IsReadOf (files file) max_module_bytes module_bytes
+  pub document_bytes : List ℕ
+  pub document_read : IsDocumentRead files input document document_bytes
+  pub answers : AnswersRunTask task module_bytes document_bytes status text
+
+-- and those that answer a task over a document alone
+pub record IsDocumentAnswer (task : DocumentTask) (files : List ℕ → Option (List ℕ)) (input : Option (List ℕ)) (document : Text) (status : ℕ) (text : List ℕ) : Type 0 where
+  pub bytes : List ℕ
+  pub read : IsDocumentRead files input document bytes
+  pub answers : AnswersDocumentTask task bytes status text
+
 -- the status and the text that answer this input
 pub data IsAnswer (given : Given) (status : ℕ) (text : List ℕ) : Type 0 where
   no_command : IsNoCommand given.words → status ≡ 2 → text ≡ ended words_line_text → IsAnswer given status text
-  rules_of : (document : Bor Text) (bytes : List ℕ) → IsCommand given.words (Rules document)
-      → IsDocumentRead given.files given.input document.now bytes
-      → AnswersRules bytes status text → IsAnswer given status text
-  check_of : (file document : Bor Text) (module_bytes bytes : List ℕ) → IsCommand given.words (Check file document)
-      → IsReadOf (given.files file.now) max_module_bytes module_bytes
-      → IsDocumentRead given.files given.input document.now bytes
-      → AnswersCheck module_bytes bytes status text → IsAnswer given status text
-  migrate_of : (document : Bor Text) (bytes : List ℕ) → IsCommand given.words (Migrate document)
-      → IsDocumentRead given.files given.input document.now bytes
-      → AnswersMigrate bytes status text → IsAnswer given status text
-  complete_of : (file document : Bor Text) (module_bytes bytes : List ℕ) → IsCommand given.words (Complete file document)
-      → IsReadOf (given.files file.now) max_module_bytes module_bytes
-      → IsDocumentRead given.files given.input document.now bytes
-      → AnswersComplete module_bytes bytes status text → IsAnswer given status text
-  verify_of : (file document : Bor Text) (module_bytes bytes : List ℕ) → IsCommand given.words (Verify file document)
-      → IsReadOf (given.files file.now) max_module_bytes module_bytes
-      → IsDocumentRead given.files given.input document.now bytes
-      → AnswersVerify module_bytes bytes status text → IsAnswer given status text
+  run_task_of : (task : RunTask) (file document : Bor Text) → IsCommand given.words (OfRun task file document)
+      → IsRunAnswer task given.files given.input file.now document.now status text → IsAnswer given status text
+  document_task_of : (task : DocumentTask) (document : Bor Text) → IsCommand given.words (OfDocument task document)
+      → IsDocumentAnswer task given.files given.input document.now status text → IsAnswer given status text
   stream_of : (file : Bor Text) (module_bytes : List ℕ) → IsCommand given.words (Stream file)
       → IsReadOf (given.files file.now) max_module_bytes module_bytes
       → AnswersStream module_bytes given.input status text → IsAnswer given status text
@@ -110,27 +61,6 @@ pub data IsAnswer (given : Given) (status : ℕ) (text : List ℕ) : Type 0 wher
       → IsScriptAnswer AnswersTrace (given.files file.now) turns.now (drop 3 given.words) status text → IsAnswer given status text
   run_of : (file rounds : Bor Text) → IsCommand given.words (Run file rounds)
       → IsRoundsAnswer (given.files file.now) rounds.now (drop 3 given.words) status text → IsAnswer given status text
-  races_of : (file document : Bor Text) (module_bytes bytes : List ℕ) → IsCommand given.words (Races file document)
-      → IsReadOf (given.files file.now) max_module_bytes module_bytes
-      → IsDocumentRead given.files given.input document.now bytes
-      → AnswersRaces module_bytes bytes status text → IsAnswer given status text
-  event_races_of : (document : Bor Text) (bytes : List ℕ) → IsCommand given.words (EventRaces document)
-      → IsDocumentRead given.files given.input document.now bytes
-      → AnswersEventRaces bytes status text → IsAnswer given status text
-  explain_of : (file document : Bor Text) (module_bytes bytes : List ℕ) → IsCommand given.words (Explain file document)
-      → IsReadOf (given.files file.now) max_module_bytes module_bytes
-      → IsDocumentRead given.files given.input document.now bytes
-      → AnswersExplain module_bytes bytes status text → IsAnswer given status text
-  explain_events_of : (document : Bor Text) (bytes : List ℕ) → IsCommand given.words (ExplainEvents document)
-      → IsDocumentRead given.files given.input document.now bytes
-      → AnswersEventExplain bytes status text → IsAnswer given status text
-  graph_of : (file document : Bor Text) (module_bytes bytes : List ℕ) → IsCommand given.words (Graph file document)
-      → IsReadOf (given.files file.now) max_module_bytes module_bytes
-      → IsDocumentRead given.files given.input document.now bytes
-      → AnswersGraph module_bytes bytes status text → IsAnswer given status text
-  graph_events_of : (document : Bor Text) (bytes : List ℕ) → IsCommand given.words (GraphEvents document)
-      → IsDocumentRead given.files given.input document.now bytes
-      → AnswersEventGraph bytes status text → IsAnswer given status text
   help_of : IsCommand given.words Help → status ≡ 0 → text ≡ help_text → IsAnswer given status text
   version_of : IsCommand given.words Version → status ≡ 0 → text ≡ version_text → IsAnswer given status text
 

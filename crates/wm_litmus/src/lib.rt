@@ -40,6 +40,7 @@ mod rounds;
 mod rules;
 mod stream;
 mod table;
+mod task;
 mod trace;
 
 pub use files::{FileFault, Files};

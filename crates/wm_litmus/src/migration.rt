@@ -1,6 +1,6 @@
 //! The command `migrate`: a document is printed in version 2.
 ghost use Rattle.std.specs.Prelude.{◌≡◌, IfOk, string_bytes};
-ghost use Rattle.wm_litmus.specs.Replies.{AnswersMigrate};
+ghost use Rattle.wm_litmus.specs.Tasks.{AnswersMigrate};
 
 use crate::answer::Answer;
 use std::alloc::{AllocError, Global};

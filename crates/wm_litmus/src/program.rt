@@ -1,7 +1,7 @@
 //! The whole program.
 ghost use Rattle.std.specs.Prelude.{◌≡◌, ◌+◌, ◌^◌, ◌≤◌, ◌<◌, IfErr, IfOk, OnErr, OnOk, List, ℕ, drop};
 ghost use Rattle.wm_decode.specs.Bounds.{max_module_bytes};
-ghost use Rattle.wm_litmus.specs.Replies.{Serves, StopsAt3, given, words_of};
+ghost use Rattle.wm_litmus.specs.Replies.{IsDocumentAnswer, IsRunAnswer, Serves, StopsAt3, given, words_of};
 ghost use Rattle.wm_litmus.specs.Prints.{Gives};
 ghost use Rattle.wm_litmus.specs.Serving.{IsOfLines, IsReply, StreamsAll, StreamsFront};
 ghost use Rattle.wm_litmus.specs.Drive.{AnswersDrive, IsScriptAnswer};
@@ -13,25 +13,19 @@ ghost use Rattle.wm_litmus.specs.Rounds.{IsRoundsAnswer};
 ghost use Rattle.wm_litmus.specs.declared.program.Failure.TheVariants.{OutOfMemory};
 
 use crate::answer::Answer;
-use crate::check::check_answer;
-use crate::completion::completion_answer;
 use crate::drive::drive_answer;
-use crate::event_explanation::{explain_events_answer, graph_events_answer};
-use crate::explanation::{explain_answer, graph_answer};
 use crate::files::{FileFault, Files};
 use crate::help::{help_answer, version_answer};
 use crate::input::read_limited;
-use crate::migration::migrate_answer;
-use crate::races::{event_races_answer, races_answer};
 use crate::rounds::rounds_answer;
-use crate::rules::rules_answer;
-use crate::stream::{judge_of, verify_answer};
+use crate::stream::judge_of;
+use crate::task::{document_task_answer, run_task_answer};
 use crate::trace::trace_answer;
 use std::alloc::{AllocError, Global};
 use std::io::{Read, Write};
 use std::sync::Wait;
 use std::thread::Threads;
-use wm_command::{Command, CommandFault, read_command};
+use wm_command::{Command, CommandFault, DocumentTask, RunTask, read_command};
 use wm_decode::MAX_MODULE_BYTES;
 use wm_logfile::MAX_DOCUMENT_BYTES;
 use wm_stream::{StreamFault, answer_lines, write_text};
@@ -146,6 +140,44 @@ fn read_run<'a, R: AllocGlobal, F: Files, I: Read>(
     let module_bytes = read_file(files, module, MAX_MODULE_BYTES)?;
     let document_bytes = read_document_bytes(rt, files, input, document)?;
     Ok((module_bytes, document_bytes))
+}
+
+/// The answer to a task over the module and the document of these names.
+fn run_task_of<'a, R: AllocGlobal + Threads + Sync, F: Files, I: Read>(
+    rt: &R,
+    files: &mut F,
+    input: &mut I,
+    task: RunTask,
+    module: &'a str,
+    document: &'a str,
+) -> Result<Answer, Failure<'a>>
+    requires { F.failures_of files.old + 1 < 2 ^ 64 }
+    ensures answers { IfOk result (Gives
+        (IsRunAnswer task (F.content_of files.old) (I.remaining input.old) «module».now document.now)) }
+    ensures unread { IfErr result (λ stop. IsUnreadFile stop
+        → F.failures_of files.old < F.failures_of files.new) }
+{
+    let read = read_run(rt, files, input, module, document)?;
+    let answer = run_task_answer(rt, task, read.0.as_slice(), read.1.as_slice())?;
+    Ok(answer)
+}
+
+/// The answer to a task over the document `name`, or over `input` for `-`.
+fn document_task_of<'a, R: AllocGlobal + Threads + Sync, F: Files, I: Read>(
+    rt: &R,
+    files: &mut F,
+    input: &mut I,
+    task: DocumentTask,
+    name: &'a str,
+) -> Result<Answer, Failure<'a>>
+    requires { F.failures_of files.old + 1 < 2 ^ 64 }
+    ensures answers { IfOk result (Gives (IsDocumentAnswer task (F.content_of files.old) (I.remaining input.old) name.now)) }
+    ensures unread { IfErr result (λ stop. IsUnreadFile stop
+        → F.failures_of files.old < F.failures_of files.new) }
+{
+    let bytes = read_document_bytes(rt, files, input, name)?;
+    let answer = document_task_answer(rt, task, bytes.as_slice())?;
+    Ok(answer)
 }
 
 /// The words with the starts of the threads: those after the command, the module, and the turns or rounds.
@@ -280,51 +312,21 @@ fn reply_to<'a, R: AllocGlobal + Threads + Wait + Sync, F: Files, I: Read>(
 {
     let starts = starts_of(words);
     match read_command(rt.alloc(), words) {
-        Ok(Command::Rules { document }) => {
-            let bytes = read_document_bytes(rt, files, input, document)?;
-            Ok(Reply::Answer(rules_answer(rt, bytes.as_slice())?))
+        Ok(
+            Command::OfRun {
+                task,
+                module,
+                document,
+            },
+        ) => {
+            let answer = run_task_of(rt, files, input, task, module, document)?;
+            Ok(Reply::Answer(answer))
         }
-        Ok(Command::Check { module, document }) => {
-            let read = read_run(rt, files, input, module, document)?;
-            Ok(Reply::Answer(check_answer(rt, read.0.as_slice(), read.1.as_slice())?))
-        }
-        Ok(Command::Migrate { document }) => {
-            let bytes = read_document_bytes(rt, files, input, document)?;
-            Ok(Reply::Answer(migrate_answer(rt.alloc(), bytes.as_slice())?))
-        }
-        Ok(Command::Complete { module, document }) => {
-            let read = read_run(rt, files, input, module, document)?;
-            Ok(Reply::Answer(completion_answer(rt.alloc(), read.0.as_slice(), read.1.as_slice())?))
-        }
-        Ok(Command::Verify { module, document }) => {
-            let read = read_run(rt, files, input, module, document)?;
-            Ok(Reply::Answer(verify_answer(rt.alloc(), read.0.as_slice(), read.1.as_slice())?))
+        Ok(Command::OfDocument { task, document }) => {
+            let answer = document_task_of(rt, files, input, task, document)?;
+            Ok(Reply::Answer(answer))
         }
         Ok(Command::Stream { module }) => Ok(Reply::Lines(module)),
-        Ok(Command::Races { module, document }) => {
-            let read = read_run(rt, files, input, module, document)?;
-            Ok(Reply::Answer(races_answer(rt, read.0.as_slice(), read.1.as_slice())?))
-        }
-        Ok(Command::EventRaces { document }) => {
-            let bytes = read_document_bytes(rt, files, input, document)?;
-            Ok(Reply::Answer(event_races_answer(rt, bytes.as_slice())?))
-        }
-        Ok(Command::Explain { module, document }) => {
-            let read = read_run(rt, files, input, module, document)?;
-            Ok(Reply::Answer(explain_answer(rt, read.0.as_slice(), read.1.as_slice())?))
-        }
-        Ok(Command::ExplainEvents { document }) => {
-            let bytes = read_document_bytes(rt, files, input, document)?;
-            Ok(Reply::Answer(explain_events_answer(rt, bytes.as_slice())?))
-        }
-        Ok(Command::Graph { module, document }) => {
-            let read = read_run(rt, files, input, module, document)?;
-            Ok(Reply::Answer(graph_answer(rt, read.0.as_slice(), read.1.as_slice())?))
-        }
-        Ok(Command::GraphEvents { document }) => {
-            let bytes = read_document_bytes(rt, files, input, document)?;
-            Ok(Reply::Answer(graph_events_answer(rt, bytes.as_slice())?))
-        }
         Ok(Command::Drive { module, turns }) => {
             let answer = script_of(rt, files, module, turns, starts)?;
             Ok(Reply::Answer(answer))

@@ -1,7 +1,7 @@
 use Rattle.std.proofs.Common.{ap, codes, ◌∙◌}
 use Rattle.std.proofs.lemmas.Result.{IfOk-weaker}
 use Rattle.clap.specs.Words.{App}
-use Rattle.wm_command.specs.Commands.{Form, checked_form, document_form, log_form, module_form, plain_form, started_form, with_form}
+use Rattle.wm_command.specs.Commands.{Form, checked_form, file_form, log_form, plain_form, started_form, with_form}
 use Rattle.wm_command.proofs.command.with_commands.Goals as goal
 
 add : Form → App → App
@@ -11,10 +11,10 @@ pub returns : goal.returns
 unfolding add
 returns c =
     let check = c.in_ok-parser-2.ensures ∙ ap (add (checked_form (codes "check"))) c.in_ok-parser.ensures in
-    let migrate = c.in_ok-parser-3.ensures ∙ ap (add (document_form (codes "migrate"))) check in
+    let migrate = c.in_ok-parser-3.ensures ∙ ap (add (file_form (codes "migrate"))) check in
     let complete = c.in_ok-parser-4.ensures ∙ ap (add (checked_form (codes "complete"))) migrate in
     let verify = c.in_ok-parser-5.ensures ∙ ap (add (checked_form (codes "verify"))) complete in
-    let stream = c.in_ok-parser-6.ensures ∙ ap (add (module_form (codes "stream"))) verify in
+    let stream = c.in_ok-parser-6.ensures ∙ ap (add (file_form (codes "stream"))) verify in
     let drive = c.in_ok-parser-7.ensures ∙ ap (add (started_form (codes "drive") (codes "turns"))) stream in
     let trace = c.in_ok-parser-8.ensures ∙ ap (add (started_form (codes "trace") (codes "turns"))) drive in
     let run = c.in_ok-parser-9.ensures ∙ ap (add (started_form (codes "run") (codes "rounds"))) trace in

@@ -1,7 +1,7 @@
 use Rattle.std.proofs.Common.{string_bytes, subst}
 use Rattle.std.proofs.lemmas.Result.{IfOk-weaker}
 use Rattle.wm_check.specs.Completed.{CompletesDocument}
-use Rattle.wm_litmus.specs.Replies.AnswersComplete.{completed, refused_for, without_run}
+use Rattle.wm_litmus.specs.Tasks.AnswersComplete.{completed, refused_for, without_run}
 use Rattle.wm_litmus.proofs.completion.completion_answer.Goals as goal
 
 pub returns-in-Text : goal.returns-in-Text

@@ -1,6 +1,6 @@
 use Rattle.std.proofs.Common.{string_bytes}
 use Rattle.std.proofs.lemmas.Result.{IfOk-weaker}
-use Rattle.wm_litmus.specs.Replies.AnswersMigrate.{migrated}
+use Rattle.wm_litmus.specs.Tasks.AnswersMigrate.{migrated}
 use Rattle.wm_litmus.proofs.Answering.{answers_fault}
 use Rattle.wm_litmus.proofs.migration.migrate_answer.Goals as goal
 

@@ -1,10 +1,21 @@
-use Rattle.std.proofs.Common.{map, string_bytes, subst}
+use Rattle.std.proofs.Common.{arith, map, string_bytes, subst}
 use Rattle.wm_litmus.specs.Replies.{given}
 use Rattle.wm_litmus.specs.Replies.WritesFront.{front}
 use Rattle.wm_litmus.specs.Serving.{StreamsAll, StreamsFront}
+use Rattle.wm_litmus.proofs.Statuses.{below_three}
 use Rattle.wm_litmus.proofs.Streaming.{writes_all, writes_front}
 use Rattle.wm_stream.specs.Output.{AppendsFront}
 use Rattle.wm_litmus.proofs.program.serve.Goals as goal
+
+pub returns-in-Ok-clause-status : goal.returns-in-Ok-clause-status
+returns-in-Ok-clause-status g c =
+    let answer = c.in-Ok-Answer.answer in
+    omega (arith, below_three _ answer.status (string_bytes answer.text) (rw c.in-Ok-Answer.field-0-is at c.in-Ok-Answer.ensures.answers))
+
+pub returns-in-Ok-clause-stopped : goal.returns-in-Ok-clause-stopped
+returns-in-Ok-clause-stopped g c stopped =
+    let answer = c.in-Ok-Answer.answer in
+    absurd (omega (arith, stopped, below_three _ answer.status (string_bytes answer.text) (rw c.in-Ok-Answer.field-0-is at c.in-Ok-Answer.ensures.answers)))
 
 pub returns-in-Ok-Answer-clause-stopped : goal.returns-in-Ok-Answer-clause-stopped
 returns-in-Ok-Answer-clause-stopped g c _ =

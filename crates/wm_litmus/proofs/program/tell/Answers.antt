@@ -1,4 +1,3 @@
-use Rattle.std.proofs.Common.{Err, Ok, OnErr, OnOk, Result}
 use Rattle.wm_litmus.proofs.Telling.{front_of_either}
 use Rattle.wm_litmus.proofs.program.tell.Goals as goal
 

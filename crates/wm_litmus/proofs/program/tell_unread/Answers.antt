@@ -1,4 +1,4 @@
-use Rattle.std.proofs.Common.{◌≡◌, ℕ, List, [], ◌∷◌, ◌++◌, codes}
+use Rattle.std.proofs.Common.{ℕ, List, [], ◌∷◌, ◌++◌, codes}
 use Rattle.wm_litmus.proofs.Telling.{front_join, front_more, was_err, was_ok}
 use Rattle.wm_litmus.proofs.program.tell_unread.Goals as goal
 

@@ -1,4 +1,4 @@
-use Rattle.std.proofs.Common.{◌≡◌, ℕ, ◌-◌, ◌++◌, codes, length, string_bytes, take, sym, ap, ap₂, subst, ◌∙◌, arith}
+use Rattle.std.proofs.Common.{◌≡◌, ℕ, ◌-◌, ◌++◌, codes, length, string_bytes, sym, ap, ap₂, ◌∙◌}
 use Rattle.std.specs.Fmt.{decimal}
 use Rattle.wm_litmus.specs.Races.{more_text, shown_text}
 use Rattle.wm_litmus.proofs.RaceTexts.{ended_4, left_out, lists_none, lists_some}

@@ -1,7 +1,7 @@
 use Rattle.std.proofs.Common.{ap, ap₂, Bool, ◌∙◌, ◌||◌}
 use Rattle.std.proofs.lemmas.Result.{IfOk-weaker}
 use Rattle.clap.specs.Words.{App, app_of, with_rule, with_subcommand}
-use Rattle.wm_command.proofs.command.module_parser.Goals as goal
+use Rattle.wm_command.proofs.command.file_parser.Goals as goal
 
 pub returns : goal.returns
 returns c =
