@@ -148,7 +148,7 @@ class Copy:
 VERDICT = re.compile(r"fn (\S+): (not proved|no proof)\b")
 OPEN = re.compile(r"note: src/\S+:\d+:\d+: (?:it is not proved that |`search` found no proof )")
 PLACE = re.compile(r"\./proofs/(\S+)/\w+\.antt:\d+:\d+: error")
-NAMES = re.compile(r"has no field|is not in scope|has no `|was not admitted")
+NAMES = re.compile(r"has no field|is not in scope|has no `|was not admitted|record `[^`]+` \(nearest: ")
 # Functions that call one another have one proof, in a folder whose name begins with a +, with their names in its goals.
 GOAL_OF_CYCLE = re.compile(r"error: `(\w+)-")
 
