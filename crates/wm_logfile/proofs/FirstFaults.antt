@@ -60,7 +60,7 @@ neither (Some f) y z is none last = absurd cc
 
 -- ---- the kind of an event
 
-three : (a b c : Bool) (x y z n : Found) → (a || (b || (c || false))) ≡ false → cond (a || false) x (cond (b || false) y (cond (c || false) z n)) ≡ n
+pub three : (a b c : Bool) (x y z n : Found) → (a || (b || (c || false))) ≡ false → cond (a || false) x (cond (b || false) y (cond (c || false) z n)) ≡ n
 three false false false x y z n h = refl
 three false false true x y z n h = absurd cc
 three false true c x y z n h = absurd cc

@@ -11,6 +11,7 @@ pub mod ThreadsBy
 pub mod Pairing
 pub mod Whole
 pub mod FirstFaults
+pub mod EndWords
 pub mod FormRows
 pub mod Causes
 pub mod Answer

@@ -1,3 +1,5 @@
+use Rattle.std.proofs.Common.{arith}
+use Rattle.std.proofs.lemmas.Grind.{common_steps}
 use Rattle.std.proofs.lemmas.Result.{err_from_is_err_and}
 use Rattle.serde_json.specs.View.{view}
 use Rattle.wm_logfile.specs.Grammar.{thread_by, event_by}
@@ -14,3 +16,27 @@ pub returns-clause-fault : goal.returns-clause-fault
 unfolding thread_by
 returns-clause-fault c =
     events_none event_by c.args.path.now (view c.args.value.now) c.in_ok-head.head (view c.in_ok-head.events.now) c.child.result c.in_ok-head.ensures.given c.in_ok-head.ensures.fault c.child.ensures.is c.in_ok-events.ensures.fault
+
+pub returns-in_err-head-clause-given : goal.returns-in_err-head-clause-given
+unfolding thread_by
+returns-in_err-head-clause-given c = grind (arith, common_steps)
+
+pub returns-in_err-head-clause-fault : goal.returns-in_err-head-clause-fault
+unfolding thread_by
+returns-in_err-head-clause-fault c = grind (arith, common_steps)
+
+pub returns-in_err-events-clause-given : goal.returns-in_err-events-clause-given
+unfolding thread_by
+returns-in_err-events-clause-given c = grind (arith, common_steps)
+
+pub returns-in_err-events-2-clause-given : goal.returns-in_err-events-2-clause-given
+unfolding thread_by
+returns-in_err-events-2-clause-given c = grind (arith, common_steps)
+
+pub returns-in_err-events-2-clause-fault : goal.returns-in_err-events-2-clause-fault
+unfolding thread_by
+returns-in_err-events-2-clause-fault c = grind (arith, common_steps)
+
+pub returns-clause-given : goal.returns-clause-given
+unfolding thread_by
+returns-clause-given c = grind (arith, common_steps)

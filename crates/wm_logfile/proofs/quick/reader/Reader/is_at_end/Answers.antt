@@ -1,4 +1,4 @@
-use Rattle.std.proofs.Common.{◌≡◌, ◌∷◌, ◌-◌, [], length, take, drop, Some, true, sym, ap, ◌∙◌, arith}
+use Rattle.std.proofs.Common.{◌≡◌, length, sym, ◌∙◌, arith}
 use Rattle.std.proofs.lemmas.Bool.Decides.{nat_tests}
 use Rattle.wm_logfile.proofs.Bytes.{none_left, empty_text}
 use Rattle.wm_logfile.proofs.quick.reader.Reader.is_at_end.Goals as goal

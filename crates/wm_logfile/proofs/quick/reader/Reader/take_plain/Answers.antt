@@ -1,4 +1,4 @@
-use Rattle.std.proofs.Common.{◌≡◌, ◌∷◌, ◌-◌, [], length, take, drop, Some, true, ℕ, List, refl, sym, ap, ◌∙◌, arith}
+use Rattle.std.proofs.Common.{◌≡◌, ◌∷◌, ◌-◌, length, take, drop, ℕ, List, refl, sym, ap, ◌∙◌, arith}
 use Rattle.json.specs.Token.{string}
 use Rattle.wm_logfile.proofs.Bytes.{plain_left, cut}
 use Rattle.wm_logfile.proofs.quick.reader.Reader.take_plain.Goals as goal
