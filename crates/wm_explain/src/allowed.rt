@@ -18,6 +18,18 @@ fn add_thread(text: &mut String, number: usize, thread: &ThreadLog) -> Result<()
     )
 }
 
+/// Adds how each thread starts and ends.
+fn add_threads(text: &mut String, threads: &[ThreadLog]) -> Result<(), AllocError> {
+    text.push_str("The threads:\n")?;
+    if threads.is_empty() {
+        text.push_str("  none\n")?;
+    }
+    for (number, thread) in threads.iter().enumerate() {
+        add_thread(text, number, thread)?;
+    }
+    Ok(())
+}
+
 /// Adds the events in their order.
 fn add_events(text: &mut String, tables: &mut EventTables) -> Result<(), AllocError> {
     text.push_str("The events in their order, with who wrote what was read:\n")?;
@@ -34,18 +46,11 @@ fn add_events(text: &mut String, tables: &mut EventTables) -> Result<(), AllocEr
 ///
 /// Only if an allocation fails.
 pub(crate) fn allowed_reason(tables: &mut EventTables) -> Result<String, AllocError> {
-    let threads = tables.candidate.log().threads();
     let mut text = String::new(tables.alloc);
     text.push_str(
         "Each thread's events and end are those of its run on the values that it read. The memory rules allow the events with these writers in this order.\n",
     )?;
-    text.push_str("The threads:\n")?;
-    if threads.is_empty() {
-        text.push_str("  none\n")?;
-    }
-    for (number, thread) in threads.iter().enumerate() {
-        add_thread(&mut text, number, thread)?;
-    }
+    add_threads(&mut text, tables.candidate.log().threads())?;
     add_events(&mut text, tables)?;
     Ok(text)
 }

@@ -96,18 +96,16 @@ impl RuleSentence {
             ..
         } = self.fault;
         let address = self.address;
+        write!(
+            f,
+            "{event} takes its byte {byte}, at address {address}, from "
+        )?;
         match case {
-            1 => write!(
-                f,
-                "{event} takes its byte {byte}, at address {address}, from itself: an update can't read from its own write."
-            ),
-            2 => write!(
-                f,
-                "{event} takes its byte {byte}, at address {address}, from {writer}, which doesn't write that address."
-            ),
+            1 => f.write_str("itself: an update can't read from its own write."),
+            2 => write!(f, "{writer}, which doesn't write that address."),
             _ => write!(
                 f,
-                "{event} takes its byte {byte}, at address {address}, from {writer}: it reads {} there, and {writer} wrote {}.",
+                "{writer}: it reads {} there, and {writer} wrote {}.",
                 self.read,
                 ByteName(self.written)
             ),
@@ -187,17 +185,18 @@ impl RuleSentence {
         match case {
             1 => write!(
                 f,
-                "{event} reads from {writer}, which synchronizes with it, but {other}, an atomic write of the same range, is between {writer} and {event} in the order: with this order {event} can't read from {writer}."
+                "{event} reads from {writer}, which synchronizes with it, but {other}, an atomic write of the same range, is between {writer} and {event} in the order"
             ),
             2 => write!(
                 f,
-                "{event} reads from {writer}, but {other}, an atomic write of the range of {writer}, is between {writer} and {event} in the order, and both writes are atomic and happen before {event}: with this order {event} can't read from {writer}."
+                "{event} reads from {writer}, but {other}, an atomic write of the range of {writer}, is between {writer} and {event} in the order, and both writes are atomic and happen before {event}"
             ),
             _ => write!(
                 f,
-                "{event} is atomic and reads from {writer}, but {other}, an atomic write of the same range, is between {writer} and {event} in the order, and {writer} happens before {other} and {event}: with this order {event} can't read from {writer}."
+                "{event} is atomic and reads from {writer}, but {other}, an atomic write of the same range, is between {writer} and {event} in the order, and {writer} happens before {other} and {event}"
             ),
-        }
+        }?;
+        write!(f, ": with this order {event} can't read from {writer}.")
     }
 }
 

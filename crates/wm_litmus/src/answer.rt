@@ -4,12 +4,12 @@ ghost use Rattle.wm_litmus.specs.Drive.{PrintsRun};
 ghost use Rattle.wm_litmus.specs.EventExplanation.{GainsReasons};
 ghost use Rattle.wm_litmus.specs.Explanation.{PrintsReasons};
 ghost use Rattle.wm_litmus.specs.Lines.{document_line_text, judgement_status, judgement_text, run_fault_line_text, shape_line_text, verdict_status, verdict_text, word_line_text, words_line_text};
-ghost use Rattle.wm_litmus.specs.Prints.{Prints};
+ghost use Rattle.wm_litmus.specs.Prints.{Prints, PrintsUnread};
 ghost use Rattle.wm_litmus.specs.Rounds.{PrintsRounds};
 
 use crate::line::{rules_line, verdict_line};
 use std::alloc::{AllocError, Global};
-use wm_check::Verdict;
+use wm_check::{Unread, Verdict};
 use wm_event::{Judgement, ShapeFault};
 use wm_logfile::DocFault;
 use wm_run::RunFault;
@@ -67,6 +67,16 @@ impl Answer {
     {
         let line = verdict_line(alloc, verdict)?;
         Answer::of_line(verdict_status_of(verdict), line)
+    }
+
+    /// The refusal of a module that was not read; an allocation failure is not an answer.
+    pub fn refused_module(alloc: Global, unread: Unread) -> Result<Answer, AllocError>
+        ensures { IfOk result (PrintsUnread unread) }
+    {
+        match unread {
+            Unread::Refused(refusal) => Answer::of_verdict(alloc, &Verdict::Refused(refusal)),
+            Unread::OutOfMemory => Err(AllocError),
+        }
     }
 
     /// The refusal of a document, such as `refused document BadShape at /2/0/1`; an allocation failure is not an

@@ -7,7 +7,7 @@ use crate::outcomes::outcome;
 use crate::own::check_own;
 use std::alloc::AllocError;
 use std::thread::Threads;
-use wm_check::{Unread, Verdict, read_module};
+use wm_check::read_module;
 use wm_run::{Run, RunFault, drive};
 use wm_valid::ValidModule;
 use wm_words::Script;
@@ -60,7 +60,6 @@ pub(crate) fn drive_answer<R: AllocGlobal + Threads + Sync>(
 {
     match read_module(rt.alloc(), module_bytes) {
         Ok(module) => play(rt, &module, script),
-        Err(Unread::Refused(refusal)) => Answer::of_verdict(rt.alloc(), &Verdict::Refused(refusal)),
-        Err(Unread::OutOfMemory) => Err(AllocError),
+        Err(unread) => Answer::refused_module(rt.alloc(), unread),
     }
 }

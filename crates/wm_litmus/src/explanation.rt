@@ -206,7 +206,6 @@ pub(crate) fn graph_answer<R: AllocGlobal + Threads + Sync>(
 {
     match read_module(rt.alloc(), module_bytes) {
         Ok(module) => show_log(rt, &module, module_bytes, document_bytes),
-        Err(Unread::Refused(refusal)) => Answer::of_verdict(rt.alloc(), &Verdict::Refused(refusal)),
-        Err(Unread::OutOfMemory) => Err(AllocError),
+        Err(unread) => Answer::refused_module(rt.alloc(), unread),
     }
 }

@@ -3,6 +3,7 @@ ghost use Rattle.std.specs.Prelude.{◌≡◌, ◌≤◌, ℕ, IfOk, IfSome, Lis
 ghost use Rattle.wm_check.specs.Reading.{HasCandidate, IsCertified, IsRecordedOver, SaysOver};
 ghost use Rattle.wm_event.specs.LoggedRun.{execution};
 ghost use Rattle.wm_event.specs.Rules.{IsValid, KeepsOrder};
+ghost use Rattle.wm_event.specs.Shape.{IsWellShaped};
 ghost use Rattle.wm_litmus.specs.Races.{AnswersEventRaces, AnswersRaces, AnswersRunRaces, ListsFirst, RacesOver, ReportsOwnRaces, ReportsRaces, more_text, pair_text, shown_text, site_text, sites_text};
 ghost use Rattle.wm_litmus.specs.Prints.{Gives, ended};
 ghost use Rattle.wm_litmus.specs.Rules.{run_over};
@@ -15,7 +16,7 @@ use crate::answer::Answer;
 use std::alloc::{AllocError, Global};
 use std::fmt;
 use std::thread::Threads;
-use wm_check::{Certificate, CheckedLog, Unread, Verdict, check_log, count_events, read_module};
+use wm_check::{Certificate, CheckedLog, Verdict, check_log, count_events, read_module};
 use wm_event::{Candidate, Initial, Judgement, Log, Witness};
 use wm_hb::{HappensBefore, Ordered};
 use wm_list::List;
@@ -246,8 +247,7 @@ pub(crate) fn races_answer<R: AllocGlobal + Threads + Sync>(
             };
             races_of_log(rt, code, document_bytes)
         }
-        Err(Unread::Refused(refusal)) => Answer::of_verdict(rt.alloc(), &Verdict::Refused(refusal)),
-        Err(Unread::OutOfMemory) => Err(AllocError),
+        Err(unread) => Answer::refused_module(rt.alloc(), unread),
     }
 }
 
@@ -270,6 +270,20 @@ fn list_valid<R: AllocGlobal + Threads + Sync>(
     )
 }
 
+/// The answer to a candidate.
+fn races_of_candidate<R: AllocGlobal + Threads + Sync>(
+    rt: &R,
+    candidate: &Candidate,
+) -> Result<Answer, AllocError>
+    requires { IsWellShaped candidate.now }
+    ensures { IfOk result (Gives (AnswersRunRaces candidate.now)) }
+{
+    match judge(rt, candidate)? {
+        Judgement::Valid => list_valid(rt, candidate),
+        Judgement::Broken(fault) => Answer::judged(rt.alloc(), &Judgement::Broken(fault)),
+    }
+}
+
 /// The answer to a log with a witness, over this number of pages of zeros.
 fn races_of_run<R: AllocGlobal + Threads + Sync>(
     rt: &R,
@@ -281,13 +295,9 @@ fn races_of_run<R: AllocGlobal + Threads + Sync>(
     ensures { IfOk result (Gives (AnswersRunRaces (run_over pages log witness))) }
 {
     let initial = Initial::zeros(rt.alloc(), pages);
-    let candidate = match Candidate::new(rt.alloc(), log, witness, &initial) {
-        Ok(candidate) => candidate,
-        Err(fault) => return Answer::refused_shape(rt.alloc(), fault),
-    };
-    match judge(rt, &candidate)? {
-        Judgement::Valid => list_valid(rt, &candidate),
-        Judgement::Broken(fault) => Answer::judged(rt.alloc(), &Judgement::Broken(fault)),
+    match Candidate::new(rt.alloc(), log, witness, &initial) {
+        Ok(candidate) => races_of_candidate(rt, &candidate),
+        Err(fault) => Answer::refused_shape(rt.alloc(), fault),
     }
 }
 

@@ -13,7 +13,7 @@ use crate::table::Table;
 use std::alloc::{AllocError, Global};
 use std::sync::Wait;
 use std::thread::Threads;
-use wm_check::{Unread, Verdict, read_module};
+use wm_check::{Verdict, read_module};
 use wm_run::{OpenGate, Run, RunFault, Taker, run_rounds};
 use wm_valid::ValidModule;
 use wm_words::Rounds;
@@ -133,7 +133,6 @@ pub(crate) fn rounds_answer<R: AllocGlobal + Threads + Wait + Sync>(
 {
     match read_module(rt.alloc(), module_bytes) {
         Ok(module) => make_rounds(rt, &module, rounds),
-        Err(Unread::Refused(refusal)) => Answer::of_verdict(rt.alloc(), &Verdict::Refused(refusal)),
-        Err(Unread::OutOfMemory) => Err(AllocError),
+        Err(unread) => Answer::refused_module(rt.alloc(), unread),
     }
 }

@@ -10,7 +10,7 @@ use crate::outcomes::outcome;
 use crate::races::SitePhrase;
 use std::alloc::{AllocError, Global};
 use std::fmt;
-use wm_check::{Unread, Verdict, read_module};
+use wm_check::read_module;
 use wm_event::{Event, EventId, EventKey, EventKind};
 use wm_list::List;
 use wm_machine::CodePosition;
@@ -284,7 +284,6 @@ pub(crate) fn trace_answer(
             };
             play(alloc, code, script)
         }
-        Err(Unread::Refused(refusal)) => Answer::of_verdict(alloc, &Verdict::Refused(refusal)),
-        Err(Unread::OutOfMemory) => Err(AllocError),
+        Err(unread) => Answer::refused_module(alloc, unread),
     }
 }

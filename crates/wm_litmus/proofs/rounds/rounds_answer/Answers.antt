@@ -5,7 +5,8 @@ use Rattle.wm_litmus.proofs.rounds.rounds_answer.Goals as goal
 pub returns-in-Ok : goal.returns-in-Ok
 returns-in-Ok g c = IfOk-weaker c.make_rounds.result _ _ (λ answer over. over c.args.module_bytes.now c.in-Ok.ensures.read) c.make_rounds.ensures
 
-pub returns-in-Err-Refused : goal.returns-in-Err-Refused
-returns-in-Err-Refused g c =
-    let refused = rw c.in-Err-Refused.field-0-is at c.in-Err-Refused.ensures.refused in
-    IfOk-weaker c.of_verdict.result _ _ (λ answer prints. no_module c.in-Err-Refused.refusal refused prints.status_is prints.text_is) c.of_verdict.ensures
+pub returns-in-Err : goal.returns-in-Err
+returns-in-Err g c =
+    IfOk-weaker c.refused_module.result _ _
+    (λ answer said. no_module said.refusal (rw said.is_refused at c.in-Err.ensures.refused) said.prints.status_is said.prints.text_is)
+    c.refused_module.ensures
