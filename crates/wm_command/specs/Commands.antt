@@ -1,5 +1,6 @@
 -- Which words are a command, by clap's own model of the parse.
 use Rattle.std.specs.Prelude.{◌≡◌, ◌⊎◌, true, List, [], ◌∷◌, ◌++◌, Option, None, Some, Contains, codes, fold, if◌then◌else◌, map}
+use Rattle.std.specs.Borrow.{Bor}
 use Rattle.std.specs.List.{AllByRecursion}
 use Rattle.std.specs.Str.{bytes_eq}
 use Rattle.clap.specs.Lexer.{usize_max}
@@ -15,6 +16,8 @@ use Rattle.wm_command.specs.declared.command.DocumentTask.{DocumentTask}
 use Rattle.wm_command.specs.declared.command.DocumentTask.TheVariants as document
 use Rattle.wm_command.specs.declared.command.RunTask.{RunTask}
 use Rattle.wm_command.specs.declared.command.RunTask.TheVariants as run
+use Rattle.wm_command.specs.declared.command.Shape.{Shape}
+use Rattle.wm_command.specs.declared.command.Shape.TheVariants as shape
 use Rattle.wm_command.specs.declared.command.CommandFault.{CommandFault}
 use Rattle.wm_command.specs.declared.command.CommandFault.TheVariants.{Words, OutOfMemory}
 
@@ -48,6 +51,19 @@ log_form name = record { name = name; required = codes "file" ∷ []; optional =
 -- a module, how its threads run, and their starts
 abbrev pub started_form : Text → Text → Form
 started_form name how = record { name = name; required = codes "file" ∷ how ∷ []; optional = []; repeated = codes "start" ∷ [] }
+
+-- the form of the command of this name whose words have this shape
+abbrev pub form_of : Text → Shape → Form
+form_of name shape.Plain = plain_form name
+form_of name shape.File = file_form name
+form_of name shape.Checked = checked_form name
+form_of name shape.Log = log_form name
+form_of name shape.Turns = started_form name (codes "turns")
+form_of name shape.Rounds = started_form name (codes "rounds")
+
+-- the form of a row of a table
+abbrev pub form_in : Bor Text × Shape → Form
+form_in row = form_of row.0.now row.1
 
 abbrev pub forms : List Form
 forms =

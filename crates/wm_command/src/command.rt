@@ -1,7 +1,7 @@
 //! The command line.
 ghost use Rattle.std.specs.Prelude.{◌≡◌, ◌∷◌, [], false, Err, IfOk, IfSome, None, Some, codes, fold, map};
 ghost use Rattle.clap.specs.Words.{app_of, first_of, kind_of, rule_of, subcommand_rows_of};
-ghost use Rattle.wm_command.specs.Commands.{AddsAs, HasFields, IsCommand, IsNamed, IsNoCommand, LacksField, Means, NamesNoCommand, absent_of_task, any_words_rule, checked_form, document_task_name, fault_of_kind, file_form, form_app, forms, log_form, optional_rule, plain_form, required_of, rows_in, run_task_name, started_form, with_form, wmlab_app, word_rule};
+ghost use Rattle.wm_command.specs.Commands.{AddsAs, HasFields, IsCommand, IsNamed, IsNoCommand, LacksField, Means, NamesNoCommand, absent_of_task, any_words_rule, checked_form, document_task_name, fault_of_kind, file_form, form_app, form_in, form_of, forms, log_form, optional_rule, plain_form, required_of, rows_in, run_task_name, started_form, with_form, wmlab_app, word_rule};
 ghost use Rattle.wm_command.specs.declared.command.Command.{Command};
 ghost use Rattle.wm_command.specs.declared.command.CommandFault.TheVariants.{OutOfMemory, Words};
 
@@ -174,72 +174,82 @@ fn started_parser<'a>(alloc: Global, name: &'a str, how: &'a str) -> Result<Pars
         .arg(any_words(alloc, "start"))
 }
 
-/// Adds a command without further words.
-fn with_plain<'a>(
+/// The words of a command after its name.
+#[derive(Clone, Copy)]
+enum Shape {
+    Plain,
+    File,
+    /// A module and a document.
+    Checked,
+    /// A document, or a module and a document.
+    Log,
+    /// A module, a script and starts of threads.
+    Turns,
+    /// A module, a number of rounds and starts of threads.
+    Rounds,
+}
+
+/// A command whose words have this shape.
+fn shaped_parser<'a>(alloc: Global, name: &'a str, shape: Shape) -> Result<Parser<'a>, AllocError>
+    ensures { IfOk result (AddsAs (form_app (form_of name.now shape))) }
+{
+    match shape {
+        Shape::Plain => Ok(plain_parser(alloc, name)),
+        Shape::File => file_parser(alloc, name),
+        Shape::Checked => checked_parser(alloc, name),
+        Shape::Log => log_parser(alloc, name),
+        Shape::Turns => started_parser(alloc, name, "turns"),
+        Shape::Rounds => started_parser(alloc, name, "rounds"),
+    }
+}
+
+/// Adds a command whose words have this shape.
+fn with_command<'a>(
     alloc: Global,
     parser: Parser<'a>,
     name: &'a str,
+    shape: Shape,
 ) -> Result<Parser<'a>, AllocError>
-    ensures { IfOk result (λ more. app_of more ≡ with_form (app_of parser.entry) (plain_form name.now)) }
+    ensures { IfOk result (λ more. app_of more ≡ with_form (app_of parser.entry) (form_of name.now shape)) }
 {
-    parser.subcommand(plain_parser(alloc, name))
+    parser.subcommand(shaped_parser(alloc, name, shape)?)
 }
 
-/// Adds a command with one file.
-fn with_file<'a>(alloc: Global, parser: Parser<'a>, name: &'a str) -> Result<Parser<'a>, AllocError>
-    ensures { IfOk result (λ more. app_of more ≡ with_form (app_of parser.entry) (file_form name.now)) }
-{
-    parser.subcommand(file_parser(alloc, name)?)
-}
-
-/// Adds a command with a module and a document.
-fn with_checked<'a>(
+/// Adds each command of a table, in its order.
+fn with_table<'a>(
     alloc: Global,
-    parser: Parser<'a>,
-    name: &'a str,
+    mut parser: Parser<'a>,
+    table: &[(&'a str, Shape)],
 ) -> Result<Parser<'a>, AllocError>
-    ensures { IfOk result (λ more. app_of more ≡ with_form (app_of parser.entry) (checked_form name.now)) }
+    ensures { IfOk result (λ more. app_of more ≡ fold with_form (app_of parser.entry) (map form_in table.now)) }
 {
-    parser.subcommand(checked_parser(alloc, name)?)
-}
-
-/// Adds a command with a document, or with a module and a document.
-fn with_log<'a>(alloc: Global, parser: Parser<'a>, name: &'a str) -> Result<Parser<'a>, AllocError>
-    ensures { IfOk result (λ more. app_of more ≡ with_form (app_of parser.entry) (log_form name.now)) }
-{
-    parser.subcommand(log_parser(alloc, name)?)
-}
-
-/// Adds a command with a module, a word `how`, and starts of threads.
-fn with_started<'a>(
-    alloc: Global,
-    parser: Parser<'a>,
-    name: &'a str,
-    how: &'a str,
-) -> Result<Parser<'a>, AllocError>
-    ensures { IfOk result (λ more. app_of more ≡ with_form (app_of parser.entry) (started_form name.now how.now)) }
-{
-    parser.subcommand(started_parser(alloc, name, how)?)
+    for (name, shape) in table {
+        parser = with_command(alloc, parser, *name, *shape)?;
+    }
+    Ok(parser)
 }
 
 /// Adds each command, in the order of the table.
 fn with_commands<'a>(alloc: Global, parser: Parser<'a>) -> Result<Parser<'a>, AllocError>
     ensures { IfOk result (λ more. app_of more ≡ fold with_form (app_of parser.entry) forms) }
 {
-    let parser = with_file(alloc, parser, "rules")?;
-    let parser = with_checked(alloc, parser, "check")?;
-    let parser = with_file(alloc, parser, "migrate")?;
-    let parser = with_checked(alloc, parser, "complete")?;
-    let parser = with_checked(alloc, parser, "verify")?;
-    let parser = with_file(alloc, parser, "stream")?;
-    let parser = with_started(alloc, parser, "drive", "turns")?;
-    let parser = with_started(alloc, parser, "trace", "turns")?;
-    let parser = with_started(alloc, parser, "run", "rounds")?;
-    let parser = with_log(alloc, parser, "races")?;
-    let parser = with_log(alloc, parser, "explain")?;
-    let parser = with_log(alloc, parser, "graph")?;
-    let parser = with_plain(alloc, parser, "help")?;
-    with_plain(alloc, parser, "version")
+    let table = [
+        ("rules", Shape::File),
+        ("check", Shape::Checked),
+        ("migrate", Shape::File),
+        ("complete", Shape::Checked),
+        ("verify", Shape::Checked),
+        ("stream", Shape::File),
+        ("drive", Shape::Turns),
+        ("trace", Shape::Turns),
+        ("run", Shape::Rounds),
+        ("races", Shape::Log),
+        ("explain", Shape::Log),
+        ("graph", Shape::Log),
+        ("help", Shape::Plain),
+        ("version", Shape::Plain),
+    ];
+    with_table(alloc, parser, &table)
 }
 
 /// The commands and their words.
