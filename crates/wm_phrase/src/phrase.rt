@@ -147,6 +147,16 @@ fn operator_word(operator: RmwOperator) -> &'static str {
     }
 }
 
+/// What an access that hasn't been made does.
+fn op_word(kind: OpKind) -> &'static str {
+    match kind {
+        OpKind::Read => "read",
+        OpKind::Write(_) => "write",
+        OpKind::Rmw(_, _) => "update",
+        OpKind::CmpXchg(_, _) => "compare-exchange",
+    }
+}
+
 /// An access that hasn't been made.
 #[derive(Clone, Copy)]
 pub struct OpPhrase(pub OpFields);
@@ -155,25 +165,19 @@ impl fmt::Display for OpPhrase {
     fn fmt<W: fmt::Write>(&self, f: &mut fmt::Formatter<W>) -> fmt::Result {
         let fields = self.0;
         let order = order_word(fields.order.is_atomic());
-        let size = Count(u64::from(fields.width.bytes()), "byte");
+        let deed = op_word(fields.kind);
+        let place = bytes_at(fields.width);
         let address = fields.address;
+        write!(f, "{order} {deed}{place}{address}")?;
         match fields.kind {
-            OpKind::Read => write!(f, "{order} read of {size} at address {address}"),
-            OpKind::Write(value) => write!(
-                f,
-                "{order} write of {size} at address {address}, which writes {value}"
-            ),
+            OpKind::Read => Ok(()),
+            OpKind::Write(value) => write!(f, ", which writes {value}"),
             OpKind::Rmw(operator, operand) => {
-                let word = operator_word(operator);
-                write!(
-                    f,
-                    "{order} update of {size} at address {address}, which {word} {operand}"
-                )
+                write!(f, ", which {} {operand}", operator_word(operator))
             }
-            OpKind::CmpXchg(expected, new) => write!(
-                f,
-                "{order} compare-exchange of {size} at address {address}, which writes {new} if it reads {expected}"
-            ),
+            OpKind::CmpXchg(expected, new) => {
+                write!(f, ", which writes {new} if it reads {expected}")
+            }
         }
     }
 }
