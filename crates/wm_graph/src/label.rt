@@ -22,6 +22,17 @@ impl fmt::Display for NodeName {
     }
 }
 
+/// What replaces a character within the quotes of a label; None if nothing does.
+fn escape(character: char) -> Option<&'static str> {
+    match character {
+        '"' => Some("\\\""),
+        '\\' => Some("\\\\"),
+        '&' => Some("&amp;"),
+        '\u{0}'..='\u{1f}' | '\u{7f}'..='\u{9f}' => Some(" "),
+        _ => None,
+    }
+}
+
 /// A string within the quotes of a label: quotes, backslashes and ampersands are escaped, and a control character is
 /// replaced by a space.
 #[derive(Clone, Copy)]
@@ -30,12 +41,9 @@ pub(crate) struct LabelText<'a>(pub &'a str);
 impl fmt::Display for LabelText<'_> {
     fn fmt<W: fmt::Write>(&self, f: &mut fmt::Formatter<W>) -> fmt::Result {
         for character in self.0.chars() {
-            match character {
-                '"' => f.write_str("\\\"")?,
-                '\\' => f.write_str("\\\\")?,
-                '&' => f.write_str("&amp;")?,
-                '\u{0}'..='\u{1f}' | '\u{7f}'..='\u{9f}' => f.write_str(" ")?,
-                _ => write!(f, "{character}")?,
+            match escape(character) {
+                Some(text) => f.write_str(text)?,
+                None => write!(f, "{character}")?,
             }
         }
         Ok(())
@@ -79,6 +87,15 @@ impl fmt::Display for InitialShare {
     }
 }
 
+/// What an event does, by one letter.
+fn letter(event: &Event) -> &'static str {
+    match (event.reads(), event.writes()) {
+        (true, true) => "U",
+        (true, false) => "R",
+        (false, _) => "W",
+    }
+}
+
 /// An event in the field's notation: its place in the order, `R`, `W` or `U`, `sc` if it is atomic, its bytes and its
 /// values.
 #[derive(Clone, Copy)]
@@ -97,16 +114,17 @@ impl fmt::Display for NodeLabel<'_> {
             share,
         } = *self;
         let key = event.key();
+        let letter = letter(event);
         let order = if event.is_atomic() { "sc" } else { "" };
         let address = event.address;
         let last = u64::from(address).saturating_add(u64::from(event.width.bytes()) - 1);
         let read = event.read;
         let written = event.written;
-        write!(f, "#{place} {key}: ")?;
+        write!(f, "#{place} {key}: {letter}{order} [{address}..{last}]")?;
         match (event.reads(), event.writes()) {
-            (true, true) => { write!(f, "U{order} [{address}..{last}] {read} to {written}{share}") }
-            (true, false) => write!(f, "R{order} [{address}..{last}] = {read}{share}"),
-            (false, _) => write!(f, "W{order} [{address}..{last}] := {written}"),
+            (true, true) => write!(f, " {read} to {written}{share}"),
+            (true, false) => write!(f, " = {read}{share}"),
+            (false, _) => write!(f, " := {written}"),
         }
     }
 }
