@@ -84,29 +84,37 @@ pub(crate) fn order_fault(
     Ok(first_unmarked(log, listed.as_slice()).map(OrderFault::Missing))
 }
 
-/// Adds how many lists of writers there are, if the witness doesn't have exactly one for each event of each thread.
-fn add_list_counts(text: &mut String, log: &Log, witness: &Witness) -> Result<(), AllocError> {
+/// The first thread for whose events the witness doesn't have exactly one list each: its number, how many lists there
+/// are, and how many events.
+fn first_miscounted(log: &Log, witness: &Witness) -> Option<(usize, usize, usize)> {
     let lists = witness.writers.as_slice();
-    let threads = log.threads();
-    if lists.len() != threads.len() {
-        return writeln!(
-            text,
-            "The witness has writers for {}. Expected: {}, as the log has.",
-            Count(lists.len() as u64, "thread"),
-            threads.len()
-        );
-    }
-    for (number, (list, thread)) in lists.iter().zip(threads).enumerate() {
+    for (number, (list, thread)) in lists.iter().zip(log.threads()).enumerate() {
         if list.len() != thread.events.len() {
-            return writeln!(
-                text,
-                "The witness has writers for {} of thread {number}. Expected: {}, as the log has.",
-                Count(list.len() as u64, "event"),
-                thread.events.len()
-            );
+            return Some((number, list.len(), thread.events.len()));
         }
     }
-    Ok(())
+    None
+}
+
+/// Adds how many lists of writers there are, if the witness doesn't have exactly one for each event of each thread.
+fn add_list_counts(text: &mut String, log: &Log, witness: &Witness) -> Result<(), AllocError> {
+    let lists = witness.writers.len();
+    let threads = log.threads().len();
+    if lists != threads {
+        return writeln!(
+            text,
+            "The witness has writers for {}. Expected: {threads}, as the log has.",
+            Count(lists as u64, "thread")
+        );
+    }
+    let Some((number, lists, events)) = first_miscounted(log, witness) else {
+        return Ok(());
+    };
+    writeln!(
+        text,
+        "The witness has writers for {} of thread {number}. Expected: {events}, as the log has.",
+        Count(lists as u64, "event")
+    )
 }
 
 /// How many bytes an event reads.

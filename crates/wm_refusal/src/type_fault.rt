@@ -18,22 +18,26 @@ struct OperandsPhrase<'a> {
     any: &'static str,
 }
 
+impl OperandsPhrase<'_> {
+    /// The word for an operand of this type.
+    fn word(&self, operand: Operand) -> &'static str {
+        match operand {
+            Some(ValType::I32) => "i32",
+            Some(ValType::I64) => "i64",
+            None => self.any,
+        }
+    }
+}
+
 impl fmt::Display for OperandsPhrase<'_> {
     fn fmt<W: fmt::Write>(&self, f: &mut fmt::Formatter<W>) -> fmt::Result {
         let hidden = self.operands.len().saturating_sub(SHOWN);
-        f.write_str("[")?;
-        if self.is_open || hidden > 0 {
-            f.write_str(".. ")?;
-        }
+        let is_cut = self.is_open || hidden > 0;
+        f.write_str(if is_cut { "[.. " } else { "[" })?;
         for (position, operand) in self.operands.iter().skip(hidden).enumerate() {
-            if position > 0 {
-                f.write_str(" ")?;
-            }
-            match operand {
-                Some(ValType::I32) => f.write_str("i32")?,
-                Some(ValType::I64) => f.write_str("i64")?,
-                None => f.write_str(self.any)?,
-            }
+            let space = if position > 0 { " " } else { "" };
+            f.write_str(space)?;
+            f.write_str(self.word(*operand))?;
         }
         f.write_str("]")
     }

@@ -209,6 +209,30 @@ impl Scope<'_> {
         }
     }
 
+    /// Adds the operands that an instruction takes.
+    fn add_operands(&self, operands: &mut Vec<Operand>, instr: &Instr) -> Result<(), AllocError> {
+        match instr {
+            Instr::If { .. } => add_same(operands, Some(ValType::I32), 1),
+            Instr::Br(label) => add_one(operands, self.label(*label)),
+            Instr::BrIf(label) | Instr::BrTable(_, label) => {
+                add_one(operands, self.label(*label))?;
+                add_same(operands, Some(ValType::I32), 1)
+            }
+            Instr::Return => add_one(operands, self.function_result()),
+            Instr::Call(function) => self.add_parameters(operands, *function),
+            Instr::Drop => add_same(operands, None, 1),
+            Instr::Select => {
+                add_same(operands, None, 2)?;
+                add_same(operands, Some(ValType::I32), 1)
+            }
+            Instr::LocalSet(local) | Instr::LocalTee(local) => {
+                add_one(operands, self.local(*local))
+            }
+            Instr::GlobalSet(global) => add_one(operands, self.global(*global)),
+            _ => self.add_numeric(operands, instr),
+        }
+    }
+
     /// The operands that an instruction takes, the last one on top; None for an operand of any type.
     ///
     /// # Errors
@@ -220,26 +244,7 @@ impl Scope<'_> {
         instr: &Instr,
     ) -> Result<Vec<Operand>, AllocError> {
         let mut operands = Vec::new(alloc);
-        match instr {
-            Instr::If { .. } => add_same(&mut operands, Some(ValType::I32), 1)?,
-            Instr::Br(label) => add_one(&mut operands, self.label(*label))?,
-            Instr::BrIf(label) | Instr::BrTable(_, label) => {
-                add_one(&mut operands, self.label(*label))?;
-                add_same(&mut operands, Some(ValType::I32), 1)?;
-            }
-            Instr::Return => add_one(&mut operands, self.function_result())?,
-            Instr::Call(function) => self.add_parameters(&mut operands, *function)?,
-            Instr::Drop => add_same(&mut operands, None, 1)?,
-            Instr::Select => {
-                add_same(&mut operands, None, 2)?;
-                add_same(&mut operands, Some(ValType::I32), 1)?;
-            }
-            Instr::LocalSet(local) | Instr::LocalTee(local) => {
-                add_one(&mut operands, self.local(*local))?;
-            }
-            Instr::GlobalSet(global) => add_one(&mut operands, self.global(*global))?,
-            _ => self.add_numeric(&mut operands, instr)?,
-        }
+        self.add_operands(&mut operands, instr)?;
         Ok(operands)
     }
 

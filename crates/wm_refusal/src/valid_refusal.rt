@@ -116,6 +116,19 @@ fn fault_text(
     format!(in alloc; "{sentence}")
 }
 
+/// What is wrong at a place of the module of these bytes.
+fn broken_rule(
+    alloc: Global,
+    kind: FaultKind,
+    location: Location,
+    bytes: &[u8],
+) -> Result<String, AllocError> {
+    match read_again(alloc, bytes)? {
+        Some(module) => fault_text(alloc, kind, location, &module),
+        None => format!(in alloc; "{}", ValidSentence(kind)),
+    }
+}
+
 /// Why the module of these bytes isn't valid. It is decoded again, since the fault doesn't keep it.
 ///
 /// # Errors
@@ -125,10 +138,7 @@ pub fn valid_reason(alloc: Global, fault: &ValidFault, bytes: &[u8]) -> Result<S
     match *fault {
         ValidFault::OutOfMemory => Err(AllocError),
         ValidFault::At(kind, location) => {
-            let text = match read_again(alloc, bytes)? {
-                Some(module) => fault_text(alloc, kind, location, &module)?,
-                None => format!(in alloc; "{}", ValidSentence(kind))?,
-            };
+            let text = broken_rule(alloc, kind, location, bytes)?;
             let place = LocationPhrase(location);
             format!(in alloc; "The module isn't valid, {place}. {text}\n")
         }
