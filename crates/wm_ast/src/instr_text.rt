@@ -43,15 +43,45 @@ fn zeros_word(storage: Storage) -> &'static str {
     }
 }
 
-/// The name of an update's operator.
-fn update_word(operator: RmwOperator) -> &'static str {
+/// The operator of an update, after a dot.
+fn operator_suffix(operator: RmwOperator) -> &'static str {
     match operator {
-        RmwOperator::Add => "add",
-        RmwOperator::Sub => "sub",
-        RmwOperator::And => "and",
-        RmwOperator::Or => "or",
-        RmwOperator::Xor => "xor",
-        RmwOperator::Xchg => "xchg",
+        RmwOperator::Add => ".add",
+        RmwOperator::Sub => ".sub",
+        RmwOperator::And => ".and",
+        RmwOperator::Or => ".or",
+        RmwOperator::Xor => ".xor",
+        RmwOperator::Xchg => ".xchg",
+    }
+}
+
+/// What is done to memory, before its bits.
+fn access_word(kind: AccessKind) -> &'static str {
+    match kind {
+        AccessKind::Read(_) | AccessKind::ReadSigned(_) => ".load",
+        AccessKind::Write(_) => ".store",
+        AccessKind::AtomicRead(_) => ".atomic.load",
+        AccessKind::AtomicWrite(_) => ".atomic.store",
+        AccessKind::Rmw(_, _) | AccessKind::CmpXchg(_) => ".atomic.rmw",
+    }
+}
+
+/// What an update computes; nothing for another access.
+fn update_suffix(kind: AccessKind) -> &'static str {
+    match kind {
+        AccessKind::Rmw(operator, _) => operator_suffix(operator),
+        AccessKind::CmpXchg(_) => ".cmpxchg",
+        _ => "",
+    }
+}
+
+/// How an access extends what it reads; nothing if it reads nothing or all of it.
+fn extension_suffix(kind: AccessKind) -> &'static str {
+    match kind {
+        AccessKind::Read(storage) | AccessKind::AtomicRead(storage) | AccessKind::Rmw(_, storage) =>
+            zeros_word(storage),
+        AccessKind::ReadSigned(_) => "_s",
+        _ => "",
     }
 }
 
@@ -110,6 +140,46 @@ fn conversion_word(conversion: Conversion) -> &'static str {
     }
 }
 
+/// The name of an instruction that has nothing after its name.
+fn plain_word(instr: &Instr) -> Option<&'static str> {
+    match instr {
+        Instr::Unreachable => Some("unreachable"),
+        Instr::Nop => Some("nop"),
+        Instr::Return => Some("return"),
+        Instr::Drop => Some("drop"),
+        Instr::Select => Some("select"),
+        Instr::MemorySize => Some("memory.size"),
+        Instr::Convert(conversion) => Some(conversion_word(*conversion)),
+        _ => None,
+    }
+}
+
+/// The name of an instruction that has one index after its name, and the index.
+fn indexed_word(instr: &Instr) -> Option<(&'static str, u32)> {
+    match instr {
+        Instr::Br(label) => Some(("br", *label)),
+        Instr::BrIf(label) => Some(("br_if", *label)),
+        Instr::Call(function) => Some(("call", *function)),
+        Instr::LocalGet(local) => Some(("local.get", *local)),
+        Instr::LocalSet(local) => Some(("local.set", *local)),
+        Instr::LocalTee(local) => Some(("local.tee", *local)),
+        Instr::GlobalGet(global) => Some(("global.get", *global)),
+        Instr::GlobalSet(global) => Some(("global.set", *global)),
+        _ => None,
+    }
+}
+
+/// The width of an instruction that computes on operands of one width, and the name of what it computes.
+fn computing_word(instr: &Instr) -> Option<(Width, &'static str)> {
+    match instr {
+        Instr::Eqz(width) => Some((*width, "eqz")),
+        Instr::Compare(comparison, width) => Some((*width, comparison_word(*comparison))),
+        Instr::Unary(operator, width) => Some((*width, unary_word(*operator))),
+        Instr::Binary(operator, width) => Some((*width, binary_word(*operator))),
+        _ => None,
+    }
+}
+
 /// The result type of a block, after its word.
 #[derive(Clone, Copy)]
 struct ResultPhrase(BlockType);
@@ -129,22 +199,14 @@ struct AccessName(AccessKind);
 
 impl fmt::Display for AccessName {
     fn fmt<W: fmt::Write>(&self, f: &mut fmt::Formatter<W>) -> fmt::Result {
-        let storage = self.0.storage();
+        let kind = self.0;
+        let storage = kind.storage();
         let ty = type_word(storage.operand());
+        let word = access_word(kind);
         let bits = bits_word(storage);
-        let zeros = zeros_word(storage);
-        match self.0 {
-            AccessKind::Read(_) => write!(f, "{ty}.load{bits}{zeros}"),
-            AccessKind::ReadSigned(_) => write!(f, "{ty}.load{bits}_s"),
-            AccessKind::Write(_) => write!(f, "{ty}.store{bits}"),
-            AccessKind::AtomicRead(_) => write!(f, "{ty}.atomic.load{bits}{zeros}"),
-            AccessKind::AtomicWrite(_) => write!(f, "{ty}.atomic.store{bits}"),
-            AccessKind::Rmw(operator, _) => {
-                let word = update_word(operator);
-                write!(f, "{ty}.atomic.rmw{bits}.{word}{zeros}")
-            }
-            AccessKind::CmpXchg(_) => write!(f, "{ty}.atomic.rmw.cmpxchg"),
-        }
+        let update = update_suffix(kind);
+        let extension = extension_suffix(kind);
+        write!(f, "{ty}{word}{bits}{update}{extension}")
     }
 }
 
@@ -177,33 +239,18 @@ impl fmt::Display for MemArgPhrase {
 pub struct InstrText<'a>(pub &'a Instr);
 
 impl InstrText<'_> {
-    /// Writes an instruction that computes.
-    fn write_numeric<W: fmt::Write>(&self, f: &mut fmt::Formatter<W>) -> fmt::Result {
+    /// Writes an instruction that has immediates other than one index.
+    fn write_immediates<W: fmt::Write>(&self, f: &mut fmt::Formatter<W>) -> fmt::Result {
         match self.0 {
-            Instr::I32Const(value) => write!(f, "i32.const {value}"),
-            Instr::I64Const(value) => write!(f, "i64.const {value}"),
-            Instr::Eqz(width) => write!(f, "{}.eqz", width_word(*width)),
-            Instr::Compare(comparison, width) => {
-                write!(f, "{}.{}", width_word(*width), comparison_word(*comparison))
-            }
-            Instr::Unary(operator, width) => {
-                write!(f, "{}.{}", width_word(*width), unary_word(*operator))
-            }
-            Instr::Binary(operator, width) => {
-                write!(f, "{}.{}", width_word(*width), binary_word(*operator))
-            }
-            Instr::Convert(conversion) => f.write_str(conversion_word(*conversion)),
-            Instr::Drop => f.write_str("drop"),
-            Instr::Select => f.write_str("select"),
-            Instr::LocalGet(index) => write!(f, "local.get {index}"),
-            Instr::LocalSet(index) => write!(f, "local.set {index}"),
-            Instr::LocalTee(index) => write!(f, "local.tee {index}"),
-            Instr::GlobalGet(index) => write!(f, "global.get {index}"),
-            Instr::GlobalSet(index) => write!(f, "global.set {index}"),
+            Instr::Block(result, _) => write!(f, "block{}", ResultPhrase(*result)),
+            Instr::Loop(result, _) => write!(f, "loop{}", ResultPhrase(*result)),
+            Instr::If { result, .. } => write!(f, "if{}", ResultPhrase(*result)),
+            Instr::BrTable(labels, last) => InstrText::write_table(f, labels.as_slice(), *last),
             Instr::Access(kind, operands) => {
                 write!(f, "{}{}", AccessName(*kind), MemArgPhrase(*kind, *operands))
             }
-            Instr::MemorySize => f.write_str("memory.size"),
+            Instr::I32Const(value) => write!(f, "i32.const {value}"),
+            Instr::I64Const(value) => write!(f, "i64.const {value}"),
             _ => Ok(()),
         }
     }
@@ -224,18 +271,15 @@ impl InstrText<'_> {
 
 impl fmt::Display for InstrText<'_> {
     fn fmt<W: fmt::Write>(&self, f: &mut fmt::Formatter<W>) -> fmt::Result {
-        match self.0 {
-            Instr::Unreachable => f.write_str("unreachable"),
-            Instr::Nop => f.write_str("nop"),
-            Instr::Block(result, _) => write!(f, "block{}", ResultPhrase(*result)),
-            Instr::Loop(result, _) => write!(f, "loop{}", ResultPhrase(*result)),
-            Instr::If { result, .. } => write!(f, "if{}", ResultPhrase(*result)),
-            Instr::Br(label) => write!(f, "br {label}"),
-            Instr::BrIf(label) => write!(f, "br_if {label}"),
-            Instr::BrTable(labels, last) => InstrText::write_table(f, labels.as_slice(), *last),
-            Instr::Return => f.write_str("return"),
-            Instr::Call(function) => write!(f, "call {function}"),
-            _ => self.write_numeric(f),
+        if let Some(word) = plain_word(self.0) {
+            return f.write_str(word);
+        }
+        if let Some((word, index)) = indexed_word(self.0) {
+            return write!(f, "{word} {index}");
+        }
+        match computing_word(self.0) {
+            Some((width, word)) => write!(f, "{}.{word}", width_word(width)),
+            None => self.write_immediates(f),
         }
     }
 }
