@@ -34,28 +34,6 @@ pub enum ValueForm {
     WithHex,
 }
 
-/// A value of an access of this width.
-#[derive(Clone, Copy)]
-struct ValuePhrase {
-    value: u64,
-    width: AccessWidth,
-    form: ValueForm,
-}
-
-impl fmt::Display for ValuePhrase {
-    fn fmt<W: fmt::Write>(&self, f: &mut fmt::Formatter<W>) -> fmt::Result {
-        let ValuePhrase { value, width, form } = *self;
-        write!(f, "{value}")?;
-        match (form, width) {
-            (ValueForm::Decimal, _) => Ok(()),
-            (ValueForm::WithHex, AccessWidth::One) => write!(f, " (0x{value:02x})"),
-            (ValueForm::WithHex, AccessWidth::Two) => write!(f, " (0x{value:04x})"),
-            (ValueForm::WithHex, AccessWidth::Four) => write!(f, " (0x{value:08x})"),
-            (ValueForm::WithHex, AccessWidth::Eight) => write!(f, " (0x{value:016x})"),
-        }
-    }
-}
-
 /// The bytes of an access of this width, before its address.
 fn bytes_at(width: AccessWidth) -> &'static str {
     match width {
@@ -97,11 +75,12 @@ impl<'a> EventPhrase<'a> {
 
     /// Writes a value of the event.
     fn write_value<W: fmt::Write>(&self, out: &mut W, value: u64) -> fmt::Result {
-        let EventPhrase { event, form } = *self;
-        let width = event.width;
-        match form {
+        match self.form {
             ValueForm::Decimal => write_number(out, value),
-            ValueForm::WithHex => write!(out, "{}", ValuePhrase { value, width, form }),
+            ValueForm::WithHex => {
+                let digits = usize::from(self.event.width.bytes()).saturating_mul(2);
+                write!(out, "{value} (0x{value:0digits$x})")
+            }
         }
     }
 
