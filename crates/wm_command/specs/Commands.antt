@@ -162,12 +162,13 @@ fields_of (Run file rounds) = (codes "file", file.now) ∷ (codes "rounds", roun
 fields_of Help = []
 fields_of Version = []
 
--- the words that a command of this name may have and this one doesn't have
+-- the words that a command with this task over a document may have, and this one doesn't have
 abbrev pub absent_of_task : DocumentTask → List Text
 absent_of_task document.Rules = []
 absent_of_task document.Migrate = []
 absent_of_task task = codes "document" ∷ []
 
+-- the words that a command of this name may have, and this one doesn't have
 abbrev pub absent_of : Command → List Text
 absent_of (OfDocument task document) = absent_of_task task
 absent_of command = []

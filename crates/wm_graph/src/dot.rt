@@ -130,9 +130,6 @@ fn add_module_does(
     }
 }
 
-/// The attributes of a column in the colour of what a fault names, after its label.
-const COLUMN_COLOURS: &str = "\n    color=\"red\";\n    fontcolor=\"red\";";
-
 /// Adds the column of a thread, under the name of its function, with the next places in the module. The column of a thread
 /// that differs from its log is red.
 fn add_column(
@@ -149,12 +146,17 @@ fn add_column(
         None => "",
     };
     let function = LabelText(function);
-    let differs = differing_thread(verdict) == Some(number);
-    let colours = if differs { COLUMN_COLOURS } else { "" };
     writeln!(
         text,
-        "  subgraph cluster_{number} {{\n    label=\"thread {number}: {function}\";{colours}"
+        "  subgraph cluster_{number} {{\n    label=\"thread {number}: {function}\";"
     )?;
+    let differs = differing_thread(verdict) == Some(number);
+    if differs {
+        writeln!(
+            text,
+            "    color=\"{FAULT_COLOUR}\";\n    fontcolor=\"{FAULT_COLOUR}\";"
+        )?;
+    }
     add_nodes(text, column, &sketch.picture.shown, candidate, places)?;
     if differs {
         add_module_does(text, number, verdict, caption)?;

@@ -32,7 +32,7 @@ use wm_stream::{StreamFault, answer_lines, write_text};
 use wm_words::{read_rounds, read_script};
 
 /// Why there is no answer.
-#[derive(Clone, Copy, Debug)]
+#[derive(Clone, Copy)]
 enum Failure<'a> {
     /// The file of this name was not read.
     UnreadFile(&'a str),

@@ -17,7 +17,7 @@ pub struct Site {
 }
 
 /// The two sites of a race.
-#[derive(Clone, Copy, Debug, PartialEq, Eq, Hash)]
+#[derive(Clone, Copy, PartialEq, Eq, Hash)]
 pub(crate) struct SitePair {
     /// The site of the event that only reads, or that also writes and comes later in the order.
     pub site: Site,

@@ -6,7 +6,7 @@ use wm_event::{Event, EventId, EventKey, Log, MAX_EVENTS, Misshapen, ShapeFault,
 use wm_phrase::{Count, EventPhrase};
 
 /// What is wrong with the order of the events.
-#[derive(Clone, Copy, Debug, PartialEq, Eq)]
+#[derive(Clone, Copy, PartialEq, Eq)]
 pub(crate) enum OrderFault {
     /// It lists this event, which the log doesn't have.
     Unknown(EventKey),
@@ -84,13 +84,24 @@ pub(crate) fn order_fault(
     Ok(first_unmarked(log, listed.as_slice()).map(OrderFault::Missing))
 }
 
-/// The first thread for whose events the witness doesn't have exactly one list each: its number, how many lists there
-/// are, and how many events.
-fn first_miscounted(log: &Log, witness: &Witness) -> Option<(usize, usize, usize)> {
-    let lists = witness.writers.as_slice();
-    for (number, (list, thread)) in lists.iter().zip(log.threads()).enumerate() {
-        if list.len() != thread.events.len() {
-            return Some((number, list.len(), thread.events.len()));
+/// A thread for whose events the witness doesn't have exactly one list each.
+#[derive(Clone, Copy)]
+struct Miscounted {
+    thread: usize,
+    lists: usize,
+    events: usize,
+}
+
+/// The first such thread.
+fn first_miscounted(log: &Log, witness: &Witness) -> Option<Miscounted> {
+    let all_lists = witness.writers.as_slice();
+    for (number, (lists, thread)) in all_lists.iter().zip(log.threads()).enumerate() {
+        if lists.len() != thread.events.len() {
+            return Some(Miscounted {
+                thread: number,
+                lists: lists.len(),
+                events: thread.events.len(),
+            });
         }
     }
     None
@@ -107,12 +118,19 @@ fn add_list_counts(text: &mut String, log: &Log, witness: &Witness) -> Result<()
             Count(lists as u64, "thread")
         );
     }
-    let Some((number, lists, events)) = first_miscounted(log, witness) else {
+    let Some(
+        Miscounted {
+            thread,
+            lists,
+            events,
+        },
+    ) = first_miscounted(log, witness)
+    else {
         return Ok(());
     };
     writeln!(
         text,
-        "The witness has writers for {} of thread {number}. Expected: {events}, as the log has.",
+        "The witness has writers for {} of thread {thread}. Expected: {events}, as the log has.",
         Count(lists as u64, "event")
     )
 }

@@ -57,7 +57,7 @@ impl From<AllocError> for ValidFault {
 }
 
 /// Why a function is refused, without the place.
-#[derive(Clone, Copy, Debug, PartialEq, Eq)]
+#[derive(Clone, Copy, PartialEq, Eq)]
 pub(crate) enum InstrFault {
     /// It breaks this rule.
     Breaks(FaultKind),
