@@ -143,6 +143,20 @@ fn funcs(alloc: Global, module: &Module) -> Result<(), ValidFault>
     Ok(())
 }
 
+/// The initial bytes of the module's memory, if the module is valid.
+fn checked_initial(alloc: Global, module: &Module) -> Result<Initial, ValidFault>
+    ensures valid { OnOk result (Valid «module».now) }
+    ensures bytes { IfOk result (IsInit «module».now) }
+    ensures breaks { IfErr result (Breaks «module».now) }
+{
+    if let Err(kind) = sections(module) {
+        return Err(ValidFault::At(kind, Location::Module));
+    }
+    funcs(alloc, module)?;
+    let size = module.pages() as usize * PAGE_BYTES;
+    Ok(image(alloc, size, module.data.as_slice())?)
+}
+
 /// Checks a module and makes the initial bytes of its memory. It terminates for every module, even if blocks name one
 /// another in a cycle: such a module has no typing.
 ///
@@ -155,11 +169,6 @@ pub fn validate(alloc: Global, module: Module) -> Result<ValidModule, ValidFault
     ensures found { IfOk result (λ valid. (valid ≡ «module») × Valid «module») }
     ensures breaks { IfErr result (Breaks «module») }
 {
-    if let Err(kind) = sections(&module) {
-        return Err(ValidFault::At(kind, Location::Module));
-    }
-    funcs(alloc, &module)?;
-    let size = module.pages() as usize * PAGE_BYTES;
-    let initial = image(alloc, size, module.data.as_slice())?;
+    let initial = checked_initial(alloc, &module)?;
     Ok(ValidModule { module, initial })
 }
