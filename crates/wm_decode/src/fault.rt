@@ -164,32 +164,39 @@ impl ItemFault {
     }
 }
 
+/// The name of a feature.
+fn feature_name(feature: Feature) -> &'static str
+    ensures { result.now ≡ feature_text feature }
+{
+    match feature {
+        Feature::Wait => "Wait",
+        Feature::Notify => "Notify",
+        Feature::Fence => "Fence",
+        Feature::Growth => "Growth",
+        Feature::NarrowCmpxchg => "NarrowCmpxchg",
+        Feature::Floats => "Floats",
+        Feature::Table => "Table",
+        Feature::Start => "Start",
+        Feature::Import => "Import",
+        Feature::UnsharedMemory => "UnsharedMemory",
+        Feature::SeveralMemories => "SeveralMemories",
+        Feature::MultiValue => "MultiValue",
+        Feature::SignExtension => "SignExtension",
+        Feature::PrefixFC => "PrefixFC",
+        Feature::PassiveData => "PassiveData",
+        Feature::DataMemoryIndex => "DataMemoryIndex",
+        Feature::Simd => "Simd",
+        Feature::References => "References",
+        Feature::Reserved => "Reserved",
+        Feature::ConstExpression => "ConstExpression",
+    }
+}
+
 impl fmt::Display for Feature {
     ghost output = { λ feature. Some (feature_text feature) };
 
     fn fmt<W: fmt::Write>(&self, f: &mut fmt::Formatter<W>) -> fmt::Result {
-        match self {
-            Feature::Wait => f.write_str("Wait"),
-            Feature::Notify => f.write_str("Notify"),
-            Feature::Fence => f.write_str("Fence"),
-            Feature::Growth => f.write_str("Growth"),
-            Feature::NarrowCmpxchg => f.write_str("NarrowCmpxchg"),
-            Feature::Floats => f.write_str("Floats"),
-            Feature::Table => f.write_str("Table"),
-            Feature::Start => f.write_str("Start"),
-            Feature::Import => f.write_str("Import"),
-            Feature::UnsharedMemory => f.write_str("UnsharedMemory"),
-            Feature::SeveralMemories => f.write_str("SeveralMemories"),
-            Feature::MultiValue => f.write_str("MultiValue"),
-            Feature::SignExtension => f.write_str("SignExtension"),
-            Feature::PrefixFC => f.write_str("PrefixFC"),
-            Feature::PassiveData => f.write_str("PassiveData"),
-            Feature::DataMemoryIndex => f.write_str("DataMemoryIndex"),
-            Feature::Simd => f.write_str("Simd"),
-            Feature::References => f.write_str("References"),
-            Feature::Reserved => f.write_str("Reserved"),
-            Feature::ConstExpression => f.write_str("ConstExpression"),
-        }
+        f.write_str(feature_name(*self))
     }
 }
 
