@@ -87,7 +87,7 @@ pub enum DecodeFault {
 }
 
 /// Why a part could not be read.
-#[derive(Clone, Copy, PartialEq, Eq)]
+#[derive(Clone, Copy)]
 pub(crate) enum ItemFault {
     /// What is wrong, and how many bytes are left, counted from the faulty item's first byte.
     WithLeft(FaultKind, usize),

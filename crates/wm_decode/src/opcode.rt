@@ -7,7 +7,7 @@ use wm_ast::{AccessKind, Instr, Narrow, Storage, ValType};
 use wm_num::{BinaryOperator, Comparison, Conversion, UnaryOperator, Width};
 
 /// An instruction with one index after its opcode.
-#[derive(Clone, Copy, PartialEq, Eq)]
+#[derive(Clone, Copy)]
 pub(crate) enum Indexed {
     Br,
     BrIf,

@@ -12,7 +12,7 @@ use wm_list::Text;
 
 /// The id of a section (Core 1.0, section 5.5.2). Except for custom sections, each occurs at most once, in this order,
 /// except that the data count comes before the code.
-#[derive(Clone, Copy, PartialEq, Eq)]
+#[derive(Clone, Copy)]
 pub(crate) enum SectionId {
     Custom,
     Types,

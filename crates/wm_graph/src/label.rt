@@ -51,7 +51,7 @@ impl fmt::Display for LabelText<'_> {
 }
 
 /// How much of what an event read comes from the initial memory.
-#[derive(Clone, Copy, PartialEq, Eq)]
+#[derive(Clone, Copy)]
 pub(crate) enum InitialShare {
     Nothing,
     Part,

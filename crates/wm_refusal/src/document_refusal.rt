@@ -52,7 +52,7 @@ impl fmt::Display for TooLargeSentence<'_> {
 }
 
 /// A byte of a text, by its offset and by its line and column, counted from 1.
-#[derive(Clone, Copy, PartialEq, Eq)]
+#[derive(Clone, Copy)]
 pub(crate) struct TextPosition {
     pub offset: usize,
     pub line: usize,

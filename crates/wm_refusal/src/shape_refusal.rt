@@ -6,7 +6,7 @@ use wm_event::{Event, EventId, EventKey, Log, MAX_EVENTS, Misshapen, ShapeFault,
 use wm_phrase::{Count, EventPhrase};
 
 /// What is wrong with the order of the events.
-#[derive(Clone, Copy, PartialEq, Eq)]
+#[derive(Clone, Copy)]
 pub(crate) enum OrderFault {
     /// It lists this event, which the log doesn't have.
     Unknown(EventKey),

@@ -10,7 +10,7 @@ use wm_decode::Feature;
 use wm_module_bytes::{ByteReader, Immediates, Opcode, immediates_of, skip_immediates};
 
 /// The place of a use.
-#[derive(Clone, Copy, PartialEq, Eq)]
+#[derive(Clone, Copy)]
 pub(crate) enum Location {
     Module,
     Type(usize),

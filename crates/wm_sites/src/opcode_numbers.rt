@@ -7,7 +7,7 @@ use wm_ast::{Block, Else, Instr};
 use wm_decode::MAX_MODULE_BYTES;
 
 /// An instruction of a block, or the block's end.
-#[derive(Clone, Copy, PartialEq, Eq)]
+#[derive(Clone, Copy)]
 pub(crate) struct BlockPosition {
     pub block: usize,
     pub at: usize,

@@ -57,7 +57,7 @@ impl From<AllocError> for ValidFault {
 }
 
 /// Why a function is refused, without the place.
-#[derive(Clone, Copy, PartialEq, Eq)]
+#[derive(Clone, Copy)]
 pub(crate) enum InstrFault {
     /// It breaks this rule.
     Breaks(FaultKind),
