@@ -1,10 +1,12 @@
 //! A round: a worker for each thread, and a drainer, over one locked memory.
-ghost use Rattle.std.specs.Prelude.{◌≡◌, ◌≤◌, Ok, IfErr, IfOk, OnOk, length, map};
+ghost use Rattle.std.specs.Prelude.{◌≡◌, ◌≤◌, Ok, IfErr, IfOk, OnOk, map};
 ghost use Rattle.wm_event.specs.Limits.{max_steps};
 ghost use Rattle.wm_recorder.specs.Locked.{IsOver};
+ghost use Rattle.wm_run.specs.Launch.{IsLaunchFault};
 ghost use Rattle.wm_run.specs.Own.{IsWithinPlan};
 ghost use Rattle.wm_run.specs.Plan.{HasThreads};
-ghost use Rattle.wm_run.specs.Rounds.{AreWorkOfPlan, IsRound, IsRoundFault, IsRoundPlan, IsRoundPlanFault};
+ghost use Rattle.wm_run.specs.Refusal.{AllStart};
+ghost use Rattle.wm_run.specs.Rounds.{AreEndsOf, AreWorkOfPlan, IsRound, IsRoundFault, IsRoundPlan, IsRoundPlanFault};
 ghost use Rattle.wm_run.specs.Worker.{IsWorkOf};
 
 use crate::MAX_TURNS;
@@ -130,73 +132,6 @@ fn run_workers<'s, E: 's, R: Threads, S: Shared + Sync, G: Gate + Sync>(
     }
 }
 
-/// Starts the drainer and the workers, and joins them all.
-fn run_in<'s, E: 's, R: Threads, S: Shared + Sync, G: Gate + Sync>(
-    rt: &R,
-    scope: &'s Scope<'s, E>,
-    alloc: Global,
-    module: &'s ValidModule,
-    plan: &'s Plan,
-    shared: &'s S,
-    gate: &'s G,
-) -> Result<Vec<Result<ThreadEnd, RunFault>>, AllocError>
-    requires { IsRoundPlan plan.now }
-    ensures { IfOk result (λ v. AreWorkOfPlan (G.is_open gate.now) «module».now plan.now v.items) }
-{
-    let threads = plan.starts.len() as u32;
-    let drains = plan.drains;
-    let drain = scope.spawn(move || drainer(shared, threads, drains, gate))?;
-    let results = run_workers(rt, scope, alloc, module, plan, shared, gate);
-    let drained = drain.join(rt);
-    let results = results?;
-    drained?;
-    Ok(results)
-}
-
-/// Runs the threads over what they share, in a scope that borrows it.
-fn run_shared<R: Threads + Wait + Sync, S: Shared + Sync, G: Gate + Sync>(
-    rt: &R,
-    alloc: Global,
-    module: &ValidModule,
-    plan: &Plan,
-    shared: &S,
-    gate: &G,
-) -> Result<Vec<Result<ThreadEnd, RunFault>>, AllocError>
-    requires { IsRoundPlan plan.now }
-    ensures { IfOk result (λ v. AreWorkOfPlan (G.is_open gate.now) «module».now plan.now v.items) }
-{
-    thread::scope(
-        thread::scope_env(),
-        rt,
-        |scope| -> Result<Vec<Result<ThreadEnd, RunFault>>, AllocError>
-            requires { IsRoundPlan plan.now }
-            ensures { IfOk result (λ v. AreWorkOfPlan (G.is_open gate.entry.now) «module».entry.now plan.entry.now v.items) }
-        { run_in(rt, scope, alloc, module, plan, shared, gate) },
-    )
-}
-
-/// Runs the threads over a recorder under a lock. The recorder comes back with the same Init and number of threads.
-fn run_locked<N: Over + Send + Sync, R: Threads + Wait + Sync, G: Gate + Sync>(
-    rt: &R,
-    alloc: Global,
-    module: &ValidModule,
-    plan: &Plan,
-    recorder: Recorder,
-    gate: &G,
-) -> (
-    Recorder,
-    Result<Vec<Result<ThreadEnd, RunFault>>, AllocError>,
-)
-    requires plan { IsRoundPlan plan.now }
-    requires over { IsOver N.initial N.threads recorder }
-    ensures over { IsOver N.initial N.threads result.0 }
-    ensures work { IfOk result.1 (λ v. AreWorkOfPlan (G.is_open gate.now) «module».now plan.now v.items) }
-{
-    let shared = LockedMemory::<R, N>::new(rt, recorder);
-    let results = run_shared(rt, alloc, module, plan, &shared, gate);
-    (shared.into_recorder(), results)
-}
-
 /// The ends of the threads. Each thread starts, so the only fault of a worker can be `OutOfMemory`.
 fn all_ends(
     alloc: Global,
@@ -214,6 +149,72 @@ fn all_ends(
     Ok(ends)
 }
 
+/// Starts the drainer and the workers, and joins them all. Returns the ends of the threads.
+fn run_in<'s, E: 's, R: Threads, S: Shared + Sync, G: Gate + Sync>(
+    rt: &R,
+    scope: &'s Scope<'s, E>,
+    alloc: Global,
+    module: &'s ValidModule,
+    plan: &'s Plan,
+    shared: &'s S,
+    gate: &'s G,
+) -> Result<Vec<ThreadEnd>, AllocError>
+    requires { IsRoundPlan plan.now }
+    ensures { IfOk result (λ ends. AreEndsOf (G.is_open gate.now) «module».now plan.now.starts plan.now.steps ends.items) }
+{
+    let threads = plan.starts.len() as u32;
+    let drains = plan.drains;
+    let drain = scope.spawn(move || drainer(shared, threads, drains, gate))?;
+    let results = run_workers(rt, scope, alloc, module, plan, shared, gate);
+    let drained = drain.join(rt);
+    let results = results?;
+    drained?;
+    all_ends(alloc, results)
+}
+
+/// Runs the threads over what they share, in a scope that borrows it.
+fn run_shared<R: Threads + Wait + Sync, S: Shared + Sync, G: Gate + Sync>(
+    rt: &R,
+    alloc: Global,
+    module: &ValidModule,
+    plan: &Plan,
+    shared: &S,
+    gate: &G,
+) -> Result<Vec<ThreadEnd>, AllocError>
+    requires { IsRoundPlan plan.now }
+    ensures { IfOk result (λ ends. AreEndsOf (G.is_open gate.now) «module».now plan.now.starts plan.now.steps ends.items) }
+{
+    thread::scope(
+        thread::scope_env(),
+        rt,
+        |scope| -> Result<Vec<ThreadEnd>, AllocError>
+            requires { IsRoundPlan plan.now }
+            ensures { IfOk result (λ ends.
+                AreEndsOf (G.is_open gate.entry.now) «module».entry.now plan.entry.now.starts plan.entry.now.steps ends.items) }
+        { run_in(rt, scope, alloc, module, plan, shared, gate) },
+    )
+}
+
+/// Runs the threads over a recorder under a lock. The recorder comes back with the same Init and number of threads.
+fn run_locked<N: Over + Send + Sync, R: Threads + Wait + Sync, G: Gate + Sync>(
+    rt: &R,
+    alloc: Global,
+    module: &ValidModule,
+    plan: &Plan,
+    recorder: Recorder,
+    gate: &G,
+) -> (Recorder, Result<Vec<ThreadEnd>, AllocError>)
+    requires plan { IsRoundPlan plan.now }
+    requires over { IsOver N.initial N.threads recorder }
+    ensures over { IsOver N.initial N.threads result.0 }
+    ensures ends { IfOk result.1 (λ ends.
+        AreEndsOf (G.is_open gate.now) «module».now plan.now.starts plan.now.steps ends.items) }
+{
+    let shared = LockedMemory::<R, N>::new(rt, recorder);
+    let ends = run_shared(rt, alloc, module, plan, &shared, gate);
+    (shared.into_recorder(), ends)
+}
+
 /// Whether a round can follow the plan.
 pub fn check_plan(plan: &Plan) -> Result<(), PlanFault>
     ensures ok { OnOk result (IsRoundPlan plan.now) }
@@ -223,6 +224,15 @@ pub fn check_plan(plan: &Plan) -> Result<(), PlanFault>
     if plan.drains as usize > MAX_TURNS {
         return Err(PlanFault::Turns);
     }
+    Ok(())
+}
+
+/// Whether each thread starts.
+fn check_starts(alloc: Global, module: &ValidModule, starts: &[Start]) -> Result<(), RunFault>
+    ensures ok { OnOk result (AllStart «module».now starts.now) }
+    ensures refused { IfErr result (IsLaunchFault «module».now starts.now) }
+{
+    let _runners = launch(alloc, module, starts)?;
     Ok(())
 }
 
@@ -251,10 +261,10 @@ pub fn run_round<R: Threads + Wait + Sync, G: Gate + Sync>(
     if let Err(fault) = check_plan(plan) {
         return Err(RunFault::Plan(fault));
     }
-    let runners = launch(alloc, module, plan.starts.as_slice())?;
-    let recorder = Recorder::new(alloc, module.initial(), runners.len())?;
-    let (recorder, results) = run_locked::<Brand, R, G>(rt, alloc, module, plan, recorder, gate);
-    let ends = all_ends(alloc, results?)?;
+    check_starts(alloc, module, plan.starts.as_slice())?;
+    let recorder = Recorder::new(alloc, module.initial(), plan.starts.len())?;
+    let (recorder, ends) = run_locked::<Brand, R, G>(rt, alloc, module, plan, recorder, gate);
+    let ends = ends?;
     own_runs_are_allowed();
     gather(alloc, module, recorder, ends)
 }

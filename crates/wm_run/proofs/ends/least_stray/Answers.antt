@@ -1,7 +1,13 @@
 use Rattle.std.proofs.Common.{refl, length}
 use Rattle.std.proofs.lemmas.Option.{slice_get_read}
-use Rattle.wm_run.proofs.Strays.{all_below, all_least, one_stray}
+use Rattle.wm_run.proofs.Strays.{all_below, all_least, no_stray, one_stray}
 use Rattle.wm_run.proofs.ends.least_stray.Goals as goal
+
+pub loop-end-preserved-then-thread-threads : goal.loop-end-preserved-then-thread-threads
+loop-end-preserved-then-thread-threads c =
+    let ends = c.args.ends.now in
+    let at = slice_get_read ends (length ends) c.loop-end.end-index c.end-item.result refl c.loop-end-test.true c.end-item.is in
+    record { strays = no_stray c.args.threads ends c.loop-end.end-index c.end-item.result c.loop-end.least at c.if-thread-threads.true c.loop-end.invariant.strays }
 
 pub loop-end-preserved : goal.loop-end-preserved
 loop-end-preserved c =
