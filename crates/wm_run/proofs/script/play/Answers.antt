@@ -1,4 +1,4 @@
-use Rattle.std.proofs.Common.{arith, drop, get_or, refl, subst, sym}
+use Rattle.std.proofs.Common.{arith, get_or, refl, subst, sym}
 use Rattle.std.proofs.lemmas.Grind.{common_steps}
 use Rattle.std.proofs.lemmas.List.{drop_all}
 use Rattle.std.proofs.lemmas.Option.{slice_get-get_or}
