@@ -6,3 +6,4 @@ pub mod Completed
 pub mod Alone
 pub mod SameVerdict
 pub mod Verified
+pub mod Texts

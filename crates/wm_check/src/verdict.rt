@@ -1,5 +1,8 @@
-//! The answers of a check.
+//! The answers of a check, their lines and their statuses.
+ghost use Rattle.std.specs.Prelude.{◌≡◌, Some};
+ghost use Rattle.wm_check.specs.Texts.{breach_text, refusal_text, verdict_status, verdict_text};
 
+use std::fmt;
 use wm_decode::DecodeFault;
 use wm_event::{RuleFault, ShapeFault};
 use wm_logfile::DocFault;
@@ -28,6 +31,20 @@ pub enum Refusal {
     Shape(ShapeFault),
 }
 
+/// Prints which part is refused, and its fault, as in `decode Truncated at 42`.
+impl fmt::Display for Refusal {
+    ghost output = { λ refusal. Some (refusal_text refusal) };
+
+    fn fmt<W: fmt::Write>(&self, f: &mut fmt::Formatter<W>) -> fmt::Result {
+        match self {
+            Refusal::Decode(fault) => write!(f, "decode {fault}"),
+            Refusal::Valid(fault) => write!(f, "valid {fault}"),
+            Refusal::Document(fault) => write!(f, "document {fault}"),
+            Refusal::Shape(fault) => write!(f, "shape {fault}"),
+        }
+    }
+}
+
 /// Why a run isn't a run of the module, or isn't permitted by the memory rules.
 #[derive(Clone, Copy, Debug, PartialEq, Eq)]
 pub enum Breach {
@@ -37,6 +54,19 @@ pub enum Breach {
     Rule(RuleFault),
 }
 
+/// Prints the thread and the place where the log is not its run, as in `replay thread 0 event 0`, or the first fault of
+/// a memory rule, as in `V5 case 3 at 1.0 byte 0 writer init other 0.0`.
+impl fmt::Display for Breach {
+    ghost output = { λ breach. Some (breach_text breach) };
+
+    fn fmt<W: fmt::Write>(&self, f: &mut fmt::Formatter<W>) -> fmt::Result {
+        match self {
+            Breach::Replay(answer) => write!(f, "replay {answer}"),
+            Breach::Rule(fault) => write!(f, "{fault}"),
+        }
+    }
+}
+
 /// The verdict on a module and a log.
 #[derive(Debug, Drop)]
 pub enum Verdict {
@@ -44,4 +74,32 @@ pub enum Verdict {
     Allowed(Certificate),
     Refused(Refusal),
     Broken(Breach),
+}
+
+impl Verdict {
+    /// The status that tells of which kind the verdict is, to a shell or to C: 0 allowed, 1 broken, 2 refused.
+    pub fn status(&self) -> u8
+        ensures { result ≡ verdict_status self.now }
+    {
+        match self {
+            Verdict::Allowed(_) => 0,
+            Verdict::Broken(_) => 1,
+            Verdict::Refused(_) => 2,
+        }
+    }
+}
+
+/// Prints the line of a verdict: `allowed threads=2 events=4`, or `refused` or `broken` with the reason.
+impl fmt::Display for Verdict {
+    ghost output = { λ verdict. Some (verdict_text verdict) };
+
+    fn fmt<W: fmt::Write>(&self, f: &mut fmt::Formatter<W>) -> fmt::Result {
+        match self {
+            Verdict::Allowed(Certificate { threads, events }) => {
+                write!(f, "allowed threads={threads} events={events}")
+            }
+            Verdict::Refused(refusal) => write!(f, "refused {refusal}"),
+            Verdict::Broken(breach) => write!(f, "broken {breach}"),
+        }
+    }
 }

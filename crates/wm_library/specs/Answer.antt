@@ -2,7 +2,7 @@
 use Rattle.std.specs.Prelude.{◌≡◌, ℕ, List, ◌++◌, drop, length, string_bytes, take}
 use Rattle.wm_check.specs.declared.verdict.Verdict.{Verdict}
 use Rattle.wm_check.specs.Verified.{Verifies}
-use Rattle.wm_litmus.specs.Lines.{verdict_status, verdict_text}
+use Rattle.wm_check.specs.Texts.{verdict_status, verdict_text}
 use Rattle.wm_library.specs.declared.answer.Answer.{Answer}
 
 -- the line and the status are given by the verdict on the completed log

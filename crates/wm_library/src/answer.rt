@@ -1,11 +1,9 @@
 //! The answer to a module and a log.
 ghost use Rattle.std.specs.Prelude.{◌≡◌, ◌++◌, IfOk, drop, length, take};
-ghost use Rattle.wm_litmus.specs.Lines.{verdict_status};
 ghost use Rattle.wm_library.specs.Answer.{IsAnswerOf};
 
 use std::alloc::{AllocError, Global};
-use wm_check::{Verdict, verify};
-use wm_litmus::verdict_line;
+use wm_check::verify;
 
 /// A verdict as the program prints it.
 #[derive(Drop)]
@@ -14,17 +12,6 @@ pub(crate) struct Answer {
     pub line: String,
     /// The exit status of the program.
     pub status: u8,
-}
-
-/// The exit status of a verdict.
-fn status_of(verdict: &Verdict) -> u8
-    ensures { result ≡ verdict_status verdict.now }
-{
-    match verdict {
-        Verdict::Allowed(_) => 0,
-        Verdict::Broken(_) => 1,
-        Verdict::Refused(_) => 2,
-    }
 }
 
 /// The answer to the bytes of a module and of a log, which is completed and checked.
@@ -40,10 +27,10 @@ pub(crate) fn answer_to(
     ensures { IfOk result (IsAnswerOf module_bytes.now document_bytes.now) }
 {
     let verdict = verify(alloc, module_bytes, document_bytes)?;
-    let line = verdict_line(alloc, &verdict)?;
+    let line = format!(in alloc; "{verdict}")?;
     Ok(Answer {
         line,
-        status: status_of(&verdict),
+        status: verdict.status(),
     })
 }
 

@@ -12,7 +12,8 @@ use Rattle.wm_logfile.specs.Migration.{IsMisplaced}
 use Rattle.wm_litmus.specs.Tasks.{AnswersCheck, AnswersMigrate}
 use Rattle.wm_litmus.specs.Tasks.AnswersCheck.{allowed, refused_for, broken_by}
 use Rattle.wm_litmus.specs.Tasks.AnswersMigrate.{misplaced, refused}
-use Rattle.wm_litmus.specs.Lines.{document_line_text, verdict_status, verdict_text}
+use Rattle.wm_check.specs.Texts.{verdict_status, verdict_text}
+use Rattle.wm_litmus.specs.Lines.{document_line_text}
 use Rattle.wm_litmus.specs.Prints.{ended}
 
 pub answers_check : (module_bytes document_bytes : List ℕ) (v : Verdict) (status : ℕ) (text : List ℕ)

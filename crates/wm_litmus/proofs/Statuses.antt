@@ -22,7 +22,8 @@ use Rattle.wm_litmus.specs.EventExplanation.AnswersEventGraph.{read as event_gra
 use Rattle.wm_litmus.specs.EventExplanation.GraphsRun.{pictured as graph_run_pictured, told as graph_run_told}
 use Rattle.wm_litmus.specs.Explanation.{AnswersGraph}
 use Rattle.wm_litmus.specs.Explanation.AnswersGraph.{pictured as graph_pictured, told as graph_told}
-use Rattle.wm_litmus.specs.Lines.{judgement_status, verdict_status}
+use Rattle.wm_check.specs.Texts.{verdict_status}
+use Rattle.wm_litmus.specs.Lines.{judgement_status}
 use Rattle.wm_litmus.specs.Races.{AnswersEventRaces, AnswersRaces, AnswersRunRaces, races_status}
 use Rattle.wm_litmus.specs.Races.AnswersEventRaces.{read as event_races_read, refused as event_races_refused}
 use Rattle.wm_litmus.specs.Races.AnswersRaces.{listed as races_listed, told as races_told}

@@ -17,7 +17,8 @@ use Rattle.wm_run.specs.Run.{Record}
 use Rattle.wm_run.specs.Scripted.{IsScripted}
 use Rattle.wm_litmus.specs.declared.answer.Answer.{Answer}
 use Rattle.wm_litmus.specs.Input.{IsReadOf}
-use Rattle.wm_litmus.specs.Lines.{run_fault_line_text, verdict_status, verdict_text, word_line_text}
+use Rattle.wm_check.specs.Texts.{verdict_status, verdict_text}
+use Rattle.wm_litmus.specs.Lines.{run_fault_line_text, word_line_text}
 use Rattle.wm_litmus.specs.Outcomes.{outcome_text}
 use Rattle.wm_litmus.specs.Own.{IsMadeOf, IsOwnVerdict, run_text}
 use Rattle.wm_litmus.specs.Prints.{ended}

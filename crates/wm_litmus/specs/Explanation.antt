@@ -8,7 +8,7 @@ use Rattle.wm_check.specs.Reading.{IsJudged}
 use Rattle.wm_check.specs.Run.{IsModuleOf}
 use Rattle.wm_check.specs.Verdicts.{IsRefusedFor, Says}
 use Rattle.wm_litmus.specs.declared.answer.Answer.{Answer}
-use Rattle.wm_litmus.specs.Lines.{refusal_text, verdict_status, verdict_text}
+use Rattle.wm_check.specs.Texts.{verdict_status, verdict_text}
 use Rattle.wm_litmus.specs.Prints.{Prints, ended}
 
 -- ---- the command `explain`
@@ -40,7 +40,7 @@ ExplainsOver «module» document_bytes answer =
 -- an answer has the status of the verdict with a picture that isn't specified; or it prints the line of a refusal
 abbrev pub Shows : Verdict → Answer → Type 0
 Shows (Allowed certificate) answer = answer.status ≡ 0
-Shows (Refused refusal) answer = Prints 2 (refusal_text refusal) answer
+Shows (Refused refusal) answer = Prints 2 (verdict_text (Refused refusal)) answer
 Shows (Broken breach) answer = answer.status ≡ 1
 
 -- the status and the text that answer a module and a document: the status of `check` with a picture that isn't

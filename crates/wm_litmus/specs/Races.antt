@@ -24,7 +24,8 @@ use Rattle.wm_races.specs.declared.site.SiteRace.{SiteRace}
 use Rattle.wm_races.specs.Races.{IsRaceList}
 use Rattle.wm_races.specs.Report.{HasSites, IsRaceReport}
 use Rattle.wm_litmus.specs.declared.answer.Answer.{Answer}
-use Rattle.wm_litmus.specs.Lines.{document_line_text, verdict_status, verdict_text}
+use Rattle.wm_check.specs.Texts.{verdict_status, verdict_text}
+use Rattle.wm_litmus.specs.Lines.{document_line_text}
 use Rattle.wm_litmus.specs.Prints.{Gives, ended}
 use Rattle.wm_litmus.specs.Rules.{AnswersRun, run_over}
 

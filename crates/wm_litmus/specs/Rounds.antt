@@ -26,7 +26,8 @@ use Rattle.wm_litmus.specs.declared.answer.Answer.{Answer}
 use Rattle.wm_litmus.specs.Counts.{CountsOneMore, Counts}
 use Rattle.wm_litmus.specs.Own.{run_text}
 use Rattle.wm_litmus.specs.Input.{IsReadOf}
-use Rattle.wm_litmus.specs.Lines.{run_fault_line_text, verdict_text, word_line_text}
+use Rattle.wm_check.specs.Texts.{verdict_text}
+use Rattle.wm_litmus.specs.Lines.{run_fault_line_text, word_line_text}
 use Rattle.wm_litmus.specs.Outcomes.{outcome_text}
 use Rattle.wm_litmus.specs.Prints.{ended}
 use Rattle.wm_litmus.specs.Table.{IsTableText}

@@ -13,7 +13,7 @@ use Rattle.wm_stream.specs.Answers.{Answered, AreAnswers, overall, status_code, 
 use Rattle.wm_stream.specs.Lines.{cut_lines}
 use Rattle.wm_litmus.specs.declared.stream.Judge.{Judge}
 use Rattle.wm_litmus.specs.declared.stream.Judge.TheVariants as judge
-use Rattle.wm_litmus.specs.Lines.{verdict_status, verdict_text}
+use Rattle.wm_check.specs.Texts.{verdict_status, verdict_text}
 use Rattle.wm_litmus.specs.Prints.{ended}
 
 -- ---- the command `verify`

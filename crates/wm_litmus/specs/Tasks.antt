@@ -19,7 +19,8 @@ use Rattle.wm_command.specs.declared.command.RunTask.{RunTask}
 use Rattle.wm_command.specs.declared.command.RunTask.TheVariants as run
 use Rattle.wm_litmus.specs.EventExplanation.{AnswersEventExplain, AnswersEventGraph}
 use Rattle.wm_litmus.specs.Explanation.{AnswersExplain, AnswersGraph}
-use Rattle.wm_litmus.specs.Lines.{document_line_text, verdict_text}
+use Rattle.wm_check.specs.Texts.{verdict_text}
+use Rattle.wm_litmus.specs.Lines.{document_line_text}
 use Rattle.wm_litmus.specs.Prints.{ended}
 use Rattle.wm_litmus.specs.Races.{AnswersEventRaces, AnswersRaces}
 use Rattle.wm_litmus.specs.Rules.{AnswersRules}

@@ -35,7 +35,8 @@ use Rattle.wm_run.specs.Scripted.{IsScripted}
 use Rattle.wm_run.specs.Traced.{IsTraced}
 use Rattle.wm_words.specs.declared.words.Script.{Script}
 use Rattle.wm_litmus.specs.declared.answer.Answer.{Answer}
-use Rattle.wm_litmus.specs.Lines.{run_fault_line_text, verdict_text}
+use Rattle.wm_check.specs.Texts.{verdict_text}
+use Rattle.wm_litmus.specs.Lines.{run_fault_line_text}
 use Rattle.wm_litmus.specs.Outcomes.{outcome_text}
 use Rattle.wm_litmus.specs.Prints.{Gives, ended}
 use Rattle.wm_litmus.specs.Races.{site_text}

@@ -3,7 +3,8 @@ ghost use Rattle.std.specs.Prelude.{◌≡◌, ◌≢◌, IfOk, string_bytes};
 ghost use Rattle.wm_litmus.specs.Drive.{PrintsRun};
 ghost use Rattle.wm_litmus.specs.EventExplanation.{GainsReasons};
 ghost use Rattle.wm_litmus.specs.Explanation.{PrintsReasons};
-ghost use Rattle.wm_litmus.specs.Lines.{document_line_text, judgement_status, judgement_text, run_fault_line_text, shape_line_text, verdict_status, verdict_text, word_line_text, words_line_text};
+ghost use Rattle.wm_check.specs.Texts.{verdict_status, verdict_text};
+ghost use Rattle.wm_litmus.specs.Lines.{document_line_text, judgement_status, judgement_text, run_fault_line_text, shape_line_text, word_line_text, words_line_text};
 ghost use Rattle.wm_litmus.specs.Prints.{Prints, PrintsUnread};
 ghost use Rattle.wm_litmus.specs.Rounds.{PrintsRounds};
 
@@ -32,17 +33,6 @@ fn status_of(judgement: &Judgement) -> u8
     }
 }
 
-/// The exit status of a verdict.
-fn verdict_status_of(verdict: &Verdict) -> u8
-    ensures { result ≡ verdict_status verdict.now }
-{
-    match verdict {
-        Verdict::Allowed(_) => 0,
-        Verdict::Broken(_) => 1,
-        Verdict::Refused(_) => 2,
-    }
-}
-
 impl Answer {
     /// The answer of one line, given without its newline.
     pub fn of_line(status: u8, line: String) -> Result<Answer, AllocError>
@@ -66,7 +56,7 @@ impl Answer {
         ensures { IfOk result (Prints (verdict_status verdict.now) (verdict_text verdict.now)) }
     {
         let line = verdict_line(alloc, verdict)?;
-        Answer::of_line(verdict_status_of(verdict), line)
+        Answer::of_line(verdict.status(), line)
     }
 
     /// The refusal of a module that was not read; an allocation failure is not an answer.
@@ -144,7 +134,7 @@ impl Answer {
         let text = format!(in alloc; "outcome {outcome}\n{line}\n{document}\n")?;
         Ok(Answer {
             text,
-            status: verdict_status_of(verdict),
+            status: verdict.status(),
         })
     }
 
@@ -169,7 +159,7 @@ impl Answer {
         line.push('\n')?;
         let mut text = reasons;
         text.insert_str(0, line.as_str())?;
-        let status = verdict_status_of(verdict);
+        let status = verdict.status();
         Ok(Answer { text, status })
     }
 
@@ -186,7 +176,7 @@ impl Answer {
     pub fn pictured(verdict: &Verdict, text: String) -> Answer
         ensures { result.status ≡ verdict_status verdict.now }
     {
-        let status = verdict_status_of(verdict);
+        let status = verdict.status();
         Answer { text, status }
     }
 

@@ -3,3 +3,4 @@ pub mod Following
 pub mod Positions
 pub mod Comparison
 pub mod Complete
+pub mod Texts

@@ -1,5 +1,8 @@
 //! The result of a replay.
+ghost use Rattle.std.specs.Prelude.{Some};
+ghost use Rattle.wm_replay.specs.Texts.{place_text, replay_answer_text};
 
+use std::fmt;
 use wm_machine::StartFault;
 
 /// Where a thread differs from its log.
@@ -12,6 +15,17 @@ pub enum Place {
     End,
 }
 
+impl fmt::Display for Place {
+    ghost output = { λ place. Some (place_text place) };
+
+    fn fmt<W: fmt::Write>(&self, f: &mut fmt::Formatter<W>) -> fmt::Result {
+        match self {
+            Place::Event(event) => write!(f, "event {event}"),
+            Place::End => f.write_str("end"),
+        }
+    }
+}
+
 /// How a log compares with the runs of its threads. The thread named is the first that differs.
 #[derive(Clone, Copy, Debug, PartialEq, Eq)]
 pub enum ReplayAnswer {
@@ -21,4 +35,16 @@ pub enum ReplayAnswer {
     StartRefused(usize, StartFault),
     /// The thread differs from its log.
     Differs(usize, Place),
+}
+
+impl fmt::Display for ReplayAnswer {
+    ghost output = { λ answer. Some (replay_answer_text answer) };
+
+    fn fmt<W: fmt::Write>(&self, f: &mut fmt::Formatter<W>) -> fmt::Result {
+        match self {
+            ReplayAnswer::Same => f.write_str("same"),
+            ReplayAnswer::StartRefused(thread, fault) => write!(f, "thread {thread} start {fault}"),
+            ReplayAnswer::Differs(thread, place) => write!(f, "thread {thread} {place}"),
+        }
+    }
 }

@@ -1,6 +1,6 @@
 use Rattle.std.proofs.Common.{◌∙◌, ap, subst}
 use Rattle.wm_check.specs.Reading.{SaysOver}
-use Rattle.wm_litmus.specs.Lines.{verdict_status, verdict_text}
+use Rattle.wm_check.specs.Texts.{verdict_status, verdict_text}
 use Rattle.wm_litmus.specs.Own.{IsMadeOf, run_text}
 use Rattle.wm_litmus.specs.Prints.{ended}
 use Rattle.wm_litmus.specs.Rounds.AnswersRounds.{too_large}
