@@ -7,7 +7,7 @@ use wm_ast::AccessKind;
 use wm_event::{Op, TrapKind};
 
 /// The effect of a step, decided from its operands.
-#[derive(Clone, Copy, Debug)]
+#[derive(Clone, Copy)]
 pub enum Action {
     /// No case applies.
     Stuck,

@@ -10,7 +10,7 @@ use wm_list::List;
 use wm_num::Width;
 
 /// What a branch instruction does.
-#[derive(Clone, Copy, Debug)]
+#[derive(Clone, Copy)]
 pub enum Branching {
     /// No case applies.
     Stuck,

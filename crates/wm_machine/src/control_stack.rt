@@ -7,7 +7,7 @@ use std::alloc::{AllocError, Global};
 use std::marker::Model;
 
 /// The state of one block: the next instruction, and the start of its operands.
-#[derive(Clone, Copy, Debug)]
+#[derive(Clone, Copy)]
 struct ControlFrame {
     block: usize,
     at: usize,
@@ -15,7 +15,7 @@ struct ControlFrame {
 }
 
 /// The blocks that a call is in, with their operands.
-#[derive(Drop, Debug)]
+#[derive(Drop)]
 pub struct ControlStack {
     values: Vec<TypedValue>,
     inner: ControlFrame,

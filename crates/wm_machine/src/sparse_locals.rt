@@ -11,7 +11,7 @@ use std::marker::Model;
 use wm_ast::ValType;
 
 /// A local that was set.
-#[derive(Clone, Copy, Debug)]
+#[derive(Clone, Copy)]
 struct Kept {
     index: usize,
     value: TypedValue,

@@ -6,7 +6,7 @@ use wm_ast::{ConstExpr, ValType};
 use wm_num::Width;
 
 /// A value: an i32 or an i64, as the unsigned integer with its bits.
-#[derive(Clone, Copy, Debug, PartialEq, Eq)]
+#[derive(Clone, Copy)]
 pub enum TypedValue {
     I32(u32),
     I64(u64),

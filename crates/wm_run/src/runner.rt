@@ -24,7 +24,7 @@ pub struct Runner<'m> {
 }
 
 /// Whether a thread made a step.
-#[derive(Clone, Copy, Debug, PartialEq, Eq)]
+#[derive(Clone, Copy)]
 pub enum Moved {
     /// It made one.
     Stepped,
