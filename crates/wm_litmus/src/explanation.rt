@@ -67,7 +67,9 @@ fn explain_log<R: AllocGlobal + Threads + Sync>(
         module,
         bytes: module_bytes,
     };
-    explain_checked(rt, code, &checked, positions, document_bytes)
+    let answer = explain_checked(rt, code, &checked, positions, document_bytes);
+    drop(checked);
+    answer
 }
 
 /// The answer to the bytes of a refused module.
@@ -97,7 +99,11 @@ pub(crate) fn explain_answer<R: AllocGlobal + Threads + Sync>(
         AnswersExplain module_bytes.now document_bytes.now answer.status (string_bytes answer.text)) }
 {
     match read_module(rt.alloc(), module_bytes) {
-        Ok(module) => explain_log(rt, &module, module_bytes, document_bytes),
+        Ok(module) => {
+            let answer = explain_log(rt, &module, module_bytes, document_bytes);
+            drop(module);
+            answer
+        }
         Err(Unread::Refused(refusal)) => {
             explain_unread(rt.alloc(), refusal, module_bytes, document_bytes)
         }
@@ -125,7 +131,7 @@ fn notes_of(
     )
 }
 
-/// A sketch with these notes, under the line of the verdict.
+/// A sketch with its notes, under the line of the verdict.
 fn draw(
     alloc: Global,
     verdict: &Verdict,
@@ -150,8 +156,16 @@ fn picture_of(
     positions: Option<Vec<List<CodePosition>>>,
 ) -> Result<String, AllocError> {
     let sketch = Sketch::of(alloc, verdict, candidate)?;
-    let notes = notes_of(alloc, code, verdict, candidate, positions, &sketch)?;
-    draw(alloc, verdict, &sketch, &notes)
+    let picture = match notes_of(alloc, code, verdict, candidate, positions, &sketch) {
+        Ok(notes) => {
+            let drawn = draw(alloc, verdict, &sketch, &notes);
+            drop(notes);
+            drawn
+        }
+        Err(refused) => Err(refused),
+    };
+    drop(sketch);
+    picture
 }
 
 /// The picture of what was checked; if that is refused, the line of the refusal.
@@ -188,7 +202,9 @@ fn show_log<R: AllocGlobal + Threads + Sync>(
         module,
         bytes: module_bytes,
     };
-    show_checked(rt.alloc(), code, &checked, positions)
+    let answer = show_checked(rt.alloc(), code, &checked, positions);
+    drop(checked);
+    answer
 }
 
 /// The execution that these bytes record, for Graphviz; if they are refused, the line of the refusal.
@@ -205,7 +221,11 @@ pub(crate) fn graph_answer<R: AllocGlobal + Threads + Sync>(
         AnswersGraph module_bytes.now document_bytes.now answer.status (string_bytes answer.text)) }
 {
     match read_module(rt.alloc(), module_bytes) {
-        Ok(module) => show_log(rt, &module, module_bytes, document_bytes),
+        Ok(module) => {
+            let answer = show_log(rt, &module, module_bytes, document_bytes);
+            drop(module);
+            answer
+        }
         Err(unread) => Answer::refused_module(rt.alloc(), unread),
     }
 }

@@ -283,7 +283,9 @@ fn stream_lines<'a, R: AllocGlobal + Threads + Sync, F: Files, I: Read, O: Write
 {
     let bytes = read_file(files, name, MAX_MODULE_BYTES)?;
     let judge = judge_of(rt.alloc(), bytes.as_slice())?;
-    let status = answer_lines(rt, input, out, &judge, MAX_DOCUMENT_BYTES + 1)?;
+    let answered = answer_lines(rt, input, out, &judge, MAX_DOCUMENT_BYTES + 1);
+    drop(judge);
+    let status = answered?;
     Ok(status.code())
 }
 

@@ -59,14 +59,21 @@ impl<'a, J: Fn(&Run) -> Result<Option<Answer>, AllocError>> Taker for Counter<'a
     ghost is_done = { λ c. HasAnswer c.module.now c.rounds.now c.answer };
 
     fn take(&mut self, run: Run) -> Result<bool, AllocError> {
-        match (self.judge)(&run)? {
-            None => {
-                self.table.count(self.alloc, &run)?;
+        match (self.judge)(&run) {
+            Ok(None) => {
+                let counted = self.table.count(self.alloc, &run);
+                drop(run);
+                counted?;
                 Ok(true)
             }
-            Some(answer) => {
+            Ok(Some(answer)) => {
+                drop(run);
                 self.answer = Some(answer);
                 Ok(false)
+            }
+            Err(refused) => {
+                drop(run);
+                Err(refused)
             }
         }
     }
@@ -132,7 +139,11 @@ pub(crate) fn rounds_answer<R: AllocGlobal + Threads + Wait + Sync>(
         AnswersRounds module_bytes.now rounds.now.plan rounds.now.count answer.status (string_bytes answer.text)) }
 {
     match read_module(rt.alloc(), module_bytes) {
-        Ok(module) => make_rounds(rt, &module, rounds),
+        Ok(module) => {
+            let answer = make_rounds(rt, &module, rounds);
+            drop(module);
+            answer
+        }
         Err(unread) => Answer::refused_module(rt.alloc(), unread),
     }
 }

@@ -9,7 +9,7 @@ returns-in_err-status-clause-stopped g c =
     let slice : c.as_slice.result.now ≡ bytes = c.as_slice.ensures.value in
     let is = subst (λ b. IsJudgeOf b c.in_ok-judge.judge) slice c.in_ok-judge.ensures in
     on_err c.from_residual-in_err-status.result
-    (streams_front (g.F.Files.content_of c.args.files.now c.args.name.now) (g.I.Read.remaining c.args.input.now) (g.O.Write.contents c.args.out.now) (g.O.Write.contents c.answer_lines.new.out)
+    (streams_front (g.F.Files.content_of c.args.files.now c.args.name.now) (g.I.Read.remaining c.args.input.now) (g.O.Write.contents c.args.out.now) (g.O.Write.contents c.answer_lines-answered.new.out)
     bytes c.in_ok-judge.judge c.in_ok-bytes.ensures.known is c.in_err-status.ensures.stopped)
 
 pub returns-clause-answered : goal.returns-clause-answered
@@ -17,5 +17,5 @@ returns-clause-answered g c =
     let bytes = c.in_ok-bytes.bytes.items in
     let slice : c.as_slice.result.now ≡ bytes = c.as_slice.ensures.value in
     let is = subst (λ b. IsJudgeOf b c.in_ok-judge.judge) slice c.in_ok-judge.ensures in
-    streams_all (g.F.Files.content_of c.args.files.now c.args.name.now) (g.I.Read.remaining c.args.input.now) (g.O.Write.contents c.args.out.now) (g.O.Write.contents c.answer_lines.new.out)
+    streams_all (g.F.Files.content_of c.args.files.now c.args.name.now) (g.I.Read.remaining c.args.input.now) (g.O.Write.contents c.args.out.now) (g.O.Write.contents c.answer_lines-answered.new.out)
     bytes c.in_ok-judge.judge c.in_ok-status.status c.code.result c.in_ok-bytes.ensures.known is c.in_ok-status.ensures.answered c.code.ensures
