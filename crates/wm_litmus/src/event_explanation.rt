@@ -60,8 +60,16 @@ fn explain_log<R: AllocGlobal + Threads + Sync>(
 {
     let initial = Initial::zeros(rt.alloc(), pages);
     match Candidate::of(rt.alloc(), log, witness, &initial) {
-        Ok(candidate) => explain_candidate(rt, &candidate),
-        Err(misshapen) => explain_misshapen(rt.alloc(), &misshapen, initial.len()),
+        Ok(candidate) => {
+            let answer = explain_candidate(rt, &candidate);
+            drop(candidate);
+            answer
+        }
+        Err(misshapen) => {
+            let answer = explain_misshapen(rt.alloc(), &misshapen, initial.len());
+            drop(misshapen);
+            answer
+        }
     }
 }
 
@@ -113,7 +121,9 @@ fn picture_of(
     title: &str,
 ) -> Result<String, AllocError> {
     let sketch = Sketch::of(alloc, verdict, candidate)?;
-    sketch.draw(alloc, Caption::titled(title))
+    let picture = sketch.draw(alloc, Caption::titled(title));
+    drop(sketch);
+    picture
 }
 
 /// The answer with the picture of a candidate with this judgement.
@@ -150,7 +160,11 @@ fn graph_log<R: AllocGlobal + Threads + Sync>(
 {
     let initial = Initial::zeros(rt.alloc(), pages);
     match Candidate::new(rt.alloc(), log, witness, &initial) {
-        Ok(candidate) => graph_candidate(rt, &candidate),
+        Ok(candidate) => {
+            let answer = graph_candidate(rt, &candidate);
+            drop(candidate);
+            answer
+        }
         Err(fault) => Answer::refused_shape(rt.alloc(), fault),
     }
 }

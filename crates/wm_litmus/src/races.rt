@@ -223,7 +223,9 @@ fn races_of_log<R: AllocGlobal + Threads + Sync>(
     ensures { IfOk result (RacesOver (code_in code.exit) document_bytes.now) }
 {
     let checked = check_log(rt, code.module, document_bytes)?;
-    races_of_checked(rt, code, &checked, document_bytes)
+    let answer = races_of_checked(rt, code, &checked, document_bytes);
+    drop(checked);
+    answer
 }
 
 /// The data races of the run that these bytes record, by the instructions that make their events; if the run isn't
@@ -245,7 +247,9 @@ pub(crate) fn races_answer<R: AllocGlobal + Threads + Sync>(
                 module: &module,
                 bytes: module_bytes,
             };
-            races_of_log(rt, code, document_bytes)
+            let answer = races_of_log(rt, code, document_bytes);
+            drop(module);
+            answer
         }
         Err(unread) => Answer::refused_module(rt.alloc(), unread),
     }
@@ -296,7 +300,11 @@ fn races_of_run<R: AllocGlobal + Threads + Sync>(
 {
     let initial = Initial::zeros(rt.alloc(), pages);
     match Candidate::new(rt.alloc(), log, witness, &initial) {
-        Ok(candidate) => races_of_candidate(rt, &candidate),
+        Ok(candidate) => {
+            let answer = races_of_candidate(rt, &candidate);
+            drop(candidate);
+            answer
+        }
         Err(fault) => Answer::refused_shape(rt.alloc(), fault),
     }
 }

@@ -36,7 +36,11 @@ fn run_answer<R: AllocGlobal + Threads + Sync>(
 {
     let initial = Initial::zeros(rt.alloc(), pages);
     match Candidate::new(rt.alloc(), log, witness, &initial) {
-        Ok(candidate) => judged_answer(rt, &candidate),
+        Ok(candidate) => {
+            let answer = judged_answer(rt, &candidate);
+            drop(candidate);
+            answer
+        }
         Err(fault) => Answer::refused_shape(rt.alloc(), fault),
     }
 }

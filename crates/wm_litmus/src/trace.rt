@@ -258,7 +258,11 @@ fn play(alloc: Global, code: ModuleCode, script: &Script) -> Result<Answer, Allo
     ensures { IfOk result (TracesOver (code_in code.exit) script.now) }
 {
     match trace(alloc, code.module, &script.plan, script.turns.as_slice()) {
-        Ok(traced) => shown(alloc, code, &traced),
+        Ok(traced) => {
+            let answer = shown(alloc, code, &traced);
+            drop(traced);
+            answer
+        }
         Err(RunFault::OutOfMemory) => Err(AllocError),
         Err(fault) => Answer::refused_run(alloc, fault),
     }
@@ -282,7 +286,9 @@ pub(crate) fn trace_answer(
                 module: &module,
                 bytes: module_bytes,
             };
-            play(alloc, code, script)
+            let answer = play(alloc, code, script);
+            drop(module);
+            answer
         }
         Err(unread) => Answer::refused_module(alloc, unread),
     }
