@@ -41,6 +41,8 @@ pub(crate) fn check_own<R: AllocGlobal + Threads + Sync>(
         misshapen,
         positions,
     } = check_log(rt, module, document.as_bytes())?;
-    drop((candidate, misshapen, positions));
+    drop(candidate);
+    drop(misshapen);
+    drop(positions);
     Ok(Checked { document, verdict })
 }
