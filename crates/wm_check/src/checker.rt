@@ -92,6 +92,7 @@ fn compare<R: AllocGlobal + Threads + Sync>(
 {
     let Replayed { answer, positions } = replay_with_positions(rt, module, candidate.log())?;
     if answer != ReplayAnswer::Same {
+        drop(positions);
         return Ok(CheckedRun {
             verdict: Verdict::Broken(Breach::Replay(answer)),
             positions: None,
@@ -134,7 +135,10 @@ fn refuse_shape<'m>(misshapen: Misshapen) -> Result<CheckedLog<'m>, AllocError>
     ensures { IfOk result (RefusesShape misshapen) }
 {
     match misshapen.fault {
-        ShapeFault::OutOfMemory => Err(AllocError),
+        ShapeFault::OutOfMemory => {
+            drop(misshapen);
+            Err(AllocError)
+        }
         _ => Ok(CheckedLog {
             verdict: Verdict::Refused(Refusal::Shape(misshapen.fault)),
             candidate: None,
@@ -162,7 +166,10 @@ fn compare_log<'m, R: AllocGlobal + Threads + Sync>(
 {
     match Candidate::of(rt.alloc(), log, witness, module.initial()) {
         Ok(candidate) => {
-            let CheckedRun { verdict, positions } = compare(rt, module, &candidate)?;
+            let Ok(CheckedRun { verdict, positions }) = compare(rt, module, &candidate) else {
+                drop(candidate);
+                return Err(AllocError);
+            };
             Ok(CheckedLog {
                 verdict,
                 candidate: Some(candidate),
@@ -214,8 +221,16 @@ fn verdict_over<R: AllocGlobal + Threads + Sync>(
 ) -> Result<Verdict, AllocError>
     ensures { IfOk result (SaysOver «module».now document_bytes.now) }
 {
-    let checked = check_log(rt, module, document_bytes)?;
-    Ok(checked.verdict)
+    let CheckedLog {
+        verdict,
+        candidate,
+        misshapen,
+        positions,
+    } = check_log(rt, module, document_bytes)?;
+    drop(candidate);
+    drop(misshapen);
+    drop(positions);
+    Ok(verdict)
 }
 
 /// The verdict on the bytes, if both can be read.

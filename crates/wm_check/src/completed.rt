@@ -32,8 +32,9 @@ fn complete_candidate(
     match complete(alloc, module, candidate.log())? {
         Completion::NoRun(answer) => Ok(CompletedDocument::NoRun(answer)),
         Completion::Completed(log) => {
-            let text = write_document(alloc, &log, candidate.witness())?;
-            Ok(CompletedDocument::Text(text))
+            let text = write_document(alloc, &log, candidate.witness());
+            drop(log);
+            Ok(CompletedDocument::Text(text?))
         }
     }
 }
@@ -48,7 +49,11 @@ fn complete_over(
     ensures { IfOk result (CompletesOver «module».now log witness) }
 {
     match Candidate::new(alloc, log, witness, module.initial()) {
-        Ok(candidate) => complete_candidate(alloc, module, &candidate),
+        Ok(candidate) => {
+            let completed = complete_candidate(alloc, module, &candidate);
+            drop(candidate);
+            completed
+        }
         Err(ShapeFault::OutOfMemory) => Err(AllocError),
         Err(fault) => Ok(CompletedDocument::Refused(Refusal::Shape(fault))),
     }

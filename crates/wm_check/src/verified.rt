@@ -44,7 +44,11 @@ fn verify_pair(
     ensures { IfOk result (VerifiesPair «module».now log witness) }
 {
     match Candidate::new(alloc, log, witness, module.initial()) {
-        Ok(candidate) => verify_candidate(alloc, module, &candidate),
+        Ok(candidate) => {
+            let verdict = verify_candidate(alloc, module, &candidate);
+            drop(candidate);
+            verdict
+        }
         Err(ShapeFault::OutOfMemory) => Err(AllocError),
         Err(fault) => Ok(Verdict::Refused(Refusal::Shape(fault))),
     }

@@ -48,23 +48,22 @@ pub fn explain_shape(
     shape_reason(alloc, misshapen, memory_bytes)
 }
 
-/// Tables of a candidate's events, with the instructions that make them.
-fn tables_of<'a, R: AllocGlobal + Threads + Sync>(
-    rt: &R,
-    code: ModuleCode<'a>,
-    candidate: &'a Candidate<'a>,
-    positions: Option<Vec<List<CodePosition>>>,
-) -> Result<EventTables<'a>, AllocError> {
-    let sites = NamedSites::of(rt, code, candidate.log(), positions)?;
-    Ok(EventTables::over(rt.alloc(), candidate, sites))
-}
-
 /// What a run rests on whose events the memory rules allow, or why they don't.
-fn events_reason(mut tables: EventTables, fault: Option<&RuleFault>) -> Result<String, AllocError> {
-    match fault {
+fn events_reason<R: AllocGlobal + Threads + Sync>(
+    rt: &R,
+    code: ModuleCode,
+    candidate: &Candidate,
+    positions: Option<Vec<List<CodePosition>>>,
+    fault: Option<&RuleFault>,
+) -> Result<String, AllocError> {
+    let sites = NamedSites::of(rt, code, candidate.log(), positions)?;
+    let mut tables = EventTables::over(rt.alloc(), candidate, sites);
+    let reason = match fault {
         None => allowed_reason(&mut tables),
         Some(fault) => rule_reason(&mut tables, fault),
-    }
+    };
+    drop(tables);
+    reason
 }
 
 /// Why a check gave its verdict on a candidate over the initial memory of a module, in sentences and a table. Events are
@@ -84,9 +83,9 @@ pub fn explain_run<R: AllocGlobal + Threads + Sync>(
 ) -> Result<String, AllocError> {
     match verdict {
         Verdict::Refused(_) => Ok(String::new(rt.alloc())),
-        Verdict::Allowed(_) => events_reason(tables_of(rt, code, candidate, positions)?, None),
+        Verdict::Allowed(_) => events_reason(rt, code, candidate, positions, None),
         Verdict::Broken(Breach::Rule(fault)) => {
-            events_reason(tables_of(rt, code, candidate, positions)?, Some(fault))
+            events_reason(rt, code, candidate, positions, Some(fault))
         }
         Verdict::Broken(Breach::Replay(answer)) => replay_reason(rt, code, candidate, *answer),
     }
@@ -104,8 +103,10 @@ pub fn explain_events(
     candidate: &Candidate,
 ) -> Result<String, AllocError> {
     let mut tables = EventTables::without_code(alloc, candidate);
-    match judgement {
+    let reason = match judgement {
         Judgement::Valid => permitted_reason(&mut tables),
         Judgement::Broken(fault) => rule_reason(&mut tables, fault),
-    }
+    };
+    drop(tables);
+    reason
 }

@@ -92,5 +92,7 @@ pub(crate) fn add_remedy(
     fault: &RuleFault,
 ) -> Result<(), AllocError> {
     let writers = writers_that_fit(alloc, candidate, fault)?;
-    add_writers(text, &writers, fault)
+    let added = add_writers(text, &writers, fault);
+    drop(writers);
+    added
 }

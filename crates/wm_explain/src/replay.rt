@@ -229,7 +229,9 @@ fn add_fault_table(
     let ids = events_of(alloc, candidate, fault, &[])?;
     let sites = sites_of(alloc, code, candidate.log(), ids.as_slice(), Some(run))?;
     let mut tables = EventTables::over(alloc, candidate, sites);
-    tables.add(text, ids.as_slice())
+    let added = tables.add(text, ids.as_slice());
+    drop(tables);
+    added
 }
 
 /// Why the log of a thread that starts isn't its run.
@@ -386,7 +388,9 @@ fn places_of(
         Some(positions) => NamedSites::at(alloc, code, log, positions)?,
         None => sites_of(alloc, code, log, ids, run)?,
     };
-    event_places(alloc, &mut sites, ids)
+    let places = event_places(alloc, &mut sites, ids);
+    drop(sites);
+    places
 }
 
 /// What the module does next in the thread that differs from its log; empty if none does.

@@ -340,7 +340,9 @@ pub(crate) fn rule_reason(
         Some(chains) => chains,
         None => List::new(alloc),
     };
-    add_grounds(&mut text, tables, fault, chains.as_slice())?;
+    let added = add_grounds(&mut text, tables, fault, chains.as_slice());
+    drop(chains);
+    added?;
     add_remedy(alloc, &mut text, candidate, fault)?;
     Ok(text)
 }

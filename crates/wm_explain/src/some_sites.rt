@@ -8,7 +8,7 @@ use std::alloc::{AllocError, Global};
 use wm_event::{EventId, Log, Start, ThreadLog};
 use wm_list::{Growing, List, Text};
 use wm_machine::CodePosition;
-use wm_replay::follow;
+use wm_replay::{Followed, follow};
 use wm_sites::ModuleCode;
 use wm_valid::ValidModule;
 
@@ -74,8 +74,15 @@ fn followed_positions(
     requires { HasPlaces number stated.now.events }
 {
     let first = with_first_events(alloc, stated, count)?;
-    match follow(alloc, module, &first, number, stated.steps)? {
-        Ok(followed) => Ok(followed.positions),
+    let followed = follow(alloc, module, &first, number, stated.steps);
+    drop(first);
+    match followed? {
+        Ok(Followed {
+            thread, positions, ..
+        }) => {
+            drop(thread);
+            Ok(positions)
+        }
         Err(_) => Ok(List::new(alloc)),
     }
 }
