@@ -85,16 +85,14 @@ pub(crate) fn compare(
         Ok(Err(_)) => return Ok(None),
         Ok(Ok(followed)) => followed,
     };
-    let compared = Compared {
+    Ok(Some(Compared {
         steps: followed.steps,
         events: followed.events,
         logged: log_next(stated.events.as_slice(), followed.events),
         made: module_next(&followed.thread),
         position: followed.thread.position(),
         positions: followed.positions,
-    };
-    drop(followed.thread);
-    Ok(Some(compared))
+    }))
 }
 
 impl fmt::Display for Next {

@@ -115,9 +115,9 @@ impl<'a> NamedSites<'a> {
         positions: Option<Vec<List<CodePosition>>>,
     ) -> Result<Self, AllocError> {
         let sites = match positions {
-            Some(positions) => RunSites::at(rt.alloc(), code, positions)?,
-            None => RunSites::of(rt, code, log)?,
-        };
+            Some(positions) => RunSites::at(rt.alloc(), code, positions),
+            None => RunSites::of(rt, code, log),
+        }?;
         NamedSites::new(rt.alloc(), code, log, sites)
     }
 

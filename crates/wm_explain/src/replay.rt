@@ -385,9 +385,9 @@ fn places_of(
     run: Option<ComparedRun>,
 ) -> Result<Vec<String>, AllocError> {
     let mut sites = match positions {
-        Some(positions) => NamedSites::at(alloc, code, log, positions)?,
-        None => sites_of(alloc, code, log, ids, run)?,
-    };
+        Some(positions) => NamedSites::at(alloc, code, log, positions),
+        None => sites_of(alloc, code, log, ids, run),
+    }?;
     let places = event_places(alloc, &mut sites, ids);
     drop(sites);
     places

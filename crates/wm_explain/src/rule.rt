@@ -340,9 +340,7 @@ pub(crate) fn rule_reason(
         Some(chains) => chains,
         None => List::new(alloc),
     };
-    let added = add_grounds(&mut text, tables, fault, chains.as_slice());
-    drop(chains);
-    added?;
+    add_grounds(&mut text, tables, fault, chains.as_slice())?;
     add_remedy(alloc, &mut text, candidate, fault)?;
     Ok(text)
 }
