@@ -92,7 +92,6 @@ fn compare<R: AllocGlobal + Threads + Sync>(
 {
     let Replayed { answer, positions } = replay_with_positions(rt, module, candidate.log())?;
     if answer != ReplayAnswer::Same {
-        drop(positions);
         return Ok(CheckedRun {
             verdict: Verdict::Broken(Breach::Replay(answer)),
             positions: None,

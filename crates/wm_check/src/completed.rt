@@ -32,9 +32,8 @@ fn complete_candidate(
     match complete(alloc, module, candidate.log())? {
         Completion::NoRun(answer) => Ok(CompletedDocument::NoRun(answer)),
         Completion::Completed(log) => {
-            let text = write_document(alloc, &log, candidate.witness());
-            drop(log);
-            Ok(CompletedDocument::Text(text?))
+            let text = write_document(alloc, &log, candidate.witness())?;
+            Ok(CompletedDocument::Text(text))
         }
     }
 }

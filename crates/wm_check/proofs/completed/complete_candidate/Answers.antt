@@ -4,8 +4,8 @@ use Rattle.wm_replay.specs.Complete.{CompletesLog}
 use Rattle.wm_check.proofs.CompletedFits.{completed_fits}
 use Rattle.wm_check.proofs.completed.complete_candidate.Goals as goal
 
-pub write_document-text-requires : goal.write_document-text-requires
-write_document-text-requires c =
+pub write_document-requires : goal.write_document-requires
+write_document-requires c =
     let m = c.args.module.now in
     let log = c.log.result.now in
     let witness = c.witness.result.now in
