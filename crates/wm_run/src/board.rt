@@ -47,7 +47,10 @@ impl<N: Assigned> Board<N> {
     {
         match self.slots.get_mut(thread as usize) {
             Some(slot) => *slot = end,
-            None => self.is_short = true,
+            None => {
+                drop(end);
+                self.is_short = true;
+            }
         }
         self.leave()
     }

@@ -135,6 +135,14 @@ pub fn gather(
     ensures own { IfOk result (IsOwnRun «module».now) }
     ensures refused { IfErr result (IsGatherFault «module».now recorder ends.items) }
 {
-    let logs = gathered_logs(alloc, module, &recorder, ends.as_slice())?;
+    let logs = match gathered_logs(alloc, module, &recorder, ends.as_slice()) {
+        Ok(logs) => logs,
+        Err(fault) => {
+            drop(recorder);
+            drop(ends);
+            return Err(fault);
+        }
+    };
+    drop(ends);
     Ok(recorded_run(recorder, logs)?)
 }

@@ -76,9 +76,16 @@ pub(crate) fn finish(
     requires threads { threads_of recorder ≡ length starts.now }
     ensures { IfOk result (IsFinished starts.now runners.now recorder) }
 {
-    let logs = logs_of(alloc, starts, runners, &recorder)?;
-    recorder.recorded_log_is_valid();
-    recorded_run(recorder, logs)
+    match logs_of(alloc, starts, runners, &recorder) {
+        Ok(logs) => {
+            recorder.recorded_log_is_valid();
+            recorded_run(recorder, logs)
+        }
+        Err(error) => {
+            drop(recorder);
+            Err(error)
+        }
+    }
 }
 
 /// The scripted run: the threads of the plan take the turns over one memory, whose store buffers drain when the script
@@ -108,7 +115,14 @@ pub fn drive(
     let starts = plan.starts.as_slice();
     let mut runners = launch(alloc, module, starts)?;
     let mut recorder = Recorder::new(alloc, module.initial(), starts.len())?;
-    play(module, &mut runners, &mut recorder, plan.steps, turns)?;
+    match play(module, &mut runners, &mut recorder, plan.steps, turns) {
+        Ok(()) => {}
+        Err(_) => {
+            drop(recorder);
+            drop(runners);
+            return Err(RunFault::OutOfMemory);
+        }
+    }
     let run = finish(alloc, starts, runners.as_slice(), recorder)?;
     Ok(run)
 }

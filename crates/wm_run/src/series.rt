@@ -179,6 +179,7 @@ fn run_over<N: Over + Assigned + Send + Sync, R: Threads + Wait + Sync, G: Gate 
     ensures refused { IfErr result.1 (IsRoundFault N.program N.plan) }
 {
     let Ok(slots) = empty_slots(alloc, plan.starts.len()) else {
+        drop(recorder);
         return (taker, Err(RunFault::OutOfMemory));
     };
     let board = LockedBoard::<R, N>::new(rt, slots);

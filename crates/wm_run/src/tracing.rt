@@ -223,14 +223,21 @@ pub fn trace(
     let starts = plan.starts.as_slice();
     let mut runners = launch(alloc, module, starts)?;
     let mut recorder = Recorder::new(alloc, module.initial(), starts.len())?;
-    let traced = play_traced(
+    let traced = match play_traced(
         alloc,
         module,
         &mut runners,
         &mut recorder,
         plan.steps,
         turns,
-    )?;
+    ) {
+        Ok(traced) => traced,
+        Err(_) => {
+            drop(recorder);
+            drop(runners);
+            return Err(RunFault::OutOfMemory);
+        }
+    };
     let run = finish(alloc, starts, runners.as_slice(), recorder)?;
     Ok(Trace { run, turns: traced })
 }

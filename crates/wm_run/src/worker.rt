@@ -182,11 +182,13 @@ fn finished(
     ensures end { result.end ≡ config_end (config_of running.entry) }
     ensures fits { EndFits result.end }
 {
+    let end = end_of(&running);
+    drop(running);
     ThreadEnd {
         program: Snapshot::of(module),
         thread,
         start,
-        end: end_of(&running),
+        end,
         steps: made.count,
         events: made.events.into_list(),
         stop: made.stop,
@@ -213,6 +215,12 @@ pub fn work<S: Shared, G: Gate>(
 {
     let own = copy_start(alloc, start)?;
     let mut running = start_thread(alloc, module, thread, start)?;
-    let made = make_steps(alloc, &mut running, thread, steps, shared, gate)?;
-    Ok(finished(module, thread, own, running, made))
+    match make_steps(alloc, &mut running, thread, steps, shared, gate) {
+        Ok(made) => Ok(finished(module, thread, own, running, made)),
+        Err(_) => {
+            drop(running);
+            drop(own);
+            Err(RunFault::OutOfMemory)
+        }
+    }
 }

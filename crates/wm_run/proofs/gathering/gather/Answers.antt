@@ -3,7 +3,7 @@ use Rattle.wm_run.proofs.gathering.gather.Goals as goal
 
 pub returns-clause-gathered : goal.returns-clause-gathered
 returns-clause-gathered c =
-    gathered_run c.args.module.now c.args.recorder c.args.ends.items c.as_slice.result.now c.in_ok-logs.logs c.in_ok-recorded_run.field-0 c.as_slice.ensures.value c.in_ok-logs.ensures.gathered
+    gathered_run c.args.module.now c.args.recorder c.args.ends.items c.as_slice.result.now c.in-Ok.logs c.in_ok-recorded_run.field-0 c.as_slice.ensures.value c.in-Ok.ensures.gathered
     c.in_ok-recorded_run.ensures.run c.in_ok-recorded_run.ensures.recording c.in_ok-recorded_run.ensures.valid
 
 pub returns-clause-own : goal.returns-clause-own

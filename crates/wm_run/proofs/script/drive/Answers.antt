@@ -18,7 +18,7 @@ returns-clause-scripted c =
       is_init = c.initial.ensures;
       launched = subst (λ starts. AreLaunched c.args.module.now starts c.in_ok-runners.runners.items) c.as_slice-starts.ensures c.in_ok-runners.ensures.launched;
       new = new;
-      plays = c.in_ok-play.ensures;
+      plays = c.in-Ok.ensures;
       finished = rw (← c.as_slice-starts.ensures, ← c.as_slice.ensures.value) c.in_ok-run.ensures;
     } in
     is_scripted c.args.module.now c.args.plan.now c.args.turns.now c.in_ok-runners.runners.items c.in_ok-recorder.recorder c.play.new.runners.items c.play.new.recorder c.in_ok-run.run' d
@@ -31,7 +31,7 @@ returns-clause-own c =
       is_init = c.initial.ensures;
       launched = subst (λ starts. AreLaunched c.args.module.now starts c.in_ok-runners.runners.items) c.as_slice-starts.ensures c.in_ok-runners.ensures.launched;
       new = new;
-      plays = c.in_ok-play.ensures;
+      plays = c.in-Ok.ensures;
       finished = rw (← c.as_slice-starts.ensures, ← c.as_slice.ensures.value) c.in_ok-run.ensures;
     } in
     is_own c.args.module.now c.args.plan.now c.args.turns.now c.in_ok-runners.runners.items c.in_ok-recorder.recorder c.play.new.runners.items c.play.new.recorder c.in_ok-run.run' d
@@ -44,7 +44,7 @@ returns-clause-within c =
       is_init = c.initial.ensures;
       launched = subst (λ starts. AreLaunched c.args.module.now starts c.in_ok-runners.runners.items) c.as_slice-starts.ensures c.in_ok-runners.ensures.launched;
       new = new;
-      plays = c.in_ok-play.ensures;
+      plays = c.in-Ok.ensures;
       finished = rw (← c.as_slice-starts.ensures, ← c.as_slice.ensures.value) c.in_ok-run.ensures;
     } in
     let planned : IsPlan c.args.plan.now c.args.turns.now = search rules in

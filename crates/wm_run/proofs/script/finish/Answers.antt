@@ -6,4 +6,4 @@ use Rattle.wm_run.proofs.script.finish.Goals as goal
 pub recorded_run-requires : goal.recorded_run-requires
 recorded_run-requires c =
     let count : length c.args.recorder.events ≡ length c.args.starts.now = ap length c.recorded_log_is_valid.ensures.recording.events ∙ length-by_thread _ _ ∙ c.requires.threads in
-    logged_events c.args.starts.now c.args.runners.now c.args.recorder c.in_ok-logs.logs c.requires.runners count c.in_ok-logs.ensures
+    logged_events c.args.starts.now c.args.runners.now c.args.recorder c.in-Ok.logs c.requires.runners count c.in-Ok.ensures

@@ -27,7 +27,7 @@ returns-clause-scripted c =
       is_init = c.initial.ensures;
       launched = subst (λ starts. AreLaunched m starts xs) c.as_slice-starts.ensures c.in_ok-runners.ensures.launched;
       new = new;
-      plays = c.in_ok-traced.ensures.plays;
+      plays = c.in-Ok.ensures.plays;
       finished = rw (← c.as_slice-starts.ensures, ← c.as_slice.ensures.value) c.in_ok-run.ensures;
     } in
     is_scripted m plan turns xs r ys r' run d
@@ -48,10 +48,10 @@ returns-clause-traced c =
       is_init = c.initial.ensures;
       launched = subst (λ starts. AreLaunched m starts xs) c.as_slice-starts.ensures c.in_ok-runners.ensures.launched;
       new = new;
-      plays = c.in_ok-traced.ensures.plays;
+      plays = c.in-Ok.ensures.plays;
       finished = rw (← c.as_slice-starts.ensures, ← c.as_slice.ensures.value) c.in_ok-run.ensures;
     } in
-    is_traced m plan turns xs r ys r' run c.in_ok-traced.traced d c.in_ok-traced.ensures.traces
+    is_traced m plan turns xs r ys r' run c.in-Ok.traced d c.in-Ok.ensures.traces
 
 pub returns-clause-own : goal.returns-clause-own
 returns-clause-own c =
@@ -69,7 +69,7 @@ returns-clause-own c =
       is_init = c.initial.ensures;
       launched = subst (λ starts. AreLaunched m starts xs) c.as_slice-starts.ensures c.in_ok-runners.ensures.launched;
       new = new;
-      plays = c.in_ok-traced.ensures.plays;
+      plays = c.in-Ok.ensures.plays;
       finished = rw (← c.as_slice-starts.ensures, ← c.as_slice.ensures.value) c.in_ok-run.ensures;
     } in
     is_own m plan turns xs r ys r' run d
@@ -90,7 +90,7 @@ returns-clause-within c =
       is_init = c.initial.ensures;
       launched = subst (λ starts. AreLaunched m starts xs) c.as_slice-starts.ensures c.in_ok-runners.ensures.launched;
       new = new;
-      plays = c.in_ok-traced.ensures.plays;
+      plays = c.in-Ok.ensures.plays;
       finished = rw (← c.as_slice-starts.ensures, ← c.as_slice.ensures.value) c.in_ok-run.ensures;
     } in
     let planned : IsPlan plan turns = search rules in

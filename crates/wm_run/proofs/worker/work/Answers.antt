@@ -3,18 +3,18 @@ use Rattle.wm_run.proofs.worker.work.Goals as goal
 
 pub finished-requires-clause-run : goal.finished-requires-clause-run
 finished-requires-clause-run g c =
-    let s = c.in_ok-made.made in
+    let s = c.in-Ok.made in
     run_of_stopped (g.G.Gate.is_open c.args.gate.now) c.args.module.now c.args.thread c.args.start.now c.in_ok-own.own c.in_ok-running.running c.make_steps.new.running s.events.items c.args.steps s.count s.stop
-    c.in_ok-running.ensures.ok c.in_ok-own.ensures c.in_ok-made.ensures.stopped
+    c.in_ok-running.ensures.ok c.in_ok-own.ensures c.in-Ok.ensures.stopped
 
 pub finished-requires-clause-stopped : goal.finished-requires-clause-stopped
 finished-requires-clause-stopped g c =
-    let s = c.in_ok-made.made in
+    let s = c.in-Ok.made in
     stop_of_stopped (g.G.Gate.is_open c.args.gate.now) c.args.module.now c.args.thread c.args.start.now c.in_ok-running.running c.make_steps.new.running s.events.items c.args.steps s.count s.stop
-    c.in_ok-running.ensures.ok c.in_ok-made.ensures.stopped
+    c.in_ok-running.ensures.ok c.in-Ok.ensures.stopped
 
-pub returns : goal.returns
-returns g c =
-    let s = c.in_ok-made.made in
+pub returns-in-Ok : goal.returns-in-Ok
+returns-in-Ok g c =
+    let s = c.in-Ok.made in
     end_of_stopped (g.G.Gate.is_open c.args.gate.now) c.args.module.now c.args.thread c.args.start.now c.in_ok-own.own c.in_ok-running.running c.make_steps.new.running s.events.items c.args.steps s.count s.stop c.finished.result
-    c.in_ok-running.ensures.ok c.in_ok-own.ensures c.in_ok-made.ensures.stopped c.finished.ensures.given c.finished.ensures.end c.finished.ensures.fits
+    c.in_ok-running.ensures.ok c.in_ok-own.ensures c.in-Ok.ensures.stopped c.finished.ensures.given c.finished.ensures.end c.finished.ensures.fits
