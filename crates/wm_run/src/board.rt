@@ -47,10 +47,7 @@ impl<N: Assigned> Board<N> {
     {
         match self.slots.get_mut(thread as usize) {
             Some(slot) => *slot = end,
-            None => {
-                drop(end);
-                self.is_short = true;
-            }
+            None => self.is_short = true,
         }
         self.leave()
     }

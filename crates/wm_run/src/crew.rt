@@ -150,13 +150,8 @@ impl<'a, R: Wait, N: Over + Assigned, G: Gate, B: Collects<N>> Crew<'a, R, N, G,
         ensures refused { IfErr result (IsRoundFault N.program N.plan) }
     {
         own_runs_are_allowed();
-        match all_ends(self.alloc, is_short, slots) {
-            Ok(ends) => gather(self.alloc, self.module, recorder, ends),
-            Err(_) => {
-                drop(recorder);
-                Err(RunFault::OutOfMemory)
-            }
-        }
+        let ends = all_ends(self.alloc, is_short, slots)?;
+        gather(self.alloc, self.module, recorder, ends)
     }
 
     /// Makes the round of this number, counted from 0.

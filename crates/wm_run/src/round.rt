@@ -264,13 +264,7 @@ pub fn run_round<R: Threads + Wait + Sync, G: Gate + Sync>(
     check_starts(alloc, module, plan.starts.as_slice())?;
     let recorder = Recorder::new(alloc, module.initial(), plan.starts.len())?;
     let (recorder, ends) = run_locked::<Brand, R, G>(rt, alloc, module, plan, recorder, gate);
-    let ends = match ends {
-        Ok(ends) => ends,
-        Err(_) => {
-            drop(recorder);
-            return Err(RunFault::OutOfMemory);
-        }
-    };
+    let ends = ends?;
     own_runs_are_allowed();
     gather(alloc, module, recorder, ends)
 }

@@ -127,14 +127,7 @@ pub fn event_sites(
     let mut run = RunSites::at(alloc, code, positions)?;
     let mut sites = Vec::new(alloc);
     for thread in log.threads() {
-        match thread_sites(alloc, &mut run, thread) {
-            Ok(of_thread) => sites.push(of_thread)?,
-            Err(error) => {
-                drop(run);
-                drop(sites);
-                return Err(error);
-            }
-        }
+        sites.push(thread_sites(alloc, &mut run, thread)?)?;
     }
     Ok(sites)
 }

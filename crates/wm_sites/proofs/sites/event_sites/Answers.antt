@@ -32,15 +32,15 @@ loop-thread-preserved c =
     let is : slice_get log n ≡ Some c.thread-item.result =
     item_at log c.threads-thread-items.result.now n c.thread-item.result c.threads-thread-items.ensures.value c.loop-thread-test.true c.thread-item.is in
     let more =
-    sites_more run.map run.positions.items log c.loop-thread.sites.items new n c.thread-item.result c.in-Ok.of_thread c.loop-thread.invariant.count c.loop-thread.invariant.sites is
-    c.in-Ok.ensures.sites c.in_ok-push-in-Ok.ensures.items
+    sites_more run.map run.positions.items log c.loop-thread.sites.items new n c.thread-item.result c.in_ok-thread_sites.field-0 c.loop-thread.invariant.count c.loop-thread.invariant.sites is
+    c.in_ok-thread_sites.ensures.sites c.in_ok-push.ensures.items
     in
     record {
-      shape = subst (λ (sites : List (List Site)). map length sites ≡ event_counts (take (n + 1) log)) (sym {A = List (List Site)} c.in_ok-push-in-Ok.ensures.items)
-          (shape_more log c.loop-thread.sites.items n c.thread-item.result c.in-Ok.of_thread is c.loop-thread.invariant.shape c.in-Ok.ensures.count);
+      shape = subst (λ (sites : List (List Site)). map length sites ≡ event_counts (take (n + 1) log)) (sym {A = List (List Site)} c.in_ok-push.ensures.items)
+          (shape_more log c.loop-thread.sites.items n c.thread-item.result c.in_ok-thread_sites.field-0 is c.loop-thread.invariant.shape c.in_ok-thread_sites.ensures.count);
       count = more.0;
-      sites = subst (λ (r : RunSites). AreSitesIn r.map r.positions.items log new) (sym c.in-Ok.ensures.same) more.1;
-      same = c.in-Ok.ensures.same ∙ c.loop-thread.invariant.same;
+      sites = subst (λ (r : RunSites). AreSitesIn r.map r.positions.items log new) (sym c.in_ok-thread_sites.ensures.same) more.1;
+      same = c.in_ok-thread_sites.ensures.same ∙ c.loop-thread.invariant.same;
     }
 
 pub returns : goal.returns

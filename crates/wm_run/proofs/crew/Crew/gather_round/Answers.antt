@@ -13,36 +13,36 @@ use Rattle.wm_run.proofs.crew.Crew.gather_round.Goals as goal
 pub gather-requires : goal.gather-requires
 gather-requires g c =
     let n = g.N.Assigned in
-    let ends = c.in-Ok.ends.items in
-    let are : AreEndsOf n.is_open n.program n.plan.starts n.plan.steps ends = full_are n.is_open n.program n.plan c.args.slots.items ends c.in-Ok.ensures c.requires.slots in
+    let ends = c.in_ok-ends.ends.items in
+    let are : AreEndsOf n.is_open n.program n.plan.starts n.plan.steps ends = full_are n.is_open n.program n.plan c.args.slots.items ends c.in_ok-ends.ensures c.requires.slots in
     λ k d lt. programs_from n.is_open n.program n.plan.starts n.plan.steps ends are k d lt ∙ sym c.args.self.now.of_module
 
-pub returns-in-Ok-clause-round : goal.returns-in-Ok-clause-round
-returns-in-Ok-clause-round g c =
+pub returns-clause-round : goal.returns-clause-round
+returns-clause-round g c =
     let n = g.N.Assigned in
-    let ends = c.in-Ok.ends.items in
+    let ends = c.in_ok-ends.ends.items in
     let r = c.args.recorder in
     let same = c.args.self.now.of_module in
-    let are : AreEndsOf n.is_open n.program n.plan.starts n.plan.steps ends = full_are n.is_open n.program n.plan c.args.slots.items ends c.in-Ok.ensures c.requires.slots in
+    let are : AreEndsOf n.is_open n.program n.plan.starts n.plan.steps ends = full_are n.is_open n.program n.plan c.args.slots.items ends c.in_ok-ends.ensures c.requires.slots in
     IfOk-weaker c.gather.result _ _ (λ run gathered. round_from n.is_open n.program n.plan ends r run c.own_runs_are_allowed.ensures are (subst (λ (m : Module). IsGathered m r ends run) same gathered)) c.gather.ensures.gathered
 
-pub returns-in-Ok-clause-within : goal.returns-in-Ok-clause-within
-returns-in-Ok-clause-within g c =
+pub returns-clause-within : goal.returns-clause-within
+returns-clause-within g c =
     let n = g.N.Assigned in
-    let ends = c.in-Ok.ends.items in
+    let ends = c.in_ok-ends.ends.items in
     let r = c.args.recorder in
     let same = c.args.self.now.of_module in
-    let are : AreEndsOf n.is_open n.program n.plan.starts n.plan.steps ends = full_are n.is_open n.program n.plan c.args.slots.items ends c.in-Ok.ensures c.requires.slots in
+    let are : AreEndsOf n.is_open n.program n.plan.starts n.plan.steps ends = full_are n.is_open n.program n.plan c.args.slots.items ends c.in_ok-ends.ensures c.requires.slots in
     IfOk-weaker c.gather.result _ _ (λ run gathered. within_from n.is_open n.program n.plan ends r run c.requires.ready.planned are (subst (λ (m : Module). IsGathered m r ends run) same gathered)) c.gather.ensures.gathered
 
-pub returns-in-Ok-clause-refused : goal.returns-in-Ok-clause-refused
-returns-in-Ok-clause-refused g c =
+pub returns-clause-refused : goal.returns-clause-refused
+returns-clause-refused g c =
     let n = g.N.Assigned in
-    let ends = c.in-Ok.ends.items in
+    let ends = c.in_ok-ends.ends.items in
     let r = c.args.recorder in
     let crew = c.args.self.now in
     let over = c.requires.over in
-    let are : AreEndsOf n.is_open n.program n.plan.starts n.plan.steps ends = full_are n.is_open n.program n.plan c.args.slots.items ends c.in-Ok.ensures c.requires.slots in
+    let are : AreEndsOf n.is_open n.program n.plan.starts n.plan.steps ends = full_are n.is_open n.program n.plan c.args.slots.items ends c.in_ok-ends.ensures c.requires.slots in
     let init : IsInit n.program (initial_of r) = subst (IsInit n.program) (sym over.initial_is) crew.can.init in
     let many : threads_of r ≡ length n.plan.starts = over.threads_are ∙ crew.can.threads_are in
     IfErr-weaker c.gather.result _ _ (λ fault is. gather_fault n.is_open n.program n.plan ends r fault c.requires.ready init many are (subst (λ (m : Module). IsGatherFault m r ends fault) crew.of_module is)) c.gather.ensures.refused
