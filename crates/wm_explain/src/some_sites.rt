@@ -77,9 +77,13 @@ fn followed_positions(
     let followed = follow(alloc, module, &first, number, stated.steps);
     drop(first);
     match followed? {
-        Ok(Followed {
-            thread, positions, ..
-        }) => {
+        Ok(
+            Followed {
+                thread,
+                positions,
+                ..
+            },
+        ) => {
             drop(thread);
             Ok(positions)
         }
