@@ -5,6 +5,7 @@ use Rattle.std.specs.declared.alloc.AllocError.{AllocError}
 use Rattle.wm_check.specs.declared.verdict.Verdict.{Verdict}
 use Rattle.wm_check.specs.declared.verdict.Verdict.TheVariants.{Allowed, Refused, Broken}
 use Rattle.wm_check.specs.Verdicts.{IfAllowed, IfBroken, IfRefused, IsAllowed, IsBrokenBy, IsRefusedFor, Says}
+use Rattle.wm_check.specs.Texts.{verdict_status, verdict_text}
 use Rattle.wm_logfile.specs.declared.fault.DocFault.{DocFault}
 use Rattle.wm_logfile.specs.declared.fault.DocFault.TheVariants.{NotJson, BadShape, BadVersion, NumberRange, TooLarge, OutOfMemory, Misplaced}
 use Rattle.wm_logfile.specs.DocumentBytes.{IsNoDocument}
@@ -12,7 +13,6 @@ use Rattle.wm_logfile.specs.Migration.{IsMisplaced}
 use Rattle.wm_litmus.specs.Tasks.{AnswersCheck, AnswersMigrate}
 use Rattle.wm_litmus.specs.Tasks.AnswersCheck.{allowed, refused_for, broken_by}
 use Rattle.wm_litmus.specs.Tasks.AnswersMigrate.{misplaced, refused}
-use Rattle.wm_check.specs.Texts.{verdict_status, verdict_text}
 use Rattle.wm_litmus.specs.Lines.{document_line_text}
 use Rattle.wm_litmus.specs.Prints.{ended}
 

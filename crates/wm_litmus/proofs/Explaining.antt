@@ -7,10 +7,10 @@ use Rattle.wm_check.specs.declared.verdict.Verdict.{Verdict}
 use Rattle.wm_check.specs.declared.verdict.Verdict.TheVariants.{Allowed, Refused, Broken}
 use Rattle.wm_check.specs.Reading.{HasCandidate, IsModuleRefusal}
 use Rattle.wm_check.specs.Verdicts.{IsRefusedFor, Says}
+use Rattle.wm_check.specs.Texts.{verdict_status, verdict_text}
 use Rattle.wm_litmus.specs.declared.answer.Answer.{Answer}
 use Rattle.wm_litmus.specs.Explanation.{AnswersExplain, AnswersGraph, Explains, Shows}
 use Rattle.wm_litmus.specs.Explanation.AnswersGraph.{pictured, told}
-use Rattle.wm_check.specs.Texts.{verdict_status, verdict_text}
 use Rattle.wm_litmus.specs.Prints.{Prints}
 
 -- bytes that spell no module are refused for that, whatever the document is

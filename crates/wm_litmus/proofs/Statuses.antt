@@ -2,6 +2,7 @@
 use Rattle.std.proofs.Common.{ℕ, ◌<◌, List, [], ◌∷◌, Option, arith}
 use Rattle.wm_check.specs.declared.verdict.Verdict.{Verdict}
 use Rattle.wm_check.specs.declared.verdict.Verdict.TheVariants as verdict
+use Rattle.wm_check.specs.Texts.{verdict_status}
 use Rattle.wm_command.specs.declared.command.DocumentTask.{DocumentTask}
 use Rattle.wm_command.specs.declared.command.DocumentTask.TheVariants as document
 use Rattle.wm_command.specs.declared.command.RunTask.{RunTask}
@@ -22,7 +23,6 @@ use Rattle.wm_litmus.specs.EventExplanation.AnswersEventGraph.{read as event_gra
 use Rattle.wm_litmus.specs.EventExplanation.GraphsRun.{pictured as graph_run_pictured, told as graph_run_told}
 use Rattle.wm_litmus.specs.Explanation.{AnswersGraph}
 use Rattle.wm_litmus.specs.Explanation.AnswersGraph.{pictured as graph_pictured, told as graph_told}
-use Rattle.wm_check.specs.Texts.{verdict_status}
 use Rattle.wm_litmus.specs.Lines.{judgement_status}
 use Rattle.wm_litmus.specs.Races.{AnswersEventRaces, AnswersRaces, AnswersRunRaces, races_status}
 use Rattle.wm_litmus.specs.Races.AnswersEventRaces.{read as event_races_read, refused as event_races_refused}

@@ -7,8 +7,8 @@ use Rattle.wm_check.specs.declared.verdict.Verdict.TheVariants.{Allowed, Refused
 use Rattle.wm_check.specs.Reading.{IsJudged}
 use Rattle.wm_check.specs.Run.{IsModuleOf}
 use Rattle.wm_check.specs.Verdicts.{IsRefusedFor, Says}
-use Rattle.wm_litmus.specs.declared.answer.Answer.{Answer}
 use Rattle.wm_check.specs.Texts.{verdict_status, verdict_text}
+use Rattle.wm_litmus.specs.declared.answer.Answer.{Answer}
 use Rattle.wm_litmus.specs.Prints.{Prints, ended}
 
 -- ---- the command `explain`

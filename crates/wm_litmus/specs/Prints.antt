@@ -4,8 +4,8 @@ use Rattle.wm_check.specs.declared.checker.Unread.{Unread}
 use Rattle.wm_check.specs.declared.checker.Unread.TheVariants as unread
 use Rattle.wm_check.specs.declared.verdict.Refusal.{Refusal}
 use Rattle.wm_check.specs.declared.verdict.Verdict.TheVariants as verdict
-use Rattle.wm_litmus.specs.declared.answer.Answer.{Answer}
 use Rattle.wm_check.specs.Texts.{verdict_text}
+use Rattle.wm_litmus.specs.declared.answer.Answer.{Answer}
 
 -- a line ends in one newline
 abbrev pub ended : List ℕ → List ℕ

@@ -8,6 +8,7 @@ use Rattle.wm_check.specs.declared.verdict.Verdict.{Verdict}
 use Rattle.wm_check.specs.declared.verdict.Verdict.TheVariants.{Allowed, Refused, Broken}
 use Rattle.wm_check.specs.Run.{IsCandidateOf, IsModuleOf}
 use Rattle.wm_check.specs.Verdicts.{Says}
+use Rattle.wm_check.specs.Texts.{verdict_status, verdict_text}
 use Rattle.wm_event.specs.declared.event.EventKey.{EventKey}
 use Rattle.wm_event.specs.declared.log.ThreadLog.{ThreadLog}
 use Rattle.wm_event.specs.declared.witness.Witness.{Witness}
@@ -24,7 +25,6 @@ use Rattle.wm_races.specs.declared.site.SiteRace.{SiteRace}
 use Rattle.wm_races.specs.Races.{IsRaceList}
 use Rattle.wm_races.specs.Report.{HasSites, IsRaceReport}
 use Rattle.wm_litmus.specs.declared.answer.Answer.{Answer}
-use Rattle.wm_check.specs.Texts.{verdict_status, verdict_text}
 use Rattle.wm_litmus.specs.Lines.{document_line_text}
 use Rattle.wm_litmus.specs.Prints.{Gives, ended}
 use Rattle.wm_litmus.specs.Rules.{AnswersRun, run_over}

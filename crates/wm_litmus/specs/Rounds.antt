@@ -14,6 +14,7 @@ use Rattle.wm_check.specs.declared.verdict.Refusal.TheVariants as refusal
 use Rattle.wm_check.specs.declared.verdict.Verdict.TheVariants.{Allowed, Refused}
 use Rattle.wm_check.specs.Reading.{IsModuleRefusal, SaysOver}
 use Rattle.wm_check.specs.Run.{IsModuleOf}
+use Rattle.wm_check.specs.Texts.{verdict_text}
 use Rattle.wm_decode.specs.Bounds.{max_module_bytes}
 use Rattle.wm_logfile.specs.Limits.{max_document_bytes}
 use Rattle.wm_logfile.specs.declared.fault.DocFault.TheVariants.{TooLarge}
@@ -26,7 +27,6 @@ use Rattle.wm_litmus.specs.declared.answer.Answer.{Answer}
 use Rattle.wm_litmus.specs.Counts.{CountsOneMore, Counts}
 use Rattle.wm_litmus.specs.Own.{run_text}
 use Rattle.wm_litmus.specs.Input.{IsReadOf}
-use Rattle.wm_check.specs.Texts.{verdict_text}
 use Rattle.wm_litmus.specs.Lines.{run_fault_line_text, word_line_text}
 use Rattle.wm_litmus.specs.Outcomes.{outcome_text}
 use Rattle.wm_litmus.specs.Prints.{ended}

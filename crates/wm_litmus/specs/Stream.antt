@@ -6,6 +6,7 @@ use Rattle.wm_check.specs.declared.verdict.Refusal.{Refusal}
 use Rattle.wm_check.specs.Reading.{IsModuleRefusal}
 use Rattle.wm_check.specs.Run.{IsModuleOf}
 use Rattle.wm_check.specs.Verified.{Verifies}
+use Rattle.wm_check.specs.Texts.{verdict_status, verdict_text}
 use Rattle.wm_logfile.specs.Limits.{max_document_bytes}
 use Rattle.wm_stream.specs.declared.answer.LineAnswer.{LineAnswer}
 use Rattle.wm_stream.specs.declared.answer.LineStatus.{LineStatus}
@@ -13,7 +14,6 @@ use Rattle.wm_stream.specs.Answers.{Answered, AreAnswers, overall, status_code, 
 use Rattle.wm_stream.specs.Lines.{cut_lines}
 use Rattle.wm_litmus.specs.declared.stream.Judge.{Judge}
 use Rattle.wm_litmus.specs.declared.stream.Judge.TheVariants as judge
-use Rattle.wm_check.specs.Texts.{verdict_status, verdict_text}
 use Rattle.wm_litmus.specs.Prints.{ended}
 
 -- ---- the command `verify`

@@ -8,6 +8,7 @@ use Rattle.wm_check.specs.declared.verdict.Verdict.TheVariants.{Allowed, Refused
 use Rattle.wm_check.specs.declared.verdict.Verdict.TheVariants as verdict
 use Rattle.wm_check.specs.Completed.{HasNoRun, IsCompletedTo}
 use Rattle.wm_check.specs.Verdicts.{IsAllowed, IsBrokenBy, IsRefusedFor}
+use Rattle.wm_check.specs.Texts.{verdict_text}
 use Rattle.wm_logfile.specs.declared.fault.DocFault.{DocFault}
 use Rattle.wm_logfile.specs.declared.fault.DocFault.TheVariants.{Misplaced}
 use Rattle.wm_logfile.specs.DocumentBytes.{IsNoDocument}
@@ -19,7 +20,6 @@ use Rattle.wm_command.specs.declared.command.RunTask.{RunTask}
 use Rattle.wm_command.specs.declared.command.RunTask.TheVariants as run
 use Rattle.wm_litmus.specs.EventExplanation.{AnswersEventExplain, AnswersEventGraph}
 use Rattle.wm_litmus.specs.Explanation.{AnswersExplain, AnswersGraph}
-use Rattle.wm_check.specs.Texts.{verdict_text}
 use Rattle.wm_litmus.specs.Lines.{document_line_text}
 use Rattle.wm_litmus.specs.Prints.{ended}
 use Rattle.wm_litmus.specs.Races.{AnswersEventRaces, AnswersRaces}

@@ -8,6 +8,7 @@ use Rattle.wm_check.specs.declared.verdict.Refusal.{Refusal}
 use Rattle.wm_check.specs.declared.verdict.Verdict.TheVariants.{Refused}
 use Rattle.wm_check.specs.Reading.{IsModuleRefusal}
 use Rattle.wm_check.specs.Run.{IsModuleOf}
+use Rattle.wm_check.specs.Texts.{verdict_text}
 use Rattle.wm_event.specs.declared.event.Event.{Event}
 use Rattle.wm_event.specs.declared.event.EventId.{EventId}
 use Rattle.wm_event.specs.declared.event.EventKey.{EventKey}
@@ -35,7 +36,6 @@ use Rattle.wm_run.specs.Scripted.{IsScripted}
 use Rattle.wm_run.specs.Traced.{IsTraced}
 use Rattle.wm_words.specs.declared.words.Script.{Script}
 use Rattle.wm_litmus.specs.declared.answer.Answer.{Answer}
-use Rattle.wm_check.specs.Texts.{verdict_text}
 use Rattle.wm_litmus.specs.Lines.{run_fault_line_text}
 use Rattle.wm_litmus.specs.Outcomes.{outcome_text}
 use Rattle.wm_litmus.specs.Prints.{Gives, ended}

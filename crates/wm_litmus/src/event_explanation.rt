@@ -2,9 +2,9 @@
 //! as a picture. The document is read and judged once.
 ghost use Rattle.std.specs.Prelude.{◌≡◌, ◌≤◌, IfOk};
 ghost use Rattle.wm_event.specs.LoggedRun.{execution};
+ghost use Rattle.wm_check.specs.Texts.{verdict_status};
 ghost use Rattle.wm_litmus.specs.EventExplanation.{AnswersEventExplain, AnswersEventGraph, ExplainsExecution, ExplainsFault, ExplainsRun};
 ghost use Rattle.wm_litmus.specs.EventExplanation.{ExplainsShape, GraphsExecution, GraphsRun};
-ghost use Rattle.wm_check.specs.Texts.{verdict_status};
 ghost use Rattle.wm_litmus.specs.Lines.{judgement_status};
 ghost use Rattle.wm_litmus.specs.Prints.{Gives};
 ghost use Rattle.wm_litmus.specs.Rules.{run_over};
