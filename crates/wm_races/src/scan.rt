@@ -111,5 +111,8 @@ pub fn races(
     let candidate = before.candidate();
     let begins = Begins::of(alloc, candidate)?;
     let table = ClassTable::of_candidate(alloc, candidate, sites)?;
-    report_races(rt, alloc, before, &begins, &table, sites)
+    let lines = report_races(rt, alloc, before, &begins, &table, sites);
+    drop(begins);
+    drop(table);
+    lines
 }
