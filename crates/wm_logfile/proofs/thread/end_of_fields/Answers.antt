@@ -1,6 +1,9 @@
 use Rattle.std.proofs.Common.{arith}
+use Rattle.std.proofs.lemmas.Grind.{common_steps}
 use Rattle.serde_json.specs.Find.{as_str}
 use Rattle.serde_json.specs.View.{view}
+use Rattle.wm_logfile.specs.Grammar.{result}
+use Rattle.wm_logfile.specs.Reading.{end_from}
 use Rattle.wm_logfile.proofs.EndWords.{IsOther, other_text, no_text, one_is_no_end, fault_of_one, two_are_no_end, fault_of_two}
 use Rattle.wm_logfile.proofs.thread.end_of_fields.Goals.{in_default-as_str-via-in-Some+in_default-as_str, in_default-as_str-via-in_default, in_default-as_str-2-via-in-Some+in_default-as_str-2, in_default-as_str-2-via-in_default}
 use Rattle.wm_logfile.proofs.thread.end_of_fields.Goals as goal
@@ -32,3 +35,75 @@ returns-in_default-as_str-2-clause-given c =
 pub returns-in_default-as_str-2-clause-fault : goal.returns-in_default-as_str-2-clause-fault
 returns-in_default-as_str-2-clause-fault c =
     rw c.child-in_default-as_str-2.ensures.is (fault_of_two c.args.fields.now c.word-item-then-fields-lt3.result c.args.path.now (grind arith) c.word-item-then-fields-lt3.is (other_in_two c))
+
+pub returns-in_err-values-in-Some-done-as_str-clause-given : goal.returns-in_err-values-in-Some-done-as_str-clause-given
+unfolding end_from result
+returns-in_err-values-in-Some-done-as_str-clause-given c = grind (arith, common_steps)
+
+pub returns-in_err-values-in-Some-done-as_str-clause-fault : goal.returns-in_err-values-in-Some-done-as_str-clause-fault
+unfolding end_from result
+returns-in_err-values-in-Some-done-as_str-clause-fault c = grind (arith, common_steps)
+
+pub returns-in_err-value-in-Some-done-as_str-clause-given : goal.returns-in_err-value-in-Some-done-as_str-clause-given
+unfolding end_from result
+returns-in_err-value-in-Some-done-as_str-clause-given c = grind (arith, common_steps)
+
+pub returns-in_err-value-in-Some-done-as_str-clause-fault : goal.returns-in_err-value-in-Some-done-as_str-clause-fault
+unfolding end_from result
+returns-in_err-value-in-Some-done-as_str-clause-fault c = grind (arith, common_steps)
+
+pub returns-in_err-kind-in-Some-trap-clause-given : goal.returns-in_err-kind-in-Some-trap-clause-given
+unfolding end_from result
+returns-in_err-kind-in-Some-trap-clause-given c = grind (arith, common_steps)
+
+pub returns-in_err-kind-in-Some-trap-clause-fault : goal.returns-in_err-kind-in-Some-trap-clause-fault
+unfolding end_from result
+returns-in_err-kind-in-Some-trap-clause-fault c = grind (arith, common_steps)
+
+pub returns-in-Some-cut-clause-given : goal.returns-in-Some-cut-clause-given
+unfolding end_from result
+returns-in-Some-cut-clause-given c = grind (arith, common_steps)
+
+pub returns-in-Some-cut-clause-fault : goal.returns-in-Some-cut-clause-fault
+unfolding end_from result
+returns-in-Some-cut-clause-fault c = grind (arith, common_steps)
+
+pub returns-in-Some-done-clause-given : goal.returns-in-Some-done-clause-given
+unfolding end_from result
+returns-in-Some-done-clause-given c = grind (arith, common_steps)
+
+pub returns-in-Some-done-clause-fault : goal.returns-in-Some-done-clause-fault
+unfolding end_from result
+returns-in-Some-done-clause-fault c = grind (arith, common_steps)
+
+pub returns-in_ok-value-in-Some-done-as_str-clause-given : goal.returns-in_ok-value-in-Some-done-as_str-clause-given
+unfolding end_from result
+returns-in_ok-value-in-Some-done-as_str-clause-given c = grind (arith, common_steps)
+
+pub returns-in_ok-value-in-Some-done-as_str-clause-fault : goal.returns-in_ok-value-in-Some-done-as_str-clause-fault
+unfolding end_from result
+returns-in_ok-value-in-Some-done-as_str-clause-fault c = grind (arith, common_steps)
+
+pub returns-in_ok-kind-in-Some-trap-clause-given : goal.returns-in_ok-kind-in-Some-trap-clause-given
+unfolding end_from result
+returns-in_ok-kind-in-Some-trap-clause-given c = grind (arith, common_steps)
+
+pub returns-in_ok-kind-in-Some-trap-clause-fault : goal.returns-in_ok-kind-in-Some-trap-clause-fault
+unfolding end_from result
+returns-in_ok-kind-in-Some-trap-clause-fault c = grind (arith, common_steps)
+
+pub returns-in-Some-cut-as_str-clause-given : goal.returns-in-Some-cut-as_str-clause-given
+unfolding end_from result
+returns-in-Some-cut-as_str-clause-given c = grind (arith, common_steps)
+
+pub returns-in-Some-cut-as_str-clause-fault : goal.returns-in-Some-cut-as_str-clause-fault
+unfolding end_from result
+returns-in-Some-cut-as_str-clause-fault c = grind (arith, common_steps)
+
+pub returns-in_default-clause-given : goal.returns-in_default-clause-given
+unfolding end_from result
+returns-in_default-clause-given c = grind (arith, common_steps)
+
+pub returns-in_default-clause-fault : goal.returns-in_default-clause-fault
+unfolding end_from result
+returns-in_default-clause-fault c = grind (arith, common_steps)
