@@ -172,13 +172,18 @@ fn read_definitions<'a>(
     let (defined, rest) = section(alloc, SectionId::Memories, &memories, rest)?;
     let (globals, rest) = section(alloc, SectionId::Globals, &Globals, rest)?;
     let (exports, rest) = section(alloc, SectionId::Exports, &ExportNames, rest)?;
-    let (_, rest) = section(alloc, SectionId::Elements, &NoItems, rest)?;
     let definitions = Definitions {
         memory: defined.flatten(),
         globals: items_or_none(alloc, globals),
         exports: exports_or_none(alloc, exports),
     };
-    Ok((definitions, rest))
+    match section(alloc, SectionId::Elements, &NoItems, rest) {
+        Ok((_, rest)) => Ok((definitions, rest)),
+        Err(fault) => {
+            drop(definitions);
+            Err(fault)
+        }
+    }
 }
 
 /// The contents of the sections up to the element section.
