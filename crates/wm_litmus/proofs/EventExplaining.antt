@@ -11,7 +11,8 @@ use Rattle.wm_logfile.specs.declared.fault.DocFault.TheVariants.{OutOfMemory}
 use Rattle.wm_logfile.specs.DocumentBytes.{IsDocumentOf, IsNoDocument}
 use Rattle.wm_litmus.specs.declared.answer.Answer.{Answer}
 use Rattle.wm_litmus.specs.EventExplanation.{AnswersEventExplain, ExplainsExecution, ExplainsFault, ExplainsLine, ExplainsRun, ExplainsShape, GainsReasons}
-use Rattle.wm_litmus.specs.Lines.{document_line_text, judgement_text, shape_line_text}
+use Rattle.wm_event.specs.Texts.{judgement_text}
+use Rattle.wm_litmus.specs.Lines.{document_line_text, shape_line_text}
 use Rattle.wm_litmus.specs.Prints.{Gives, Prints, ended}
 use Rattle.wm_litmus.specs.Rules.{run_over}
 use Rattle.wm_litmus.specs.Rules.AnswersRun.{judged, misshapen}

@@ -13,7 +13,8 @@ use Rattle.wm_logfile.specs.declared.fault.DocFault.{DocFault}
 use Rattle.wm_logfile.specs.declared.fault.DocFault.TheVariants.{OutOfMemory}
 use Rattle.wm_logfile.specs.DocumentBytes.{IsDocumentOf}
 use Rattle.wm_litmus.specs.declared.answer.Answer.{Answer}
-use Rattle.wm_litmus.specs.Lines.{document_line_text, judgement_status, judgement_text, shape_line_text}
+use Rattle.wm_event.specs.Texts.{judgement_text}
+use Rattle.wm_litmus.specs.Lines.{document_line_text, judgement_status, shape_line_text}
 use Rattle.wm_litmus.specs.Prints.{ended}
 use Rattle.wm_litmus.specs.Rules.{AnswersRules, AnswersRun, run_over}
 

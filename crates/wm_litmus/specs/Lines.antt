@@ -1,6 +1,6 @@
 -- The lines of the answers that are not verdicts, and the status of a judgement.
 use Rattle.std.specs.Prelude.{ℕ, List, [], ◌++◌, codes}
-use Rattle.wm_event.specs.Texts.{rule_fault_text, shape_fault_text}
+use Rattle.wm_event.specs.Texts.{shape_fault_text}
 use Rattle.wm_event.specs.declared.rule.Judgement.{Judgement}
 use Rattle.wm_event.specs.declared.rule.Judgement.TheVariants.{Valid, Broken}
 use Rattle.wm_event.specs.declared.shape_fault.ShapeFault.{ShapeFault}
@@ -10,10 +10,6 @@ use Rattle.wm_words.specs.declared.fault.WordFault.{WordFault}
 use Rattle.wm_words.specs.declared.fault.WordFault.TheVariants.{Turns, Rounds, Start, OutOfMemory}
 use Rattle.wm_logfile.specs.Texts.{doc_fault_text}
 use Rattle.wm_logfile.specs.declared.fault.DocFault.{DocFault}
-
-abbrev pub judgement_text : Judgement → List ℕ
-judgement_text Valid = codes "allowed"
-judgement_text (Broken fault) = codes "broken " ++ rule_fault_text fault
 
 abbrev pub judgement_status : Judgement → ℕ
 judgement_status Valid = 0

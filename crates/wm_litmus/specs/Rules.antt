@@ -10,7 +10,8 @@ use Rattle.wm_event.specs.LoggedRun.{LoggedRun, execution}
 use Rattle.wm_event.specs.Shape.{IsWellShaped, Misshapes, shape_rank}
 use Rattle.wm_logfile.specs.declared.fault.DocFault.{DocFault}
 use Rattle.wm_logfile.specs.DocumentBytes.{IsDocumentOf, IsNoDocument}
-use Rattle.wm_litmus.specs.Lines.{document_line_text, judgement_status, judgement_text, shape_line_text}
+use Rattle.wm_event.specs.Texts.{judgement_text}
+use Rattle.wm_litmus.specs.Lines.{document_line_text, judgement_status, shape_line_text}
 use Rattle.wm_litmus.specs.Prints.{ended}
 
 -- this number of pages of zeros, of 65,536 bytes each

@@ -4,7 +4,8 @@ ghost use Rattle.wm_check.specs.Texts.{verdict_status, verdict_text};
 ghost use Rattle.wm_litmus.specs.Drive.{PrintsRun};
 ghost use Rattle.wm_litmus.specs.EventExplanation.{GainsReasons};
 ghost use Rattle.wm_litmus.specs.Explanation.{PrintsReasons};
-ghost use Rattle.wm_litmus.specs.Lines.{document_line_text, judgement_status, judgement_text, run_fault_line_text, shape_line_text, word_line_text, words_line_text};
+ghost use Rattle.wm_event.specs.Texts.{judgement_text};
+ghost use Rattle.wm_litmus.specs.Lines.{document_line_text, judgement_status, run_fault_line_text, shape_line_text, word_line_text, words_line_text};
 ghost use Rattle.wm_litmus.specs.Prints.{Prints, PrintsUnread};
 ghost use Rattle.wm_litmus.specs.Rounds.{PrintsRounds};
 

@@ -1,27 +1,11 @@
 //! The lines that answers print, without their newline.
-ghost use Rattle.std.specs.Prelude.{◌≡◌, IfOk, Some, string_bytes};
+ghost use Rattle.std.specs.Prelude.{◌≡◌, IfOk, string_bytes};
 ghost use Rattle.wm_check.specs.Texts.{verdict_text};
-ghost use Rattle.wm_litmus.specs.Lines.{judgement_text};
+ghost use Rattle.wm_event.specs.Texts.{judgement_text};
 
 use std::alloc::{AllocError, Global};
-use std::fmt;
 use wm_check::Verdict;
 use wm_event::Judgement;
-
-/// A judgement, as it prints.
-#[derive(Clone, Copy)]
-struct JudgementLine<'a>(&'a Judgement);
-
-impl fmt::Display for JudgementLine<'_> {
-    ghost output = { λ line. Some (judgement_text line.0.now) };
-
-    fn fmt<W: fmt::Write>(&self, f: &mut fmt::Formatter<W>) -> fmt::Result {
-        match self.0 {
-            Judgement::Valid => f.write_str("allowed"),
-            Judgement::Broken(fault) => write!(f, "broken {fault}"),
-        }
-    }
-}
 
 /// The line of a judgement: `allowed`, or `broken V5 case 3 at 1.0 byte 0 writer init other 0.0`. The last part is left
 /// out if the fault has no other write.
@@ -32,8 +16,7 @@ impl fmt::Display for JudgementLine<'_> {
 pub fn rules_line(alloc: Global, judgement: &Judgement) -> Result<String, AllocError>
     ensures { IfOk result (λ line. string_bytes line ≡ judgement_text judgement.now) }
 {
-    let line = JudgementLine(judgement);
-    format!(in alloc; "{line}")
+    format!(in alloc; "{judgement}")
 }
 
 /// The line of a verdict: `allowed threads=2 events=4`, `refused` with the part and its fault, as in

@@ -1,5 +1,6 @@
 use Rattle.std.proofs.lemmas.Result.{IfOk-weaker}
-use Rattle.wm_litmus.specs.Lines.{judgement_status, judgement_text}
+use Rattle.wm_event.specs.Texts.{judgement_text}
+use Rattle.wm_litmus.specs.Lines.{judgement_status}
 use Rattle.wm_litmus.proofs.EventExplaining.{explains_line}
 use Rattle.wm_litmus.proofs.event_explanation.explain_candidate.Goals as goal
 
