@@ -4,12 +4,15 @@ use Rattle.wm_ast.specs.declared.module.Module.{Module}
 use Rattle.wm_event.specs.Limits.{max_steps}
 use Rattle.wm_event.specs.declared.log.End.{End}
 use Rattle.wm_event.specs.declared.log.ThreadLog.{ThreadLog}
+use Rattle.wm_machine.specs.State.{config_of}
 use Rattle.wm_replay.specs.declared.answer.ReplayAnswer.{ReplayAnswer}
 use Rattle.wm_replay.specs.declared.answer.ReplayAnswer.TheVariants.{Same, StartRefused, Differs}
+use Rattle.wm_replay.specs.declared.by_log.Followed.{Followed}
 use Rattle.wm_replay.specs.declared.completing.Completion.{Completion}
 use Rattle.wm_replay.specs.declared.completing.Completion.TheVariants.{Completed, NoRun}
 use Rattle.wm_replay.specs.declared.completing.LongestRun.{LongestRun}
 use Rattle.wm_replay.specs.Comparison.{IsOther}
+use Rattle.wm_replay.specs.Following.{RunsByLog}
 use Rattle.wm_replay.specs.Replay.{AreRuns, IsRun}
 
 -- the log of a thread, with other steps and another end
@@ -31,6 +34,10 @@ pub record IsLongestRun (m : Module) (k : ℕ) (t completed : ThreadLog) : Type 
 -- no number of steps makes the events of thread k; a replay of 1,000,000 steps answers this
 abbrev pub MakesNoRun : Module → ℕ → ThreadLog → ReplayAnswer → Type 0
 MakesNoRun m k t answer = ((n : ℕ) → n ≤ max_steps → ¬ MakesEvents m k t n) × IsOther m k (ending t max_steps t.end) answer
+
+-- the thread has run by its log for at most 1,000,000 steps
+abbrev pub RunsLongest : ℕ → ThreadLog → Followed → Type 0
+RunsLongest k t f = RunsByLog f.thread.module k t max_steps (config_of f.thread) f.steps f.events
 
 -- the longest run of thread k, or why no number of steps makes its events
 abbrev pub FindsLongestRun : Module → ℕ → ThreadLog → Result LongestRun ReplayAnswer → Type 0

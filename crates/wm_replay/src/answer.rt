@@ -15,6 +15,7 @@ pub enum Place {
     End,
 }
 
+/// Prints the place, as in `event 0`, or `end`.
 impl fmt::Display for Place {
     ghost output = { λ place. Some (place_text place) };
 
@@ -37,6 +38,7 @@ pub enum ReplayAnswer {
     Differs(usize, Place),
 }
 
+/// Prints the first difference, as in `thread 0 start NoExport` or `thread 0 event 0`; or `same`.
 impl fmt::Display for ReplayAnswer {
     ghost output = { λ answer. Some (replay_answer_text answer) };
 

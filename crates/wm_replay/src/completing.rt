@@ -1,10 +1,10 @@
 //! Logs with the steps and the ends of their runs.
 ghost use Rattle.std.specs.Prelude.{◌≡◌, IfOk};
-ghost use Rattle.wm_replay.specs.Complete.{CompletesLog, CompletesThread, FindsLongestRun, HasCompletion, ending};
+ghost use Rattle.wm_replay.specs.Complete.{CompletesLog, CompletesThread, FindsLongestRun, HasCompletion, RunsLongest, ending};
 ghost use Rattle.wm_replay.specs.Following.{HasPlaces};
 
 use crate::answer::{Place, ReplayAnswer};
-use crate::by_log::{end_of, follow};
+use crate::by_log::{Followed, end_of, follow};
 use std::alloc::{AllocError, Global};
 use wm_event::{End, Log, MAX_STEPS, Start, ThreadLog};
 use wm_list::{Growing, List, Text};
@@ -51,6 +51,23 @@ fn with_end(alloc: Global, stated: &ThreadLog, run: LongestRun) -> Result<Thread
     })
 }
 
+/// The steps and the end of a thread that was run by its log for at most [`MAX_STEPS`] steps, or why no run makes the
+/// events of its log.
+fn run_of(followed: &Followed, stated: &ThreadLog, number: usize) -> Result<LongestRun, ReplayAnswer>
+    requires places { HasPlaces number stated.now.events }
+    requires runs { RunsLongest number stated.now followed.now }
+    ensures { FindsLongestRun followed.now.thread.module number stated.now result }
+{
+    if followed.events < stated.events.len() {
+        let place = Place::Event(followed.events);
+        return Err(ReplayAnswer::Differs(number, place));
+    }
+    Ok(LongestRun {
+        steps: followed.steps,
+        end: end_of(&followed.thread),
+    })
+}
+
 /// The longest run of a thread that makes the events of its log, or why no run does.
 fn longest_run(
     alloc: Global,
@@ -61,19 +78,14 @@ fn longest_run(
     requires { HasPlaces number stated.now.events }
     ensures { IfOk result (FindsLongestRun «module».now number stated.now) }
 {
-    let followed = match follow(alloc, module, stated, number, MAX_STEPS) {
-        Err(refused) => return Err(refused),
-        Ok(Err(fault)) => return Ok(Err(ReplayAnswer::StartRefused(number, fault))),
-        Ok(Ok(followed)) => followed,
-    };
-    if followed.events < stated.events.len() {
-        let place = Place::Event(followed.events);
-        return Ok(Err(ReplayAnswer::Differs(number, place)));
+    match follow(alloc, module, stated, number, MAX_STEPS)? {
+        Err(fault) => Ok(Err(ReplayAnswer::StartRefused(number, fault))),
+        Ok(followed) => {
+            let run = run_of(&followed, stated, number);
+            drop(followed);
+            Ok(run)
+        }
     }
-    Ok(Ok(LongestRun {
-        steps: followed.steps,
-        end: end_of(&followed.thread),
-    }))
 }
 
 /// The log of a thread with the steps and the end of its longest run, or why it has no run.
