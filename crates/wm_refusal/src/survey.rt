@@ -382,7 +382,7 @@ pub(crate) fn unsupported_parts(alloc: Global, bytes: &[u8]) -> Result<Vec<Use>,
         imported_functions: 0,
         memories: 0,
     };
-    let mut reader = ByteReader { bytes, at: 8 };
+    let mut reader = ByteReader::at_sections(bytes);
     for _ in 0..bytes.len() {
         let offset = reader.at;
         let Some(number) = reader.byte() else { break };
