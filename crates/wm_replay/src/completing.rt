@@ -53,7 +53,11 @@ fn with_end(alloc: Global, stated: &ThreadLog, run: LongestRun) -> Result<Thread
 
 /// The steps and the end of a thread that was run by its log for at most [`MAX_STEPS`] steps, or why no run makes the
 /// events of its log.
-fn run_of(followed: &Followed, stated: &ThreadLog, number: usize) -> Result<LongestRun, ReplayAnswer>
+fn run_of(
+    followed: &Followed,
+    stated: &ThreadLog,
+    number: usize,
+) -> Result<LongestRun, ReplayAnswer>
     requires places { HasPlaces number stated.now.events }
     requires runs { RunsLongest number stated.now followed.now }
     ensures { FindsLongestRun followed.now.thread.module number stated.now result }
