@@ -29,8 +29,8 @@ NEEDS_LONG = "full_log"
 # An edit of the gate has this word as the condition of its bug: whether its switch is on. It becomes `true` if the bug
 # is built alone.
 SWITCH = "IS_PLANTED"
-# The crate that has the number of the bug whose switch is on, which all planted crates use; and the number for none. In
-# the program's bytes it is found once, and a copy of the program has another number there.
+# The crate that has the number of the bug whose switch is on; and the number for none. In the program's bytes it is
+# found once, and a copy of the program has another number there.
 SWITCHES = "wm_access"
 NONE_IS_ON = 0x5D8E_F1C3_97A2_64B9
 # How long a row of the gate may take with and without its bug. Without it each takes a second; with threads one after
@@ -117,9 +117,21 @@ def tried(edit, niceness):
         return seen(program, ["long.rows"] if NEEDS_LONG in edit else ["--without", "long.rows"])
 
 
+def let_use_switches(folder, crates):
+    """Has these crates of the copy use the crate of the switches, if they don't."""
+    with open(f"{folder}/crates.txt", encoding="utf-8") as file:
+        lines = file.read().splitlines()
+    with open(f"{folder}/crates.txt", "w", encoding="utf-8") as file:
+        for line in lines:
+            head, _, used = line.partition(":")
+            is_meant = head.split(" ")[0] in crates and SWITCHES not in used.split()
+            file.write(f"{line} {SWITCHES}\n" if is_meant else f"{line}\n")
+
+
 def built_together(listed, folder, niceness):
     """The bytes of a program with all of these bugs, of which none is on, or nothing if it is not built."""
     copy_sources(folder)
+    let_use_switches(folder, {edit.split("/")[-2] for edit in listed})
     for number, edit in enumerate(listed, 1):
         plant(edit, folder, f"({SWITCHES}::planted_bug() == {number})")
     with open(f"{folder}/crates/{SWITCHES}/src/lib.rt", "a", encoding="utf-8") as file:
