@@ -1,7 +1,7 @@
 #!/usr/bin/env python3
 """Lints the scripts: Python with pyflakes and at most 120 columns, shell with shellcheck. Lints the crates and pages:
-a line of a clause has at most 140 characters, and each name that a page on the crates cites is one of theirs. The last
-line is `N passed, N failed`.
+a line of a clause has at most 140 characters, each name that a page on the crates cites is one of theirs, and each
+library that crates.txt lists is named by its crate. The last line is `N passed, N failed`.
 
     scripts/lint.py        it needs Debian's python3-pyflakes and shellcheck; what is missing is named and not counted
 """
@@ -10,7 +10,7 @@ import os
 import shutil
 import subprocess
 
-from wmlabtools import TOP, cited, clauses, harness
+from wmlabtools import TOP, cited, clauses, harness, prover
 
 COLUMNS = 120
 
@@ -62,6 +62,10 @@ def lint_crates(tally):
     tally.check(not wide, f"clauses have lines of more than {clauses.COLUMNS} characters", "\n".join(wide))
     for page, faults in cited.faults().items():
         tally.check(not faults, f"{page} cites what is not there", "\n".join(faults))
+    for crate, used in prover.dependencies().items():
+        named = cited.words_below(f"crates/{crate}", endings=(".rt", ".antt"))
+        unnamed = [library for library in used if library not in named]
+        tally.check(not unnamed, f"crates.txt lists for {crate} what it doesn't name", " ".join(unnamed))
 
 
 def main():
