@@ -9,7 +9,7 @@ use Rattle.wm_event.specs.Witness.{writers_in}
 use Rattle.wm_event.specs.declared.event.Event.{Event}
 use Rattle.wm_event.specs.declared.event.EventKey.{EventKey}
 use Rattle.wm_event.specs.declared.log.ThreadLog.{ThreadLog}
-use Rattle.wm_graph.specs.Edges.{AreComplete, HasEdge, HasEdgesOf, HasEdgesTo, HasReads, HasShownEdgesTo, Keeps, ReadsByte}
+use Rattle.wm_graph.specs.Edges.{AreComplete, HasEdge, HasEdgesOf, HasEdgesTo, HasReads, HasShownEdgesTo, Keeps, ReadsByte, ShowsContrary, ordered}
 use Rattle.wm_graph.specs.declared.edges.Edge.{Edge}
 use Rattle.wm_graph.specs.declared.edges.EdgeKind.{EdgeKind}
 use Rattle.wm_graph.specs.declared.shown.Shown.{Shown}
@@ -20,8 +20,8 @@ use Rattle.wm_event.specs.declared.event.EventId.{EventId}
 use Rattle.wm_event.specs.declared.event.EventId.TheVariants.{Init, At}
 
 -- each byte of a run has its edge
-abbrev pub IsDrawn : List Edge → EventKey → WriterRun → Type 0
-IsDrawn edges reader run = (k : ℕ) → NamesByte run k → HasEdge edges (ReadsByte k) run.writer reader
+abbrev pub IsDrawn : LoggedRun → List Edge → EventKey → WriterRun → Type 0
+IsDrawn x edges reader run = (k : ℕ) → NamesByte run k → HasEdge x edges (ReadsByte k) run.writer reader
 
 pub keeps_itself : (edges : List Edge) → Keeps edges edges
 keeps_itself edges = λ edge here. here
@@ -32,16 +32,25 @@ keeps_after first second third one two = λ edge here. two edge (one edge here)
 pub keeps_pushed : (edges : List Edge) (edge : Edge) → Keeps edges (edges ++ edge ∷ [])
 keeps_pushed edges edge = λ other here. Contains-append_left edges (edge ∷ []) other here
 
-pub kept_edge : (old new : List Edge) (P : EdgeKind → Type 0) (a : EventId) (b : EventKey) → Keeps old new → HasEdge old P a b → HasEdge new P a b
-kept_edge old new P a b keeps there = (there.0, there.1, keeps record { from = a; to = b; kind = there.0 } there.2)
+pub kept_contrary : (x : LoggedRun) (old new : List Edge) (a : EventId) (b : EventKey) → Keeps old new → ShowsContrary x old a b → ShowsContrary x new a b
+kept_contrary x old new Init b keeps shows = tt
+kept_contrary x old new (At a) b keeps shows = λ before. keeps (ordered b a) (shows before)
 
-pub kept_drawn : (old new : List Edge) (reader : EventKey) (run : WriterRun) → Keeps old new → IsDrawn old reader run → IsDrawn new reader run
-kept_drawn old new reader run keeps drawn = λ k names. kept_edge old new (ReadsByte k) run.writer reader keeps (drawn k names)
+pub kept_edge : (x : LoggedRun) (old new : List Edge) (P : EdgeKind → Type 0) (a : EventId) (b : EventKey) → Keeps old new → HasEdge x old P a b → HasEdge x new P a b
+kept_edge x old new P a b keeps edge = record {
+  kind = edge.kind;
+  has = edge.has;
+  is_there = keeps record { from = a; to = b; kind = edge.kind } edge.is_there;
+  contrary = kept_contrary x old new a b keeps edge.contrary;
+}
+
+pub kept_drawn : (x : LoggedRun) (old new : List Edge) (reader : EventKey) (run : WriterRun) → Keeps old new → IsDrawn x old reader run → IsDrawn x new reader run
+kept_drawn x old new reader run keeps drawn = λ k names. kept_edge x old new (ReadsByte k) run.writer reader keeps (drawn k names)
 
 pub kept_edges_to : (x : LoggedRun) (old new : List Edge) (event : Event) → Keeps old new → HasEdgesTo x old event → HasEdgesTo x new event
 kept_edges_to x old new event keeps there = (
-  λ a next. kept_edge old new (λ kind. kind ≡ Sequenced) (At a) (key_of event) keeps (there.0 a next),
-  λ k w reads. kept_edge old new (ReadsByte k) w (key_of event) keeps (there.1 k w reads),
+  λ a next. kept_edge x old new (λ kind. kind ≡ Sequenced) (At a) (key_of event) keeps (there.0 a next),
+  λ k w reads. kept_edge x old new (ReadsByte k) w (key_of event) keeps (there.1 k w reads),
 )
 
 pub kept_shown_edges_to : (x : LoggedRun) (shown : Shown) (old new : List Edge) (event : Event) → Keeps old new → HasShownEdgesTo x shown old event → HasShownEdgesTo x shown new event
@@ -57,7 +66,7 @@ kept_complete x shown old new keeps complete =
 
 -- the byte of a read is in a run of its writer, so its edge is there
 pub reads_of_runs : (x : LoggedRun) (edges : List Edge) (reader : EventKey) (runs : List WriterRun) → AreFromWriters (writers_in x.witness reader) runs
-    → All (IsDrawn edges reader) runs → HasReads x edges reader
+    → All (IsDrawn x edges reader) runs → HasReads x edges reader
 reads_of_runs x edges reader runs from drawn = λ k w reads.
     let named = from.each k w reads in
     let run = named.1 in
@@ -65,9 +74,9 @@ reads_of_runs x edges reader runs from drawn = λ k w reads.
     let names = named.3 in
     let writer = from.from_writers named.0 run here k names in
     let same : run.writer ≡ w = same_Some run.writer w (sym writer ∙ reads) in
-    let drawn_run : IsDrawn edges reader run = subst (IsDrawn edges reader) (get_or_from_slice_get runs named.0 run run here)
+    let drawn_run : IsDrawn x edges reader run = subst (IsDrawn x edges reader) (get_or_from_slice_get runs named.0 run run here)
     (drawn named.0 run (slice_get_within runs named.0 run here)) in
-    subst (λ w. HasEdge edges (ReadsByte k) w reader) same (drawn_run k names)
+    subst (λ w. HasEdge x edges (ReadsByte k) w reader) same (drawn_run k names)
 
 -- what holds of an item that is there, read with one default, holds with each
 pub at_any_default : {X : Type 0} (P : X → Type 0) (xs : List X) (i : ℕ) (default : X) → i < length xs → P (get_or xs i default) → HoldsAt P xs i

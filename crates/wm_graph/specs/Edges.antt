@@ -70,9 +70,21 @@ IsRight x edge = States x edge.kind edge.from edge.to
 
 -- ---- no edge is missing
 
--- these edges include one from a to b whose kind has this property
-abbrev pub HasEdge : List Edge → (EdgeKind → Type 0) → EventId → EventKey → Type 0
-HasEdge edges P a b = (kind : EdgeKind) × P kind × Contains edges record { from = a; to = b; kind = kind }
+-- the edge of the order from a to b
+abbrev pub ordered : EventKey → EventKey → Edge
+ordered a b = record { from = At a; to = b; kind = Order }
+
+-- if the order lists b before a, contrary to an edge from a to b, these edges include one of the order from b to a
+abbrev pub ShowsContrary : LoggedRun → List Edge → EventId → EventKey → Type 0
+ShowsContrary x edges Init b = Unit {0}
+ShowsContrary x edges (At a) b = Precedes x (At b) a → Contains edges (ordered b a)
+
+-- these edges include one from a to b whose kind has this property, and what the order has to the contrary
+pub record HasEdge (x : LoggedRun) (edges : List Edge) (P : EdgeKind → Type 0) (a : EventId) (b : EventKey) : Type 0 where
+  pub kind : EdgeKind
+  pub has : P kind
+  pub is_there : Contains edges record { from = a; to = b; kind = kind }
+  pub contrary : ShowsContrary x edges a b
 
 -- the edge is of reads-from, and byte k is one of its bytes
 abbrev pub ReadsByte : ℕ → EdgeKind → Type 0
@@ -80,16 +92,16 @@ ReadsByte k (ReadsBytes bytes) = (bytes.first ≤ k) × (k ≤ bytes.last)
 ReadsByte k _ = ⊥
 
 -- an edge leads to b from the event before it in its thread
-abbrev pub HasSequenced : List Edge → EventKey → Type 0
-HasSequenced edges b = (a : EventKey) → IsNext (At a) b → HasEdge edges (λ kind. kind ≡ Sequenced) (At a) b
+abbrev pub HasSequenced : LoggedRun → List Edge → EventKey → Type 0
+HasSequenced x edges b = (a : EventKey) → IsNext (At a) b → HasEdge x edges (λ kind. kind ≡ Sequenced) (At a) b
 
 -- an edge leads to b from the writer of each byte that it reads
 abbrev pub HasReads : LoggedRun → List Edge → EventKey → Type 0
-HasReads x edges b = (k : ℕ) (w : EventId) → ReadsFrom (execution x) b k w → HasEdge edges (ReadsByte k) w b
+HasReads x edges b = (k : ℕ) (w : EventId) → ReadsFrom (execution x) b k w → HasEdge x edges (ReadsByte k) w b
 
 -- all edges to an event are included
 abbrev pub HasEdgesTo : LoggedRun → List Edge → Event → Type 0
-HasEdgesTo x edges event = HasSequenced edges (key_of event) × HasReads x edges (key_of event)
+HasEdgesTo x edges event = HasSequenced x edges (key_of event) × HasReads x edges (key_of event)
 
 -- all edges to an event are included, if it is shown
 abbrev pub HasShownEdgesTo : LoggedRun → Shown → List Edge → Event → Type 0

@@ -5,7 +5,7 @@ ghost use Rattle.wm_event.specs.declared.event.EventId.TheVariants.{At};
 ghost use Rattle.wm_event.specs.declared.event.EventKey.{EventKey};
 ghost use Rattle.wm_event.specs.LoggedRun.{LoggedRun};
 ghost use Rattle.wm_event.specs.Witness.{writers_in};
-ghost use Rattle.wm_graph.specs.Edges.{AreComplete, HasEdgesOf, HasEdgesTo, HasReads, HasSequenced, HasShownEdgesTo, IsNext, IsRight, Keeps, ReadsByte, SyncsWith, sequenced};
+ghost use Rattle.wm_graph.specs.Edges.{AreComplete, HasEdgesOf, HasEdgesTo, HasReads, HasSequenced, HasShownEdgesTo, IsNext, IsRight, Keeps, Precedes, ReadsByte, ShowsContrary, SyncsWith, ordered, sequenced};
 ghost use Rattle.wm_hb.specs.ReadsFrom.{AreFromWriters, NamesByte};
 
 use crate::shown::Shown;
@@ -51,8 +51,10 @@ pub(crate) struct Edge {
 
 /// The edge of the order between the events of an edge, if the order lists the second event before the first.
 fn order_edge(candidate: &Candidate, edge: Edge) -> Option<Edge>
-    ensures { IfSome result (IsRight candidate.now) }
+    ensures right { IfSome result (IsRight candidate.now) }
+    ensures contrary { (a : EventKey) → edge.from ≡ At a → Precedes candidate.now (At edge.to) a → result ≡ Some (ordered edge.to a) }
 {
+    let _witness = candidate.witness();
     let EventId::At(from) = edge.from else {
         return None;
     };
@@ -76,6 +78,7 @@ fn add_edge(edges: &mut List<Edge>, candidate: &Candidate, edge: Edge) -> Result
     ensures right { All (IsRight candidate.now) edges.new }
     ensures kept { OnOk result (Keeps edges.old edges.new) }
     ensures added { OnOk result (Contains edges.new edge) }
+    ensures contrary { OnOk result (ShowsContrary candidate.now edges.new edge.from edge.to) }
 {
     edges.push(edge)?;
     if let Some(order) = order_edge(candidate, edge) {
@@ -175,7 +178,7 @@ fn add_sequenced(
     requires { All (IsRight candidate.now) edges.old }
     ensures right { All (IsRight candidate.now) edges.new }
     ensures kept { OnOk result (Keeps edges.old edges.new) }
-    ensures sequenced { OnOk result (HasSequenced edges.new (key_of event.now)) }
+    ensures sequenced { OnOk result (HasSequenced candidate.now edges.new (key_of event.now)) }
 {
     match sequenced_edge(event) {
         Some(edge) => add_edge(edges, candidate, edge),

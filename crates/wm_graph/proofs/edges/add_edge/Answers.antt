@@ -9,7 +9,7 @@ pub returns-in_ok-push-2-clause-right : goal.returns-in_ok-push-2-clause-right
 returns-in_ok-push-2-clause-right c =
     let right = IsRight c.args.candidate.now in
     let all = subst (All right) (sym c.in_ok-push.ensures.ok) (All-push right c.args.edges.now c.args.edge c.requires.edges c.requires.edge) in
-    subst (All right) (sym c.in_ok-push-2.ensures.ok) (All-push right c.push.new.self c.in-Some.order all c.in-Some.ensures)
+    subst (All right) (sym c.in_ok-push-2.ensures.ok) (All-push right c.push.new.self c.in-Some.order all c.in-Some.ensures.right)
 
 pub returns-in_ok-push-2-clause-kept : goal.returns-in_ok-push-2-clause-kept
 returns-in_ok-push-2-clause-kept c =

@@ -13,6 +13,6 @@ returns-clause-kept c =
 pub returns-clause-complete : goal.returns-clause-complete
 returns-clause-complete c =
     let key = key_of c.args.event.now in (
-      λ a next. kept_edge c.add_sequenced.new.edges c.add_reads.new.edges (λ kind. kind ≡ Sequenced) (At a) key c.in_ok-add_reads.ensures.kept (c.in_ok-add_sequenced.ensures.sequenced a next),
+      λ a next. kept_edge c.args.candidate.now c.add_sequenced.new.edges c.add_reads.new.edges (λ kind. kind ≡ Sequenced) (At a) key c.in_ok-add_reads.ensures.kept (c.in_ok-add_sequenced.ensures.sequenced a next),
       subst (HasReads c.args.candidate.now c.add_reads.new.edges) c.key.ensures c.in_ok-add_reads.ensures.reads,
     )

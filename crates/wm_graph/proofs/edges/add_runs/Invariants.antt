@@ -8,5 +8,5 @@ abbrev pub invariant-loop-run : goal.invariant-loop-run
 invariant-loop-run l = record {
   right : All (IsRight l.candidate) l.edges;
   kept : Keeps l.initial.edges l.edges;
-  drawn : AllWithin (IsDrawn l.edges l.reader) l.runs 0 l.run-index;
+  drawn : AllWithin (IsDrawn l.candidate l.edges l.reader) l.runs 0 l.run-index;
 }
