@@ -46,8 +46,8 @@ fn add_events(text: &mut String, tables: &mut EventTables) -> Result<(), AllocEr
 ///
 /// Only if an allocation fails.
 pub(crate) fn allowed_reason(tables: &mut EventTables) -> Result<String, AllocError> {
-    let mut text = String::new(tables.alloc);
-    text.push_str(
+    let mut text = String::from_str(
+        tables.alloc,
         "Each thread's events and end are those of its run on the values that it read. The memory rules allow the events with these writers in this order.\n",
     )?;
     add_threads(&mut text, tables.candidate.log().threads())?;
@@ -62,8 +62,8 @@ pub(crate) fn allowed_reason(tables: &mut EventTables) -> Result<String, AllocEr
 ///
 /// Only if an allocation fails.
 pub(crate) fn permitted_reason(tables: &mut EventTables) -> Result<String, AllocError> {
-    let mut text = String::new(tables.alloc);
-    text.push_str(
+    let mut text = String::from_str(
+        tables.alloc,
         "The memory rules allow the events with these writers in this order. No module was given, so the threads' runs were not checked: `explain MODULE DOC` checks them.\n",
     )?;
     add_events(&mut text, tables)?;

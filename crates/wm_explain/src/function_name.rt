@@ -21,11 +21,12 @@ pub(crate) enum FunctionName<'m> {
 /// A function in a sentence.
 impl fmt::Display for FunctionName<'_> {
     fn fmt<W: fmt::Write>(&self, f: &mut fmt::Formatter<W>) -> fmt::Result {
-        match self {
-            FunctionName::Exported(name) => write!(f, "the exported function {}", ShortText(name)),
-            FunctionName::Named(name) => write!(f, "the function {}", ShortText(name)),
-            FunctionName::Index(index) => write!(f, "function {index}"),
-        }
+        let kind = match self {
+            FunctionName::Exported(_) => "the exported function ",
+            FunctionName::Named(_) => "the function ",
+            FunctionName::Index(_) => "",
+        };
+        write!(f, "{kind}{}", BriefName(*self))
     }
 }
 

@@ -35,13 +35,13 @@ fn site_at(
     map.site(position)
 }
 
-/// An instruction with its place in a function.
-fn phrase(
-    alloc: Global,
+/// Adds an instruction with its place in a function, up to the end of the line.
+fn add_phrase(
+    text: &mut String,
     instr: InstrHere,
     site: Option<Site>,
     function: FunctionName,
-) -> Result<String, AllocError> {
+) -> Result<(), AllocError> {
     match site {
         Some(
             Site {
@@ -49,25 +49,27 @@ fn phrase(
                 offset,
                 ..
             },
-        ) => format!(in alloc;
-            "{instr} at 0x{offset:x}, instruction {instruction} of {function} (counted from 0, else and end included)"
+        ) => writeln!(
+            text,
+            "{instr} at 0x{offset:x}, instruction {instruction} of {function} (counted from 0, else and end included)."
         ),
-        None => format!(in alloc; "{instr} in {function}"),
+        None => writeln!(text, "{instr} in {function}."),
     }
 }
 
-/// The position of a thread that starts with the export `start`: the instruction, its offset in the module's bytes, its
-/// number and its function.
+/// Adds the position of a thread that starts with the export `start`, up to the end of the line: the instruction, its
+/// offset in the module's bytes, its number and its function.
 ///
 /// # Errors
 ///
 /// Only if an allocation fails.
-pub(crate) fn position_phrase(
+pub(crate) fn add_position_phrase(
     alloc: Global,
+    text: &mut String,
     code: ModuleCode,
     start: &str,
     position: CodePosition,
-) -> Result<String, AllocError> {
+) -> Result<(), AllocError> {
     let CodePosition { func, block, at } = position;
     let body = code.module.module().block(func, block);
     let instr = InstrHere {
@@ -76,5 +78,5 @@ pub(crate) fn position_phrase(
     };
     let site = site_at(alloc, code, position)?;
     let names = FunctionNames::of(alloc, code)?;
-    phrase(alloc, instr, site, names.name(start, func))
+    add_phrase(text, instr, site, names.name(start, func))
 }

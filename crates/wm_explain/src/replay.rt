@@ -2,7 +2,7 @@
 
 use crate::compared::{Compared, Next, compare};
 use crate::named_site::{NamedSites, event_places};
-use crate::position::position_phrase;
+use crate::position::add_position_phrase;
 use crate::row::EventTables;
 use crate::rule::events_of;
 use crate::some_sites::{ComparedRun, sites_of};
@@ -53,31 +53,36 @@ fn add_difference(text: &mut String, compared: &Compared) -> Result<(), AllocErr
     )
 }
 
+/// How far a run gets by its log and how it goes on, as it prints.
+#[derive(Clone, Copy)]
+struct RunPhrase<'a>(&'a Compared);
+
+impl fmt::Display for RunPhrase<'_> {
+    fn fmt<W: fmt::Write>(&self, f: &mut fmt::Formatter<W>) -> fmt::Result {
+        let compared = self.0;
+        let steps = Count(u64::from(compared.steps), "step");
+        let events = MatchPhrase(compared.events);
+        match compared.made {
+            Next::Ended(end) => write!(f, "{steps}; {events}; then it {}", EndPhrase(end)),
+            Next::Limit => write!(f, "{events}; it has not ended after {MAX_STEPS} steps"),
+            next => write!(f, "{steps}; {events}; next access: {next}"),
+        }
+    }
+}
+
 /// Adds how the log and the run end.
 fn add_ends(
     text: &mut String,
     thread: LoggedThread,
     compared: &Compared,
 ) -> Result<(), AllocError> {
-    let said = Count(u64::from(thread.log.steps), "step");
+    let steps = Count(u64::from(thread.log.steps), "step");
     let end = AndEndPhrase(thread.log.end);
-    let steps = Count(u64::from(compared.steps), "step");
-    let events = MatchPhrase(compared.events);
-    writeln!(text, "  the log has     {said}, {end}")?;
-    match compared.made {
-        Next::Ended(end) => {
-            let end = EndPhrase(end);
-            writeln!(text, "  the module has  {steps}; {events}; then it {end}")
-        }
-        Next::Limit => writeln!(
-            text,
-            "  the module has  {events}; it has not ended after {MAX_STEPS} steps"
-        ),
-        next => writeln!(
-            text,
-            "  the module has  {steps}; {events}; next access: {next}"
-        ),
-    }
+    let run = RunPhrase(compared);
+    writeln!(
+        text,
+        "  the log has     {steps}, {end}\n  the module has  {run}"
+    )
 }
 
 /// Adds how the number of the log's steps compares with that of a run that ended.
@@ -168,15 +173,15 @@ fn add_position(
     thread: LoggedThread,
     compared: &Compared,
 ) -> Result<(), AllocError> {
-    let start = thread.log.start.name.as_str();
-    let place = position_phrase(alloc, code, start, compared.position)?;
     match compared.made {
-        Next::Ended(_) => writeln!(text, "The run ended at {place}."),
+        Next::Ended(_) => text.push_str("The run ended at ")?,
         _ => {
             let steps = Count(u64::from(compared.steps), "step");
-            writeln!(text, "After {steps} the next instruction is {place}.")
+            write!(text, "After {steps} the next instruction is ")?;
         }
     }
+    let start = thread.log.start.name.as_str();
+    add_position_phrase(alloc, text, code, start, compared.position)
 }
 
 /// What a fault of V1 at a read of the thread suggests about the thread's run.
@@ -234,22 +239,23 @@ fn add_fault_table(
     added
 }
 
-/// Why the log of a thread that starts isn't its run.
-fn thread_reason(
+/// Adds why the log of a thread that starts isn't its run.
+fn add_thread_reason(
     alloc: Global,
+    text: &mut String,
     code: ModuleCode,
     thread: LoggedThread,
     compared: &Compared,
     place: Place,
-) -> Result<String, AllocError> {
+) -> Result<(), AllocError> {
     let number = thread.number;
     let name = JsonText(thread.log.start.name.as_str());
-    let mut text = format!(in alloc;
-        "Thread {number} runs the exported function {name}. Its log isn't what the module does.\n"
+    writeln!(
+        text,
+        "Thread {number} runs the exported function {name}. Its log isn't what the module does."
     )?;
-    add_place(&mut text, thread, compared, place)?;
-    add_position(alloc, &mut text, code, thread, compared)?;
-    Ok(text)
+    add_place(text, thread, compared, place)?;
+    add_position(alloc, text, code, thread, compared)
 }
 
 /// Runs the thread of this number by its log; None if there is no such thread, or if it doesn't start.
@@ -297,7 +303,8 @@ fn compared_reason<R: AllocGlobal + Threads + Sync>(
     compared: &Compared,
     place: Place,
 ) -> Result<String, AllocError> {
-    let mut text = thread_reason(rt.alloc(), code, thread, compared, place)?;
+    let mut text = String::new(rt.alloc());
+    add_thread_reason(rt.alloc(), &mut text, code, thread, compared, place)?;
     add_judgement(rt, &mut text, code, candidate, thread, compared)?;
     Ok(text)
 }

@@ -86,21 +86,21 @@ impl RuleSentence {
         }
     }
 
-    /// Writes the sentence on written values.
-    fn write_values<W: fmt::Write>(&self, f: &mut fmt::Formatter<W>) -> fmt::Result {
-        let RuleFault {
-            case,
-            event,
-            byte,
-            writer,
-            ..
-        } = self.fault;
+    /// Writes which byte the read takes, up to its writer.
+    fn write_taken<W: fmt::Write>(&self, f: &mut fmt::Formatter<W>) -> fmt::Result {
+        let RuleFault { event, byte, .. } = self.fault;
         let address = self.address;
         write!(
             f,
             "{event} takes its byte {byte}, at address {address}, from "
-        )?;
-        match case {
+        )
+    }
+
+    /// Writes the sentence on written values.
+    fn write_values<W: fmt::Write>(&self, f: &mut fmt::Formatter<W>) -> fmt::Result {
+        let writer = self.fault.writer;
+        self.write_taken(f)?;
+        match self.fault.case {
             1 => f.write_str("itself: an update can't read from its own write."),
             2 => write!(f, "{writer}, which doesn't write that address."),
             _ => write!(
@@ -137,21 +137,20 @@ impl RuleSentence {
         let RuleFault {
             case,
             event,
-            byte,
             writer,
             other,
             ..
         } = self.fault;
-        let address = self.address;
         let other = OtherName(other);
+        self.write_taken(f)?;
         match case {
             1 => write!(
                 f,
-                "{event} takes its byte {byte}, at address {address}, from {writer}, but {event} happens before {writer}: a read can't take a byte from a write that it happens before."
+                "{writer}, but {event} happens before {writer}: a read can't take a byte from a write that it happens before."
             ),
             _ => write!(
                 f,
-                "{event} takes its byte {byte}, at address {address}, from {writer}, but {other} writes that address too, {writer} happens before {other}, and {other} happens before {event}: so the byte of {writer} was overwritten before {event} reads."
+                "{writer}, but {other} writes that address too, {writer} happens before {other}, and {other} happens before {event}: so the byte of {writer} was overwritten before {event} reads."
             ),
         }
     }
@@ -218,25 +217,22 @@ struct RuleName(Rule);
 
 impl fmt::Display for RuleName {
     fn fmt<W: fmt::Write>(&self, f: &mut fmt::Formatter<W>) -> fmt::Result {
-        match self.0 {
+        let name = match self.0 {
             Rule::WrittenValues => {
-                f.write_str(
-                    "V1, written values: each byte read has the value that its writer wrote there.",
-                )
+                "V1, written values: each byte read has the value that its writer wrote there."
             }
-            Rule::Order => f.write_str(
-                "V2, order: what happens before an event precedes it in the order.",
-            ),
-            Rule::Coherence => f.write_str(
-                "V3, coherence: a read doesn't happen before its writer, and no write of the byte happens between them.",
-            ),
-            Rule::NoTearing => f.write_str(
-                "V4, no tearing: a read that may not tear takes bytes from at most one write of its range that may not tear.",
-            ),
-            Rule::SequentialConsistency => f.write_str(
-                "V5, sequential consistency: in three cases no atomic write may be between a read and its writer in the order.",
-            ),
-        }
+            Rule::Order => "V2, order: what happens before an event precedes it in the order.",
+            Rule::Coherence => {
+                "V3, coherence: a read doesn't happen before its writer, and no write of the byte happens between them."
+            }
+            Rule::NoTearing => {
+                "V4, no tearing: a read that may not tear takes bytes from at most one write of its range that may not tear."
+            }
+            Rule::SequentialConsistency => {
+                "V5, sequential consistency: in three cases no atomic write may be between a read and its writer in the order."
+            }
+        };
+        f.write_str(name)
     }
 }
 

@@ -16,6 +16,19 @@ pub(crate) struct BlockAt {
     pub lacks_else: bool,
 }
 
+impl BlockAt {
+    /// A block whose first instruction has this number.
+    fn new(block: usize, first: usize, ty: BlockType, label: BlockType) -> BlockAt {
+        BlockAt {
+            block,
+            first,
+            result: ty,
+            label,
+            lacks_else: false,
+        }
+    }
+}
+
 /// An instruction of a function, or the end of a block, with the operands of its block.
 #[derive(Drop)]
 pub(crate) struct InstrAt<'m> {
@@ -47,17 +60,20 @@ fn opcodes(instr: &Instr, sizes: &[usize]) -> usize {
     }
 }
 
-/// How many opcodes each block has, with the opcode that closes it. A block has a smaller number than the blocks in it.
-fn block_sizes(alloc: Global, blocks: &[Block]) -> Result<Vec<usize>, AllocError> {
-    let mut sizes = Vec::new(alloc);
-    for _ in blocks {
-        sizes.push(0usize)?;
+/// How many opcodes a block has, with the opcode that closes it, given how many the blocks in it have.
+fn block_size(block: &[Instr], sizes: &[usize]) -> usize {
+    let mut size = 1usize;
+    for instr in block {
+        size = size.saturating_add(opcodes(instr, sizes));
     }
+    size
+}
+
+/// How many opcodes each block has. A block has a smaller number than the blocks in it.
+fn block_sizes(alloc: Global, blocks: &[Block]) -> Result<Vec<usize>, AllocError> {
+    let mut sizes = vec![in alloc; 0usize; blocks.len()]?;
     for (number, block) in blocks.iter().enumerate().rev() {
-        let mut size = 1usize;
-        for instr in block.as_slice() {
-            size = size.saturating_add(opcodes(instr, sizes.as_slice()));
-        }
+        let size = block_size(block.as_slice(), sizes.as_slice());
         if let Some(place) = sizes.get_mut(number) {
             *place = size;
         }
@@ -67,16 +83,9 @@ fn block_sizes(alloc: Global, blocks: &[Block]) -> Result<Vec<usize>, AllocError
 
 /// The block of an instruction that has the opcode of this number.
 fn inner_block(instr: &Instr, first: usize, number: usize, sizes: &[usize]) -> Option<BlockAt> {
-    let inside = |block: usize, first: usize, ty: BlockType, label: BlockType| BlockAt {
-        block,
-        first,
-        result: ty,
-        label,
-        lacks_else: false,
-    };
     match instr {
-        Instr::Block(ty, block) => Some(inside(*block, first, *ty, *ty)),
-        Instr::Loop(ty, block) => Some(inside(*block, first, *ty, None)),
+        Instr::Block(ty, block) => Some(BlockAt::new(*block, first, *ty, *ty)),
+        Instr::Loop(ty, block) => Some(BlockAt::new(*block, first, *ty, None)),
         Instr::If {
             result,
             then_block,
@@ -84,9 +93,9 @@ fn inner_block(instr: &Instr, first: usize, number: usize, sizes: &[usize]) -> O
             else_part,
         } => {
             let second = first.saturating_add(sizes.get(*then_block).copied()?);
-            let mut found = inside(*then_block, first, *result, *result);
+            let mut found = BlockAt::new(*then_block, first, *result, *result);
             if number >= second {
-                found = inside(*else_block, second, *result, *result);
+                found = BlockAt::new(*else_block, second, *result, *result);
             }
             found.lacks_else = *else_part == Else::Absent;
             Some(found)
@@ -134,13 +143,7 @@ fn walk<'m>(
 /// The body of the function, as a block.
 fn body(scope: &Scope) -> BlockAt {
     let result = scope.function_result();
-    BlockAt {
-        block: 0,
-        first: 0,
-        result,
-        label: result,
-        lacks_else: false,
-    }
+    BlockAt::new(0, 0, result, result)
 }
 
 /// The opcode of this number in a function that is well-typed up to it; None if there is no such opcode.

@@ -1,46 +1,28 @@
 //! Why a module is not valid.
 
 use crate::instr_at::{InstrAt, find_instr};
-use crate::type_fault::{OpcodePhrase, section_fault, type_fault};
+use crate::type_fault::{section_fault, type_fault};
 use std::alloc::{AllocError, Global};
 use std::fmt;
-use wm_ast::Module;
+use wm_ast::{InstrText, Module};
 use wm_decode::{DecodeFault, decode};
 use wm_valid::{FaultKind, Location, ValidFault};
 
 /// Which rule a module breaks.
-#[derive(Clone, Copy)]
-pub(crate) struct ValidSentence(pub FaultKind);
-
-impl fmt::Display for ValidSentence {
-    fn fmt<W: fmt::Write>(&self, f: &mut fmt::Formatter<W>) -> fmt::Result {
-        match self.0 {
-            FaultKind::BadType => f.write_str(
-                "The operands, a label, a global or an offset don't have the types that are expected there, or an immutable global is set.",
-            ),
-            FaultKind::Index => f.write_str(
-                "An index names no type, function, local, global or memory.",
-            ),
-            FaultKind::Label => {
-                f.write_str(
-                    "A branch names a label that is greater than the number of blocks around it.",
-                )
-            }
-            FaultKind::Alignment => f.write_str(
-                "The alignment of a plain access may not be greater than its width, and that of an atomic access has to be its width.",
-            ),
-            FaultKind::DataOutOfRange => {
-                f.write_str("A data segment isn't inside the initial memory.")
-            }
-            FaultKind::MemoryAbsent => {
-                f.write_str(
-                    "An instruction or a data segment needs a memory, and the module has none.",
-                )
-            }
-            FaultKind::MemoryLimits => f.write_str(
-                "The memory's maximum is below its minimum, or above 65536 pages.",
-            ),
-        }
+fn rule(kind: FaultKind) -> &'static str {
+    match kind {
+        FaultKind::BadType =>
+            "The operands, a label, a global or an offset don't have the types that are expected there, or an immutable global is set.",
+        FaultKind::Index => "An index names no type, function, local, global or memory.",
+        FaultKind::Label =>
+            "A branch names a label that is greater than the number of blocks around it.",
+        FaultKind::Alignment =>
+            "The alignment of a plain access may not be greater than its width, and that of an atomic access has to be its width.",
+        FaultKind::DataOutOfRange => "A data segment isn't inside the initial memory.",
+        FaultKind::MemoryAbsent =>
+            "An instruction or a data segment needs a memory, and the module has none.",
+        FaultKind::MemoryLimits =>
+            "The memory's maximum is below its minimum, or above 65536 pages.",
     }
 }
 
@@ -60,15 +42,6 @@ impl fmt::Display for LocationPhrase {
     }
 }
 
-/// The module that is not valid; None if the bytes spell no module.
-fn read_again(alloc: Global, bytes: &[u8]) -> Result<Option<Module>, AllocError> {
-    match decode(alloc, bytes) {
-        Ok(module) => Ok(Some(module)),
-        Err(DecodeFault::OutOfMemory) => Err(AllocError),
-        Err(DecodeFault::At(_, _)) => Ok(None),
-    }
-}
-
 /// What is wrong at an opcode of a function.
 fn fault_at(
     alloc: Global,
@@ -79,16 +52,13 @@ fn fault_at(
     if kind == FaultKind::BadType {
         return type_fault(alloc, module, found);
     }
-    let sentence = ValidSentence(kind);
+    let sentence = rule(kind);
     match found.instr {
-        Some(_) => {
-            let opcode = OpcodePhrase {
-                instr: found.instr,
-                is_body: false,
-            };
+        Some(instr) => {
+            let opcode = InstrText(instr);
             format!(in alloc; "The instruction is {opcode}. {sentence}")
         }
-        None => format!(in alloc; "{sentence}"),
+        None => String::from_str(alloc, sentence),
     }
 }
 
@@ -112,20 +82,20 @@ fn fault_text(
         }
         Location::Module => {}
     }
-    let sentence = ValidSentence(kind);
-    format!(in alloc; "{sentence}")
+    String::from_str(alloc, rule(kind))
 }
 
-/// What is wrong at a place of the module of these bytes.
+/// What is wrong at a place of the module of these bytes; only the rule if the bytes spell no module.
 fn broken_rule(
     alloc: Global,
     kind: FaultKind,
     location: Location,
     bytes: &[u8],
 ) -> Result<String, AllocError> {
-    match read_again(alloc, bytes)? {
-        Some(module) => fault_text(alloc, kind, location, &module),
-        None => format!(in alloc; "{}", ValidSentence(kind)),
+    match decode(alloc, bytes) {
+        Ok(module) => fault_text(alloc, kind, location, &module),
+        Err(DecodeFault::OutOfMemory) => Err(AllocError),
+        Err(DecodeFault::At(_, _)) => String::from_str(alloc, rule(kind)),
     }
 }
 
