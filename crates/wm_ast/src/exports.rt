@@ -23,9 +23,15 @@ pub struct Export {
 
 /// The exports of a module by name. Contracts see them as the list of the names, each as its bytes,
 /// with their exports, in the order of the file.
-#[derive(Drop)]
 pub struct Exports {
     by_name: IndexMap<String, Export>,
+}
+
+// By hand, since a derived drop is written out wherever exports go out of scope, and a map's is long.
+impl Drop for Exports {
+    fn drop(self) {
+        let Exports { by_name: _by_name } = self;
+    }
 }
 
 impl Model for Exports {

@@ -57,7 +57,6 @@ pub struct DataSegment {
 
 /// A module (Core 1.0, section 2.5): its types, its functions, its memory if it has one, its globals,
 /// its exports by name in the order of the file, and its data segments.
-#[derive(Drop)]
 pub struct Module {
     pub types: List<FuncType>,
     pub funcs: List<Func>,
@@ -65,6 +64,20 @@ pub struct Module {
     pub globals: List<Global>,
     pub exports: Exports,
     pub data: List<DataSegment>,
+}
+
+// By hand, since a derived drop is written out wherever a module goes out of scope.
+impl Drop for Module {
+    fn drop(self) {
+        let Module {
+            types: _types,
+            funcs: _funcs,
+            memory: _memory,
+            globals: _globals,
+            exports: _exports,
+            data: _data,
+        } = self;
+    }
 }
 
 impl Module {

@@ -12,7 +12,7 @@ use Rattle.wm_logfile.specs.Forms.{is_word, case_fault, tagged_fault}
 use Rattle.wm_logfile.specs.Grammar.{ending_cases}
 use Rattle.wm_logfile.specs.Paths.{child}
 use Rattle.wm_logfile.specs.Reading.{◌>>=◌, end_from}
-use Rattle.wm_logfile.proofs.FirstFaults.{three}
+use Rattle.wm_logfile.proofs.FirstFaults.{cond_of_none}
 
 -- the word of no end
 abbrev pub IsOther : Option (List ℕ) → Type 0
@@ -66,7 +66,7 @@ one_of_two (Some s) x y other =
 
 case_of_other : (path : List ℕ) (word : Option (List ℕ)) (ds : List Data) → IsOther word → case_fault ending_cases path word ds ≡ Some (Shape (child path 0))
 case_of_other path None ds other = refl
-case_of_other path (Some s) ds other = three (bytes_eq s (codes "done")) (bytes_eq s (codes "trap")) (bytes_eq s (codes "cut")) _ _ _ _ other
+case_of_other path (Some s) ds other = cond_of_none (bytes_eq s (codes "done")) (bytes_eq s (codes "trap")) (bytes_eq s (codes "cut")) _ _ _ _ other
 
 -- ---- lists of one item and of two
 

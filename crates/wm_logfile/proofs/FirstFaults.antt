@@ -60,15 +60,15 @@ neither (Some f) y z is none last = absurd cc
 
 -- ---- the kind of an event
 
-pub three : (a b c : Bool) (x y z n : Found) → (a || (b || (c || false))) ≡ false → cond (a || false) x (cond (b || false) y (cond (c || false) z n)) ≡ n
-three false false false x y z n h = refl
-three false false true x y z n h = absurd cc
-three false true c x y z n h = absurd cc
-three true b c x y z n h = absurd cc
+pub cond_of_none : (a b c : Bool) (x y z n : Found) → (a || (b || (c || false))) ≡ false → cond (a || false) x (cond (b || false) y (cond (c || false) z n)) ≡ n
+cond_of_none false false false x y z n h = refl
+cond_of_none false false true x y z n h = absurd cc
+cond_of_none false true c x y z n h = absurd cc
+cond_of_none true b c x y z n h = absurd cc
 
 no_word : (by : Fields) (path : List ℕ) (word : Option (List ℕ)) (ds : List Data) → is_word (codes "r" ∷ codes "w" ∷ codes "x" ∷ []) word ≡ false → case_fault (cases_with by) path word ds ≡ Some (Shape (child path 0))
 no_word by path None ds h = refl
-no_word by path (Some s) ds h = three (bytes_eq s (codes "r")) (bytes_eq s (codes "w")) (bytes_eq s (codes "x")) _ _ _ _ h
+no_word by path (Some s) ds h = cond_of_none (bytes_eq s (codes "r")) (bytes_eq s (codes "w")) (bytes_eq s (codes "x")) _ _ _ _ h
 
 is_unless : (b : Bool) (f e : ReadFault) → unless b f ≡ Some e → (b ≡ false) × (f ≡ e)
 is_unless true f e h = absurd cc

@@ -45,9 +45,9 @@ impl fmt::Display for OperandsPhrase<'_> {
 
 /// An instruction, or the end of a block, at the beginning of a sentence.
 #[derive(Clone, Copy)]
-pub(crate) struct OpcodePhrase<'a> {
-    pub instr: Option<&'a Instr>,
-    pub is_body: bool,
+struct OpcodePhrase<'a> {
+    instr: Option<&'a Instr>,
+    is_body: bool,
 }
 
 impl fmt::Display for OpcodePhrase<'_> {

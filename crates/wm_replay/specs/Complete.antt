@@ -36,8 +36,8 @@ abbrev pub MakesNoRun : Module → ℕ → ThreadLog → ReplayAnswer → Type 0
 MakesNoRun m k t answer = ((n : ℕ) → n ≤ max_steps → ¬ MakesEvents m k t n) × IsOther m k (ending t max_steps t.end) answer
 
 -- the thread has run by its log for at most 1,000,000 steps
-abbrev pub RunsLongest : ℕ → ThreadLog → Followed → Type 0
-RunsLongest k t f = RunsByLog f.thread.module k t max_steps (config_of f.thread) f.steps f.events
+abbrev pub RunsWithinLimit : ℕ → ThreadLog → Followed → Type 0
+RunsWithinLimit k t f = RunsByLog f.thread.module k t max_steps (config_of f.thread) f.steps f.events
 
 -- the longest run of thread k, or why no number of steps makes its events
 abbrev pub FindsLongestRun : Module → ℕ → ThreadLog → Result LongestRun ReplayAnswer → Type 0

@@ -1,6 +1,6 @@
 //! Logs with the steps and the ends of their runs.
 ghost use Rattle.std.specs.Prelude.{◌≡◌, IfOk};
-ghost use Rattle.wm_replay.specs.Complete.{CompletesLog, CompletesThread, FindsLongestRun, HasCompletion, RunsLongest, ending};
+ghost use Rattle.wm_replay.specs.Complete.{CompletesLog, CompletesThread, FindsLongestRun, HasCompletion, RunsWithinLimit, ending};
 ghost use Rattle.wm_replay.specs.Following.{HasPlaces};
 
 use crate::answer::{Place, ReplayAnswer};
@@ -59,7 +59,7 @@ fn run_of(
     number: usize,
 ) -> Result<LongestRun, ReplayAnswer>
     requires places { HasPlaces number stated.now.events }
-    requires runs { RunsLongest number stated.now followed.now }
+    requires runs { RunsWithinLimit number stated.now followed.now }
     ensures { FindsLongestRun followed.now.thread.module number stated.now result }
 {
     if followed.events < stated.events.len() {
