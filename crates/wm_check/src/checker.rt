@@ -134,10 +134,7 @@ fn refuse_shape<'m>(misshapen: Misshapen) -> Result<CheckedLog<'m>, AllocError>
     ensures { IfOk result (RefusesShape misshapen) }
 {
     match misshapen.fault {
-        ShapeFault::OutOfMemory => {
-            drop(misshapen);
-            Err(AllocError)
-        }
+        ShapeFault::OutOfMemory => Err(AllocError),
         _ => Ok(CheckedLog {
             verdict: Verdict::Refused(Refusal::Shape(misshapen.fault)),
             candidate: None,
@@ -165,10 +162,7 @@ fn compare_log<'m, R: AllocGlobal + Threads + Sync>(
 {
     match Candidate::of(rt.alloc(), log, witness, module.initial()) {
         Ok(candidate) => {
-            let Ok(CheckedRun { verdict, positions }) = compare(rt, module, &candidate) else {
-                drop(candidate);
-                return Err(AllocError);
-            };
+            let CheckedRun { verdict, positions } = compare(rt, module, &candidate)?;
             Ok(CheckedLog {
                 verdict,
                 candidate: Some(candidate),
@@ -220,16 +214,8 @@ fn verdict_over<R: AllocGlobal + Threads + Sync>(
 ) -> Result<Verdict, AllocError>
     ensures { IfOk result (SaysOver «module».now document_bytes.now) }
 {
-    let CheckedLog {
-        verdict,
-        candidate,
-        misshapen,
-        positions,
-    } = check_log(rt, module, document_bytes)?;
-    drop(candidate);
-    drop(misshapen);
-    drop(positions);
-    Ok(verdict)
+    let checked = check_log(rt, module, document_bytes)?;
+    Ok(checked.verdict)
 }
 
 /// The verdict on the bytes, if both can be read.
@@ -241,11 +227,7 @@ fn verdict_of<R: AllocGlobal + Threads + Sync>(
     ensures { IfOk result (Says module_bytes.now document_bytes.now) }
 {
     match read_module(rt.alloc(), module_bytes) {
-        Ok(module) => {
-            let verdict = verdict_over(rt, &module, document_bytes);
-            drop(module);
-            verdict
-        }
+        Ok(module) => verdict_over(rt, &module, document_bytes),
         Err(Unread::Refused(refusal)) => Ok(Verdict::Refused(refusal)),
         Err(Unread::OutOfMemory) => Err(AllocError),
     }

@@ -48,11 +48,7 @@ fn complete_over(
     ensures { IfOk result (CompletesOver «module».now log witness) }
 {
     match Candidate::new(alloc, log, witness, module.initial()) {
-        Ok(candidate) => {
-            let completed = complete_candidate(alloc, module, &candidate);
-            drop(candidate);
-            completed
-        }
+        Ok(candidate) => complete_candidate(alloc, module, &candidate),
         Err(ShapeFault::OutOfMemory) => Err(AllocError),
         Err(fault) => Ok(CompletedDocument::Refused(Refusal::Shape(fault))),
     }
@@ -89,11 +85,7 @@ pub fn complete_document(
     ensures { IfOk result (CompletesDocument module_bytes.now document_bytes.now) }
 {
     match read_module(alloc, module_bytes) {
-        Ok(module) => {
-            let completed = complete_document_over(alloc, &module, document_bytes);
-            drop(module);
-            completed
-        }
+        Ok(module) => complete_document_over(alloc, &module, document_bytes),
         Err(Unread::Refused(refusal)) => Ok(CompletedDocument::Refused(refusal)),
         Err(Unread::OutOfMemory) => Err(AllocError),
     }

@@ -44,11 +44,7 @@ fn verify_pair(
     ensures { IfOk result (VerifiesPair «module».now log witness) }
 {
     match Candidate::new(alloc, log, witness, module.initial()) {
-        Ok(candidate) => {
-            let verdict = verify_candidate(alloc, module, &candidate);
-            drop(candidate);
-            verdict
-        }
+        Ok(candidate) => verify_candidate(alloc, module, &candidate),
         Err(ShapeFault::OutOfMemory) => Err(AllocError),
         Err(fault) => Ok(Verdict::Refused(Refusal::Shape(fault))),
     }
@@ -89,11 +85,7 @@ pub fn verify(
     ensures { IfOk result (Verifies module_bytes.now document_bytes.now) }
 {
     match read_module(alloc, module_bytes) {
-        Ok(module) => {
-            let verdict = verify_log(alloc, &module, document_bytes);
-            drop(module);
-            verdict
-        }
+        Ok(module) => verify_log(alloc, &module, document_bytes),
         Err(Unread::Refused(refusal)) => Ok(Verdict::Refused(refusal)),
         Err(Unread::OutOfMemory) => Err(AllocError),
     }

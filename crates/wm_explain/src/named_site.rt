@@ -93,13 +93,25 @@ impl RecentEnds {
 }
 
 /// The instructions that make the events of a log, with the names of their functions.
-#[derive(Drop)]
 pub(crate) struct NamedSites<'a> {
     alloc: Global,
     log: &'a Log,
     sites: RunSites<'a>,
     names: FunctionNames<'a>,
     recent: RecentEnds,
+}
+
+// By hand, since a derived drop is written out wherever such a value goes out of scope.
+impl<'a> Drop for NamedSites<'a> {
+    fn drop(self) {
+        let NamedSites {
+            alloc: _alloc,
+            log: _log,
+            sites: _sites,
+            names: _names,
+            recent: _recent,
+        } = self;
+    }
 }
 
 impl<'a> NamedSites<'a> {

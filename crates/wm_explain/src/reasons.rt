@@ -58,12 +58,10 @@ fn events_reason<R: AllocGlobal + Threads + Sync>(
 ) -> Result<String, AllocError> {
     let sites = NamedSites::of(rt, code, candidate.log(), positions)?;
     let mut tables = EventTables::over(rt.alloc(), candidate, sites);
-    let reason = match fault {
+    match fault {
         None => allowed_reason(&mut tables),
         Some(fault) => rule_reason(&mut tables, fault),
-    };
-    drop(tables);
-    reason
+    }
 }
 
 /// Why a check gave its verdict on a candidate over the initial memory of a module, in sentences and a table. Events are
@@ -103,10 +101,8 @@ pub fn explain_events(
     candidate: &Candidate,
 ) -> Result<String, AllocError> {
     let mut tables = EventTables::without_code(alloc, candidate);
-    let reason = match judgement {
+    match judgement {
         Judgement::Valid => permitted_reason(&mut tables),
         Judgement::Broken(fault) => rule_reason(&mut tables, fault),
-    };
-    drop(tables);
-    reason
+    }
 }

@@ -234,9 +234,7 @@ fn add_fault_table(
     let ids = events_of(alloc, candidate, fault, &[])?;
     let sites = sites_of(alloc, code, candidate.log(), ids.as_slice(), Some(run))?;
     let mut tables = EventTables::over(alloc, candidate, sites);
-    let added = tables.add(text, ids.as_slice());
-    drop(tables);
-    added
+    tables.add(text, ids.as_slice())
 }
 
 /// Adds why the log of a thread that starts isn't its run.
@@ -395,9 +393,7 @@ fn places_of(
         Some(positions) => NamedSites::at(alloc, code, log, positions),
         None => sites_of(alloc, code, log, ids, run),
     }?;
-    let places = event_places(alloc, &mut sites, ids);
-    drop(sites);
-    places
+    event_places(alloc, &mut sites, ids)
 }
 
 /// What the module does next in the thread that differs from its log; empty if none does.

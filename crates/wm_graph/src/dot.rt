@@ -206,11 +206,21 @@ impl fmt::Display for CountLabel {
 }
 
 /// An execution before it is drawn: which of its events the picture shows, and how they are connected.
-#[derive(Drop)]
 pub struct Sketch<'a> {
     picture: Picture,
     verdict: &'a Verdict,
     candidate: &'a Candidate<'a>,
+}
+
+// By hand, since a derived drop is written out wherever a sketch goes out of scope.
+impl<'a> Drop for Sketch<'a> {
+    fn drop(self) {
+        let Sketch {
+            picture: _picture,
+            verdict: _verdict,
+            candidate: _candidate,
+        } = self;
+    }
 }
 
 impl<'a> Sketch<'a> {

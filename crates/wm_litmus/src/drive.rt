@@ -39,11 +39,7 @@ fn play<R: AllocGlobal + Threads + Sync>(
     ensures { IfOk result (DrivesOver «module».now script.now) }
 {
     match drive(rt.alloc(), module, &script.plan, script.turns.as_slice()) {
-        Ok(run) => {
-            let answer = driven(rt, module, &run);
-            drop(run);
-            answer
-        }
+        Ok(run) => driven(rt, module, &run),
         Err(RunFault::OutOfMemory) => Err(AllocError),
         Err(fault) => Answer::refused_run(rt.alloc(), fault),
     }
@@ -63,11 +59,7 @@ pub(crate) fn drive_answer<R: AllocGlobal + Threads + Sync>(
         AnswersDrive module_bytes.now script.now.plan script.now.turns answer.status (string_bytes answer.text)) }
 {
     match read_module(rt.alloc(), module_bytes) {
-        Ok(module) => {
-            let answer = play(rt, &module, script);
-            drop(module);
-            answer
-        }
+        Ok(module) => play(rt, &module, script),
         Err(unread) => Answer::refused_module(rt.alloc(), unread),
     }
 }

@@ -60,16 +60,8 @@ fn explain_log<R: AllocGlobal + Threads + Sync>(
 {
     let initial = Initial::zeros(rt.alloc(), pages);
     match Candidate::of(rt.alloc(), log, witness, &initial) {
-        Ok(candidate) => {
-            let answer = explain_candidate(rt, &candidate);
-            drop(candidate);
-            answer
-        }
-        Err(misshapen) => {
-            let answer = explain_misshapen(rt.alloc(), &misshapen, initial.len());
-            drop(misshapen);
-            answer
-        }
+        Ok(candidate) => explain_candidate(rt, &candidate),
+        Err(misshapen) => explain_misshapen(rt.alloc(), &misshapen, initial.len()),
     }
 }
 
@@ -121,9 +113,7 @@ fn picture_of(
     title: &str,
 ) -> Result<String, AllocError> {
     let sketch = Sketch::of(alloc, verdict, candidate)?;
-    let picture = sketch.draw(alloc, Caption::titled(title));
-    drop(sketch);
-    picture
+    sketch.draw(alloc, Caption::titled(title))
 }
 
 /// The answer with the picture of a candidate with this judgement.
@@ -160,11 +150,7 @@ fn graph_log<R: AllocGlobal + Threads + Sync>(
 {
     let initial = Initial::zeros(rt.alloc(), pages);
     match Candidate::new(rt.alloc(), log, witness, &initial) {
-        Ok(candidate) => {
-            let answer = graph_candidate(rt, &candidate);
-            drop(candidate);
-            answer
-        }
+        Ok(candidate) => graph_candidate(rt, &candidate),
         Err(fault) => Answer::refused_shape(rt.alloc(), fault),
     }
 }

@@ -67,9 +67,7 @@ fn explain_log<R: AllocGlobal + Threads + Sync>(
         module,
         bytes: module_bytes,
     };
-    let answer = explain_checked(rt, code, &checked, positions, document_bytes);
-    drop(checked);
-    answer
+    explain_checked(rt, code, &checked, positions, document_bytes)
 }
 
 /// The answer to the bytes of a refused module.
@@ -99,11 +97,7 @@ pub(crate) fn explain_answer<R: AllocGlobal + Threads + Sync>(
         AnswersExplain module_bytes.now document_bytes.now answer.status (string_bytes answer.text)) }
 {
     match read_module(rt.alloc(), module_bytes) {
-        Ok(module) => {
-            let answer = explain_log(rt, &module, module_bytes, document_bytes);
-            drop(module);
-            answer
-        }
+        Ok(module) => explain_log(rt, &module, module_bytes, document_bytes),
         Err(Unread::Refused(refusal)) => {
             explain_unread(rt.alloc(), refusal, module_bytes, document_bytes)
         }
@@ -156,16 +150,8 @@ fn picture_of(
     positions: Option<Vec<List<CodePosition>>>,
 ) -> Result<String, AllocError> {
     let sketch = Sketch::of(alloc, verdict, candidate)?;
-    let picture = match notes_of(alloc, code, verdict, candidate, positions, &sketch) {
-        Ok(notes) => {
-            let drawn = draw(alloc, verdict, &sketch, &notes);
-            drop(notes);
-            drawn
-        }
-        Err(refused) => Err(refused),
-    };
-    drop(sketch);
-    picture
+    let notes = notes_of(alloc, code, verdict, candidate, positions, &sketch)?;
+    draw(alloc, verdict, &sketch, &notes)
 }
 
 /// The picture of what was checked; if that is refused, the line of the refusal.
@@ -202,9 +188,7 @@ fn show_log<R: AllocGlobal + Threads + Sync>(
         module,
         bytes: module_bytes,
     };
-    let answer = show_checked(rt.alloc(), code, &checked, positions);
-    drop(checked);
-    answer
+    show_checked(rt.alloc(), code, &checked, positions)
 }
 
 /// The execution that these bytes record, for Graphviz; if they are refused, the line of the refusal.
@@ -221,11 +205,7 @@ pub(crate) fn graph_answer<R: AllocGlobal + Threads + Sync>(
         AnswersGraph module_bytes.now document_bytes.now answer.status (string_bytes answer.text)) }
 {
     match read_module(rt.alloc(), module_bytes) {
-        Ok(module) => {
-            let answer = show_log(rt, &module, module_bytes, document_bytes);
-            drop(module);
-            answer
-        }
+        Ok(module) => show_log(rt, &module, module_bytes, document_bytes),
         Err(unread) => Answer::refused_module(rt.alloc(), unread),
     }
 }

@@ -5,7 +5,7 @@ ghost use Rattle.wm_litmus.specs.Own.{IsOwnVerdictOver, run_text};
 
 use std::alloc::AllocError;
 use std::thread::Threads;
-use wm_check::{CheckedLog, Verdict, check_log, one_verdict};
+use wm_check::{Verdict, check_log, one_verdict};
 use wm_run::{Run, own_runs_are_allowed, own_runs_are_within_limits, write_run};
 use wm_valid::ValidModule;
 
@@ -35,14 +35,9 @@ pub(crate) fn check_own<R: AllocGlobal + Threads + Sync>(
     own_runs_are_within_limits();
     one_verdict();
     let document = write_run(rt.alloc(), run)?;
-    let CheckedLog {
-        verdict,
-        candidate,
-        misshapen,
-        positions,
-    } = check_log(rt, module, document.as_bytes())?;
-    drop(candidate);
-    drop(misshapen);
-    drop(positions);
-    Ok(Checked { document, verdict })
+    let checked = check_log(rt, module, document.as_bytes())?;
+    Ok(Checked {
+        document,
+        verdict: checked.verdict,
+    })
 }

@@ -223,9 +223,7 @@ fn races_of_log<R: AllocGlobal + Threads + Sync>(
     ensures { IfOk result (RacesOver (code_in code.exit) document_bytes.now) }
 {
     let checked = check_log(rt, code.module, document_bytes)?;
-    let answer = races_of_checked(rt, code, &checked, document_bytes);
-    drop(checked);
-    answer
+    races_of_checked(rt, code, &checked, document_bytes)
 }
 
 /// The data races of the run that these bytes record, by the instructions that make their events; if the run isn't
@@ -247,9 +245,7 @@ pub(crate) fn races_answer<R: AllocGlobal + Threads + Sync>(
                 module: &module,
                 bytes: module_bytes,
             };
-            let answer = races_of_log(rt, code, document_bytes);
-            drop(module);
-            answer
+            races_of_log(rt, code, document_bytes)
         }
         Err(unread) => Answer::refused_module(rt.alloc(), unread),
     }
@@ -300,11 +296,7 @@ fn races_of_run<R: AllocGlobal + Threads + Sync>(
 {
     let initial = Initial::zeros(rt.alloc(), pages);
     match Candidate::new(rt.alloc(), log, witness, &initial) {
-        Ok(candidate) => {
-            let answer = races_of_candidate(rt, &candidate);
-            drop(candidate);
-            answer
-        }
+        Ok(candidate) => races_of_candidate(rt, &candidate),
         Err(fault) => Answer::refused_shape(rt.alloc(), fault),
     }
 }

@@ -59,21 +59,14 @@ impl<'a, J: Fn(&Run) -> Result<Option<Answer>, AllocError>> Taker for Counter<'a
     ghost is_done = { λ c. HasAnswer c.module.now c.rounds.now c.answer };
 
     fn take(&mut self, run: Run) -> Result<bool, AllocError> {
-        match (self.judge)(&run) {
-            Ok(None) => {
-                let counted = self.table.count(self.alloc, &run);
-                drop(run);
-                counted?;
+        match (self.judge)(&run)? {
+            None => {
+                self.table.count(self.alloc, &run)?;
                 Ok(true)
             }
-            Ok(Some(answer)) => {
-                drop(run);
+            Some(answer) => {
                 self.answer = Some(answer);
                 Ok(false)
-            }
-            Err(refused) => {
-                drop(run);
-                Err(refused)
             }
         }
     }
@@ -139,11 +132,7 @@ pub(crate) fn rounds_answer<R: AllocGlobal + Threads + Wait + Sync>(
         AnswersRounds module_bytes.now rounds.now.plan rounds.now.count answer.status (string_bytes answer.text)) }
 {
     match read_module(rt.alloc(), module_bytes) {
-        Ok(module) => {
-            let answer = make_rounds(rt, &module, rounds);
-            drop(module);
-            answer
-        }
+        Ok(module) => make_rounds(rt, &module, rounds),
         Err(unread) => Answer::refused_module(rt.alloc(), unread),
     }
 }

@@ -36,11 +36,7 @@ fn run_answer<R: AllocGlobal + Threads + Sync>(
 {
     let initial = Initial::zeros(rt.alloc(), pages);
     match Candidate::new(rt.alloc(), log, witness, &initial) {
-        Ok(candidate) => {
-            let answer = judged_answer(rt, &candidate);
-            drop(candidate);
-            answer
-        }
+        Ok(candidate) => judged_answer(rt, &candidate),
         Err(fault) => Answer::refused_shape(rt.alloc(), fault),
     }
 }

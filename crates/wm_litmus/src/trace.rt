@@ -258,11 +258,7 @@ fn play(alloc: Global, code: ModuleCode, script: &Script) -> Result<Answer, Allo
     ensures { IfOk result (TracesOver (code_in code.exit) script.now) }
 {
     match trace(alloc, code.module, &script.plan, script.turns.as_slice()) {
-        Ok(traced) => {
-            let answer = shown(alloc, code, &traced);
-            drop(traced);
-            answer
-        }
+        Ok(traced) => shown(alloc, code, &traced),
         Err(RunFault::OutOfMemory) => Err(AllocError),
         Err(fault) => Answer::refused_run(alloc, fault),
     }
@@ -286,9 +282,7 @@ pub(crate) fn trace_answer(
                 module: &module,
                 bytes: module_bytes,
             };
-            let answer = play(alloc, code, script);
-            drop(module);
-            answer
+            play(alloc, code, script)
         }
         Err(unread) => Answer::refused_module(alloc, unread),
     }

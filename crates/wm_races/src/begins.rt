@@ -7,9 +7,17 @@ use std::alloc::{AllocError, Global};
 use wm_event::{Candidate, EventId};
 
 /// The first bytes of the ranges of a candidate's writes, or of all its events.
-#[derive(Drop)]
 pub(crate) struct Begins {
     addresses: IndexSet<u64>,
+}
+
+// By hand, since a derived drop is written out wherever a set goes out of scope.
+impl Drop for Begins {
+    fn drop(self) {
+        let Begins {
+            addresses: _addresses,
+        } = self;
+    }
 }
 
 impl Begins {

@@ -35,9 +35,15 @@ pub(crate) struct Class {
 }
 
 /// The classes of the bytes that many events write.
-#[derive(Drop)]
 pub(crate) struct ClassTable {
     of_byte: IndexMap<u64, List<Class>>,
+}
+
+// By hand, since a derived drop is written out wherever a table goes out of scope.
+impl Drop for ClassTable {
+    fn drop(self) {
+        let ClassTable { of_byte: _of_byte } = self;
+    }
 }
 
 /// Whether two kinds are the same.

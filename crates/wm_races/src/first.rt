@@ -90,9 +90,8 @@ fn races_at(
         return Ok(List::new(alloc));
     }
     let no_classes = ClassTable::none(alloc);
-    let groups = groups_of(alloc, before, begins, &no_classes, place);
-    drop(no_classes);
-    first_pairs(alloc, groups?.as_slice())
+    let groups = groups_of(alloc, before, begins, &no_classes, place)?;
+    first_pairs(alloc, groups.as_slice())
 }
 
 /// How many races a candidate has. All events have the same site in `sites`.
@@ -156,10 +155,7 @@ fn first_races_by(
     let candidate = before.candidate();
     let begins = Begins::of(alloc, candidate)?;
     let table = ClassTable::of_candidate(alloc, candidate, sites)?;
-    let found = collect_races(alloc, before, &begins, &table, limit, total);
-    drop(begins);
-    drop(table);
-    found
+    collect_races(alloc, before, &begins, &table, limit, total)
 }
 
 /// The first races of a candidate whose order agrees with happens-before, at most `limit` of them, and how many there

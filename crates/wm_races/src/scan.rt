@@ -111,8 +111,5 @@ pub fn races(
     let candidate = before.candidate();
     let begins = Begins::of(alloc, candidate)?;
     let table = ClassTable::of_candidate(alloc, candidate, sites)?;
-    let lines = report_races(rt, alloc, before, &begins, &table, sites);
-    drop(begins);
-    drop(table);
-    lines
+    report_races(rt, alloc, before, &begins, &table, sites)
 }

@@ -14,10 +14,19 @@ use wm_logfile::write_document;
 use wm_recorder::Recorder;
 
 /// The log of a run with its witness. For each event of the log, the witness has the writer of each byte read.
-#[derive(Drop)]
 pub struct Run {
     log: Log,
     witness: Witness,
+}
+
+// By hand, since a derived drop is written out wherever a run goes out of scope.
+impl Drop for Run {
+    fn drop(self) {
+        let Run {
+            log: _log,
+            witness: _witness,
+        } = self;
+    }
 }
 
 impl Model for Run {

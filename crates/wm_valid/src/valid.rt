@@ -19,10 +19,19 @@ use wm_event::Initial;
 use wm_list::List;
 
 /// A module that is valid, with the initial bytes of its memory.
-#[derive(Drop)]
 pub struct ValidModule {
     module: Module,
     initial: Initial,
+}
+
+// By hand, since a derived drop is written out wherever a module goes out of scope.
+impl Drop for ValidModule {
+    fn drop(self) {
+        let ValidModule {
+            module: _module,
+            initial: _initial,
+        } = self;
+    }
 }
 
 impl Model for ValidModule {
