@@ -11,9 +11,9 @@ of_candidate-requires g c =
     subst (λ (x : LoggedRun). HasSites x.log c.args.sites.now) (sym c.candidate-candidate.ensures.value)
     (subst (HasSites run.log) (sym c.requires) (has-one-site run.log))
 
-pub collect_races-found-requires-clause-classes : goal.collect_races-found-requires-clause-classes
-collect_races-found-requires-clause-classes g c = subst (λ (x : LoggedRun). HasClasses x c.in_ok-table.table) c.candidate-candidate.ensures.value c.in_ok-table.ensures.classes
+pub collect_races-requires-clause-classes : goal.collect_races-requires-clause-classes
+collect_races-requires-clause-classes g c = subst (λ (x : LoggedRun). HasClasses x c.in_ok-table.table) c.candidate-candidate.ensures.value c.in_ok-table.ensures.classes
 
-pub collect_races-found-requires-clause-sites : goal.collect_races-found-requires-clause-sites
-collect_races-found-requires-clause-sites g c =
+pub collect_races-requires-clause-sites : goal.collect_races-requires-clause-sites
+collect_races-requires-clause-sites g c =
     (c.args.sites.now, subst (λ (x : LoggedRun). HasClassSites x c.args.sites.now c.in_ok-table.table) c.candidate-candidate.ensures.value c.in_ok-table.ensures.sites)

@@ -25,9 +25,9 @@ pub returns : goal.returns
 returns c =
     let run = c.args.before.now in
     let keys : HasKeys run.log = subst (λ (x : LoggedRun). HasKeys x.log) c.candidate.ensures.value c.log-log.ensures.shape.keys in
-    let groups : List Group = c.as_slice-2.result.now in
+    let groups : List Group = c.as_slice.result.now in
     let grouped : (sites : List (List Site)) → AreGroupsOf run sites (λ p. event_place run p ≡ c.args.place) groups = λ sites.
-    subst (λ (gs : List Group). AreGroupsOf run sites (λ p. event_place run p ≡ c.args.place) gs) (sym c.as_slice-2.ensures)
+    subst (λ (gs : List Group). AreGroupsOf run sites (λ p. event_place run p ≡ c.args.place) gs) (sym c.as_slice.ensures)
     (c.in_ok-groups.ensures sites (λ byte classes there. absurd (none_some _ _ (c.none-no_classes.ensures byte) there))).groups_of in
     IfOk-weaker c.first_pairs.result _ _
     (λ pairs is. subst (AreRacesAt run c.args.place) (sym is) (races-of-groups run keys c.args.place groups grouped))
