@@ -45,16 +45,16 @@ returns-in-Err-clause-misshapen g c =
     (c.in-Err.misshapen, is.kept, refl, c.in-Err.ensures.given))
     c.refuse_shape.ensures
 
-pub returns-in-Ok-compare-clause-verdict : goal.returns-in-Ok-compare-clause-verdict
-returns-in-Ok-compare-clause-verdict g c = λ module_bytes document_bytes is_module is_document.
+pub returns-in_ok-verdict-in-Ok-clause-verdict : goal.returns-in_ok-verdict-in-Ok-clause-verdict
+returns-in_ok-verdict-in-Ok-clause-verdict g c = λ module_bytes document_bytes is_module is_document.
     let is = sym c.in-Ok.ensures.value in
-    c.in-Ok-compare.ensures.says module_bytes document_bytes is_module
+    c.in_ok-verdict-in-Ok.ensures.says module_bytes document_bytes is_module
     (subst (λ (run : LoggedRun). IsDocumentOf document_bytes run.log run.witness) is is_document)
     (subst (λ (run : LoggedRun). IsInit c.args.module.now run.initial) is c.initial.ensures)
     (subst (λ (run : LoggedRun). IsWellShaped run) is c.in-Ok.ensures.shape)
 
-pub returns-in-Ok-compare-clause-candidate : goal.returns-in-Ok-compare-clause-candidate
-returns-in-Ok-compare-clause-candidate g c =
+pub returns-in_ok-verdict-in-Ok-clause-candidate : goal.returns-in_ok-verdict-in-Ok-clause-candidate
+returns-in_ok-verdict-in-Ok-clause-candidate g c =
     let is = c.in-Ok.ensures.value in
     record {
       log_is = ap (λ (run : LoggedRun). run.log) is;
@@ -63,9 +63,9 @@ returns-in-Ok-compare-clause-candidate g c =
       shape = subst (λ (run : LoggedRun). IsWellShaped run) (sym is) c.in-Ok.ensures.shape;
     }
 
-pub returns-in-Ok-compare-clause-refused : goal.returns-in-Ok-compare-clause-refused
-returns-in-Ok-compare-clause-refused g c =
-    has_candidate c.in-Ok-compare.field-0.verdict c.in-Ok.candidate c.in-Ok-compare.ensures.judged
+pub returns-in_ok-verdict-in-Ok-clause-refused : goal.returns-in_ok-verdict-in-Ok-clause-refused
+returns-in_ok-verdict-in-Ok-clause-refused g c =
+    has_candidate c.in_ok-verdict-in-Ok.field-0.verdict c.in-Ok.candidate c.in_ok-verdict-in-Ok.ensures.judged
 
 pub returns-in-Err-clause-certified : goal.returns-in-Err-clause-certified
 returns-in-Err-clause-certified g c =
