@@ -3,7 +3,7 @@ use Rattle.wm_litmus.specs.Drive.AnswersDrive.{no_module}
 use Rattle.wm_litmus.proofs.drive.drive_answer.Goals as goal
 
 pub returns-in-Ok : goal.returns-in-Ok
-returns-in-Ok g c = IfOk-weaker c.play-answer.result _ _ (λ answer over. over c.args.module_bytes.now c.in-Ok.ensures.read) c.play-answer.ensures
+returns-in-Ok g c = IfOk-weaker c.play.result _ _ (λ answer over. over c.args.module_bytes.now c.in-Ok.ensures.read) c.play.ensures
 
 pub returns-in-Err : goal.returns-in-Err
 returns-in-Err g c =

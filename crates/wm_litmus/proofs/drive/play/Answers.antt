@@ -14,12 +14,12 @@ returns-in-Ok g c =
     let run = c.in-Ok.run' in
     let plan = c.args.script.now.plan in
     let scripted = subst (λ turns. IsScripted m plan turns run) c.as_slice.ensures c.in-Ok.ensures.scripted in
-    IfOk-weaker c.driven-answer.result _ _
+    IfOk-weaker c.driven.result _ _
     (λ answer over module_bytes modules.
     let made : IsMadeOf module_bytes m run = record { modules = modules; own = c.in-Ok.ensures.own; within = c.in-Ok.ensures.within } in
     let is = over module_bytes made in
     driven m run is.verdict modules scripted is.says is.own is.prints.status_is is.prints.text_is)
-    c.driven-answer.ensures
+    c.driven.ensures
 
 pub returns-in-Err : goal.returns-in-Err
 returns-in-Err g c =

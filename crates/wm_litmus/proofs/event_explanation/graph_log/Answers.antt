@@ -17,10 +17,10 @@ returns-in-Ok g c =
     let over : c.zeros-initial.result ≡ zeros c.args.pages = search rules in
     let same : c.in-Ok.candidate ≡ run c.zeros-initial.result = search rules in
     let shape : IsWellShaped (run (zeros c.args.pages)) = subst (λ m. IsWellShaped (run m)) over c.in-Ok.ensures.shape in
-    let graphed : IfOk c.graph_candidate-answer.result (GraphsExecution (execution (run (zeros c.args.pages)))) =
-    subst (λ m. IfOk c.graph_candidate-answer.result (GraphsExecution (execution (run m)))) over
-    (subst (λ r. IfOk c.graph_candidate-answer.result (GraphsExecution (execution r))) same c.graph_candidate-answer.ensures) in
-    IfOk-weaker c.graph_candidate-answer.result _ _
+    let graphed : IfOk c.graph_candidate.result (GraphsExecution (execution (run (zeros c.args.pages)))) =
+    subst (λ m. IfOk c.graph_candidate.result (GraphsExecution (execution (run m)))) over
+    (subst (λ r. IfOk c.graph_candidate.result (GraphsExecution (execution r))) same c.graph_candidate.ensures) in
+    IfOk-weaker c.graph_candidate.result _ _
     (λ answer graphs. pictured graphs.judgement shape graphs.judges graphs.status_is)
     graphed
 

@@ -5,7 +5,7 @@ use Rattle.wm_litmus.proofs.explanation.explain_answer.Goals as goal
 
 pub returns-in-Ok : goal.returns-in-Ok
 returns-in-Ok g c =
-    IfOk-weaker c.explain_log-answer.result _ _ (λ answer explains. explains c.args.module_bytes.now c.in-Ok.ensures.read) c.explain_log-answer.ensures
+    IfOk-weaker c.explain_log.result _ _ (λ answer explains. explains c.args.module_bytes.now c.in-Ok.ensures.read) c.explain_log.ensures
 
 pub returns-in-Err-Refused : goal.returns-in-Err-Refused
 returns-in-Err-Refused g c =

@@ -5,6 +5,6 @@ use Rattle.wm_litmus.proofs.explanation.explain_log.Goals as goal
 pub returns : goal.returns
 returns g c =
     let v = c.in_ok-checked.checked.verdict in
-    IfOk-weaker c.explain_checked-answer.result _ _
+    IfOk-weaker c.explain_checked.result _ _
     (λ answer explains. λ module_bytes is_module. answers_explain module_bytes c.args.document_bytes.now v answer (c.in_ok-checked.ensures.verdict module_bytes is_module) explains)
-    c.explain_checked-answer.ensures
+    c.explain_checked.ensures

@@ -5,7 +5,7 @@ use Rattle.wm_litmus.proofs.explanation.graph_answer.Goals as goal
 
 pub returns-in-Ok : goal.returns-in-Ok
 returns-in-Ok g c =
-    IfOk-weaker c.show_log-answer.result _ _ (λ answer graphs. graphs c.args.module_bytes.now c.in-Ok.ensures.read) c.show_log-answer.ensures
+    IfOk-weaker c.show_log.result _ _ (λ answer graphs. graphs c.args.module_bytes.now c.in-Ok.ensures.read) c.show_log.ensures
 
 pub returns-in-Err : goal.returns-in-Err
 returns-in-Err g c =

@@ -5,6 +5,6 @@ use Rattle.wm_litmus.proofs.explanation.show_log.Goals as goal
 pub returns : goal.returns
 returns g c =
     let v = c.in_ok-checked.checked.verdict in
-    IfOk-weaker c.show_checked-answer.result _ _
+    IfOk-weaker c.show_checked.result _ _
     (λ answer shows. λ module_bytes is_module. answers_graph module_bytes c.args.document_bytes.now v answer (c.in_ok-checked.ensures.verdict module_bytes is_module) shows)
-    c.show_checked-answer.ensures
+    c.show_checked.ensures

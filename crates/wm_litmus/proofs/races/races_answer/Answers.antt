@@ -6,7 +6,7 @@ use Rattle.wm_litmus.proofs.races.races_answer.Goals as goal
 
 pub returns-in-Ok : goal.returns-in-Ok
 returns-in-Ok g c =
-    IfOk-weaker c.races_of_log-answer.result _ _ (λ answer answers. answers c.in-Ok.ensures.read) c.races_of_log-answer.ensures
+    IfOk-weaker c.races_of_log.result _ _ (λ answer answers. answers c.in-Ok.ensures.read) c.races_of_log.ensures
 
 pub returns-in-Err : goal.returns-in-Err
 returns-in-Err g c =

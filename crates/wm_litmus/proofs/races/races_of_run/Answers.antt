@@ -28,5 +28,5 @@ returns-in-Ok g c =
     let run : List ℕ → LoggedRun = λ initial. record { log = c.args.log; witness = c.args.witness; initial = initial } in
     let over : c.zeros-initial.result ≡ zeros c.args.pages = search rules in
     let same : c.in-Ok.candidate ≡ run c.zeros-initial.result = search rules in
-    subst (λ m. IfOk c.races_of_candidate-answer.result (Gives (AnswersRunRaces (run m)))) over
-    (subst (λ r. IfOk c.races_of_candidate-answer.result (Gives (AnswersRunRaces r))) same c.races_of_candidate-answer.ensures)
+    subst (λ m. IfOk c.races_of_candidate.result (Gives (AnswersRunRaces (run m)))) over
+    (subst (λ r. IfOk c.races_of_candidate.result (Gives (AnswersRunRaces r))) same c.races_of_candidate.ensures)

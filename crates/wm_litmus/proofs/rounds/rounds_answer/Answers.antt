@@ -3,7 +3,7 @@ use Rattle.wm_litmus.specs.Rounds.AnswersRounds.{no_module}
 use Rattle.wm_litmus.proofs.rounds.rounds_answer.Goals as goal
 
 pub returns-in-Ok : goal.returns-in-Ok
-returns-in-Ok g c = IfOk-weaker c.make_rounds-answer.result _ _ (λ answer over. over c.args.module_bytes.now c.in-Ok.ensures.read) c.make_rounds-answer.ensures
+returns-in-Ok g c = IfOk-weaker c.make_rounds.result _ _ (λ answer over. over c.args.module_bytes.now c.in-Ok.ensures.read) c.make_rounds.ensures
 
 pub returns-in-Err : goal.returns-in-Err
 returns-in-Err g c =

@@ -25,5 +25,5 @@ returns-in-Ok g c =
     let run : List ℕ → LoggedRun = λ initial. record { log = c.args.log; witness = c.args.witness; initial = initial } in
     let over : c.zeros-initial.result ≡ zeros c.args.pages = search rules in
     let same : c.in-Ok.candidate ≡ run c.zeros-initial.result = search rules in
-    subst (λ m. IfOk c.judged_answer-answer.result (Gives (AnswersRun (run m)))) over
-    (subst (λ r. IfOk c.judged_answer-answer.result (Gives (AnswersRun r))) same c.judged_answer-answer.ensures)
+    subst (λ m. IfOk c.judged_answer.result (Gives (AnswersRun (run m)))) over
+    (subst (λ r. IfOk c.judged_answer.result (Gives (AnswersRun r))) same c.judged_answer.ensures)

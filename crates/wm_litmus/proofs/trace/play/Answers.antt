@@ -15,7 +15,7 @@ returns-in-Ok c =
     let plan = c.args.script.now.plan in
     let scripted = subst (λ turns. IsScripted m plan turns t.run) c.as_slice.ensures c.in-Ok.ensures.scripted in
     let trace = subst (λ turns. IsTraced m plan turns t.run t.turns) c.as_slice.ensures c.in-Ok.ensures.traced in
-    IfOk-weaker c.shown-answer.result _ _ (λ answer shows modules. traced m t.run t.turns modules scripted trace shows) c.shown-answer.ensures
+    IfOk-weaker c.shown.result _ _ (λ answer shows modules. traced m t.run t.turns modules scripted trace shows) c.shown.ensures
 
 pub returns-in-Err : goal.returns-in-Err
 returns-in-Err c =

@@ -3,7 +3,7 @@ use Rattle.wm_litmus.specs.Trace.AnswersTrace.{no_module}
 use Rattle.wm_litmus.proofs.trace.trace_answer.Goals as goal
 
 pub returns-in-Ok : goal.returns-in-Ok
-returns-in-Ok c = IfOk-weaker c.play-answer.result _ _ (λ answer over. over c.in-Ok.ensures.read) c.play-answer.ensures
+returns-in-Ok c = IfOk-weaker c.play.result _ _ (λ answer over. over c.in-Ok.ensures.read) c.play.ensures
 
 pub returns-in-Err : goal.returns-in-Err
 returns-in-Err c =
