@@ -1,4 +1,4 @@
-use Rattle.std.proofs.Common.{◌≡◌, ◌+◌, ◌++◌, ◌<◌, ◌≤◌, length, ap, subst, sym, ◌∙◌, arith, ◌⊎◌, inl, inr}
+use Rattle.std.proofs.Common.{◌+◌, ◌++◌, ◌<◌, ◌≤◌, length, ap, subst, sym, ◌∙◌, arith, ◌⊎◌, inl, inr}
 use Rattle.wm_event.specs.LoggedRun.{LoggedRun, execution}
 use Rattle.wm_event.specs.Shape.{ListsEachOnce}
 use Rattle.wm_races.specs.First.{IsRaceCount}
