@@ -1,5 +1,5 @@
 -- A cell that is replaced, if it is there.
-use Rattle.std.proofs.Common.{◌≡◌, ◌≢◌, ℕ, zero, suc, List, [], ◌∷◌, ◌/◌, ◌%◌, ◌<◌, ◌≤◌, inl, inr, length, refl, ap, sym, ◌∙◌, arith, if◌then◌else◌, ◌==◌, Option, None, Some, option_and_then, option_map, slice_get, slice_set}
+use Rattle.std.proofs.Common.{◌≡◌, ◌≢◌, ℕ, zero, suc, List, [], ◌∷◌, ◌/◌, ◌%◌, ◌<◌, ◌≤◌, inl, inr, length, refl, ap, sym, ◌∙◌, arith, if◌then◌else◌, Option, None, Some, option_and_then, option_map, slice_get, slice_set}
 use Rattle.std.proofs.lemmas.Bool.{cases_eq, eq-eqb, ne_eqb}
 use Rattle.std.proofs.lemmas.Option.{slice_get_within}
 use Rattle.wm_memory.specs.declared.TheConstants.{CHUNK, REGION}

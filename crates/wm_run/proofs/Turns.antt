@@ -14,7 +14,7 @@ use Rattle.wm_run.specs.declared.runner.Moved.TheVariants.{Rested}
 use Rattle.wm_run.specs.declared.runner.Runner.{Runner}
 use Rattle.wm_run.specs.declared.turn.Turn.{Turn}
 use Rattle.wm_run.specs.declared.turn.Turn.TheVariants.{Step}
-use Rattle.wm_run.specs.Runner.{Advances, DrainsBy, IsSet, MayDrainFrom, Moves, RunnerStep, TakesTurn, script_state, setting_of, runner_state}
+use Rattle.wm_run.specs.Runner.{Advances, DrainsBy, IsSet, Moves, RunnerStep, TakesTurn, script_state, setting_of, runner_state}
 use Rattle.wm_run.specs.Runner as runner
 use Rattle.wm_run.specs.Script.{Rests, TurnLeads, drain_of, drains, keeps, rests, steps_on}
 

@@ -11,7 +11,6 @@ use Rattle.wm_event.specs.Log.{event_in}
 use Rattle.wm_machine.specs.declared.thread.CodePosition.{CodePosition}
 use Rattle.wm_machine.specs.Step.{access_of}
 use Rattle.wm_races.specs.declared.site.Site.{Site}
-use Rattle.wm_races.specs.Report.{site_in}
 use Rattle.wm_replay.specs.Positions.{AreLogPositions, ArePositionsOf, IsMadeAt, unstarted, ran}
 use Rattle.wm_sites.specs.Opcodes.{HasOpcode, HaveOpcodes}
 use Rattle.wm_sites.specs.Sites.{AreEventSites, Code, IsSiteAt, IsSiteOf, IsSiteOrFirst, position_in}

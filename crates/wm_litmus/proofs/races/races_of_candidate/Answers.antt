@@ -1,4 +1,3 @@
-use Rattle.std.proofs.Common.{rules}
 use Rattle.std.proofs.lemmas.Result.{IfOk-weaker}
 use Rattle.wm_event.specs.declared.rule.Judgement.TheVariants.{Valid, Broken}
 use Rattle.wm_event.specs.Faults.{Judges}

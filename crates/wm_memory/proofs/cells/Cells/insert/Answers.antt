@@ -1,4 +1,4 @@
-use Rattle.std.proofs.Common.{◌≡◌, ◌<◌, ◌/◌, Some, length, ap, arith, sym, ◌∙◌, subst, List, slice_get}
+use Rattle.std.proofs.Common.{◌≡◌, ◌<◌, ◌/◌, Some, length, ap, arith, sym, ◌∙◌, List, slice_get}
 use Rattle.std.proofs.lemmas.Option.{slice_get-get_or}
 use Rattle.wm_memory.specs.declared.TheConstants.{REGION}
 use Rattle.wm_memory.specs.declared.cells.Cell.{Cell}

@@ -3,7 +3,7 @@ use Rattle.std.proofs.lemmas.Option.{slice_get_read}
 use Rattle.std.specs.Prelude.{option_copied}
 use Rattle.wm_memory.specs.declared.TheConstants.{REGION}
 use Rattle.wm_memory.specs.declared.cells.Cell.{Cell}
-use Rattle.wm_memory.specs.Table.{CellTable, HasCell, HasNoCells, own_cell}
+use Rattle.wm_memory.specs.Table.{CellTable, HasCell, own_cell}
 use Rattle.wm_memory.proofs.Chunks.{has_chunk, no_chunk}
 use Rattle.wm_memory.proofs.cells.Cells.missing.Goals as goal
 use Rattle.wm_memory.proofs.cells.Cells.missing.Goals.{then-is_empty+in_ok-region, else-is_empty}

@@ -1,5 +1,5 @@
-use Rattle.std.proofs.Common.{◌≡◌, ◌≤◌, ℕ, List, Some, length, ap, arith, sym, ◌∙◌, refl, slice_get, get_or}
-use Rattle.std.proofs.lemmas.Option.{slice_get-get_or, slice_get_within, slice_get_read}
+use Rattle.std.proofs.Common.{◌≡◌, ◌≤◌, List, Some, length, ap, arith, sym, ◌∙◌, refl, slice_get}
+use Rattle.std.proofs.lemmas.Option.{slice_get_within, slice_get_read}
 use Rattle.wm_memory.specs.declared.cells.Cell.{Cell}
 use Rattle.wm_memory.proofs.Replaced.{sets_nothing}
 use Rattle.wm_memory.proofs.region.Region.set.Goals as goal
