@@ -1,7 +1,8 @@
 #!/usr/bin/env python3
 """Lints the scripts: Python with pyflakes and at most 120 columns, shell with shellcheck. Lints the crates and pages:
-a line of a clause has at most 140 characters, each name that a page on the crates cites is one of theirs, and each
-library that crates.txt lists is named by its crate. The last line is `N passed, N failed`.
+a line of a clause has at most 140 characters, each name that a page on the crates cites is one of theirs, each library
+that crates.txt lists is named by its crate, and each name that a file imports by that file. The last line is
+`N passed, N failed`.
 
     scripts/lint.py        it needs Debian's python3-pyflakes and shellcheck; what is missing is named and not counted
 """
@@ -10,7 +11,7 @@ import os
 import shutil
 import subprocess
 
-from wmlabtools import TOP, cited, clauses, harness, prover
+from wmlabtools import TOP, cited, clauses, harness, imports, prover
 
 COLUMNS = 120
 
@@ -66,6 +67,8 @@ def lint_crates(tally):
         named = cited.words_below(f"crates/{crate}", endings=(".rt", ".antt"))
         unnamed = [library for library in used if library not in named]
         tally.check(not unnamed, f"crates.txt lists for {crate} what it doesn't name", " ".join(unnamed))
+        unused = imports.unused(crate)
+        tally.check(not unused, f"{crate} imports what it doesn't name", "\n".join(unused))
 
 
 def main():

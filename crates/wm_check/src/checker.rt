@@ -2,7 +2,6 @@
 ghost use Rattle.std.specs.Prelude.{◌≡◌, ◌≤◌, IfErr, IfOk, IfSome};
 ghost use Rattle.wm_event.specs.Limits.{max_events};
 ghost use Rattle.wm_event.specs.Shape.{event_count};
-ghost use Rattle.wm_event.specs.Shape.{IsWellShaped};
 ghost use Rattle.wm_logfile.specs.DocumentBytes.{IsDocumentOf};
 ghost use Rattle.wm_check.specs.Run.{IsModuleOf};
 ghost use Rattle.wm_check.specs.Reading.{ComparesLog, ComparesOver, HasCandidate, IsCandidateOver, IsCertified, IsJudged, IsRecordedOver, IsUnreadDocument, IsUnreadModule, KeepsMisshapen, KeepsPositions, SaysOver};

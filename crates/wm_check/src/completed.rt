@@ -1,5 +1,5 @@
 //! The completion of a document against a module.
-ghost use Rattle.std.specs.Prelude.{◌≡◌, IfOk, string_bytes};
+ghost use Rattle.std.specs.Prelude.{IfOk};
 ghost use Rattle.wm_check.specs.Completed.{CompletesDocument, CompletesDocumentOver, CompletesLog, CompletesOver};
 
 use crate::checker::{Unread, read_log, read_module};

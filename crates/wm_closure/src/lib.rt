@@ -1,7 +1,7 @@
 //! Reachability in a graph whose nodes come after their sources, computed from the last node to the first.
 #![tactic(auto)]
 
-ghost use Rattle.std.specs.Prelude.{◌≡◌, ◌<◌, ◌≤◌, ◌+◌, ◌*◌, ◌↔◌, ℕ, length, slice_index, EachIndex, IfOk, All, IsTrue};
+ghost use Rattle.std.specs.Prelude.{◌≡◌, ◌<◌, ◌≤◌, ◌+◌, ◌*◌, ◌↔◌, ℕ, length, slice_index, EachIndex, IfOk, IsTrue};
 ghost use Rattle.wm_closure.specs.Graph.{AreArrivals, AreLanes, AreOwn, IsOrdered, LowersRow, LowersSources, Reaches};
 
 use std::alloc::{AllocError, Global};

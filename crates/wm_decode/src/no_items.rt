@@ -1,5 +1,4 @@
 //! The sections of tables and of elements, which are read without items (Core 1.0, sections 5.5.7 and 5.5.12).
-ghost use Rattle.std.specs.Prelude.{◌≡◌};
 ghost use Rattle.wm_decode.specs.Implements.{Implements};
 ghost use Rattle.wm_decode.specs.ReadingParts.{no_items_at};
 

@@ -1,5 +1,4 @@
 //! The section of functions: the index of the type of each (Core 1.0, section 5.5.6).
-ghost use Rattle.std.specs.Prelude.{◌≡◌};
 ghost use Rattle.wm_decode.specs.Bounds.{profile};
 ghost use Rattle.wm_decode.specs.Implements.{Implements};
 ghost use Rattle.wm_decode.specs.ReadingParts.{indices_at};

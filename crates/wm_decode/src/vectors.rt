@@ -1,5 +1,4 @@
 //! Vectors and names (Core 1.0, sections 5.1.3 and 5.2.4).
-ghost use Rattle.std.specs.Prelude.{◌≡◌};
 ghost use Rattle.wm_decode.specs.Implements.{Implements};
 ghost use Rattle.wm_decode.specs.ReadingVectors.{vector_at, items_at, byte_vector_at, name_at};
 

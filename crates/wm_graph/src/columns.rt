@@ -1,5 +1,5 @@
 //! The columns of a picture: each thread with the nodes of its events.
-ghost use Rattle.std.specs.Prelude.{◌≡◌, ◌↔◌, All, IfOk, IsTrue, map};
+ghost use Rattle.std.specs.Prelude.{◌≡◌, ◌↔◌, All, IfOk, IsTrue};
 ghost use Rattle.wm_graph.specs.Columns.{AreColumnsOf, IsMarked, IsMarkedBy, events_of};
 
 use std::alloc::{AllocError, Global};

@@ -1,5 +1,5 @@
 //! Happens-before of a candidate whose order agrees with it.
-ghost use Rattle.std.specs.Prelude.{◌≡◌, ◌↔◌, IsTrue, IfOk, MatchOption, Some, None, slice_get};
+ghost use Rattle.std.specs.Prelude.{◌≡◌, ◌↔◌, IsTrue, IfOk, Some, None};
 ghost use Rattle.wm_event.specs.declared.event.EventId.TheVariants.{Init, At};
 ghost use Rattle.wm_event.specs.declared.event.EventKey.{EventKey};
 ghost use Rattle.wm_event.specs.HappensBefore.{HappensBefore as IsBefore};

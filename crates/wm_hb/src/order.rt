@@ -1,9 +1,8 @@
 //! V2: the order agrees with each edge of happens-before.
-ghost use Rattle.std.specs.Prelude.{◌≡◌, ◌<◌, ◌↔◌, IsTrue, [], ◌∷◌, Some};
+ghost use Rattle.std.specs.Prelude.{◌<◌, ◌↔◌, IsTrue, [], ◌∷◌, Some};
 ghost use Rattle.wm_event.specs.declared.event.EventId.TheVariants.{At};
 ghost use Rattle.wm_event.specs.Event.{key_of};
 ghost use Rattle.wm_event.specs.Execution.{ReadsFrom, place};
-ghost use Rattle.wm_event.specs.HappensBefore.{SynchronizesWith};
 ghost use Rattle.wm_event.specs.LoggedRun.{execution};
 ghost use Rattle.wm_event.specs.Shape.{IsThere};
 ghost use Rattle.wm_hb.specs.Scan.{Finds, IsEventOf};

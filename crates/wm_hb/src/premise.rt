@@ -1,5 +1,5 @@
 //! What a fault of a memory rule rests on.
-ghost use Rattle.std.specs.Prelude.{◌≡◌, ◌++◌, IfOk, OnOk};
+ghost use Rattle.std.specs.Prelude.{◌≡◌, IfOk};
 ghost use Rattle.wm_hb.specs.Premises.{coherence_premises, premises, sequential_premises};
 
 use std::alloc::{AllocError, Global};

@@ -1,8 +1,7 @@
 //! How each event is reached from a first one by the fewest links of happens-before.
-ghost use Rattle.std.specs.Prelude.{◌≡◌, ◌<◌, ◌+◌, ◌⊎◌, ℕ, length, IfOk, IfSome, MatchOption};
+ghost use Rattle.std.specs.Prelude.{◌≡◌, ◌<◌, ◌+◌, ◌⊎◌, ℕ, length, IfOk, IfSome};
 ghost use Rattle.wm_event.specs.declared.event.EventKey.{EventKey};
 ghost use Rattle.wm_event.specs.declared.event.EventId.TheVariants.{At};
-ghost use Rattle.wm_event.specs.HappensBefore.{SequencedBefore, SynchronizesWith};
 ghost use Rattle.wm_event.specs.LoggedRun.{execution};
 ghost use Rattle.wm_event.specs.Rules.{KeepsOrder};
 ghost use Rattle.wm_hb.specs.Table.{BoundsThroughPlace, BoundsThroughWriter, BoundsThroughWriters, FindsPrevious, IsBestOfThread, IsHop, IsHopFrom, IsRow, IsSmall, IsTable, IsWithin, StandsAt, hop_links};

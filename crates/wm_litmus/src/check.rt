@@ -1,5 +1,5 @@
 //! The command `check`: a document is checked against a module.
-ghost use Rattle.std.specs.Prelude.{◌≡◌, IfOk, string_bytes};
+ghost use Rattle.std.specs.Prelude.{IfOk, string_bytes};
 ghost use Rattle.wm_litmus.specs.Tasks.{AnswersCheck};
 
 use crate::answer::Answer;

@@ -1,5 +1,5 @@
 //! The command `complete`: a document is printed with the steps and the ends of its threads' runs.
-ghost use Rattle.std.specs.Prelude.{◌≡◌, IfOk, string_bytes};
+ghost use Rattle.std.specs.Prelude.{IfOk, string_bytes};
 ghost use Rattle.wm_litmus.specs.Tasks.{AnswersComplete};
 
 use crate::answer::Answer;

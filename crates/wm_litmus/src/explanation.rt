@@ -1,6 +1,6 @@
 //! The commands `explain` and `graph`: why a check gives its answer, in sentences and as a picture. Module and document
 //! are read and checked once, and the explanation is about the candidate of that check.
-ghost use Rattle.std.specs.Prelude.{◌≡◌, IfOk, string_bytes};
+ghost use Rattle.std.specs.Prelude.{IfOk, string_bytes};
 ghost use Rattle.wm_check.specs.Reading.{HasCandidate};
 ghost use Rattle.wm_check.specs.declared.verdict.Verdict.TheVariants.{Refused};
 ghost use Rattle.wm_litmus.specs.Explanation.{AnswersExplain, AnswersGraph, Explains, ExplainsOver, GraphsOver, Shows};

@@ -1,5 +1,5 @@
 //! The command `migrate`: a document is printed in version 2.
-ghost use Rattle.std.specs.Prelude.{◌≡◌, IfOk, string_bytes};
+ghost use Rattle.std.specs.Prelude.{IfOk, string_bytes};
 ghost use Rattle.wm_litmus.specs.Tasks.{AnswersMigrate};
 
 use crate::answer::Answer;

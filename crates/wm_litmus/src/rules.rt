@@ -1,5 +1,5 @@
 //! The command `rules`: a document is judged by the memory rules, over pages of zeros.
-ghost use Rattle.std.specs.Prelude.{◌≡◌, ◌≤◌, IfOk};
+ghost use Rattle.std.specs.Prelude.{◌≤◌, IfOk};
 ghost use Rattle.wm_event.specs.Shape.{IsWellShaped};
 ghost use Rattle.wm_litmus.specs.Prints.{Gives};
 ghost use Rattle.wm_litmus.specs.Rules.{AnswersRules, AnswersRun, run_over};

@@ -1,8 +1,7 @@
 //! The commands `verify` and `stream`: documents are completed against a module, and checked.
 ghost use Rattle.std.specs.Prelude.{◌≡◌, IfOk, string_bytes};
 ghost use Rattle.wm_stream.specs.Answers.{status_code};
-ghost use Rattle.wm_check.specs.Texts.{verdict_status, verdict_text};
-ghost use Rattle.wm_litmus.specs.Prints.{ended};
+ghost use Rattle.wm_check.specs.Texts.{verdict_status};
 ghost use Rattle.wm_litmus.specs.Stream.{AnswersVerify, IsJudgeOf, IsLineOf, JudgesLine};
 
 use crate::answer::Answer;

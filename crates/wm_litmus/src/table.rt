@@ -1,5 +1,5 @@
 //! How often each outcome occurred.
-ghost use Rattle.std.specs.Prelude.{◌≡◌, ◌<◌, ◌^◌, ◌++◌, codes, [], IfOk, OnOk, List, ℕ, length, map, string_bytes};
+ghost use Rattle.std.specs.Prelude.{◌≡◌, ◌<◌, ◌++◌, codes, [], IfOk, OnOk, List, ℕ, map, string_bytes};
 ghost use Rattle.std.specs.List.{flat_map};
 ghost use Rattle.wm_litmus.specs.Counts.{Counts, CountsOneMore, IsNextCount, padded_text, row_of};
 ghost use Rattle.wm_litmus.specs.Rounds.{CountsRun, outcomes};

@@ -1,8 +1,7 @@
 //! The reader of a document.
-ghost use Rattle.std.specs.Prelude.{◌≡◌, ◌≢◌, ◌≤◌, List, None, [], length, map, IfOk, IfErr};
+ghost use Rattle.std.specs.Prelude.{◌≡◌, ◌≢◌, ◌≤◌, List, None, length, map, IfOk, IfErr};
 ghost use Rattle.serde_json.specs.Find.{as_number};
 ghost use Rattle.serde_json.specs.View.{view};
-ghost use Rattle.wm_event.specs.declared.log.ThreadLog.{ThreadLog};
 ghost use Rattle.wm_event.specs.declared.witness.Witness.{Witness};
 ghost use Rattle.wm_event.specs.Log.{IsLog};
 ghost use Rattle.wm_logfile.specs.Document.{Spells, IsWithinLimits};
@@ -26,7 +25,7 @@ use crate::thread::{ThreadByReader, ThreadReader};
 use crate::witness::{order_keys_of, witness_of};
 use serde_json::Value;
 use std::alloc::Global;
-use wm_event::{Log, MAX_THREADS, ThreadLog, Witness};
+use wm_event::{Log, MAX_THREADS, Witness};
 use wm_list::List;
 
 /// The layout of a document.

@@ -1,6 +1,6 @@
 //! Sums, differences and products, modulo 2^w (Core 1.0, section 4.3.2: iadd, isub, imul).
 
-ghost use Rattle.std.specs.Prelude.{◌≡◌, ◌^◌, ◌<◌};
+ghost use Rattle.std.specs.Prelude.{◌≡◌, ◌^◌};
 ghost use Rattle.wm_num.specs.Number.{bits_of, IsOperand};
 ghost use Rattle.wm_num.specs.Binary.{sum_modulo, difference_modulo, product_modulo};
 

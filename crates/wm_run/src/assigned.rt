@@ -1,5 +1,5 @@
 //! What all threads of a crew know.
-ghost use Rattle.std.specs.Prelude.{Bool, true, ◌≡◌};
+ghost use Rattle.std.specs.Prelude.{Bool, true};
 ghost use Rattle.wm_ast.specs.declared.module.Module.{Module};
 ghost use Rattle.wm_run.specs.declared.plan.Plan.{Plan};
 ghost use Rattle.wm_run.specs.Crew.{no_module, no_plan};

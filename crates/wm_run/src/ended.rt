@@ -5,7 +5,6 @@ ghost use Rattle.wm_replay.specs.Replay.{IsRun};
 ghost use Rattle.wm_run.specs.Reached.{stands_before_access, thread_log};
 ghost use Rattle.wm_run.specs.Stops.{is_own};
 
-use std::marker::Model;
 use std::snapshot::Snapshot;
 use wm_event::{End, Event, Start};
 use wm_list::List;

@@ -1,7 +1,7 @@
 //! What the threads of a round and the recorder that they shared yield together.
-ghost use Rattle.std.specs.Prelude.{◌≡◌, ◌↔◌, ◌<◌, ◌≤◌, All, IfErr, IfNone, IfOk, IfSome, IsTrue, length};
+ghost use Rattle.std.specs.Prelude.{◌≡◌, ◌↔◌, ◌<◌, All, IfErr, IfNone, IfOk, IfSome, IsTrue};
 ghost use Rattle.wm_recorder.specs.Recorder.{threads_of};
-ghost use Rattle.wm_run.specs.Ends.{HasOneEach, ends_of};
+ghost use Rattle.wm_run.specs.Ends.{HasOneEach};
 ghost use Rattle.wm_run.specs.Gathered.{Agrees, AllAgree, AreGathered, AreLogsBy, HasItsEvents, IsFirstSplit, IsGathered, IsGatherFault, StopsWhereFull, log_by};
 ghost use Rattle.wm_run.specs.Own.{IsOwnRun};
 

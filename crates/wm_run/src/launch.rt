@@ -1,5 +1,5 @@
 //! The starts of a plan's threads.
-ghost use Rattle.std.specs.Prelude.{◌≡◌, ◌≢◌, IfErr, IfOk, length};
+ghost use Rattle.std.specs.Prelude.{◌≡◌, IfErr, IfOk};
 ghost use Rattle.wm_run.specs.Launch.{AreLaunched, IsLaunchFault};
 
 use crate::fault::RunFault;

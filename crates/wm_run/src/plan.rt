@@ -1,6 +1,6 @@
 //! What a run starts, and how long it may run.
-ghost use Rattle.std.specs.Prelude.{◌≡◌, ◌≤◌, ◌⊎◌, length, IfErr, IfNone, IfSome, OnOk, Some};
-ghost use Rattle.wm_run.specs.Plan.{AreTurnsOf, HasThreads, IsLeastAbsent, IsPlan, IsPlanFault};
+ghost use Rattle.std.specs.Prelude.{◌≡◌, ◌≤◌, ◌⊎◌, IfErr, IfNone, IfSome, OnOk, Some};
+ghost use Rattle.wm_run.specs.Plan.{AreTurnsOf, IsLeastAbsent, IsPlan, IsPlanFault};
 
 use crate::MAX_TURNS;
 use crate::fault::PlanFault;

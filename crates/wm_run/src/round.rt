@@ -4,7 +4,6 @@ ghost use Rattle.wm_event.specs.Limits.{max_steps};
 ghost use Rattle.wm_recorder.specs.Locked.{IsOver};
 ghost use Rattle.wm_run.specs.Launch.{IsLaunchFault};
 ghost use Rattle.wm_run.specs.Own.{IsWithinPlan};
-ghost use Rattle.wm_run.specs.Plan.{HasThreads};
 ghost use Rattle.wm_run.specs.Refusal.{AllStart};
 ghost use Rattle.wm_run.specs.Rounds.{AreEndsOf, AreWorkOfPlan, IsRound, IsRoundFault, IsRoundPlan, IsRoundPlanFault};
 ghost use Rattle.wm_run.specs.Worker.{IsWorkOf};

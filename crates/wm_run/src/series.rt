@@ -1,5 +1,5 @@
 //! Rounds of a plan, one after the other, by threads that are started once.
-ghost use Rattle.std.specs.Prelude.{◌≡◌, ◌⊎◌, IfErr, IfOk, MatchBool, OnOk, length};
+ghost use Rattle.std.specs.Prelude.{◌≡◌, IfErr, IfOk, MatchBool, OnOk};
 ghost use Rattle.wm_recorder.specs.Locked.{IsOver};
 ghost use Rattle.wm_run.specs.Crew.{CanMakeRounds};
 ghost use Rattle.wm_run.specs.Rounds.{IsReady, IsRoundFault, IsRoundPlan};

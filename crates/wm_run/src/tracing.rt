@@ -7,9 +7,9 @@ ghost use Rattle.wm_recorder.specs.Recorder.{steps_of, threads_of};
 ghost use Rattle.wm_run.specs.Own.{IsOwnRun, IsWithinPlan};
 ghost use Rattle.wm_run.specs.Plan.{AreTurnsOf, IsPlan, thread_of};
 ghost use Rattle.wm_run.specs.Refusal.{IsScriptFault};
-ghost use Rattle.wm_run.specs.Runner.{IsSet, runner_state, script_state, setting_of};
+ghost use Rattle.wm_run.specs.Runner.{IsSet, runner_state, setting_of};
 ghost use Rattle.wm_run.specs.Scripted.{IsScripted};
-ghost use Rattle.wm_run.specs.Traced.{Does, DrainDoes, IsTraced, StepDoes, pending, store_before};
+ghost use Rattle.wm_run.specs.Traced.{DrainDoes, IsTraced, StepDoes, pending, store_before};
 ghost use Rattle.wm_run.specs.TracedEvents.{TracedAccessesAreLogged, TracedStoresAreLogged};
 ghost use Rattle.wm_run.specs.Tracing.{PlaysTraced, TakesTraced, TurnDoes};
 

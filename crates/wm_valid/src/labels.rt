@@ -2,7 +2,7 @@
 
 ghost use Rattle.std.specs.Prelude.{ℕ, ◌≡◌, All, IfErr, ◌∷◌, [], OnOk, slice_get, List, Option};
 ghost use Rattle.wm_valid.specs.Implements.{Implements, IsLabel, TableFault, IsLabelFault, Unless};
-ghost use Rattle.wm_valid.specs.InstrTypes.{all_same, table_type, same};
+ghost use Rattle.wm_valid.specs.InstrTypes.{table_type, same};
 ghost use Rattle.wm_valid.specs.Locations.{NoSuchLabelIn};
 
 use crate::fault::{FaultKind, InstrFault};

@@ -1,5 +1,5 @@
 //! Modules that are valid.
-ghost use Rattle.std.specs.Prelude.{◌≡◌, OnOk, ◌<◌, ◌≤◌, ◌++◌, IfOk, IfErr, Some, None, All, ℕ, length, slice_index, slice_get};
+ghost use Rattle.std.specs.Prelude.{◌≡◌, OnOk, ◌<◌, ◌≤◌, ◌++◌, IfOk, IfErr, Some, None, All, length, slice_get};
 ghost use Rattle.wm_valid.specs.Typing.{TypedFunc};
 ghost use Rattle.wm_ast.specs.Module.{memory_size, pages_of};
 ghost use Rattle.wm_valid.specs.Memory.{init};

@@ -1,6 +1,5 @@
 //! Scripts and rounds, as spelled by words.
 ghost use Rattle.std.specs.Prelude.{◌≡◌, Some, IfErr, IfOk, map};
-ghost use Rattle.wm_words.specs.Faults.{Misses};
 ghost use Rattle.wm_words.specs.Words.{IsRoundsOf, IsScriptOf, SpellNoRounds, SpellNoScript, rounds_of};
 
 use crate::fault::WordFault;

@@ -1,5 +1,5 @@
 //! Rows of buffered memory, with values from outside, and each call once on its happy path.
-ghost use Rattle.std.specs.Prelude.{◌<◌, ◌≤◌, ◌^◌};
+ghost use Rattle.std.specs.Prelude.{◌<◌, ◌≤◌};
 
 use super::accesses::{atomic_load, exchange, load, load_byte, store_byte, store_word};
 use super::{same, same_in};

@@ -1,7 +1,7 @@
 //! Rows of recorded histories, with values from outside, and each call once on its happy path.
 mod locked;
 
-ghost use Rattle.std.specs.Prelude.{◌<◌, ◌^◌};
+ghost use Rattle.std.specs.Prelude.{◌<◌};
 
 use super::accesses::{load_byte, store_byte, store_word};
 use super::calls::two_threads;

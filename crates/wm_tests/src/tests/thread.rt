@@ -1,5 +1,4 @@
 //! A small module by hand: each public call once on its happy path, and each refusal of a start.
-ghost use Rattle.std.specs.Prelude.{◌≡◌};
 ghost use Rattle.wm_event.specs.Op.{kind_finds};
 ghost use Rattle.wm_event.specs.Reply.{ReadAnswers};
 
