@@ -1,15 +1,18 @@
-"""What the files of the crates import and then don't name. The compiler doesn't report it of a `ghost use`."""
+"""What the files of the crates import on one line and then don't name. The compiler doesn't report it of a `ghost use`.
+
+A trait that is imported for its methods alone is named nowhere else, so it has an import of its own, without braces.
+"""
 import glob
 import re
 
 from . import TOP
 
-# An import of several names: the names in braces.
+# An import of several names on one line: the names in braces.
 SEVERAL = re.compile(r"\s*(?:pub )?(?:ghost )?use [^{}]*\{(?P<names>[^{}]*)\};?$")
 IMPORT = re.compile(r"\s*(?:pub )?(?:ghost )?use ")
 
 
-def named(name, text):
+def is_named(name, text):
     """Whether a text has a name, or the first part of an operator, as `◌≡◌`."""
     word = name.strip("◌").split("◌")[0]
     before = r"(?<!\w)" if re.match(r"\w", word) else ""
@@ -18,7 +21,7 @@ def named(name, text):
 
 
 def unused(crate):
-    """Each name that a file of a crate imports in braces and doesn't name again, with its file."""
+    """Each name that a file of a crate imports in braces on one line and doesn't name again, with its file."""
     found, top = [], f"{TOP}/crates/{crate}"
     files = glob.glob("src/**/*.rt", root_dir=top, recursive=True)
     files += glob.glob("specs/**/*.antt", root_dir=top, recursive=True)
@@ -31,5 +34,5 @@ def unused(crate):
             several = SEVERAL.match(line)
             if several and not line.lstrip().startswith("pub "):
                 names = [name.split(" as ")[-1] for name in several["names"].split(", ")]
-                found += [f"{path}: {name}" for name in names if name != "self" and not named(name, text)]
+                found += [f"{path}: {name}" for name in names if name != "self" and not is_named(name, text)]
     return found
