@@ -6,6 +6,7 @@ mod bounds;
 mod code;
 mod data_count;
 mod exports;
+mod exports_by_name;
 mod fault;
 mod function_types;
 mod globals;
