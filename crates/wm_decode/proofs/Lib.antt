@@ -24,4 +24,4 @@ pub mod Past
 pub mod FirstFaults
 pub mod Left
 pub mod LeftOfModule
-pub mod Named
+pub mod MapEntries

@@ -1,6 +1,6 @@
 use Rattle.std.proofs.Common.{ap, ◌∙◌}
 use Rattle.wm_ast.specs.Exports.{export_at}
-use Rattle.wm_decode.proofs.Named.{lookup_named}
+use Rattle.wm_decode.proofs.MapEntries.{lookup_named}
 use Rattle.wm_decode.proofs.exports_by_name.ExportsByName.get.Goals as goal
 
 pub returns : goal.returns
