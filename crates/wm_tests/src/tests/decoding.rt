@@ -138,12 +138,14 @@ fn one_block(alloc: Global, instrs: Vec<Instr>) -> Result<Func, AllocError> {
 /// The exports of functions under these names.
 fn exports_of(alloc: Global, names: &[&str]) -> Result<Exports, AllocError> {
     let mut entries = Vec::new(alloc);
-    for (index, name) in names.iter().enumerate() {
+    let mut index = 0u32;
+    for name in names {
         let export = Export {
             kind: ExportKind::Func,
-            index: index as u32,
+            index,
         };
         entries.push((String::from_str(alloc, name)?, export))?;
+        index = index.wrapping_add(1);
     }
     Ok(Exports::from_entries(entries))
 }
