@@ -1,8 +1,9 @@
 //! Exports by name, in the order of the file (Core 1.0, section 2.5.10).
-ghost use Rattle.std.specs.Prelude.{◌≡◌, [], length, slice_get, option_copied, option_map};
-ghost use Rattle.wm_ast.specs.Exports.{export_at, named};
+ghost use Rattle.std.specs.Prelude.{◌≡◌, [], ◌∷◌, ◌++◌, length, slice_get, option_copied, option_map, OnOk, OnErr, None, string_bytes};
+ghost use Rattle.wm_ast.specs.Exports.{export_at};
 
-use std::alloc::Global;
+use indexmap::IndexMap;
+use std::alloc::{AllocError, Global};
 use std::marker::Model;
 
 /// What an export names.
@@ -22,9 +23,15 @@ pub struct Export {
 
 /// The exports of a module by name. Contracts see them as the list of the names, each as its bytes,
 /// with their exports, in the order of the file.
-#[derive(Drop)]
 pub struct Exports {
-    entries: Vec<(String, Export)>,
+    by_name: IndexMap<String, Export>,
+}
+
+// By hand, since a derived drop is written out wherever exports go out of scope, and a map's is long.
+impl Drop for Exports {
+    fn drop(self) {
+        let Exports { by_name: _by_name } = self;
+    }
 }
 
 impl Model for Exports {
@@ -34,50 +41,38 @@ impl Model for Exports {
 
     ghost Value = { List (List ℕ × Export) };
 
-    ghost view = { λ a. named a.entries.items };
+    ghost view = { λ a. named a.by_name.entries };
 }
 
 impl Exports {
-    /// No exports.
+    /// The empty map.
     pub fn new(alloc: Global) -> Self
         ensures { result ≡ [] }
     {
         Exports {
-            entries: Vec::new(alloc),
+            by_name: IndexMap::new(alloc),
         }
     }
 
-    /// The exports of these names, in their order.
-    pub fn from_entries(entries: Vec<(String, Export)>) -> Self
-        ensures { result ≡ named entries.items }
-    {
-        Exports { entries }
-    }
-
-    /// The first export of this name, if there is one.
+    /// The export of this name, if there is one.
     pub fn get(&self, name: &str) -> Option<Export>
         ensures { result ≡ export_at name.now self.now }
     {
-        for (own, export) in &self.entries {
-            if name == own.as_str() {
-                return Some(*export);
-            }
-        }
-        None
+        self.by_name.get(name).copied()
     }
 
     /// How many exports there are.
     pub fn len(&self) -> usize
         ensures { result ≡ length self.now }
     {
-        self.entries.len()
+        self.by_name.len()
     }
 
     /// The export at `position` in the order of the file, counted from 0; None if `position` is not below the length.
     pub fn at(&self, position: usize) -> Option<Export>
         ensures { result ≡ option_map (λ e. e.1) (slice_get self.now position) }
     {
-        let (_, export) = self.entries.get(position)?;
+        let (_, export) = self.by_name.get_index(position)?;
         Some(*export)
     }
 
@@ -86,7 +81,17 @@ impl Exports {
     pub fn name_at(&self, position: usize) -> Option<&str>
         ensures { option_copied result ≡ option_map (λ e. e.0) (slice_get self.now position) }
     {
-        let (name, _) = self.entries.get(position)?;
+        let (name, _) = self.by_name.get_index(position)?;
         Some(name.as_str())
+    }
+
+    /// Appends an export under a new name. Nothing is changed if an allocation fails.
+    pub fn push(&mut self, name: String, export: Export) -> Result<(), AllocError>
+        requires { export_at (string_bytes name) self.old ≡ None }
+        ensures ok { OnOk result (self.new ≡ self.old ++ (string_bytes name, export) ∷ []) }
+        ensures err { OnErr result (self.new ≡ self.old) }
+    {
+        self.by_name.insert(name, export)?;
+        Ok(())
     }
 }

@@ -24,4 +24,3 @@ pub mod Past
 pub mod FirstFaults
 pub mod Left
 pub mod LeftOfModule
-pub mod MapEntries

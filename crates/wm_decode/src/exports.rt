@@ -5,7 +5,6 @@ ghost use Rattle.wm_decode.specs.Implements.{Implements};
 ghost use Rattle.wm_decode.specs.ReadingVectors.{more_at};
 ghost use Rattle.wm_decode.specs.ReadingParts.{export_kind_at, export_entry_at, exports_at, export_step};
 
-use crate::exports_by_name::ExportsByName;
 use crate::fault::{FaultKind, Feature, ItemFault};
 use crate::number::unsigned_32;
 use crate::section::Content;
@@ -31,7 +30,7 @@ fn export_kind(bytes: &[u8]) -> Result<(ExportKind, &[u8]), ItemFault>
 /// Reads an export whose name differs from all earlier ones.
 #[tactic(auto, unfolding(crate::specs::ReadingParts::export_entry_at))]
 fn export_entry<'a>(
-    earlier: &ExportsByName,
+    earlier: &Exports,
     bytes: &'a [u8],
 ) -> Result<(&'a str, Export, &'a [u8]), ItemFault>
     ensures read { Implements (λ x. ((x.0.now, x.1), x.2.now)) result (export_entry_at earlier.now bytes.now) }
@@ -73,13 +72,12 @@ fn export_vector(alloc: Global, bytes: &[u8]) -> Result<(Exports, &[u8]), ItemFa
 fn more_exports(alloc: Global, count: u32, bytes: &[u8]) -> Result<(Exports, &[u8]), ItemFault>
     ensures { Implements (λ x. (x.0, x.1.now)) result (more_at export_step count [] bytes.now) }
 {
-    let mut found = ExportsByName::new(alloc);
+    let mut found = Exports::new(alloc);
     let mut rest = bytes;
     for _ in 0..count {
         let (name, export, after) = export_entry(&found, rest)?;
-        found.insert(String::from_str(alloc, name)?, export)?;
+        found.push(String::from_str(alloc, name)?, export)?;
         rest = after;
     }
-    let exports = found.take(alloc)?;
-    Ok((exports, rest))
+    Ok((found, rest))
 }

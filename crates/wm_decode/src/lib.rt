@@ -6,7 +6,6 @@ mod bounds;
 mod code;
 mod data_count;
 mod exports;
-mod exports_by_name;
 mod fault;
 mod function_types;
 mod globals;

@@ -135,19 +135,32 @@ fn one_block(alloc: Global, instrs: Vec<Instr>) -> Result<Func, AllocError> {
     })
 }
 
-/// The exports of functions under these names.
-fn exports_of(alloc: Global, names: &[&str]) -> Result<Exports, AllocError> {
-    let mut entries = Vec::new(alloc);
+/// Exports functions under these names, each of them once.
+fn export_each(alloc: Global, exports: &mut Exports, names: &[&str]) -> Result<(), AllocError> {
     let mut index = 0u32;
     for name in names {
-        let export = Export {
-            kind: ExportKind::Func,
-            index,
-        };
-        entries.push((String::from_str(alloc, name)?, export))?;
+        if exports.get(name).is_none() {
+            let export = Export {
+                kind: ExportKind::Func,
+                index,
+            };
+            exports.push(String::from_str(alloc, name)?, export)?;
+        }
         index = index.wrapping_add(1);
     }
-    Ok(Exports::from_entries(entries))
+    Ok(())
+}
+
+/// The exports of functions under these names.
+fn exports_of(alloc: Global, names: &[&str]) -> Result<Exports, AllocError> {
+    let mut exports = Exports::new(alloc);
+    match export_each(alloc, &mut exports, names) {
+        Ok(()) => Ok(exports),
+        Err(fault) => {
+            drop(exports);
+            Err(fault)
+        }
+    }
 }
 
 /// One type.

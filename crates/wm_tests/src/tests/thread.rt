@@ -51,21 +51,36 @@ fn funcs(alloc: Global) -> Result<Vec<Func>, Fail> {
     Ok(vec![in alloc; func]?)
 }
 
-/// The exports of the module below: the function and the memory.
+/// Exports the first function or the memory under a name, unless the name is taken.
+fn export(
+    alloc: Global,
+    exports: &mut Exports,
+    name: &str,
+    kind: ExportKind,
+) -> Result<(), AllocError> {
+    if exports.get(name).is_none() {
+        let export = Export { kind, index: 0 };
+        exports.push(String::from_str(alloc, name)?, export)?;
+    }
+    Ok(())
+}
+
+/// Exports the function and the memory of the module below.
+fn export_both(alloc: Global, exports: &mut Exports) -> Result<(), AllocError> {
+    export(alloc, exports, "load", ExportKind::Func)?;
+    export(alloc, exports, "memory", ExportKind::Memory)
+}
+
+/// The exports of the module below.
 fn exports(alloc: Global) -> Result<Exports, AllocError> {
-    let func = Export {
-        kind: ExportKind::Func,
-        index: 0,
-    };
-    let memory = Export {
-        kind: ExportKind::Memory,
-        index: 0,
-    };
-    let entries = vec![in alloc;
-        (String::from_str(alloc, "load")?, func),
-        (String::from_str(alloc, "memory")?, memory),
-    ]?;
-    Ok(Exports::from_entries(entries))
+    let mut exports = Exports::new(alloc);
+    match export_both(alloc, &mut exports) {
+        Ok(()) => Ok(exports),
+        Err(fault) => {
+            drop(exports);
+            Err(fault)
+        }
+    }
 }
 
 /// The module

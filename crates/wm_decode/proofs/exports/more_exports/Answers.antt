@@ -1,4 +1,4 @@
-use Rattle.std.proofs.Common.{◌≡◌, ◌++◌, ◌∷◌, [], List, ℕ, Ok, ap, sym, ◌∙◌}
+use Rattle.std.proofs.Common.{◌≡◌, ◌++◌, ◌∷◌, [], List, ℕ, ap, ◌∙◌}
 use Rattle.std.proofs.lemmas.Result.{err_from_is_err_and}
 use Rattle.wm_ast.specs.declared.exports.Export.{Export}
 use Rattle.wm_decode.specs.ReadingVectors.{more_at}
@@ -15,11 +15,9 @@ returns-in_err-name c =
 pub loop-preserved : goal.loop-preserved
 loop-preserved c =
     let e : List ℕ × Export = (c.in_ok-name.name.now, c.in_ok-name.export) in
-    let grown : c.insert.new.self ≡ c.loop.found ++ e ∷ [] = c.in_ok-insert.ensures ∙ ap (λ (n : List ℕ). c.loop.found ++ (n, c.in_ok-name.export) ∷ []) c.in_ok-from_str.ensures.ok in
+    let grown : c.push.new.self ≡ c.loop.found ++ e ∷ [] = c.in_ok-push.ensures.ok ∙ ap (λ (n : List ℕ). c.loop.found ++ (n, c.in_ok-name.export) ∷ []) c.in_ok-from_str.ensures.ok in
     rw grown (goes_on export_step c.args.count c.loop.counter c.loop.found (c.loop.found ++ e ∷ []) c.loop.rest.now c.in_ok-name.after.now (more_at export_step c.args.count [] c.args.bytes.now) c.loop-test.true
     (stepped (export_entry_at c.loop.found c.loop.rest.now) (λ (e : List ℕ × Export). c.loop.found ++ e ∷ []) e c.in_ok-name.after.now c.in_ok-name.ensures.read) c.loop.invariant)
 
 pub returns : goal.returns
-returns c =
-    is_done export_step c.args.count c.loop.counter c.loop.found c.loop.rest.now (more_at export_step c.args.count [] c.args.bytes.now) c.loop-test.false c.loop.invariant
-    ∙ ap (λ (es : List (List ℕ × Export)). Ok (es, c.loop.rest.now)) (sym c.in_ok-exports.ensures)
+returns c = is_done export_step c.args.count c.loop.counter c.loop.found c.loop.rest.now (more_at export_step c.args.count [] c.args.bytes.now) c.loop-test.false c.loop.invariant
