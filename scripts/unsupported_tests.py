@@ -1,0 +1,182 @@
+#!/usr/bin/env python3
+"""Writes tests/rows/unsupported.rows: modules with each instruction that is not supported, and what `explain` lists of
+them.
+
+The instructions are below as WebAssembly text. wabt's wat2wasm assembles them, and its wasm-objdump names each with its
+offset: nothing of that comes from this repository. Each function ends with memory.grow, which is found only if all
+instructions before it were read to their ends.
+
+    scripts/unsupported_tests.py [--check]        it needs wat2wasm and wasm-objdump (Debian's wabt)
+"""
+import itertools
+import os
+import re
+import subprocess
+import tempfile
+
+from wmlabtools import generated
+
+ENABLED = ["--enable-threads", "--enable-exceptions", "--enable-tail-call"]
+AROUND = (
+    "(module (type (func)) (memory 1 1 shared) {fields} (func (type 0) {code} i32.const 0 memory.grow drop))"
+)
+# The instructions around them.
+SUPPORTED = ("i32.const", "drop", "end", "select")
+INTEGERS = ("i8x16", "i16x8", "i32x4", "i64x2")
+LANES = {"i8x16": 16, "i16x8": 8, "i32x4": 4, "i64x2": 2, "f32x4": 4, "f64x2": 2}
+
+
+def named(prefix, words):
+    return [f"{prefix}.{word}" for word in words.split()]
+
+
+def floats():
+    """The instructions on floats."""
+    found = ["f32.const 1.5", "f64.const 1.5"]
+    for ty in ("f32", "f64"):
+        found += named(ty, "load store eq ne lt gt le ge abs neg ceil floor trunc nearest sqrt add sub mul div min max")
+        found += named(ty, "copysign convert_i32_s convert_i32_u convert_i64_s convert_i64_u")
+    for ty, source, sign in itertools.product(("i32", "i64"), ("f32", "f64"), "su"):
+        found.append(f"{ty}.trunc_{source}_{sign}")
+    return found + [
+        "f32.demote_f64",
+        "f64.promote_f32",
+        "i32.reinterpret_f32",
+        "i64.reinterpret_f64",
+        "f32.reinterpret_i32",
+        "f64.reinterpret_i64",
+    ]
+
+
+def of_lanes():
+    """The vector instructions that name a lane."""
+    found = []
+    for shape, lanes in LANES.items():
+        signs = ("_s", "_u") if shape in ("i8x16", "i16x8") else ("",)
+        found += [f"{shape}.extract_lane{sign} {lanes - 1}" for sign in signs] + [f"{shape}.replace_lane 1"]
+    for bits in (8, 16, 32, 64):
+        found += [f"v128.{way}{bits}_lane offset=300 1" for way in ("load", "store")]
+    return found
+
+
+def vectors():
+    """The vector instructions."""
+    found = ["v128.const i32x4 1 2 3 4", f"i8x16.shuffle{' 5' * 16}", "v128.load offset=300", "v128.store offset=300"]
+    for shape, sign in itertools.product(("8x8", "16x4", "32x2"), "su"):
+        found.append(f"v128.load{shape}_{sign}")
+    found += [f"v128.load{bits}_splat" for bits in (8, 16, 32, 64)] + ["v128.load32_zero", "v128.load64_zero"]
+    found += of_lanes() + [f"{shape}.splat" for shape in LANES] + ["i8x16.swizzle"]
+    found += named("v128", "not and andnot or xor bitselect any_true")
+    for shape in INTEGERS:
+        found += named(shape, "eq ne abs neg all_true bitmask shl shr_s shr_u add sub")
+        signs = ("_s",) if shape == "i64x2" else ("_s", "_u")
+        found += [f"{shape}.{word}{sign}" for word in ("lt", "gt", "le", "ge") for sign in signs]
+    found += ["i8x16.popcnt", "i8x16.narrow_i16x8_s", "i16x8.narrow_i32x4_u", "i32x4.dot_i16x8_s"]
+    found += ["i16x8.extend_low_i8x16_s", "i16x8.extmul_high_i8x16_u", "i16x8.q15mulr_sat_s", "i64x2.mul"]
+    for shape in ("f32x4", "f64x2"):
+        found += named(shape, "eq ne lt gt le ge ceil floor trunc nearest abs neg sqrt")
+        found += named(shape, "add sub mul div min max pmin pmax")
+    return found + ["i32x4.trunc_sat_f32x4_s", "f64x2.convert_low_i32x4_u", "f32x4.demote_f64x2_zero"]
+
+
+# The groups: a title, the feature that is met first, further fields of the module, and the instructions.
+GROUPS = [
+    (
+        "each instruction of bulk memory, with the saturating conversions",
+        "PrefixFC",
+        '(data "1")',
+        [f"{ty}.trunc_sat_{source}_{sign}" for ty in ("i32", "i64") for source in ("f32", "f64") for sign in "su"]
+        + ["memory.init 0", "data.drop 0", "memory.copy", "memory.fill", "table.init 0 0", "elem.drop 0", "table.copy"]
+        + ["table.grow 0", "table.size 0", "table.fill 0"],
+    ),
+    (
+        "each atomic instruction that is not supported",
+        "Notify",
+        "",
+        ["memory.atomic.notify", "memory.atomic.wait32 offset=300", "memory.atomic.wait64", "atomic.fence"]
+        + ["i32.atomic.rmw8.cmpxchg_u", "i32.atomic.rmw16.cmpxchg_u offset=300", "i64.atomic.rmw8.cmpxchg_u"]
+        + ["i64.atomic.rmw16.cmpxchg_u", "i64.atomic.rmw32.cmpxchg_u"],
+    ),
+    (
+        "each instruction for tail calls and exceptions",
+        "Reserved",
+        "",
+        ["try", "catch 0", "throw 0", "catch_all", "rethrow 0", "end", "try", "delegate 0"]
+        + ["return_call 0", "return_call_indirect (type 0)"],
+    ),
+    (
+        "each instruction on references",
+        "References",
+        "",
+        ["select (result i32)", "table.get 0", "table.set 0", "ref.null func", "ref.is_null", "ref.func 0"],
+    ),
+    (
+        "each sign extension",
+        "SignExtension",
+        "",
+        ["i32.extend8_s", "i32.extend16_s", "i64.extend8_s", "i64.extend16_s", "i64.extend32_s"],
+    ),
+    ("each instruction on floats", "Floats", "", floats()),
+    ("the vector instructions", "Simd", "", vectors()),
+    ("an indirect call", "Table", "", ["call_indirect (type 0)"]),
+]
+# The names of parts that have more than one instruction, by a pattern of their instructions.
+PARTS = {
+    r"v128\..*|[if]\d+x\d+\..*": "v128",
+    r".*\.trunc_sat_.*": "a saturating conversion of a float",
+    r"f\d\d\..*|.*[._]f\d\d(_.*)?": "f32 or f64",
+}
+SELECT_WITH_TYPE = "1c"
+
+
+def disassembled(code, fields):
+    """A module of this code, and the offset, the first byte and the name of each of its instructions."""
+    with tempfile.TemporaryDirectory() as folder:
+        text, module = f"{folder}/text.wat", f"{folder}/it.wasm"
+        with open(text, "w", encoding="utf-8") as file:
+            file.write(AROUND.format(code=" ".join(code), fields=fields))
+        subprocess.run(["wat2wasm", *ENABLED, "--no-check", text, "-o", module], check=True)
+        said = subprocess.run(["wasm-objdump", "-d", module], stdout=subprocess.PIPE, text=True, check=True).stdout
+        with open(module, "rb") as file:
+            return file.read(), re.findall(r"(?m)^ ([0-9a-f]+): ([0-9a-f]{2})[^|]*\| +(\S+)", said)
+
+
+def part_of(byte, name):
+    """The part that an instruction belongs to, or nothing if it is supported."""
+    if name in SUPPORTED and byte != SELECT_WITH_TYPE:
+        return None
+    if byte == SELECT_WITH_TYPE:
+        return "select with a type"
+    return next((part for pattern, part in PARTS.items() if re.fullmatch(pattern, name)), name)
+
+
+def row(title, feature, fields, code):
+    """The row of a group: each part with its first instruction, and the number of its instructions."""
+    module, listed = disassembled(code, fields)
+    found = {}
+    for offset, byte, name in listed:
+        part = part_of(byte, name)
+        if part:
+            found.setdefault(part, []).append(int(offset, 16))
+    text = f"\n{title}\n  m.wasm = {module.hex()}\n  $ wmlab explain m.wasm files/cut.json\n"
+    text += f"  refused decode Unsupported {feature} at {min(offsets[0] for offsets in found.values())}\n  ...\n"
+    text += "  What the module uses that isn't supported:\n"
+    for part, offsets in found.items():
+        times = f", {len(offsets)} times, first" if len(offsets) > 1 else ""
+        text += f"    {part}{times} in function 0 at byte {offsets[0]}. ...\n"
+    if fields:
+        text += "    a passive data segment (data segment 0) at byte ...\n"
+    return text + "  [2]\n"
+
+
+def main():
+    options = generated.words_of(__doc__)
+    generated.need("wat2wasm", "wasm-objdump")
+    head = f"# @generated by scripts/{os.path.basename(__file__)}; do not edit.\n"
+    shows = "# Instructions that are not supported, all of a kind in one function, by their names and places.\n"
+    text = "".join(row(*group) for group in GROUPS)
+    generated.write_or_check({"tests/rows/unsupported.rows": head + shows + text}, options.check)
+
+
+if __name__ == "__main__":
+    main()
