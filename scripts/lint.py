@@ -1,8 +1,8 @@
 #!/usr/bin/env python3
 """Lints the scripts: Python with pyflakes and at most 120 columns, shell with shellcheck. Lints the crates and pages:
 a line of a clause has at most 140 characters, each name that a page on the crates cites is one of theirs, each library
-that crates.txt lists is named by its crate, and each name that a file imports in braces on one line by that
-file. The last line is `N passed, N failed`.
+that crates.txt lists is named by its crate, and each name that a file imports in braces by that file. The last line is
+`N passed, N failed`.
 
     scripts/lint.py        it needs Debian's python3-pyflakes and shellcheck; what is missing is named and not counted
 """

@@ -79,15 +79,16 @@ def vectors():
     return found + ["i32x4.trunc_sat_f32x4_s", "f64x2.convert_low_i32x4_u", "f32x4.demote_f64x2_zero"]
 
 
-# The groups: a title, the feature that is met first, further fields of the module, and the instructions.
+# The groups: a title, the feature that is met first, further fields of the module, and the instructions. 64 is also the
+# opcode of memory.grow, which is counted if an index is taken for an instruction.
 GROUPS = [
     (
         "each instruction of bulk memory, with the saturating conversions",
         "PrefixFC",
         '(data "1")',
         [f"{ty}.trunc_sat_{source}_{sign}" for ty in ("i32", "i64") for source in ("f32", "f64") for sign in "su"]
-        + ["memory.init 0", "data.drop 0", "memory.copy", "memory.fill", "table.init 0 0", "elem.drop 0", "table.copy"]
-        + ["table.grow 0", "table.size 0", "table.fill 0"],
+        + ["memory.init 64", "data.drop 64", "memory.copy", "memory.fill"]
+        + ["table.init 64 64", "elem.drop 64", "table.copy 64 64", "table.grow 64", "table.size 64", "table.fill 64"],
     ),
     (
         "each atomic instruction that is not supported",
@@ -101,14 +102,14 @@ GROUPS = [
         "each instruction for tail calls and exceptions",
         "Reserved",
         "",
-        ["try", "catch 0", "throw 0", "catch_all", "rethrow 0", "end", "try", "delegate 0"]
-        + ["return_call 0", "return_call_indirect (type 0)"],
+        ["try", "catch 64", "throw 64", "catch_all", "rethrow 64", "end", "try", "delegate 63"]
+        + ["return_call 64", "return_call_indirect 64 (type 0)"],
     ),
     (
         "each instruction on references",
         "References",
         "",
-        ["select (result i32)", "table.get 0", "table.set 0", "ref.null func", "ref.is_null", "ref.func 0"],
+        ["select (result i32)", "table.get 64", "table.set 64", "ref.null func", "ref.is_null", "ref.func 64"],
     ),
     (
         "each sign extension",
@@ -118,7 +119,7 @@ GROUPS = [
     ),
     ("each instruction on floats", "Floats", "", floats()),
     ("the vector instructions", "Simd", "", vectors()),
-    ("an indirect call", "Table", "", ["call_indirect (type 0)"]),
+    ("an indirect call", "Table", "", ["call_indirect 64 (type 0)"]),
 ]
 # The names of parts that have more than one instruction, by a pattern of their instructions.
 PARTS = {

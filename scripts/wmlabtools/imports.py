@@ -1,4 +1,4 @@
-"""What the files of the crates import on one line and then don't name. The compiler doesn't report it of a `ghost use`.
+"""What the files of the crates import in braces and then don't name. The compiler doesn't report it of a `ghost use`.
 
 A trait that is imported for its methods alone is named nowhere else, so it has an import of its own, without braces.
 """
@@ -7,9 +7,10 @@ import re
 
 from . import TOP
 
-# An import of several names on one line: the names in braces.
-SEVERAL = re.compile(r"\s*(?:pub )?(?:ghost )?use [^{}]*\{(?P<names>[^{}]*)\};?$")
-IMPORT = re.compile(r"\s*(?:pub )?(?:ghost )?use ")
+# An import: the names in braces, if there are several.
+IMPORT = re.compile(
+    r"^[ \t]*(?P<public>pub(?:\([a-z]+\))? )?(?:ghost )?use [^{};\n]*(?:\{(?P<names>[^{}]*)\})?;?$", re.MULTILINE
+)
 
 
 def is_named(name, text):
@@ -21,18 +22,17 @@ def is_named(name, text):
 
 
 def unused(crate):
-    """Each name that a file of a crate imports in braces on one line and doesn't name again, with its file."""
+    """Each name that a file of a crate imports in braces and doesn't name again, with its file."""
     found, top = [], f"{TOP}/crates/{crate}"
     files = glob.glob("src/**/*.rt", root_dir=top, recursive=True)
     files += glob.glob("specs/**/*.antt", root_dir=top, recursive=True)
     files += glob.glob("proofs/**/*.antt", root_dir=top, recursive=True)
     for path in sorted(files):
         with open(f"{top}/{path}", encoding="utf-8") as file:
-            lines = file.read().split("\n")
-        text = "\n".join(line for line in lines if not IMPORT.match(line))
-        for line in lines:
-            several = SEVERAL.match(line)
-            if several and not line.lstrip().startswith("pub "):
-                names = [name.split(" as ")[-1] for name in several["names"].split(", ")]
-                found += [f"{path}: {name}" for name in names if name != "self" and not is_named(name, text)]
+            text = file.read()
+        rest = IMPORT.sub("", text)
+        for several in IMPORT.finditer(text):
+            if several["names"] is not None and several["public"] is None:
+                names = [name.strip().split(" as ")[-1] for name in several["names"].split(",") if name.strip()]
+                found += [f"{path}: {name}" for name in names if name != "self" and not is_named(name, rest)]
     return found

@@ -54,7 +54,7 @@ fn order_edge(candidate: &Candidate, edge: Edge) -> Option<Edge>
     ensures right { IfSome result (IsRight candidate.now) }
     ensures contrary { (a : EventKey) → edge.from ≡ At a → Precedes candidate.now (At edge.to) a → result ≡ Some (ordered edge.to a) }
 {
-    // What its contract says is needed: the order lists each event once.
+    // Its contract is needed: the order lists each event once.
     let _witness = candidate.witness();
     let EventId::At(from) = edge.from else {
         return None;

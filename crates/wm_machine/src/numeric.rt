@@ -14,10 +14,7 @@ use crate::control_stack::ControlStack;
 use crate::value::TypedValue;
 use wm_ast::Instr;
 use wm_event::TrapKind;
-use wm_num::{
-    BinaryOperator, Comparison, Conversion, NumTrap, UnaryOperator, Width, binary, compare,
-    convert, unary,
-};
+use wm_num::{Conversion, NumTrap, UnaryOperator, Width, convert, unary};
 
 /// The operand at `depth`, counted from the top, if it has this width.
 #[inline(always)]

@@ -161,21 +161,17 @@ impl fmt::Display for OpPhrase {
     }
 }
 
-/// The writers of the bytes that were read: one event, or which bytes each event wrote.
+/// The bytes of a read that each of several events wrote, as `byte 0 from 0.0, bytes 1 to 3 from init`.
 #[derive(Clone, Copy)]
 pub struct WritersPhrase<'a>(pub &'a [WriterRun]);
 
 impl WritersPhrase<'_> {
-    /// Writes the phrase, as its `Display` does.
+    /// Writes the phrase.
     ///
     /// # Errors
     ///
     /// Only if the writer fails.
     pub fn write_to<W: fmt::Write>(&self, out: &mut W) -> fmt::Result {
-        if let [run] = self.0 {
-            out.write_str("from ")?;
-            return write_id(out, run.writer);
-        }
         for (position, run) in self.0.iter().enumerate() {
             if position > 0 {
                 out.write_str(", ")?;
@@ -184,12 +180,6 @@ impl WritersPhrase<'_> {
             write_id(out, run.writer)?;
         }
         Ok(())
-    }
-}
-
-impl fmt::Display for WritersPhrase<'_> {
-    fn fmt<W: fmt::Write>(&self, f: &mut fmt::Formatter<W>) -> fmt::Result {
-        self.write_to(f)
     }
 }
 
