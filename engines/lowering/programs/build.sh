@@ -14,4 +14,6 @@ for source in "$here"/*.c; do
     wasm-ld --no-entry "${link[@]}" "$room/object.o" -o "$out"
     chmod 644 "$out"
 done
-wat2wasm --enable-threads "$here/started.wat" -o "$here/started.wasm"
+for source in "$here"/*.wat; do
+    wat2wasm --enable-threads "$source" -o "${source%.wat}.wasm"
+done
