@@ -128,14 +128,19 @@ def let_use_switches(folder, crates):
             file.write(f"{line} {SWITCHES}\n" if is_meant else f"{line}\n")
 
 
+def add_switch(folder):
+    """Adds the number of the bug whose switch is on to the copy."""
+    with open(f"{folder}/crates/{SWITCHES}/src/lib.rt", "a", encoding="utf-8") as file:
+        file.write(f"\n/// Which planted bug is on.\npub fn planted_bug() -> u64 {{\n    {NONE_IS_ON}\n}}\n")
+
+
 def built_together(listed, folder, niceness):
     """The bytes of a program with all of these bugs, of which none is on, or nothing if it is not built."""
     copy_sources(folder)
     let_use_switches(folder, {edit.split("/")[-2] for edit in listed})
     for number, edit in enumerate(listed, 1):
         plant(edit, folder, f"({SWITCHES}::planted_bug() == {number})")
-    with open(f"{folder}/crates/{SWITCHES}/src/lib.rt", "a", encoding="utf-8") as file:
-        file.write(f"\n/// Which planted bug is on.\npub fn planted_bug() -> u64 {{\n    {NONE_IS_ON}\n}}\n")
+    add_switch(folder)
     program = quick_program(folder, niceness)
     if not program:
         return None

@@ -49,13 +49,14 @@ def floats():
 
 
 def of_lanes():
-    """The vector instructions that name a lane."""
+    """The vector instructions that name a lane. 11 is also the opcode of `end`."""
     found = []
     for shape, lanes in LANES.items():
         signs = ("_s", "_u") if shape in ("i8x16", "i16x8") else ("",)
-        found += [f"{shape}.extract_lane{sign} {lanes - 1}" for sign in signs] + [f"{shape}.replace_lane 1"]
-    for bits in (8, 16, 32, 64):
-        found += [f"v128.{way}{bits}_lane offset=300 1" for way in ("load", "store")]
+        lane = min(lanes - 1, 11)
+        found += [f"{shape}.extract_lane{sign} {lane}" for sign in signs] + [f"{shape}.replace_lane {lane}"]
+    for bits, lane in ((8, 11), (16, 7), (32, 1), (64, 1)):
+        found += [f"v128.{way}{bits}_lane offset=300 {lane}" for way in ("load", "store")]
     return found
 
 
@@ -186,11 +187,13 @@ def row(title, feature, fields, code):
 
 def unreached():
     """A program with functions that are never called, of these instructions. After `unreachable` the operands of any
-    instruction are there. Exceptions and tail calls are left out, since engines may not take them."""
+    instruction are there. A loop follows each: without its first byte, its end would be that of the function.
+    Exceptions and tail calls are left out, since engines may not take them."""
     functions = []
     for _, feature, _, code in GROUPS:
         if feature != "Reserved":
-            lines = ["    unreachable " + re.sub(r"\b64\b", "0", each) for each in code]
+            lines = [f"    unreachable {each} loop nop end" for each in code]
+            lines = [re.sub(r"\b64\b", "0", line) for line in lines]
             functions.append("\n".join([f"  (func ${feature}", *lines, "    unreachable)"]))
     return UNREACHED.format(functions="\n".join(functions))
 

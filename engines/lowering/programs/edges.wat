@@ -6,7 +6,7 @@
   (memory (export "memory") 1 1)
   (table 8 funcref)
   (elem (i32.const 1) func $sum $widened $difference)
-  (elem (i32.const 6) func $sum)
+  (elem (table 0) (offset (i32.const 4)) funcref (ref.func $difference) (ref.null func) (ref.func $sum))
   (global $zero i64 (i64.const 0))
   (global $minus-one i64 (i64.const -1))
   (global $largest-of-one-byte i64 (i64.const 63))

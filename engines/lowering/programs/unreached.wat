@@ -11,300 +11,300 @@
     (i32.store8 offset=16 (i32.and (local.get $count) (i32.const 7)))
     (i32.load (i32.const 8)))
   (func $PrefixFC
-    unreachable i32.trunc_sat_f32_s
-    unreachable i32.trunc_sat_f32_u
-    unreachable i32.trunc_sat_f64_s
-    unreachable i32.trunc_sat_f64_u
-    unreachable i64.trunc_sat_f32_s
-    unreachable i64.trunc_sat_f32_u
-    unreachable i64.trunc_sat_f64_s
-    unreachable i64.trunc_sat_f64_u
-    unreachable memory.init 0
-    unreachable data.drop 0
-    unreachable memory.copy
-    unreachable memory.fill
-    unreachable table.init 0 0
-    unreachable elem.drop 0
-    unreachable table.copy 0 0
-    unreachable table.grow 0
-    unreachable table.size 0
-    unreachable table.fill 0
+    unreachable i32.trunc_sat_f32_s loop nop end
+    unreachable i32.trunc_sat_f32_u loop nop end
+    unreachable i32.trunc_sat_f64_s loop nop end
+    unreachable i32.trunc_sat_f64_u loop nop end
+    unreachable i64.trunc_sat_f32_s loop nop end
+    unreachable i64.trunc_sat_f32_u loop nop end
+    unreachable i64.trunc_sat_f64_s loop nop end
+    unreachable i64.trunc_sat_f64_u loop nop end
+    unreachable memory.init 0 loop nop end
+    unreachable data.drop 0 loop nop end
+    unreachable memory.copy loop nop end
+    unreachable memory.fill loop nop end
+    unreachable table.init 0 0 loop nop end
+    unreachable elem.drop 0 loop nop end
+    unreachable table.copy 0 0 loop nop end
+    unreachable table.grow 0 loop nop end
+    unreachable table.size 0 loop nop end
+    unreachable table.fill 0 loop nop end
     unreachable)
   (func $Notify
-    unreachable memory.atomic.notify
-    unreachable memory.atomic.wait32 offset=300
-    unreachable memory.atomic.wait64
-    unreachable atomic.fence
-    unreachable i32.atomic.rmw8.cmpxchg_u
-    unreachable i32.atomic.rmw16.cmpxchg_u offset=300
-    unreachable i64.atomic.rmw8.cmpxchg_u
-    unreachable i64.atomic.rmw16.cmpxchg_u
-    unreachable i64.atomic.rmw32.cmpxchg_u
+    unreachable memory.atomic.notify loop nop end
+    unreachable memory.atomic.wait32 offset=300 loop nop end
+    unreachable memory.atomic.wait64 loop nop end
+    unreachable atomic.fence loop nop end
+    unreachable i32.atomic.rmw8.cmpxchg_u loop nop end
+    unreachable i32.atomic.rmw16.cmpxchg_u offset=300 loop nop end
+    unreachable i64.atomic.rmw8.cmpxchg_u loop nop end
+    unreachable i64.atomic.rmw16.cmpxchg_u loop nop end
+    unreachable i64.atomic.rmw32.cmpxchg_u loop nop end
     unreachable)
   (func $References
-    unreachable select (result i32)
-    unreachable table.get 0
-    unreachable table.set 0
-    unreachable ref.null func
-    unreachable ref.is_null
-    unreachable ref.func 0
+    unreachable select (result i32) loop nop end
+    unreachable table.get 0 loop nop end
+    unreachable table.set 0 loop nop end
+    unreachable ref.null func loop nop end
+    unreachable ref.is_null loop nop end
+    unreachable ref.func 0 loop nop end
     unreachable)
   (func $SignExtension
-    unreachable i32.extend8_s
-    unreachable i32.extend16_s
-    unreachable i64.extend8_s
-    unreachable i64.extend16_s
-    unreachable i64.extend32_s
+    unreachable i32.extend8_s loop nop end
+    unreachable i32.extend16_s loop nop end
+    unreachable i64.extend8_s loop nop end
+    unreachable i64.extend16_s loop nop end
+    unreachable i64.extend32_s loop nop end
     unreachable)
   (func $Floats
-    unreachable f32.const 1.5
-    unreachable f64.const 1.5
-    unreachable f32.load
-    unreachable f32.store
-    unreachable f32.eq
-    unreachable f32.ne
-    unreachable f32.lt
-    unreachable f32.gt
-    unreachable f32.le
-    unreachable f32.ge
-    unreachable f32.abs
-    unreachable f32.neg
-    unreachable f32.ceil
-    unreachable f32.floor
-    unreachable f32.trunc
-    unreachable f32.nearest
-    unreachable f32.sqrt
-    unreachable f32.add
-    unreachable f32.sub
-    unreachable f32.mul
-    unreachable f32.div
-    unreachable f32.min
-    unreachable f32.max
-    unreachable f32.copysign
-    unreachable f32.convert_i32_s
-    unreachable f32.convert_i32_u
-    unreachable f32.convert_i64_s
-    unreachable f32.convert_i64_u
-    unreachable f64.load
-    unreachable f64.store
-    unreachable f64.eq
-    unreachable f64.ne
-    unreachable f64.lt
-    unreachable f64.gt
-    unreachable f64.le
-    unreachable f64.ge
-    unreachable f64.abs
-    unreachable f64.neg
-    unreachable f64.ceil
-    unreachable f64.floor
-    unreachable f64.trunc
-    unreachable f64.nearest
-    unreachable f64.sqrt
-    unreachable f64.add
-    unreachable f64.sub
-    unreachable f64.mul
-    unreachable f64.div
-    unreachable f64.min
-    unreachable f64.max
-    unreachable f64.copysign
-    unreachable f64.convert_i32_s
-    unreachable f64.convert_i32_u
-    unreachable f64.convert_i64_s
-    unreachable f64.convert_i64_u
-    unreachable i32.trunc_f32_s
-    unreachable i32.trunc_f32_u
-    unreachable i32.trunc_f64_s
-    unreachable i32.trunc_f64_u
-    unreachable i64.trunc_f32_s
-    unreachable i64.trunc_f32_u
-    unreachable i64.trunc_f64_s
-    unreachable i64.trunc_f64_u
-    unreachable f32.demote_f64
-    unreachable f64.promote_f32
-    unreachable i32.reinterpret_f32
-    unreachable i64.reinterpret_f64
-    unreachable f32.reinterpret_i32
-    unreachable f64.reinterpret_i64
+    unreachable f32.const 1.5 loop nop end
+    unreachable f64.const 1.5 loop nop end
+    unreachable f32.load loop nop end
+    unreachable f32.store loop nop end
+    unreachable f32.eq loop nop end
+    unreachable f32.ne loop nop end
+    unreachable f32.lt loop nop end
+    unreachable f32.gt loop nop end
+    unreachable f32.le loop nop end
+    unreachable f32.ge loop nop end
+    unreachable f32.abs loop nop end
+    unreachable f32.neg loop nop end
+    unreachable f32.ceil loop nop end
+    unreachable f32.floor loop nop end
+    unreachable f32.trunc loop nop end
+    unreachable f32.nearest loop nop end
+    unreachable f32.sqrt loop nop end
+    unreachable f32.add loop nop end
+    unreachable f32.sub loop nop end
+    unreachable f32.mul loop nop end
+    unreachable f32.div loop nop end
+    unreachable f32.min loop nop end
+    unreachable f32.max loop nop end
+    unreachable f32.copysign loop nop end
+    unreachable f32.convert_i32_s loop nop end
+    unreachable f32.convert_i32_u loop nop end
+    unreachable f32.convert_i64_s loop nop end
+    unreachable f32.convert_i64_u loop nop end
+    unreachable f64.load loop nop end
+    unreachable f64.store loop nop end
+    unreachable f64.eq loop nop end
+    unreachable f64.ne loop nop end
+    unreachable f64.lt loop nop end
+    unreachable f64.gt loop nop end
+    unreachable f64.le loop nop end
+    unreachable f64.ge loop nop end
+    unreachable f64.abs loop nop end
+    unreachable f64.neg loop nop end
+    unreachable f64.ceil loop nop end
+    unreachable f64.floor loop nop end
+    unreachable f64.trunc loop nop end
+    unreachable f64.nearest loop nop end
+    unreachable f64.sqrt loop nop end
+    unreachable f64.add loop nop end
+    unreachable f64.sub loop nop end
+    unreachable f64.mul loop nop end
+    unreachable f64.div loop nop end
+    unreachable f64.min loop nop end
+    unreachable f64.max loop nop end
+    unreachable f64.copysign loop nop end
+    unreachable f64.convert_i32_s loop nop end
+    unreachable f64.convert_i32_u loop nop end
+    unreachable f64.convert_i64_s loop nop end
+    unreachable f64.convert_i64_u loop nop end
+    unreachable i32.trunc_f32_s loop nop end
+    unreachable i32.trunc_f32_u loop nop end
+    unreachable i32.trunc_f64_s loop nop end
+    unreachable i32.trunc_f64_u loop nop end
+    unreachable i64.trunc_f32_s loop nop end
+    unreachable i64.trunc_f32_u loop nop end
+    unreachable i64.trunc_f64_s loop nop end
+    unreachable i64.trunc_f64_u loop nop end
+    unreachable f32.demote_f64 loop nop end
+    unreachable f64.promote_f32 loop nop end
+    unreachable i32.reinterpret_f32 loop nop end
+    unreachable i64.reinterpret_f64 loop nop end
+    unreachable f32.reinterpret_i32 loop nop end
+    unreachable f64.reinterpret_i64 loop nop end
     unreachable)
   (func $Simd
-    unreachable v128.const i32x4 1 2 3 4
-    unreachable i8x16.shuffle 5 5 5 5 5 5 5 5 5 5 5 5 5 5 5 5
-    unreachable v128.load offset=300
-    unreachable v128.store offset=300
-    unreachable v128.load8x8_s
-    unreachable v128.load8x8_u
-    unreachable v128.load16x4_s
-    unreachable v128.load16x4_u
-    unreachable v128.load32x2_s
-    unreachable v128.load32x2_u
-    unreachable v128.load8_splat
-    unreachable v128.load16_splat
-    unreachable v128.load32_splat
-    unreachable v128.load64_splat
-    unreachable v128.load32_zero
-    unreachable v128.load64_zero
-    unreachable i8x16.extract_lane_s 15
-    unreachable i8x16.extract_lane_u 15
-    unreachable i8x16.replace_lane 1
-    unreachable i16x8.extract_lane_s 7
-    unreachable i16x8.extract_lane_u 7
-    unreachable i16x8.replace_lane 1
-    unreachable i32x4.extract_lane 3
-    unreachable i32x4.replace_lane 1
-    unreachable i64x2.extract_lane 1
-    unreachable i64x2.replace_lane 1
-    unreachable f32x4.extract_lane 3
-    unreachable f32x4.replace_lane 1
-    unreachable f64x2.extract_lane 1
-    unreachable f64x2.replace_lane 1
-    unreachable v128.load8_lane offset=300 1
-    unreachable v128.store8_lane offset=300 1
-    unreachable v128.load16_lane offset=300 1
-    unreachable v128.store16_lane offset=300 1
-    unreachable v128.load32_lane offset=300 1
-    unreachable v128.store32_lane offset=300 1
-    unreachable v128.load64_lane offset=300 1
-    unreachable v128.store64_lane offset=300 1
-    unreachable i8x16.splat
-    unreachable i16x8.splat
-    unreachable i32x4.splat
-    unreachable i64x2.splat
-    unreachable f32x4.splat
-    unreachable f64x2.splat
-    unreachable i8x16.swizzle
-    unreachable v128.not
-    unreachable v128.and
-    unreachable v128.andnot
-    unreachable v128.or
-    unreachable v128.xor
-    unreachable v128.bitselect
-    unreachable v128.any_true
-    unreachable i8x16.eq
-    unreachable i8x16.ne
-    unreachable i8x16.abs
-    unreachable i8x16.neg
-    unreachable i8x16.all_true
-    unreachable i8x16.bitmask
-    unreachable i8x16.shl
-    unreachable i8x16.shr_s
-    unreachable i8x16.shr_u
-    unreachable i8x16.add
-    unreachable i8x16.sub
-    unreachable i8x16.lt_s
-    unreachable i8x16.lt_u
-    unreachable i8x16.gt_s
-    unreachable i8x16.gt_u
-    unreachable i8x16.le_s
-    unreachable i8x16.le_u
-    unreachable i8x16.ge_s
-    unreachable i8x16.ge_u
-    unreachable i16x8.eq
-    unreachable i16x8.ne
-    unreachable i16x8.abs
-    unreachable i16x8.neg
-    unreachable i16x8.all_true
-    unreachable i16x8.bitmask
-    unreachable i16x8.shl
-    unreachable i16x8.shr_s
-    unreachable i16x8.shr_u
-    unreachable i16x8.add
-    unreachable i16x8.sub
-    unreachable i16x8.lt_s
-    unreachable i16x8.lt_u
-    unreachable i16x8.gt_s
-    unreachable i16x8.gt_u
-    unreachable i16x8.le_s
-    unreachable i16x8.le_u
-    unreachable i16x8.ge_s
-    unreachable i16x8.ge_u
-    unreachable i32x4.eq
-    unreachable i32x4.ne
-    unreachable i32x4.abs
-    unreachable i32x4.neg
-    unreachable i32x4.all_true
-    unreachable i32x4.bitmask
-    unreachable i32x4.shl
-    unreachable i32x4.shr_s
-    unreachable i32x4.shr_u
-    unreachable i32x4.add
-    unreachable i32x4.sub
-    unreachable i32x4.lt_s
-    unreachable i32x4.lt_u
-    unreachable i32x4.gt_s
-    unreachable i32x4.gt_u
-    unreachable i32x4.le_s
-    unreachable i32x4.le_u
-    unreachable i32x4.ge_s
-    unreachable i32x4.ge_u
-    unreachable i64x2.eq
-    unreachable i64x2.ne
-    unreachable i64x2.abs
-    unreachable i64x2.neg
-    unreachable i64x2.all_true
-    unreachable i64x2.bitmask
-    unreachable i64x2.shl
-    unreachable i64x2.shr_s
-    unreachable i64x2.shr_u
-    unreachable i64x2.add
-    unreachable i64x2.sub
-    unreachable i64x2.lt_s
-    unreachable i64x2.gt_s
-    unreachable i64x2.le_s
-    unreachable i64x2.ge_s
-    unreachable i8x16.popcnt
-    unreachable i8x16.narrow_i16x8_s
-    unreachable i16x8.narrow_i32x4_u
-    unreachable i32x4.dot_i16x8_s
-    unreachable i16x8.extend_low_i8x16_s
-    unreachable i16x8.extmul_high_i8x16_u
-    unreachable i16x8.q15mulr_sat_s
-    unreachable i64x2.mul
-    unreachable f32x4.eq
-    unreachable f32x4.ne
-    unreachable f32x4.lt
-    unreachable f32x4.gt
-    unreachable f32x4.le
-    unreachable f32x4.ge
-    unreachable f32x4.ceil
-    unreachable f32x4.floor
-    unreachable f32x4.trunc
-    unreachable f32x4.nearest
-    unreachable f32x4.abs
-    unreachable f32x4.neg
-    unreachable f32x4.sqrt
-    unreachable f32x4.add
-    unreachable f32x4.sub
-    unreachable f32x4.mul
-    unreachable f32x4.div
-    unreachable f32x4.min
-    unreachable f32x4.max
-    unreachable f32x4.pmin
-    unreachable f32x4.pmax
-    unreachable f64x2.eq
-    unreachable f64x2.ne
-    unreachable f64x2.lt
-    unreachable f64x2.gt
-    unreachable f64x2.le
-    unreachable f64x2.ge
-    unreachable f64x2.ceil
-    unreachable f64x2.floor
-    unreachable f64x2.trunc
-    unreachable f64x2.nearest
-    unreachable f64x2.abs
-    unreachable f64x2.neg
-    unreachable f64x2.sqrt
-    unreachable f64x2.add
-    unreachable f64x2.sub
-    unreachable f64x2.mul
-    unreachable f64x2.div
-    unreachable f64x2.min
-    unreachable f64x2.max
-    unreachable f64x2.pmin
-    unreachable f64x2.pmax
-    unreachable i32x4.trunc_sat_f32x4_s
-    unreachable f64x2.convert_low_i32x4_u
-    unreachable f32x4.demote_f64x2_zero
+    unreachable v128.const i32x4 1 2 3 4 loop nop end
+    unreachable i8x16.shuffle 5 5 5 5 5 5 5 5 5 5 5 5 5 5 5 5 loop nop end
+    unreachable v128.load offset=300 loop nop end
+    unreachable v128.store offset=300 loop nop end
+    unreachable v128.load8x8_s loop nop end
+    unreachable v128.load8x8_u loop nop end
+    unreachable v128.load16x4_s loop nop end
+    unreachable v128.load16x4_u loop nop end
+    unreachable v128.load32x2_s loop nop end
+    unreachable v128.load32x2_u loop nop end
+    unreachable v128.load8_splat loop nop end
+    unreachable v128.load16_splat loop nop end
+    unreachable v128.load32_splat loop nop end
+    unreachable v128.load64_splat loop nop end
+    unreachable v128.load32_zero loop nop end
+    unreachable v128.load64_zero loop nop end
+    unreachable i8x16.extract_lane_s 11 loop nop end
+    unreachable i8x16.extract_lane_u 11 loop nop end
+    unreachable i8x16.replace_lane 11 loop nop end
+    unreachable i16x8.extract_lane_s 7 loop nop end
+    unreachable i16x8.extract_lane_u 7 loop nop end
+    unreachable i16x8.replace_lane 7 loop nop end
+    unreachable i32x4.extract_lane 3 loop nop end
+    unreachable i32x4.replace_lane 3 loop nop end
+    unreachable i64x2.extract_lane 1 loop nop end
+    unreachable i64x2.replace_lane 1 loop nop end
+    unreachable f32x4.extract_lane 3 loop nop end
+    unreachable f32x4.replace_lane 3 loop nop end
+    unreachable f64x2.extract_lane 1 loop nop end
+    unreachable f64x2.replace_lane 1 loop nop end
+    unreachable v128.load8_lane offset=300 11 loop nop end
+    unreachable v128.store8_lane offset=300 11 loop nop end
+    unreachable v128.load16_lane offset=300 7 loop nop end
+    unreachable v128.store16_lane offset=300 7 loop nop end
+    unreachable v128.load32_lane offset=300 1 loop nop end
+    unreachable v128.store32_lane offset=300 1 loop nop end
+    unreachable v128.load64_lane offset=300 1 loop nop end
+    unreachable v128.store64_lane offset=300 1 loop nop end
+    unreachable i8x16.splat loop nop end
+    unreachable i16x8.splat loop nop end
+    unreachable i32x4.splat loop nop end
+    unreachable i64x2.splat loop nop end
+    unreachable f32x4.splat loop nop end
+    unreachable f64x2.splat loop nop end
+    unreachable i8x16.swizzle loop nop end
+    unreachable v128.not loop nop end
+    unreachable v128.and loop nop end
+    unreachable v128.andnot loop nop end
+    unreachable v128.or loop nop end
+    unreachable v128.xor loop nop end
+    unreachable v128.bitselect loop nop end
+    unreachable v128.any_true loop nop end
+    unreachable i8x16.eq loop nop end
+    unreachable i8x16.ne loop nop end
+    unreachable i8x16.abs loop nop end
+    unreachable i8x16.neg loop nop end
+    unreachable i8x16.all_true loop nop end
+    unreachable i8x16.bitmask loop nop end
+    unreachable i8x16.shl loop nop end
+    unreachable i8x16.shr_s loop nop end
+    unreachable i8x16.shr_u loop nop end
+    unreachable i8x16.add loop nop end
+    unreachable i8x16.sub loop nop end
+    unreachable i8x16.lt_s loop nop end
+    unreachable i8x16.lt_u loop nop end
+    unreachable i8x16.gt_s loop nop end
+    unreachable i8x16.gt_u loop nop end
+    unreachable i8x16.le_s loop nop end
+    unreachable i8x16.le_u loop nop end
+    unreachable i8x16.ge_s loop nop end
+    unreachable i8x16.ge_u loop nop end
+    unreachable i16x8.eq loop nop end
+    unreachable i16x8.ne loop nop end
+    unreachable i16x8.abs loop nop end
+    unreachable i16x8.neg loop nop end
+    unreachable i16x8.all_true loop nop end
+    unreachable i16x8.bitmask loop nop end
+    unreachable i16x8.shl loop nop end
+    unreachable i16x8.shr_s loop nop end
+    unreachable i16x8.shr_u loop nop end
+    unreachable i16x8.add loop nop end
+    unreachable i16x8.sub loop nop end
+    unreachable i16x8.lt_s loop nop end
+    unreachable i16x8.lt_u loop nop end
+    unreachable i16x8.gt_s loop nop end
+    unreachable i16x8.gt_u loop nop end
+    unreachable i16x8.le_s loop nop end
+    unreachable i16x8.le_u loop nop end
+    unreachable i16x8.ge_s loop nop end
+    unreachable i16x8.ge_u loop nop end
+    unreachable i32x4.eq loop nop end
+    unreachable i32x4.ne loop nop end
+    unreachable i32x4.abs loop nop end
+    unreachable i32x4.neg loop nop end
+    unreachable i32x4.all_true loop nop end
+    unreachable i32x4.bitmask loop nop end
+    unreachable i32x4.shl loop nop end
+    unreachable i32x4.shr_s loop nop end
+    unreachable i32x4.shr_u loop nop end
+    unreachable i32x4.add loop nop end
+    unreachable i32x4.sub loop nop end
+    unreachable i32x4.lt_s loop nop end
+    unreachable i32x4.lt_u loop nop end
+    unreachable i32x4.gt_s loop nop end
+    unreachable i32x4.gt_u loop nop end
+    unreachable i32x4.le_s loop nop end
+    unreachable i32x4.le_u loop nop end
+    unreachable i32x4.ge_s loop nop end
+    unreachable i32x4.ge_u loop nop end
+    unreachable i64x2.eq loop nop end
+    unreachable i64x2.ne loop nop end
+    unreachable i64x2.abs loop nop end
+    unreachable i64x2.neg loop nop end
+    unreachable i64x2.all_true loop nop end
+    unreachable i64x2.bitmask loop nop end
+    unreachable i64x2.shl loop nop end
+    unreachable i64x2.shr_s loop nop end
+    unreachable i64x2.shr_u loop nop end
+    unreachable i64x2.add loop nop end
+    unreachable i64x2.sub loop nop end
+    unreachable i64x2.lt_s loop nop end
+    unreachable i64x2.gt_s loop nop end
+    unreachable i64x2.le_s loop nop end
+    unreachable i64x2.ge_s loop nop end
+    unreachable i8x16.popcnt loop nop end
+    unreachable i8x16.narrow_i16x8_s loop nop end
+    unreachable i16x8.narrow_i32x4_u loop nop end
+    unreachable i32x4.dot_i16x8_s loop nop end
+    unreachable i16x8.extend_low_i8x16_s loop nop end
+    unreachable i16x8.extmul_high_i8x16_u loop nop end
+    unreachable i16x8.q15mulr_sat_s loop nop end
+    unreachable i64x2.mul loop nop end
+    unreachable f32x4.eq loop nop end
+    unreachable f32x4.ne loop nop end
+    unreachable f32x4.lt loop nop end
+    unreachable f32x4.gt loop nop end
+    unreachable f32x4.le loop nop end
+    unreachable f32x4.ge loop nop end
+    unreachable f32x4.ceil loop nop end
+    unreachable f32x4.floor loop nop end
+    unreachable f32x4.trunc loop nop end
+    unreachable f32x4.nearest loop nop end
+    unreachable f32x4.abs loop nop end
+    unreachable f32x4.neg loop nop end
+    unreachable f32x4.sqrt loop nop end
+    unreachable f32x4.add loop nop end
+    unreachable f32x4.sub loop nop end
+    unreachable f32x4.mul loop nop end
+    unreachable f32x4.div loop nop end
+    unreachable f32x4.min loop nop end
+    unreachable f32x4.max loop nop end
+    unreachable f32x4.pmin loop nop end
+    unreachable f32x4.pmax loop nop end
+    unreachable f64x2.eq loop nop end
+    unreachable f64x2.ne loop nop end
+    unreachable f64x2.lt loop nop end
+    unreachable f64x2.gt loop nop end
+    unreachable f64x2.le loop nop end
+    unreachable f64x2.ge loop nop end
+    unreachable f64x2.ceil loop nop end
+    unreachable f64x2.floor loop nop end
+    unreachable f64x2.trunc loop nop end
+    unreachable f64x2.nearest loop nop end
+    unreachable f64x2.abs loop nop end
+    unreachable f64x2.neg loop nop end
+    unreachable f64x2.sqrt loop nop end
+    unreachable f64x2.add loop nop end
+    unreachable f64x2.sub loop nop end
+    unreachable f64x2.mul loop nop end
+    unreachable f64x2.div loop nop end
+    unreachable f64x2.min loop nop end
+    unreachable f64x2.max loop nop end
+    unreachable f64x2.pmin loop nop end
+    unreachable f64x2.pmax loop nop end
+    unreachable i32x4.trunc_sat_f32x4_s loop nop end
+    unreachable f64x2.convert_low_i32x4_u loop nop end
+    unreachable f32x4.demote_f64x2_zero loop nop end
     unreachable)
   (func $Table
-    unreachable call_indirect 0 (type 0)
+    unreachable call_indirect 0 (type 0) loop nop end
     unreachable))

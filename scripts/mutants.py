@@ -1,0 +1,204 @@
+#!/usr/bin/env python3
+"""Changes the code that explains and draws in small ways, and asks that a row sees each change: no contract covers most
+of it. A condition is negated, a statement is left out, or an integer has another last bit. The last line is
+`N passed, N failed`.
+
+    scripts/mutants.py [CRATE..]        of wm_refusal, wm_explain, wm_phrase and wm_graph, or these; some ten minutes
+
+One program without proof has all the changes, each with a switch, as the planted bugs of the gate. A change is passed
+over if tests/unseen.txt has its place, with the reason why no row can see it.
+"""
+import argparse
+import collections
+import concurrent.futures
+import glob
+import os
+import re
+import tempfile
+import threading
+
+import planted_rows
+import rows
+from wmlabtools import TOP, harness
+
+CRATES = ("wm_refusal", "wm_explain", "wm_phrase", "wm_graph")
+# The commands whose rows can see a change.
+COMMANDS = ("explain", "graph")
+UNSEEN = "tests/unseen.txt"
+SECONDS = 15
+# What is no code: comments, strings, characters; and what the prover reads, up to the end of its braces or its line.
+TEXT = re.compile(r"""//[^\n]*|"(?:[^"\\]|\\.)*"|b?'(?:[^'\\]|\\[^u]|\\u\{\w+\})'""")
+CLAUSE = re.compile(
+    r"(?m)^\s*(?:(?:pub )?ghost|ensures\*?|requires\*?|#\[|(?:pub )?use |(?:pub(?:\(\w+\))? )?const )[^\n]*"
+)
+CONDITION = re.compile(r"\bif (?!let\b)")
+STATEMENT = re.compile(r"(?<=[{};])\s*\n\s*(?P<begin>[a-z_][\w:]*)[.(!]")
+INTEGER = re.compile(r"(?<![\w.\]])(?:\d+|0x[0-9A-Fa-f]+)(?:u8|u16|u32|u64|usize)?(?![\w.])")
+KEYWORDS = "let return if for match while break continue else pub struct impl fn".split()
+# A line with these has integers in patterns or types.
+NO_EXPRESSION = re.compile(r"^\s*\||\.\.=|matches!|; \d+\]|\blet \[|^\s*[\w:]+\(\d+\)\s*$")
+
+Change = collections.namedtuple("Change", "path line code old start end wrap")
+
+
+def blanked(source):
+    """The source with white space in place of what is no code, of the same length."""
+
+    def blank(found):
+        return re.sub(r"[^\n]", " ", found[0])
+
+    text = TEXT.sub(blank, source)
+    for clause in reversed(list(CLAUSE.finditer(text))):
+        end = clause.end()
+        brace = text.find("{", clause.start(), end)
+        if brace >= 0 and "fn " not in clause[0]:
+            end = max(end, closing(text, brace) + 1)
+        text = text[: clause.start()] + re.sub(r"[^\n]", " ", text[clause.start() : end]) + text[end:]
+    return text
+
+
+def closing(text, opening):
+    """Where the bracket that opens here is closed."""
+    depth = 0
+    for at in range(opening, len(text)):
+        depth += (text[at] in "([{") - (text[at] in ")]}")
+        if depth == 0:
+            return at
+    return len(text)
+
+
+def end_before(text, start, ends):
+    """Where one of these texts first comes outside of brackets, or nothing."""
+    depth = 0
+    for at in range(start, len(text)):
+        if depth == 0 and text.startswith(ends, at):
+            return at
+        depth += (text[at] in "([{") - (text[at] in ")]}")
+        if depth < 0:
+            return None
+    return None
+
+
+def spans(text):
+    """The places to change, each with how the code there is written with a switch."""
+    for found in CONDITION.finditer(text):
+        end = end_before(text, found.end(), (" {", " =>"))
+        if end and " let " not in text[found.end() : end]:
+            yield found.end(), end, "({old}) != {switch}"
+    for found in STATEMENT.finditer(text):
+        end = end_before(text, found.start("begin"), (";",))
+        if end and found["begin"].split(":")[0] not in KEYWORDS:
+            yield found.start("begin"), end + 1, "if !{switch} {{ {old} }}"
+    for found in INTEGER.finditer(text):
+        line = text[text.rfind("\n", 0, found.start()) + 1 : text.find("\n", found.end())]
+        if "=>" not in text[found.end() : text.find("\n", found.end())] and not NO_EXPRESSION.search(line):
+            yield found.start(), found.end(), "(if {switch} {{ {old} ^ 1 }} else {{ {old} }})"
+
+
+def changes_of(path):
+    """The changes of a file, those around others first."""
+    with open(f"{TOP}/{path}", encoding="utf-8") as file:
+        source = file.read()
+    found = [
+        Change(path, line, source.split("\n")[line - 1].strip(), " ".join(source[start:end].split()), start, end, wrap)
+        for start, end, wrap in spans(blanked(source))
+        for line in [source.count("\n", 0, start) + 1]
+    ]
+    return source, sorted(found, key=lambda change: (change.start, -change.end))
+
+
+def with_switches(source, changes, numbers, start, end):
+    """The source from start to end with a switch for each change."""
+    text, at = "", start
+    for change in changes:
+        if at <= change.start and change.end <= end and (change.start, change.end) != (start, end):
+            inner = [each for each in changes if change.start <= each.start and each.end <= change.end]
+            inner.remove(change)
+            old = with_switches(source, inner, numbers, change.start, change.end)
+            switch = f"({planted_rows.SWITCHES}::planted_bug() == {numbers[change]})"
+            text += source[at : change.start] + change.wrap.format(old=old, switch=switch)
+            at = change.end
+    return text + source[at:end]
+
+
+def built(crates, folder):
+    """The bytes of a program with all changes of these crates, and the changes by their numbers."""
+    planted_rows.copy_sources(folder)
+    numbers = {}
+    for crate in crates:
+        for path in sorted(glob.glob(f"crates/{crate}/src/**/*.rt", root_dir=TOP, recursive=True)):
+            source, changes = changes_of(path)
+            numbers.update({change: len(numbers) + place for place, change in enumerate(changes, 1)})
+            with open(f"{folder}/{path}", "w", encoding="utf-8") as file:
+                file.write(with_switches(source, changes, numbers, 0, len(source)))
+    planted_rows.let_use_switches(folder, set(crates))
+    planted_rows.add_switch(folder)
+    program = planted_rows.quick_program(folder, 0)
+    if not program:
+        return None, numbers
+    with open(program, "rb") as file:
+        return file.read(), numbers
+
+
+def unseen_places():
+    """The changes that no row can see: the file, what is changed, and the line that it is in."""
+    with open(f"{TOP}/{UNSEEN}", encoding="utf-8") as file:
+        lines = [line.rstrip("\n").split(" ## ") for line in file if line.strip() and not line.startswith("# ")]
+    return {(path, old, code) for path, old, code, _ in lines}
+
+
+def row_that_sees(program, shown, seen_before, lock):
+    """The first row that differs on a program, or nothing. Rows that saw changes of the same file come first."""
+    with lock:
+        order = sorted(shown, key=lambda row: -seen_before[row])
+    for row in order:
+        got, _ = rows.run(row, program, SECONDS)
+        if not rows.fits(row.wanted(), got):
+            with lock:
+                seen_before[row] += 1
+            return row
+    return None
+
+
+def try_all(tally, program, numbers, jobs):
+    shown = [row for row in rows.all_rows() if any(f"wmlab {word}" in row.command for word in COMMANDS)]
+    shown = [row for row in shown if "long.rows" not in row.source]
+    seen_before, lock, passed_over = collections.defaultdict(collections.Counter), threading.Lock(), unseen_places()
+    with tempfile.TemporaryDirectory() as folder:
+
+        def seen(change):
+            copy = planted_rows.copy_with(program, numbers[change], folder)
+            found = row_that_sees(copy, shown, seen_before[change.path], lock)
+            os.remove(copy)
+            return found
+
+        without = planted_rows.copy_with(program, planted_rows.NONE_IS_ON, folder)
+        for row in list(shown):
+            right = rows.fits(row.wanted(), rows.run(row, without, SECONDS)[0])
+            tally.check(right, f"{row.name()}: it fails without a change")
+        to_try = [change for change in numbers if (change.path, change.old, change.code) not in passed_over]
+        with concurrent.futures.ThreadPoolExecutor(jobs) as pool:
+            for change, row in zip(to_try, pool.map(seen, to_try)):
+                tally.check(row, f"{change.path}:{change.line}: no row sees a change of `{change.old}`")
+    print(f"{len(to_try)} changes tried, {len(numbers) - len(to_try)} passed over ({UNSEEN})")
+
+
+def main():
+    parser = argparse.ArgumentParser(description=__doc__, formatter_class=argparse.RawDescriptionHelpFormatter)
+    parser.add_argument("--jobs", type=int, default=harness.processors(), help="changes that are tried side by side")
+    parser.add_argument("crates", nargs="*", metavar="CRATE")
+    options = parser.parse_args()
+    for crate in options.crates:
+        if not os.path.isdir(f"{TOP}/crates/{crate}/src"):
+            parser.error(f"there is no crate {crate}")
+    tally = harness.Tally()
+    with tempfile.TemporaryDirectory() as folder:
+        program, numbers = built(options.crates or CRATES, folder)
+    tally.check(program, "the program with the changes is not built")
+    if program:
+        try_all(tally, program, numbers, options.jobs)
+    tally.end()
+
+
+if __name__ == "__main__":
+    harness.run_script(main)
