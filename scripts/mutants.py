@@ -4,6 +4,7 @@ of it. A condition is negated, a statement is left out, or an integer has anothe
 `N passed, N failed`.
 
     scripts/mutants.py [CRATE..]        of wm_refusal, wm_explain, wm_phrase and wm_graph, or these; some ten minutes
+    scripts/mutants.py --check          asks only whether each line of tests/unseen.txt has its change
 
 One program without proof has all the changes, each with a switch, as the planted bugs of the gate. A change is passed
 over if tests/unseen.txt has its place, with the reason why no row can see it.
@@ -121,16 +122,21 @@ def with_switches(source, changes, numbers, start, end):
     return text + source[at:end]
 
 
+def files_of(crates):
+    """The files of code of these crates."""
+    patterns = [f"crates/{crate}/src/**/*.rt" for crate in crates]
+    return sorted(path for pattern in patterns for path in glob.glob(pattern, root_dir=TOP, recursive=True))
+
+
 def built(crates, folder):
     """The bytes of a program with all changes of these crates, and the changes by their numbers."""
     planted_rows.copy_sources(folder)
     numbers = {}
-    for crate in crates:
-        for path in sorted(glob.glob(f"crates/{crate}/src/**/*.rt", root_dir=TOP, recursive=True)):
-            source, changes = changes_of(path)
-            numbers.update({change: len(numbers) + place for place, change in enumerate(changes, 1)})
-            with open(f"{folder}/{path}", "w", encoding="utf-8") as file:
-                file.write(with_switches(source, changes, numbers, 0, len(source)))
+    for path in files_of(crates):
+        source, changes = changes_of(path)
+        numbers.update({change: len(numbers) + place for place, change in enumerate(changes, 1)})
+        with open(f"{folder}/{path}", "w", encoding="utf-8") as file:
+            file.write(with_switches(source, changes, numbers, 0, len(source)))
     planted_rows.let_use_switches(folder, set(crates))
     planted_rows.add_switch(folder)
     program = planted_rows.quick_program(folder, 0)
@@ -145,6 +151,13 @@ def unseen_places():
     with open(f"{TOP}/{UNSEEN}", encoding="utf-8") as file:
         lines = [line.rstrip("\n").split(" ## ") for line in file if line.strip() and not line.startswith("# ")]
     return {(path, old, code) for path, old, code, _ in lines}
+
+
+def check_unseen(tally):
+    """Whether each change that no row can see is still one."""
+    changes = {(change.path, change.old, change.code) for path in files_of(CRATES) for change in changes_of(path)[1]}
+    for path, old, code in sorted(unseen_places()):
+        tally.check((path, old, code) in changes, f"{UNSEEN}: {path} has no `{old}` in a line `{code}`")
 
 
 def row_that_sees(program, shown, seen_before, lock):
@@ -186,12 +199,16 @@ def try_all(tally, program, numbers, jobs):
 def main():
     parser = argparse.ArgumentParser(description=__doc__, formatter_class=argparse.RawDescriptionHelpFormatter)
     parser.add_argument("--jobs", type=int, default=harness.processors(), help="changes that are tried side by side")
+    parser.add_argument("--check", action="store_true", help=f"ask only whether each line of {UNSEEN} has its change")
     parser.add_argument("crates", nargs="*", metavar="CRATE")
     options = parser.parse_args()
     for crate in options.crates:
         if not os.path.isdir(f"{TOP}/crates/{crate}/src"):
             parser.error(f"there is no crate {crate}")
     tally = harness.Tally()
+    if options.check:
+        check_unseen(tally)
+        tally.end()
     with tempfile.TemporaryDirectory() as folder:
         program, numbers = built(options.crates or CRATES, folder)
     tally.check(program, "the program with the changes is not built")
