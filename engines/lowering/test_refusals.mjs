@@ -24,6 +24,8 @@ const CASES = [
   ['references', one([0xd0, 0x70, DROP]), ['References function 0 (a) instruction 0']],
   ['a table that is read', one([...zeros(1), 0x25, 0, DROP], { tables: [[0x70, 0, 1]] }), ['Table function 0 (a) instruction 1']],
   ['an imported function', one([], { imports: [[3, 101, 110, 118, 1, 102, 0, 0]] }), ['Import import env.f']],
+  ['an imported table', one([], { imports: [[3, 101, 110, 118, 1, 116, 1, 0x70, 1, 1, 2]] }), ['Import import env.t']],
+  ['an imported global', one([], { imports: [[3, 101, 110, 118, 1, 103, 3, I32, 0]] }), ['Import import env.g']],
   ['several results', moduleOf({ types: [[0x60, 0, 2, I32, I32]], functions: [{ code: zeros(2), exported: 'a' }] }),
     ['MultiValue function 0 (a)']],
   ['a float local', moduleOf({ functions: [{ code: [], locals: [1, 1, F32], exported: 'a' }] }), ['Floats function 0 (a)']],
@@ -35,6 +37,15 @@ const CASES = [
   ['a module with -shared-mem', one([], { custom: featuresSection('+atomics', '-shared-mem') }), ['Stripped module']],
   ['all parts of all functions', moduleOf({ functions: [{ code: [...NARROW, ...floatConstant], exported: 'a' }, { code: NARROW, exported: 'b' }] }),
     ['NarrowCmpxchg function 0 (a) instruction 3', 'Floats function 0 (a) instruction 5', 'NarrowCmpxchg function 1 (b) instruction 3']],
+];
+
+/** Modules at the limits, and one whose memory is an import. */
+const TAKEN = [
+  ['64 blocks in one another', one([...Array(64).fill([2, 0x40]).flat(), ...Array(64).fill(0x0b)])],
+  ['1,000 locals', moduleOf({ functions: [{ code: [], locals: [1, 0xe8, 7, I32], exported: 'a' }] })],
+  ['16 pages', one([], { memory: [3, 16, 16] })],
+  ['1,000 functions', moduleOf({ functions: [{ code: [], exported: 'a' }, ...Array(999).fill({ code: [] })] })],
+  ['an imported memory', one([], { memory: null, imports: [[3, 101, 110, 118, 1, 109, 2, 3, 1, 1]] })],
 ];
 
 function refusalsOf(bytes) {
@@ -58,6 +69,7 @@ export async function testRefusals({ note, wmlab }) {
   }
   const called = [{ code: [], exported: 'a' }, { code: NARROW }];
   note(!refusalsOf(moduleOf({ functions: called })).length, 'a function that is never called is not a reason to refuse');
-  const deep = one([...Array(64).fill([2, 0x40]).flat(), ...Array(64).fill(0x0b)]);
-  note(await isTaken(wmlab, lower(deep).bytes, ['a', 'a']), '64 blocks in one another are taken, by wmlab too');
+  for (const [what, bytes] of TAKEN) {
+    note(await isTaken(wmlab, lower(bytes).bytes, ['a', 'a']), `taken, by wmlab too: ${what}`);
+  }
 }

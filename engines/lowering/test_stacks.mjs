@@ -12,6 +12,11 @@ const types = [[0x60, 1, I32, 1, I32], [0x60, 0, 1, I32]];
 const functions = [{ code: PUSH, exported: 'push' }, { code: SIZE, type: 1, exported: 'size' }];
 const STACKED = moduleOf({ types, functions, globals: [POINTER], exports: [[6, ...Buffer.from('memory'), 2, 0]] });
 
+/** The same with the pointer after globals that cannot be one: a constant, an i64, 0, and no multiple of 16. */
+const OTHERS = [[I32, 0, 0x41, 16, 0x0b], [0x7e, 1, 0x42, 16, 0x0b], [I32, 1, 0x41, 0, 0x0b], [I32, 1, 0x41, 8, 0x0b]];
+const PUSH_HIDDEN = [0x23, 4, 0x41, 16, 0x6b, 0x24, 4, 0x23, 4, 0x20, 0, 0x36, 2, 0, 0x23, 4];
+const HIDDEN = moduleOf({ types, functions: [{ code: PUSH_HIDDEN, exported: 'push' }], globals: [...OTHERS, POINTER] });
+
 const instance = ({ bytes }) => new WebAssembly.Instance(new WebAssembly.Module(bytes)).exports;
 
 function refusal(bytes, options) {
@@ -38,6 +43,8 @@ export function testStacks({ note }) {
   note(each.push(1) === PAGE + 4_096 - 16 && each.size() === 1, 'with `each` the export keeps its name');
   const before = instance({ bytes: STACKED });
   note(before.push(1) === 4_096 - 16, 'before the lowering the stack is where the linker put it');
+  const found = instance(lower(HIDDEN, { stacks: 'each' }));
+  note(found.push(1) === PAGE + 4_096 - 16, 'without names the pointer is the first mutable i32 that is a positive multiple of 16');
   const without = moduleOf({ functions: [{ code: [], exported: 'a' }] });
   note(/no stack pointer/.test(refusal(without, { stacks: 2 })), 'stacks of a module without a stack pointer are refused');
   note(

@@ -4,11 +4,12 @@
 static int primes[] = {2, 3, 5, 7, 11, 13};
 static char name[40] = "initialized by the linker";
 static int zeros[200];
+static const unsigned char weights[] = {1, 5, 25, 125, 113, 53, 9, 45, 225, 101};
 static _Atomic int turns;
 
 __attribute__((export_name("run"))) int run(unsigned seed, unsigned count) {
   for (unsigned i = 0; i < count % 30; i++) {
-    zeros[(seed + i) % 200] += primes[i % 6]++;
+    zeros[(seed + i) % 200] += primes[i % 6]++ * weights[(seed ^ i) % 10];
     atomic_thread_fence(memory_order_seq_cst);
     name[i % 40] ^= (char)atomic_fetch_add_explicit(&turns, 1, memory_order_relaxed);
   }
