@@ -209,8 +209,11 @@ def main():
     if options.check:
         check_unseen(tally)
         tally.end()
+    crates = options.crates or CRATES
+    if not any(changes_of(path)[1] for path in files_of(crates)):
+        parser.error(f"there is nothing to change in {' '.join(crates)}")
     with tempfile.TemporaryDirectory() as folder:
-        program, numbers = built(options.crates or CRATES, folder)
+        program, numbers = built(crates, folder)
     tally.check(program, "the program with the changes is not built")
     if program:
         try_all(tally, program, numbers, options.jobs)
