@@ -1,9 +1,9 @@
 #!/usr/bin/env python3
 """Changes the code that explains and draws in small ways, and asks that a row sees each change: no contract covers most
-of it. A condition is negated, a statement is left out, or an integer has another last bit. The last line is
-`N passed, N failed`.
+of it. A condition is negated, a statement is left out, an integer has another last bit, or a text is another one. The
+last line is `N passed, N failed`.
 
-    scripts/mutants.py [CRATE..]        of wm_refusal, wm_explain, wm_phrase and wm_graph, or these; some ten minutes
+    scripts/mutants.py [WORD..]         in all of that code, or in files with one of these words; some twenty minutes
     scripts/mutants.py --check          asks only whether each line of tests/unseen.txt has its change
 
 One program without proof has all the changes, each with a switch, as the planted bugs of the gate. A change is passed
@@ -22,13 +22,13 @@ import planted_rows
 import rows
 from wmlabtools import TOP, harness
 
-CRATES = ("wm_refusal", "wm_explain", "wm_phrase", "wm_graph")
+CODE = ("wm_refusal/src/", "wm_explain/src/", "wm_phrase/src/", "wm_graph/src/", "wm_ast/src/instr_text.rt")
 # The commands whose rows can see a change.
 COMMANDS = ("explain", "graph")
 UNSEEN = "tests/unseen.txt"
 SECONDS = 15
 # What is no code: comments, strings, characters; and what the prover reads, up to the end of its braces or its line.
-TEXT = re.compile(r"""//[^\n]*|"(?:[^"\\]|\\.)*"|b?'(?:[^'\\]|\\[^u]|\\u\{\w+\})'""")
+NO_CODE = re.compile(r"""//[^\n]*|"(?:[^"\\]|\\.)*"|b?'(?:[^'\\]|\\[^u]|\\u\{\w+\})'""")
 CLAUSE = re.compile(
     r"(?m)^\s*(?:(?:pub )?ghost|ensures\*?|requires\*?|#\[|(?:pub )?use |(?:pub(?:\(\w+\))? )?const )[^\n]*"
 )
@@ -43,18 +43,20 @@ Change = collections.namedtuple("Change", "path line code old start end wrap")
 
 
 def blanked(source):
-    """The source with white space in place of what is no code, of the same length."""
+    """The source with white space in place of what is no code, of the same length; of a text the quotes are left."""
 
-    def blank(found):
-        return re.sub(r"[^\n]", " ", found[0])
+    def blank(text):
+        return re.sub(r"[^\n]", " ", text)
 
-    text = TEXT.sub(blank, source)
+    text = NO_CODE.sub(lambda found: f'"{blank(found[0][1:-1])}"' if found[0][0] == '"' else blank(found[0]), source)
     for clause in reversed(list(CLAUSE.finditer(text))):
         end = clause.end()
         brace = text.find("{", clause.start(), end)
-        if brace >= 0 and "fn " not in clause[0]:
+        if "const " in clause[0]:
+            end = end_before(text, clause.start(), (";",)) or end
+        elif brace >= 0 and "fn " not in clause[0]:
             end = max(end, closing(text, brace) + 1)
-        text = text[: clause.start()] + re.sub(r"[^\n]", " ", text[clause.start() : end]) + text[end:]
+        text = text[: clause.start()] + blank(text[clause.start() : end]) + text[end:]
     return text
 
 
@@ -80,6 +82,26 @@ def end_before(text, start, ends):
     return None
 
 
+def is_in_macro(text, at):
+    """Whether a place is an argument of a macro."""
+    depth = 0
+    for before in range(at - 1, 0, -1):
+        depth += (text[before] in ")]}") - (text[before] in "([{")
+        if depth < 0:
+            return text[before - 1] == "!"
+    return False
+
+
+def texts(source, text):
+    """The texts of the code, of which `text` is blanked, each with how it is written with a switch. Patterns are left
+    out, and formats, which a macro needs as they are."""
+    for found in NO_CODE.finditer(source):
+        is_pattern = re.match(r"\s*(?:=>|\|)", source[found.end() :])
+        if text[found.start()] == '"' and source[found.start() - 1] != "b" and not is_pattern:
+            if not is_in_macro(text, found.start()):
+                yield found.start(), found.end(), '(if {switch} {{ "?" }} else {{ {old} }})'
+
+
 def spans(text):
     """The places to change, each with how the code there is written with a switch."""
     for found in CONDITION.finditer(text):
@@ -102,7 +124,7 @@ def changes_of(path):
         source = file.read()
     found = [
         Change(path, line, source.split("\n")[line - 1].strip(), " ".join(source[start:end].split()), start, end, wrap)
-        for start, end, wrap in spans(blanked(source))
+        for start, end, wrap in (*spans(blanked(source)), *texts(source, blanked(source)))
         for line in [source.count("\n", 0, start) + 1]
     ]
     return source, sorted(found, key=lambda change: (change.start, -change.end))
@@ -122,22 +144,23 @@ def with_switches(source, changes, numbers, start, end):
     return text + source[at:end]
 
 
-def files_of(crates):
-    """The files of code of these crates."""
-    patterns = [f"crates/{crate}/src/**/*.rt" for crate in crates]
-    return sorted(path for pattern in patterns for path in glob.glob(pattern, root_dir=TOP, recursive=True))
+def files_of(words=()):
+    """The files of that code, or those with one of these words."""
+    paths = sorted(glob.glob("crates/*/src/**/*.rt", root_dir=TOP, recursive=True))
+    paths = [path for path in paths if path.startswith(tuple(f"crates/{part}" for part in CODE))]
+    return [path for path in paths if not words or any(word in path for word in words)]
 
 
-def built(crates, folder):
-    """The bytes of a program with all changes of these crates, and the changes by their numbers."""
+def built(paths, folder):
+    """The bytes of a program with all changes of these files, and the changes by their numbers."""
     planted_rows.copy_sources(folder)
     numbers = {}
-    for path in files_of(crates):
+    for path in paths:
         source, changes = changes_of(path)
         numbers.update({change: len(numbers) + place for place, change in enumerate(changes, 1)})
         with open(f"{folder}/{path}", "w", encoding="utf-8") as file:
             file.write(with_switches(source, changes, numbers, 0, len(source)))
-    planted_rows.let_use_switches(folder, set(crates))
+    planted_rows.let_use_switches(folder, {path.split("/")[1] for path in paths})
     planted_rows.add_switch(folder)
     program = planted_rows.quick_program(folder, 0)
     if not program:
@@ -155,7 +178,7 @@ def unseen_places():
 
 def check_unseen(tally):
     """Whether each change that no row can see is still one."""
-    changes = {(change.path, change.old, change.code) for path in files_of(CRATES) for change in changes_of(path)[1]}
+    changes = {(change.path, change.old, change.code) for path in files_of() for change in changes_of(path)[1]}
     for path, old, code in sorted(unseen_places()):
         tally.check((path, old, code) in changes, f"{UNSEEN}: {path} has no `{old}` in a line `{code}`")
 
@@ -200,20 +223,17 @@ def main():
     parser = argparse.ArgumentParser(description=__doc__, formatter_class=argparse.RawDescriptionHelpFormatter)
     parser.add_argument("--jobs", type=int, default=harness.processors(), help="changes that are tried side by side")
     parser.add_argument("--check", action="store_true", help=f"ask only whether each line of {UNSEEN} has its change")
-    parser.add_argument("crates", nargs="*", metavar="CRATE")
+    parser.add_argument("words", nargs="*", metavar="WORD")
     options = parser.parse_args()
-    for crate in options.crates:
-        if not os.path.isdir(f"{TOP}/crates/{crate}/src"):
-            parser.error(f"there is no crate {crate}")
     tally = harness.Tally()
     if options.check:
         check_unseen(tally)
         tally.end()
-    crates = options.crates or CRATES
-    if not any(changes_of(path)[1] for path in files_of(crates)):
-        parser.error(f"there is nothing to change in {' '.join(crates)}")
+    paths = files_of(options.words)
+    if not any(changes_of(path)[1] for path in paths):
+        parser.error(f"there is nothing to change in files with {' '.join(options.words)}")
     with tempfile.TemporaryDirectory() as folder:
-        program, numbers = built(crates, folder)
+        program, numbers = built(paths, folder)
     tally.check(program, "the program with the changes is not built")
     if program:
         try_all(tally, program, numbers, options.jobs)
