@@ -3,11 +3,11 @@
 of it. A condition is negated, a statement is left out, an integer has another last bit, or a text is another one. The
 last line is `N passed, N failed`.
 
-    scripts/mutants.py [WORD..]         in all of that code, or in files with one of these words; some twenty minutes
+    scripts/mutants.py [WORD..]         in all of that code, or in files with one of these words; many minutes
     scripts/mutants.py --check          asks only whether each line of tests/unseen.txt has its change
 
 One program without proof has all the changes, each with a switch, as the planted bugs of the gate. A change is passed
-over if tests/unseen.txt has its place, with the reason why no row can see it.
+over if tests/unseen.txt has its place, with the reason why no row is expected to see it.
 """
 import argparse
 import collections
@@ -170,14 +170,14 @@ def built(paths, folder):
 
 
 def unseen_places():
-    """The changes that no row can see: the file, what is changed, and the line that it is in."""
+    """The changes that no row sees: the file, what is changed, and the line that it is in."""
     with open(f"{TOP}/{UNSEEN}", encoding="utf-8") as file:
         lines = [line.rstrip("\n").split(" ## ") for line in file if line.strip() and not line.startswith("# ")]
     return {(path, old, code) for path, old, code, _ in lines}
 
 
 def check_unseen(tally):
-    """Whether each change that no row can see is still one."""
+    """Whether each change that no row sees is still one."""
     changes = {(change.path, change.old, change.code) for path in files_of() for change in changes_of(path)[1]}
     for path, old, code in sorted(unseen_places()):
         tally.check((path, old, code) in changes, f"{UNSEEN}: {path} has no `{old}` in a line `{code}`")

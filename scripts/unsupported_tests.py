@@ -1,6 +1,7 @@
 #!/usr/bin/env python3
-"""Writes tests/rows/unsupported.rows: modules with each instruction that is not supported, and what `explain` lists of
-them; and engines/lowering/programs/unreached.wat: a program that has most of them in functions that are never called.
+"""Writes tests/rows/unsupported.rows: modules with the instructions that are not supported, a selection of those on
+vectors, and what `explain` lists of them; and engines/lowering/programs/unreached.wat: a program that has most of them
+in functions that are never called.
 
 The instructions are below as WebAssembly text. wabt's wat2wasm assembles them, and its wasm-objdump names each with its
 offset: nothing of that comes from this repository. Each function ends with memory.grow, which is found only if all
@@ -61,7 +62,7 @@ def of_lanes():
 
 
 def vectors():
-    """The vector instructions."""
+    """Vector instructions: all that have immediates, and a selection of the others."""
     found = ["v128.const i32x4 1 2 3 4", f"i8x16.shuffle{' 5' * 16}", "v128.load offset=300", "v128.store offset=300"]
     for shape, sign in itertools.product(("8x8", "16x4", "32x2"), "su"):
         found.append(f"v128.load{shape}_{sign}")
@@ -119,7 +120,7 @@ GROUPS = [
         ["i32.extend8_s", "i32.extend16_s", "i64.extend8_s", "i64.extend16_s", "i64.extend32_s"],
     ),
     ("each instruction on floats", "Floats", "", floats()),
-    ("the vector instructions", "Simd", "", vectors()),
+    ("vector instructions of each form", "Simd", "", vectors()),
     ("an indirect call", "Table", "", ["call_indirect 64 (type 0)"]),
 ]
 # The names of parts that have more than one instruction, by a pattern of their instructions.
