@@ -348,6 +348,14 @@ def statuses(tally, room, cluster):
         tally.check(line == answer, "`check` answers a kept log as the stream did", (line, answer))
 
 
+def one_kept_log(tally, room, cluster):
+    write_lines(room.folder / "single.jsonl", [BROKEN])
+    words = ["--scheduler", cluster.address, "logs", MODULE, str(room.folder / "single.jsonl")]
+    out, err, status = room.run("single", *words)
+    line = f"kept: 1 log with its explanation in {room.folder / 'single/kept'}\n"
+    tally.check(status == 1 and line in out, "one log is kept", (status, out, err))
+
+
 def forms_of_logs(tally, room, cluster):
     """Folders, compressed files, lines that are too long, and several parts."""
     folder = room.folder / "forms"
@@ -390,6 +398,22 @@ def recordings(tally, room, cluster):
     )
 
 
+def without_pictures(tally, room):
+    """Rounds are counted and their logs are kept, though Graphviz does not draw them."""
+    (room.folder / "no-pictures").mkdir()
+    dot = room.folder / "no-pictures/dot"
+    dot.write_text("#!/bin/sh\nexit 1\n", encoding="utf-8")
+    dot.chmod(0o755)
+    environment = {**os.environ, "PATH": f"{dot.parent}:{os.environ['PATH']}"}
+    words = ["--workers", "1", "record", "--mode", "buffered", "--rounds", "20", "--wrong", "plain-atomics", ATOMIC]
+    out, err, status = room.run("undrawn", *words, "a", "b", env=environment)
+    numbers, kinds = counts_in(out)
+    is_right = status == 1 and numbers[0] == 20 and kinds["broken V5 case 3"] == numbers[2] > 0
+    tally.check(is_right, "rounds are counted though dot fails", (status, out, err))
+    is_kept = any((room.folder / "undrawn/kept").glob("*-shrunk.txt"))
+    tally.check(is_kept, "their logs are kept too", os.listdir(room.folder / "undrawn/kept"))
+
+
 # ---- failures
 
 
@@ -425,6 +449,9 @@ def failing_streams(tally, room, cluster):
     tally.check(room.finished("failing") == 1, "they have no file", room.finished("failing"))
 
 
+NUMBER = "expected an integer from 1 to 999999999"
+
+
 def mistakes(tally, room):
     """What is refused before a batch is sent."""
     (room.folder / "empty").mkdir()
@@ -437,7 +464,9 @@ def mistakes(tally, room):
         ("no words", [], {}, 2, "usage:"),
         ("no place", ["logs", MODULE], {}, 2, "PLACE"),
         ("an unknown command", ["judge", MODULE, one], {}, 2, "invalid choice"),
-        ("no batch size", ["--batch", "0", "logs", MODULE, one], {}, 2, "integer from 1"),
+        ("no batch size", ["--batch", "0", "logs", MODULE, one], {}, 2, f"--batch: '0' was given; {NUMBER}\n"),
+        ("no number", ["--keep", "", "logs", MODULE, one], {}, 2, f"--keep: '' was given; {NUMBER}\n"),
+        ("too many rounds", ["record", "--rounds", "9" * 5_000, MODULE, "a"], {}, 2, f"9' was given; {NUMBER}\n"),
         ("two clusters", ["--workers", "1", "--scheduler", "x", "logs", MODULE, one], {}, 2, "not allowed with"),
         ("an unknown mode", ["record", "--mode", "fast", MODULE, "a"], {}, 2, "invalid choice"),
         ("an empty plan", ["plan", "/dev/null"], {}, 2, "has no line"),
@@ -531,8 +560,9 @@ def main():
         interrupted(tally, room)
         mistakes(tally, room)
         without_dask(tally, room)
+        without_pictures(tally, room)
         with dask_cluster(room.folder, 2) as cluster:
-            for test in (statuses, forms_of_logs, recordings, failing_streams, no_logs, other_folders):
+            for test in (statuses, one_kept_log, forms_of_logs, recordings, failing_streams, no_logs, other_folders):
                 test(tally, room, cluster)
     tally.end()
 

@@ -262,6 +262,13 @@ def ran(command, *words_of_command):
     return harness.run(os.path.join(HERE, command), [*words_of_command])
 
 
+def check_refusal(tally, sentence, command, *words_of_command):
+    out, err, status = ran(command, *words_of_command)
+    is_line = err.startswith(f"{command}: {sentence}") and err.count("\n") == 1
+    is_refused = status == 2 and not out and is_line
+    tally.check(is_refused, f"{command} {words_of_command} is refused in a line", out + err)
+
+
 def test_refusals(tally, room):
     """Mistakes are refused in one line, with status 2."""
     fake = os.path.join(room, "fake")
@@ -279,10 +286,20 @@ def test_refusals(tally, room):
         ("gallery", "--test", "SB", "--wmlab", "/bin/true"),
     ]
     for command, *words_of_command in refused:
-        out, err, status = ran(command, *words_of_command)
-        is_line = err.startswith(f"{command}: ") and err.count("\n") == 1
-        is_refused = status == 2 and not out and is_line
-        tally.check(is_refused, f"{command} {words_of_command} is refused in a line", out + err)
+        check_refusal(tally, "", command, *words_of_command)
+    for sentence, command, *words_of_command in (
+        ("an empty name: no shape has this name", "candidates", ""),
+        ("'SC': no shape has this name", "candidates", "SC"),
+        ("'nosuch': there is no such edit; they are edits/CRATE/NAME.edit", "wrong-judges", "nosuch"),
+        ("'edits': there is no such edit", "wrong-judges", "edits"),
+        ("litmus/README.md: it changes nothing", "wrong-judges", "litmus/README.md"),
+        ("/nowhere: this is no program", "candidates", "--wmlab", "/nowhere", "SB"),
+        ("/nowhere: this is no program", "gallery", "--test", "SB", "--wmlab", "/nowhere"),
+        ("/nowhere: this is no program", "test.py", "--wmlab", "/nowhere"),
+        (f"{room}: this is no program", "test.py", "--wmlab", room),
+        ("/bin/true: this program has no command stream", "test.py", "--wmlab", "/bin/true"),
+    ):
+        check_refusal(tally, sentence, command, *words_of_command)
 
 
 def test_commands(tally, program, room):

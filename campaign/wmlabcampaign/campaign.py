@@ -106,7 +106,9 @@ class Campaign:
         if self.failures:
             lines.append(f"batches that failed and are not counted: {len(self.failures):,}; --resume tries them again")
         if self.kept:
-            lines.append(f"kept: {len(self.kept):,} logs with their explanations in {self.folder.place('kept')}")
+            count = len(self.kept)
+            logs = "1 log with its explanation" if count == 1 else f"{count:,} logs with their explanations"
+            lines.append(f"kept: {logs} in {self.folder.place('kept')}")
         return "\n".join(lines) + "\n"
 
     def report(self):

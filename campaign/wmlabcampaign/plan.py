@@ -1,6 +1,8 @@
 """What a campaign is asked for: its parts, each of which is logs of a module, or rounds of a module to record."""
+import argparse
 import hashlib
 import os
+import re
 import shlex
 from dataclasses import asdict, dataclass
 from functools import cached_property
@@ -8,7 +10,8 @@ from functools import cached_property
 from .faults import Fault, WrongWords
 
 MODES = ("locked", "buffered", "free")
-MOST_NUMBER = 999_999_999
+# An integer from 1 to 999999999, as the recorder takes it.
+NUMBER = re.compile(r"0*[1-9][0-9]{0,8}")
 
 
 def read_file(path):
@@ -70,14 +73,10 @@ class Recording:
 
 
 def positive(text):
-    """An integer from 1, as the recorder takes it."""
-    if not text.isascii() or not text.isdigit() or not 1 <= int(text) <= MOST_NUMBER:
-        raise ValueError(text)
+    """The number that an option has."""
+    if not NUMBER.fullmatch(text):
+        raise argparse.ArgumentTypeError(f"{text!r} was given; expected an integer from 1 to 999999999")
     return int(text)
-
-
-# What complaints call it.
-positive.__name__ = "integer from 1"
 
 
 def add_parts(commands):

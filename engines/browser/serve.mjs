@@ -6,7 +6,7 @@ import { basename } from 'node:path';
 import { fileURLToPath } from 'node:url';
 import { HELP, TEXT, countOf, wordsOf } from '../shared/command_line.mjs';
 import { UserError, withFile } from '../shared/errors.mjs';
-import { findProgram } from '../shared/wmlab.mjs';
+import { Judge, Stopped, findProgram } from '../shared/wmlab.mjs';
 import { Judges } from './judges.mjs';
 import { serve } from './server.mjs';
 
@@ -77,6 +77,8 @@ async function main(args) {
   const port = countOf('port', values.port ?? '8123', 65_535);
   const module = positionals.length ? moduleOf(positionals[0]) : null;
   const program = programFor(values.wmlab);
+  // A module that the program does not read is refused here, as record.mjs does, and not when someone records it.
+  if (program && module) await Judge.open(program, positionals[0]);
   const judges = program ? new Judges(program) : null;
   const end = async (status) => {
     await judges?.close();
@@ -96,7 +98,8 @@ if (process.argv[1] && realpathSync(process.argv[1]) === fileURLToPath(import.me
   try {
     await main(process.argv.slice(2));
   } catch (error) {
-    console.error(error instanceof UserError ? `serve.mjs: ${error.message}` : error);
-    process.exit(error instanceof UserError ? 2 : 3);
+    const isExpected = error instanceof UserError || error instanceof Stopped;
+    console.error(isExpected ? `serve.mjs: ${error.message}` : error);
+    process.exit(isExpected ? 2 : 3);
   }
 }

@@ -1,22 +1,23 @@
 /** Tests of recording in real browsers, and of the page for people. A browser that is not installed is named and not counted. */
 
 import { spawn } from 'node:child_process';
-import { mkdtempSync, readFileSync, readdirSync, rmSync } from 'node:fs';
+import { mkdtempSync, readFileSync, readdirSync, rmSync, writeFileSync } from 'node:fs';
 import { tmpdir } from 'node:os';
-import { join } from 'node:path';
+import { basename, join } from 'node:path';
 import { setTimeout } from 'node:timers/promises';
 import { fileURLToPath } from 'node:url';
 import { openRecorder } from '../node/engines.mjs';
 import { recordWith } from '../shared/rounds.mjs';
 import { parseStart } from '../shared/starts.mjs';
 import { Judge } from '../shared/wmlab.mjs';
-import { isThere, textOf } from '../testing/tally.mjs';
+import { isThere, run, textOf } from '../testing/tally.mjs';
 import { Judges } from './judges.mjs';
 import { findBrowser, openPage } from './launch.mjs';
 import { handlersOf, moduleOf } from './serve.mjs';
 import { serve } from './server.mjs';
 
 const RECORD = fileURLToPath(new URL('../node/record.mjs', import.meta.url));
+const SERVE = fileURLToPath(new URL('./serve.mjs', import.meta.url));
 const example = (name) => fileURLToPath(new URL(`../../examples/${name}.wasm`, import.meta.url));
 const BUFFERS = example('many-store-buffers');
 const TRAPS = ['unreachable', 'divide', 'overflow', 'past', 'odd', 'deep'];
@@ -127,6 +128,48 @@ function withResolvers() {
   return made;
 }
 
+/**
+ * The command refuses a module in the words and with the status of record.mjs. It is given a port that is in use, so that it ends
+ * also if it takes the module.
+ */
+function testModules({ note, wmlab }, port) {
+  const folder = mkdtempSync(join(tmpdir(), 'serve-'));
+  try {
+    const files = { empty: join(folder, 'empty.wasm'), text: join(folder, 'text.wasm') };
+    writeFileSync(files.empty, '');
+    writeFileSync(files.text, 'x');
+    const ask = (script, ...words) => run(process.execPath, [script, '--wmlab', wmlab, ...words], { cwd: folder });
+    for (const path of [files.empty, files.text, example('floats'), 'nothing.wasm']) {
+      const served = ask(SERVE, '--port', port, path);
+      const recorded = ask(RECORD, path, 'a');
+      const isSame = recorded.status === 2 && served.status === 2 && served.err === recorded.err.replace('record.mjs: ', 'serve.mjs: ');
+      note(isSame && served.out === '', `serve.mjs refuses what record.mjs refuses: ${basename(path)}`, served, recorded);
+    }
+    const taken = ask(SERVE, '--port', port, BUFFERS);
+    note(taken.status === 2 && taken.err.includes('(EADDRINUSE)'), 'serve.mjs takes a module that the program reads', taken);
+    const other = run(process.execPath, [SERVE, '--wmlab', '/bin/true', '--port', port, BUFFERS], { cwd: folder });
+    note(other.status === 2 && other.err.includes('this is not wmlab'), 'serve.mjs refuses a program that is not wmlab', other);
+  } finally {
+    rmSync(folder, { recursive: true });
+  }
+}
+
+/** Of a log whose picture dot does not make the page gets the explanation and the graph. `explain` asks for them. */
+async function testNoPicture({ note }, explain) {
+  const folder = mkdtempSync(join(tmpdir(), 'no-picture-'));
+  const { PATH } = process.env;
+  try {
+    writeFileSync(join(folder, 'dot'), '#!/bin/sh\nexit 1\n', { mode: 0o755 });
+    process.env.PATH = folder;
+    const answer = await explain();
+    const isWhole = answer.explanation?.startsWith('allowed') && answer.graph.startsWith('digraph') && answer.svg === null;
+    note(isWhole, 'the server explains a log that dot does not draw', JSON.stringify(answer));
+  } finally {
+    process.env.PATH = PATH;
+    rmSync(folder, { recursive: true });
+  }
+}
+
 /** Requests that the server refuses: other hosts, other files, another page's tasks. */
 export async function testServer({ note, wmlab }) {
   const judges = new Judges(wmlab);
@@ -143,12 +186,15 @@ export async function testServer({ note, wmlab }) {
   const document = textOf(example('store-buffering').replace(/wasm$/, 'json'));
   const ask = async (path, value) => (await fetch(`${server.origin}${path}`, { method: 'POST', body: JSON.stringify(value) })).json();
   const judged = await ask('/judge', { module, ends: '[["done",[0]],["done",[0]]]', document, isOpen: false });
-  const explained = await ask('/explain', { module, document, line: judged.line });
+  const explain = () => ask('/explain', { module, document, line: judged.line });
+  const explained = await explain();
   note(
     judged.line === 'allowed threads=2 events=4' && explained.explanation.startsWith(judged.line) && explained.graph.startsWith('digraph'),
     'the server judges a log, explains it and makes its graph',
     JSON.stringify([judged, explained]),
   );
+  await testNoPicture({ note }, explain);
+  testModules({ note, wmlab }, new URL(server.origin).port);
   await judges.close();
   server.close();
 }

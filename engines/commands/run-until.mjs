@@ -4,7 +4,7 @@
 import { join } from 'node:path';
 import { HELP, SEVERAL, TEXT, countOf, wordsOf } from '../shared/command_line.mjs';
 import { UserError } from '../shared/errors.mjs';
-import { keep, prepareFolder } from '../shared/kept.mjs';
+import { keep, missingPictures, prepareFolder } from '../shared/kept.mjs';
 import { conditionsOf, judgeConditions } from '../shared/outcomes.mjs';
 import { Judge, Stopped, ask, findProgram } from '../shared/wmlab.mjs';
 
@@ -86,15 +86,16 @@ async function logsOf(program, { module, starts, tries, seed }, outcomes) {
   return logs;
 }
 
-/** Keeps the logs. Answers the path of each outcome's log. */
-async function keepAll(judge, kept, outcomes, logs) {
+/** Keeps the logs. Answers the path of each outcome's log, and a line on pictures that are missing (or null). */
+async function keepAll(judge, folder, outcomes, logs) {
   const paths = new Map();
+  const kept = [];
   for (const [number, outcome] of outcomes.entries()) {
-    const path = join(kept, `outcome-${number + 1}.json`);
-    if (logs.has(outcome)) await keep(judge, path, logs.get(outcome));
+    const path = join(folder, `outcome-${number + 1}.json`);
+    if (logs.has(outcome)) kept.push(await keep(judge, path, logs.get(outcome)));
     paths.set(outcome, logs.has(outcome) ? path : 'no script was found that gives it');
   }
-  return paths;
+  return { paths, warning: missingPictures(kept) };
 }
 
 async function main(args) {
@@ -112,13 +113,14 @@ async function main(args) {
   prepareFolder(kept);
   const judge = new Judge(program, module);
   const outcomes = rows.map(({ outcome }) => outcome);
-  const paths = await keepAll(judge, kept, outcomes, await logsOf(program, options, outcomes));
+  const { paths, warning } = await keepAll(judge, kept, outcomes, await logsOf(program, options, outcomes));
   const judged = judgeConditions(
     conditions,
     rows.map(({ count, outcome }) => ({ outcome, place: `${count} of ${rounds} rounds` })),
   );
   const table = rows.map(({ count, outcome }) => `${String(count).padStart(8)}  ${outcome}  ${paths.get(outcome)}`);
   console.log([...table, text.split('\n').at(-1), ...judged.map(({ line }) => line)].join('\n'));
+  if (warning) console.error(`run-until: ${warning}`);
   return judged.some(({ fails }) => fails) ? 1 : 0;
 }
 

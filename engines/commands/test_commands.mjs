@@ -1,6 +1,6 @@
 /** Tests of the commands `reorder` and `run-until`, and of the page of a campaign. */
 
-import { existsSync, mkdtempSync, readFileSync, rmSync, writeFileSync } from 'node:fs';
+import { existsSync, mkdirSync, mkdtempSync, readFileSync, readdirSync, rmSync, symlinkSync, writeFileSync } from 'node:fs';
 import { tmpdir } from 'node:os';
 import { join } from 'node:path';
 import { fileURLToPath } from 'node:url';
@@ -150,6 +150,64 @@ function testReport({ note, leftOut, wmlab, folder }) {
   else leftOut('pictures of the page', 'dot is not installed');
 }
 
+/** What stands in for dot, and why it is said to give no picture. The one without a script is not there. */
+const DOTS = [
+  ['is-missing', null, 'Graphviz is not installed, there is no program dot'],
+  ['fails', "cat >/dev/null; echo 'Error: no rank' >&2; exit 1", 'dot -Tsvg ended with status 1: Error: no rank'],
+  ['reads-nothing', 'exit 1', 'dot -Tsvg ended with status 1'],
+  ['dies', 'kill -9 $$', 'dot -Tsvg was ended by SIGKILL'],
+  ['says-nothing', 'cat >/dev/null', 'dot -Tsvg printed no whole picture'],
+  ['does-nothing', 'exit 0', 'dot -Tsvg printed no whole picture'],
+  ['is-no-program', 'no interpreter', 'dot -Tsvg cannot be run (EACCES)'],
+];
+
+/** An environment whose PATH has only node, what a script needs, and the dot of a script. */
+function programsWith(folder, name, script) {
+  const place = join(folder, `programs-${name}`);
+  mkdirSync(place);
+  symlinkSync(process.execPath, join(place, 'node'));
+  symlinkSync('/bin/cat', join(place, 'cat'));
+  const mode = name === 'is-no-program' ? 0o644 : 0o755;
+  if (script !== null) writeFileSync(join(place, 'dot'), `#!/bin/sh\n${script}\n`, { mode });
+  return { ...process.env, PATH: place };
+}
+
+/** Whether each log of a folder has its explanation and its graph, and no picture. */
+function hasGraphs(folder) {
+  const names = existsSync(folder) ? readdirSync(folder).sort() : [];
+  const logs = names.filter((name) => name.endsWith('.json')).map((name) => name.slice(0, -'.json'.length));
+  const isWhole = logs.every((log) => ['.txt', '.dot'].every((ending) => textOf(join(folder, log + ending)).length > 1));
+  return logs.length > 0 && isWhole && names.length === 3 * logs.length;
+}
+
+/** Each command with its status and its last line. The first is tried with each dot, the others with the first two. */
+const DRAWING = [
+  ['engines/node/record.mjs', ['--mode', 'buffered', '--rounds', '20', '--want', '0 0', module('store-buffering'), 'a', 'b'],
+    0, /^a smaller run is kept in \S+\/round-0-shrunk\.json: /],
+  ['engines/node/record.mjs', ['--mode', 'buffered', '--wrong', 'plain-atomics', module('store-buffering-atomic'), 'a', 'b'],
+    1, /^a smaller run is kept in \S+\/bad-shrunk\.json: /],
+  ['engines/run-until', ['--want', '1 0', module('store-buffering'), '20', 'a', 'b'], 0, /^ok --want "1 0": came: 12 of 20 rounds$/],
+];
+
+/** A picture that dot does not make costs the picture alone: logs, tables and status are as ever, and one line says so. */
+function testPictures({ note, wmlab, folder }) {
+  // Scripts that give these outcomes are found soon.
+  const program = programOf(folder, wmlab, ['      12  1 0', '       8  0 1', 'allowed rounds=20']);
+  for (const [at, [name, script, fault]] of DOTS.entries()) {
+    const env = programsWith(folder, name, script);
+    for (const [number, [command, words, status, last]] of DRAWING.slice(0, at < 2 ? DRAWING.length : 1).entries()) {
+      const kept = `drawn-${name}-${number}`;
+      const bad = command.endsWith('record.mjs') ? ['--keep', `${kept}/bad.json`] : [];
+      const ran = run(place(command), ['--wmlab', program, '--kept', kept, ...bad, ...words], { cwd: folder, env });
+      const isWarned = /^[a-z.-]+: warning: [^\n]+\n$/.test(ran.err) && ran.err.includes(` not made: ${fault}; `);
+      const [, first] = / (\S+\.dot)\n$/.exec(ran.err) ?? [];
+      const isKept = hasGraphs(join(folder, kept)) && textOf(join(folder, first ?? 'none')).startsWith('digraph');
+      const isSame = ran.status === status && last.test(ran.out.trimEnd().split('\n').at(-1));
+      note(isWarned && isKept && isSame, `${command} keeps graphs with a dot that ${name.replaceAll('-', ' ')}, status ${status}`, ran);
+    }
+  }
+}
+
 export function testCommands({ note, leftOut, wmlab }) {
   const folder = mkdtempSync(join(tmpdir(), 'record-'));
   try {
@@ -157,6 +215,7 @@ export function testCommands({ note, leftOut, wmlab }) {
     testReorder(context);
     testMistakes(context);
     testRunUntil(context);
+    testPictures(context);
     testReport(context);
   } finally {
     rmSync(folder, { recursive: true });

@@ -43,18 +43,18 @@ const elementOf = ([{ code, args }]) => (code === CODE.refFunc ? args[0] : null)
 function readElements(reader) {
   const flags = reader.u32();
   const active = (flags & 1) === 0;
-  const table = active && flags & 2 ? reader.u32() : 0;
+  if (active && flags & 2) reader.u32(); // the number of the table
   const offset = active ? readExpression(reader) : null;
   if (flags & 3) reader.byte();
   const functions = list(reader, (items) => (flags & 4 ? elementOf(readExpression(items)) : items.u32()));
-  return { active, table, offset, functions };
+  return { active, offset, functions };
 }
 
 function readData(reader) {
   const flags = reader.u32();
-  const memory = flags & 2 ? reader.u32() : 0;
+  if (flags & 2) reader.u32(); // the number of the memory
   const offset = flags & 1 ? null : readExpression(reader);
-  return { memory, offset, bytes: reader.take(reader.u32()) };
+  return { offset, bytes: reader.take(reader.u32()) };
 }
 
 function readBody(reader) {

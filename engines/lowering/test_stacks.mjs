@@ -1,5 +1,6 @@
 /** Stacks of the threads' own. */
 
+import { name, section, vector } from '../shared/binary.mjs';
 import { lower } from './lower.mjs';
 import { moduleOf } from './test_modules.mjs';
 
@@ -16,6 +17,17 @@ const STACKED = moduleOf({ types, functions, globals: [POINTER], exports: [[6, .
 const OTHERS = [[I32, 0, 0x41, 16, 0x0b], [0x7e, 1, 0x42, 16, 0x0b], [I32, 1, 0x41, 0, 0x0b], [I32, 1, 0x41, 8, 0x0b]];
 const PUSH_HIDDEN = [0x23, 4, 0x41, 16, 0x6b, 0x24, 4, 0x23, 4, 0x20, 0, 0x36, 2, 0, 0x23, 4];
 const HIDDEN = moduleOf({ types, functions: [{ code: PUSH_HIDDEN, exported: 'push' }], globals: [...OTHERS, POINTER] });
+
+/** A second pointer by its name and by its export. */
+const PUSH_SECOND = PUSH_HIDDEN.map((byte) => (byte === 4 ? 1 : byte));
+const globalNames = (global, text) => {
+  const names = vector([[global, ...name(text)]]);
+  return section(0, [...name('name'), 7, names.length, ...names]);
+};
+const NAMED = [
+  ['by its name', { custom: globalNames(1, '__stack_pointer') }],
+  ['by its export', { exports: [[...name('__stack_pointer'), 3, 1]] }],
+];
 
 const instance = ({ bytes }) => new WebAssembly.Instance(new WebAssembly.Module(bytes)).exports;
 
@@ -45,12 +57,21 @@ export function testStacks({ note }) {
   note(before.push(1) === 4_096 - 16, 'before the lowering the stack is where the linker put it');
   const found = instance(lower(HIDDEN, { stacks: 'each' }));
   note(found.push(1) === PAGE + 4_096 - 16, 'without names the pointer is the first mutable i32 that is a positive multiple of 16');
+  for (const [how, parts] of NAMED) {
+    const module = moduleOf({ types, functions: [{ code: PUSH_SECOND, exported: 'push' }], globals: [POINTER, POINTER], ...parts });
+    const named = instance(lower(module, { stacks: 'each' }));
+    note(named.push(1) === PAGE + 4_096 - 16, `the stack pointer is found ${how}`);
+  }
+  const unnamed = moduleOf({ functions: [{ code: [], exported: 'a' }], globals: [POINTER], custom: globalNames(0, 'other') });
+  note(/no stack pointer/.test(refusal(unnamed, { stacks: 2 })), 'a module whose globals have other names has no stack pointer');
   const without = moduleOf({ functions: [{ code: [], exported: 'a' }] });
   note(/no stack pointer/.test(refusal(without, { stacks: 2 })), 'stacks of a module without a stack pointer are refused');
   note(
     /17 pages; expected at most 16/.test(refusal(STACKED, { stacks: 16, stackBytes: PAGE })),
     'stacks that do not fit are refused',
   );
+  const whole = refusal(STACKED, { stacks: 15, stackBytes: PAGE });
+  note(whole === 'nothing', 'stacks up to the last of 16 pages are taken', whole);
   const clash = moduleOf({ types, functions: [functions[0], { ...functions[0], exported: 'push.0' }], globals: [POINTER] });
   note(refusal(clash, { stacks: 1 }) === 'nothing', 'names that end with a number are kept apart');
 }

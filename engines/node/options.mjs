@@ -37,7 +37,7 @@ OPTIONS
     N is an integer of at least 1. In the modes locked and buffered a seed gives the same log, byte for byte.
 
 It prints a table of outcomes and one of verdicts. A log that is kept has its explanation (.txt) and its picture (.svg, or .dot
-without Graphviz) beside it, and in the modes locked and buffered a smaller run with the same fault or outcome (-shrunk.json).
+if Graphviz makes none) beside it, and in the modes locked and buffered a smaller run with the same fault or outcome (-shrunk.json).
 Ctrl-C prints the tables so far.
 
 EXIT STATUS

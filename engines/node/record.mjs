@@ -6,7 +6,7 @@ import { dirname } from 'node:path';
 import { fileURLToPath } from 'node:url';
 import { openRecorder } from './engines.mjs';
 import { UserError, withFile } from '../shared/errors.mjs';
-import { hasNoWitness, keep, keepWithShrunk, prepareFolder, writeTo } from '../shared/kept.mjs';
+import { hasNoWitness, keep, keepWithShrunk, missingPictures, prepareFolder, writeTo } from '../shared/kept.mjs';
 import { judgeConditions } from '../shared/outcomes.mjs';
 import { writeReport } from '../shared/report.mjs';
 import { recordWith } from '../shared/rounds.mjs';
@@ -129,6 +129,8 @@ async function main(args) {
     await campaign.keepBad();
     if (options.report !== undefined) await writeReport(options.report, campaign);
     console.log(campaign.text());
+    const warning = missingPictures(campaign.kept);
+    if (warning) console.error(`record.mjs: ${warning}`);
     return campaign.status;
   } finally {
     judge.close();

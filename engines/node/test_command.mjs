@@ -65,6 +65,7 @@ const MISTAKES = [
   [[example('floats'), 'a'], /floats\.wasm: refused decode Unsupported Floats at 29/],
   [['--wmlab', '/bin/true', BUFFERS, 'a', 'b'], /--wmlab \/bin\/true: this is not wmlab/],
   [['--wmlab', '/bin/cat', BUFFERS, 'a', 'b'], /--wmlab \/bin\/cat: this is not wmlab/],
+  [['--wmlab', '/bin/ls', BUFFERS, 'a', 'b'], /--wmlab \/bin\/ls: this is not wmlab; it answers an empty log with status 2$/],
   [['--wmlab', 'nothing', BUFFERS, 'a', 'b'], /--wmlab nothing: no program is there/],
   [['--out', '/dev/full', BUFFERS, 'a', 'b'], /cannot write to the folder \/dev\/full/],
   [['--answers', '/nothing/answers', BUFFERS, 'a', 'b'], /cannot write \/nothing\/answers: no such file or folder/],

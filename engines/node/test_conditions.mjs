@@ -4,7 +4,7 @@ import { existsSync, mkdtempSync, readdirSync, rmSync } from 'node:fs';
 import { tmpdir } from 'node:os';
 import { join } from 'node:path';
 import { fileURLToPath } from 'node:url';
-import { shrink } from '../shared/shrink.mjs';
+import { scheduleText, shrink } from '../shared/shrink.mjs';
 import { satisfies } from '../shared/outcomes.mjs';
 import { run, textOf } from '../testing/tally.mjs';
 
@@ -70,6 +70,7 @@ function testShrunkFault({ note, wmlab, folder }) {
   const sizes = /a smaller run is kept in (\S+): (\d+) turns and (\d+) moves instead of (\d+) turns and (\d+) moves/.exec(ran.out);
   const [path, turns, moves, turnsBefore, movesBefore] = sizes ? [sizes[1], ...sizes.slice(2).map(Number)] : [];
   const isSmall = turns < 4 && turns <= turnsBefore && moves < 12 && moves < movesBefore;
+  note(/^round \d+: broken V3 [^\n]+\nits log is kept in bad\.json$/m.test(ran.out), 'the round and the file of its log are printed', ran);
   note(ran.status === 1 && isSmall, `a run that is not allowed is shrunk: ${sizes?.[0] ?? 'it was not'}`, ran);
   const answer = checked(wmlab, torn[0], join(folder, `${path}`));
   note(/^broken V3 case 2 /.test(answer.out), 'the smaller run has the same fault', answer);
@@ -80,6 +81,15 @@ async function testShrink({ note }) {
   const holds = async (items) => (items.includes(3) && items.lastIndexOf(5) > items.indexOf(3) ? { turns: items } : null);
   const found = await shrink([1, 3, 1, 2, 5, 2, 5, 1, 1], holds);
   note(found?.turns.join() === '3,5', 'a schedule is shrunk to what has to be there');
+  const tried = [];
+  await shrink([0, 0, 2, 2, 2], async (items) => { tried.push(items.join('')); return null; });
+  const candidates = '00 002 022 0022 0022 0022 0222 0222 22200';
+  note(tried.join(' ') === candidates, 'parts are left out from halves down to items, and then turns exchanged', tried.join(' '));
+  let tries = 0;
+  const count = async () => { tries++; return null; };
+  for (const limits of [{ tries: 2 }, { seconds: -1 }, { stop: { requested: true } }]) await shrink([1, 2, 3, 4, 5], count, limits);
+  note(tries === 2, 'the search ends at its tries, at its seconds and when the user stops', `${tries}`);
+  note(scheduleText([0, 0, 0, 1, 2, 3, 3]) === '0*3,d0,1,d1*2', 'a schedule as text', scheduleText([0, 0, 0, 1, 2, 3, 3]));
   note(await shrink([3, 5], holds) === null, 'a schedule that is smallest stays');
   note(
     satisfies('0 trap:overflow -', { ends: ['*', 'trap:overflow', '-'] }) && !satisfies('0 1', { ends: ['0', '*', '*'] }),

@@ -6,7 +6,8 @@ import { join } from 'node:path';
 import { fileURLToPath } from 'node:url';
 import { parseStart } from '../shared/starts.mjs';
 import { run } from '../testing/tally.mjs';
-import { EVENT, HEADER, layoutOf } from './layout.mjs';
+import { EVENT, HEADER, PAGE_BYTES, THREAD, layoutOf } from './layout.mjs';
+import { testAccesses } from './test_accesses.mjs';
 import { EXAMPLES, runInOrder } from './test_recordings.mjs';
 
 const COMMAND = fileURLToPath(new URL('../self', import.meta.url));
@@ -23,6 +24,10 @@ function testRefusals({ note, file, whole }) {
   writeFileSync(file('short'), whole.subarray(0, 70_000));
   writeFileSync(file('version'), changed(HEADER.version, 9));
   writeFileSync(file('events'), changed(HEADER.events, 99_999));
+  writeFileSync(file('threads'), changed(HEADER.threads, 17));
+  writeFileSync(file('start'), changed(THREAD.first + THREAD.bytes + THREAD.start, 99));
+  writeFileSync(file('of no thread'), changed(layoutOf(1, 1).events - base + EVENT.thread, 2));
+  writeFileSync(file('no page'), whole.subarray(0, base + PAGE_BYTES - 1));
   writeFileSync(file('none.wasm'), 'no module');
   const cases = [
     ['no words', []], ['an unknown command', ['record', MODULE]], ['one file too few', ['log', MODULE]],
@@ -31,6 +36,8 @@ function testRefusals({ note, file, whole }) {
     ['a module that is not there', ['log', file('gone.wasm'), file('zeros')]], ['a memory that is not there', ['log', MODULE, file('gone')]],
     ['a memory of zeros', ['log', MODULE, file('zeros')]], ['a memory that is cut', ['log', MODULE, file('short')]],
     ['another version', ['log', MODULE, file('version')]], ['more events than there is room for', ['log', MODULE, file('events')]],
+    ['more threads than there is room for', ['log', MODULE, file('threads')]], ['a start that the module does not have', ['log', MODULE, file('start')]],
+    ['an event of a thread that is not there', ['log', MODULE, file('of no thread')]], ['less than the page of the header', ['log', MODULE, file('no page')]],
   ];
   for (const [what, words] of cases) {
     const ran = self(...words);
@@ -39,7 +46,8 @@ function testRefusals({ note, file, whole }) {
   }
 }
 
-export function testCommand({ note, wmlab }) {
+export async function testCommand({ note, wmlab }) {
+  await testAccesses({ note });
   const folder = mkdtempSync(join(tmpdir(), 'self-'));
   const file = (name) => join(folder, name);
   try {

@@ -3,7 +3,7 @@
 import { spawnSync } from 'node:child_process';
 import { accessSync, constants, mkdirSync, writeFileSync } from 'node:fs';
 import { basename, dirname, join } from 'node:path';
-import { UserError, withFile } from './errors.mjs';
+import { withFile } from './errors.mjs';
 import { outcomeOf, satisfies } from './outcomes.mjs';
 import { judgeRound } from './rounds.mjs';
 import { runsOf, scheduleText, shrink } from './shrink.mjs';
@@ -22,37 +22,71 @@ export function prepareFolder(folder) {
 /** Whether a line is about events for which no witness is known. */
 export const hasNoWitness = (line) => line.startsWith(GAVE_UP) || line === NONE_EXISTS;
 
-/** The picture of a graph for Graphviz, as SVG; null if `dot` is not installed. */
-function svgOf(graph) {
-  const { error, status, stdout } = spawnSync('dot', ['-Tsvg'], { input: graph, encoding: 'utf8', maxBuffer: 2 ** 28 });
-  if (error?.code === 'ENOENT') return null;
-  if (error || status !== 0) throw new UserError(`dot -Tsvg: ${error?.code ?? `status ${status}`}`);
-  return stdout;
+/** Why a run of Graphviz gave no picture, with the first line of what it complained. */
+function drawingFault({ error, status, signal, stderr }) {
+  const complaint = stderr?.trim().split('\n')[0].slice(0, 200);
+  const because = complaint ? `: ${complaint}` : '';
+  if (error?.code === 'ENOENT') return 'Graphviz is not installed, there is no program dot';
+  if (signal) return `dot -Tsvg was ended by ${signal}${because}`;
+  if (status) return `dot -Tsvg ended with status ${status}${because}`;
+  return status === null ? `dot -Tsvg cannot be run (${error.code})` : `dot -Tsvg printed no whole picture${because}`;
+}
+
+/** The picture of a graph as SVG, by Graphviz; null if there is none, and then its `fault` is why. */
+function drawn(graph) {
+  const ran = spawnSync('dot', ['-Tsvg'], { input: graph, encoding: 'utf8', maxBuffer: 2 ** 28 });
+  const isWhole = ran.status === 0 && ran.stdout.trimEnd().endsWith('</svg>');
+  return isWhole ? { svg: ran.stdout, fault: null } : { svg: null, fault: drawingFault(ran) };
 }
 
 /** The most events of a log whose picture is made: dot takes minutes for more. */
 const MOST_DRAWN = 200;
+const NOT_DRAWN = { graph: null, svg: null, fault: null };
 
-/** The explanation of a log, its graph and its picture; null for the last two if there is none. */
-export async function explained(judge, { document, line }) {
-  if (hasNoWitness(line)) return { explanation: `${line}\n`, graph: null, svg: null };
-  const explanation = `${(await judge.ask('explain', document)).text}\n`;
-  const graph = await judge.ask('graph', document);
-  const events = document.split(/"[rwx]"/).length - 1;
-  if (graph.status > 1 || !graph.text.startsWith('digraph') || events > MOST_DRAWN) return { explanation, graph: null, svg: null };
-  return { explanation, graph: graph.text, svg: svgOf(graph.text) };
+async function explanationOf(judge, { document, line }) {
+  return hasNoWitness(line) ? `${line}\n` : `${(await judge.ask('explain', document)).text}\n`;
 }
 
-/** Keeps a log at a path that ends in `.json`, with its explanation (`.txt`) and its picture (`.svg`, or `.dot`) beside it. */
+/** The graph of a log and its picture, and the `fault` if dot does not make it; a log that is not drawn has none of them. */
+async function pictureOf(judge, { document, line }) {
+  if (hasNoWitness(line)) return NOT_DRAWN;
+  const graph = await judge.ask('graph', document);
+  const events = document.split(/"[rwx]"/).length - 1;
+  if (graph.status > 1 || !graph.text.startsWith('digraph') || events > MOST_DRAWN) return NOT_DRAWN;
+  return { graph: graph.text, ...drawn(graph.text) };
+}
+
+/** The explanation of a log, its graph and its picture; null for the last two if there is none. */
+export async function explained(judge, found) {
+  return { explanation: await explanationOf(judge, found), ...await pictureOf(judge, found) };
+}
+
+/** The path of a file beside that of a log. */
+const beside = (path, ending) => join(dirname(path), `${basename(path, '.json')}${ending}`);
+
+/**
+ * Keeps a log at a path that ends in `.json`, with its explanation (`.txt`) and its picture beside it: `.svg`, or `.dot` with the
+ * graph alone if dot does not make the picture.
+ */
 export async function keep(judge, path, found) {
-  const base = join(dirname(path), basename(path, '.json'));
   writeTo(path, found.document);
-  const made = await explained(judge, found);
+  const explanation = await explanationOf(judge, found);
   const schedule = found.turns?.length ? `turns ${scheduleText(found.turns)}\n` : '';
-  writeTo(`${base}.txt`, schedule + made.explanation);
-  if (made.svg) writeTo(`${base}.svg`, made.svg);
-  else if (made.graph) writeTo(`${base}.dot`, made.graph);
-  return { ...found, ...made, path };
+  writeTo(beside(path, '.txt'), schedule + explanation);
+  const picture = await pictureOf(judge, found);
+  if (picture.svg) writeTo(beside(path, '.svg'), picture.svg);
+  else if (picture.graph) writeTo(beside(path, '.dot'), picture.graph);
+  return { ...found, explanation, ...picture, path };
+}
+
+/** One line for all pictures that dot did not make for the logs that were kept; null if it made them all. */
+export function missingPictures(kept) {
+  const missing = kept.filter(({ fault }) => fault);
+  if (!missing.length) return null;
+  const [{ path, fault }] = missing;
+  const place = beside(path, '.dot');
+  if (missing.length === 1) return `warning: a picture is not made: ${fault}; its graph is kept in ${place}`;
+  return `warning: ${missing.length} pictures are not made: ${fault}; their graphs are kept in .dot files, the first in ${place}`;
 }
 
 /** What has to hold for a smaller run: the condition, or a verdict that begins as the one found. */

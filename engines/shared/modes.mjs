@@ -203,9 +203,9 @@ export function free({ limit, values, wrong, native, control }) {
 
 /**
  * No memory at all: the values to be read come from a list, so that a thread of the free mode can be run again for its
- * events. If it was cut after its last read, it is cut there again.
+ * events. If it was cut after the last read of its share, it is cut there again.
  */
-export function again({ values, wasCut, size, events }) {
+export function again({ values, limit, size, events }) {
   let next = 0;
   const make = (access, args) => {
     const made = operation(access, args);
@@ -213,7 +213,7 @@ export function again({ values, wasCut, size, events }) {
     if (reads(access) && next === values.length) throw new Cut('before an access');
     const read = reads(access) ? cut(values[next++], access.width) : 0n;
     events.push(eventOf(made, read));
-    if (wasCut && reads(access) && next === values.length) throw new Cut('after a read');
+    if (reads(access) && next === limit) throw new Cut('after a read');
     return reads(access) ? loaded(access, read) : undefined;
   };
   return { hooks: hooksFor((access) => (...args) => make(access, args)), finish() {} };

@@ -38,7 +38,7 @@ class Hooked {
     this.bytes = new Uint8Array(this.memory.buffer);
     this.module = new WebAssembly.Module(made.bytes);
     // An instance puts the data segments into the memory, which was zeros: that is the initial memory of each round.
-    this.instance(again({ values: [], events: [], size: 0 }).hooks);
+    this.instance(again({ values: [], limit: 0, size: 0, events: [] }).hooks);
     this.initial = this.bytes.slice();
   }
 
@@ -98,12 +98,12 @@ export class Recorder {
     const ends = answers.map((answer) => answer.end);
     const isOpen = this.options.mode === 'free';
     // A free round is run again at once, for its events, since that uses the memory.
-    const document = isOpen ? this.openDocument(answers, ends) : this.document(answers);
+    const document = isOpen ? this.openDocument(answers, ends, limit) : this.document(answers);
     return { ends, document, isOpen, turns: isOpen ? [] : this.scheduler.made() };
   }
 
-  openDocument(answers, ends) {
-    return eventsAlone(this.started(answers.map((answer, thread) => this.eventsOf(answer, thread))), ends);
+  openDocument(answers, ends, limit) {
+    return eventsAlone(this.started(answers.map(({ values }, thread) => this.eventsOf(values, limit, thread))), ends);
   }
 
   document(answers) {
@@ -115,12 +115,11 @@ export class Recorder {
     return threads.map((events, thread) => ({ start: this.starts[thread], events }));
   }
 
-  /** The events of a free round's thread, by running it again on the values that it read. */
-  eventsOf(answer, thread) {
+  /** The events of a free round's thread, by running it again on the values that it read, of which there are at most `limit`. */
+  eventsOf(values, limit, thread) {
     const events = [];
-    const wasCut = answer.end[0] === 'cut';
     const { bytes } = this.hooked;
-    const { hooks } = again({ values: answer.values, wasCut, size: bytes.length, events });
+    const { hooks } = again({ values, limit, size: bytes.length, events });
     const before = bytes.slice();
     const run = this.hooked.instance(hooks).exports[this.starts[thread].name];
     bytes.set(before);

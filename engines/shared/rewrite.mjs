@@ -12,7 +12,7 @@ import { HEADER, NotRecorded, OP, Reader, SECTION, name, s32, section, sectionsO
 import { ACCESSES, accessOf, opcode, operandsOf, plainOf, reads, resultsOf } from './accesses.mjs';
 
 const VALUE_TYPE = { i32: 0x7f, i64: 0x7e };
-const FUNCTION = 0, MEMORY = 2, GLOBAL = 3;
+const FUNCTION = 0, MEMORY = 2;
 const ACTIVE_CALLS = 256;
 
 const functionType = (params, results) => {
@@ -29,18 +29,16 @@ function limitsOf(reader) {
   return { bytes: [...reader.bytes.subarray(at, reader.at)], initial, maximum };
 }
 
-/** How many functions and globals are imported, and the memory, imported or not. */
+/** The memory, imported or not. Nothing else may be imported. */
 function outside(sections) {
-  const found = { functions: 0, globals: 0, memory: null, isImported: false };
+  const found = { memory: null, isImported: false };
   const imports = sections.get(SECTION.imports)?.();
   for (let left = imports?.u32() ?? 0; left > 0; left--) {
     const module = imports.name();
     const item = imports.name();
-    const kind = imports.byte();
-    if (kind === FUNCTION) { imports.u32(); found.functions++; }
-    else if (kind === GLOBAL) { imports.take(2); found.globals++; }
-    else if (kind === MEMORY) { found.memory = { module, name: item, ...limitsOf(imports) }; found.isImported = true; }
-    else throw new NotRecorded('an import that is neither function, memory nor global');
+    if (imports.byte() !== MEMORY) throw new NotRecorded('an import that is not a memory');
+    found.memory = { module, name: item, ...limitsOf(imports) };
+    found.isImported = true;
   }
   const own = sections.get(SECTION.memories)?.();
   if (own && own.u32() > 0) found.memory = { module: 'recorder', name: 'memory', ...limitsOf(own) };
@@ -50,23 +48,20 @@ function outside(sections) {
 
 /** The functions that are imported for the hooks, in the order in which they are first used. */
 class Hooks {
-  constructor(first) {
-    this.first = first;
-    this.list = [];
-  }
+  list = [];
 
   /** The number of the function with this name. */
   number(hookName, params, results) {
     let place = this.list.findIndex((hook) => hook.name === hookName);
     if (place < 0) place = this.list.push({ name: hookName, type: functionType(params, results) }) - 1;
-    return this.first + place;
+    return place;
   }
 }
 
 /** Rewrites the code of a module's functions. */
 class CodeRewriter {
-  constructor({ hooks, style, wrong, imported, shift, firstGlobal, limit }) {
-    Object.assign(this, { hooks, style, wrong, imported, shift, limit });
+  constructor({ hooks, style, wrong, shift, firstGlobal, limit }) {
+    Object.assign(this, { hooks, style, wrong, shift, limit });
     this.depth = firstGlobal;
     this.turns = firstGlobal + 1;
   }
@@ -89,14 +84,10 @@ class CodeRewriter {
     return [...this.add(this.turns, 1), ...this.endAt(this.turns, this.limit, 'tired')];
   }
 
-  callee(index) {
-    return index < this.imported ? index : index + this.shift;
-  }
-
   call(index) {
     return [
       ...this.endAt(this.depth, ACTIVE_CALLS, 'exhausted'),
-      ...this.add(this.depth, 1), OP.call, ...u32(this.callee(index)), ...this.add(this.depth, -1),
+      ...this.add(this.depth, 1), OP.call, ...u32(index + this.shift), ...this.add(this.depth, -1),
     ];
   }
 
@@ -154,7 +145,7 @@ function longer(sections, id, items) {
 }
 
 /** The exports with their new numbers, and which function each name is. */
-function exportsOf(sections, shifted) {
+function exportsOf(sections, shift) {
   const items = [];
   const functions = new Map();
   const reader = sections.get(SECTION.exports)?.();
@@ -162,14 +153,14 @@ function exportsOf(sections, shifted) {
     const item = reader.name();
     const kind = reader.byte();
     const index = reader.u32();
-    items.push([...name(item), kind, ...u32(kind === FUNCTION ? shifted(index) : index)]);
+    items.push([...name(item), kind, ...u32(kind === FUNCTION ? index + shift : index)]);
     if (kind === FUNCTION) functions.set(item, index);
   }
   return { items, functions };
 }
 
 /** The parameters of the exported functions, by name, each as `i32` or `i64`. */
-function parametersOf(sections, functions, imported) {
+function parametersOf(sections, functions) {
   const types = [];
   const typeReader = sections.get(SECTION.types)?.();
   const typeOf = (byte) => (byte === VALUE_TYPE.i64 ? 'i64' : 'i32');
@@ -181,7 +172,7 @@ function parametersOf(sections, functions, imported) {
   const indices = [];
   const functionReader = sections.get(SECTION.functions)?.();
   for (let left = functionReader?.u32() ?? 0; left > 0; left--) indices.push(functionReader.u32());
-  return new Map([...functions].map(([item, index]) => [item, types[indices[index - imported]]]));
+  return new Map([...functions].map(([item, index]) => [item, types[indices[index]]]));
 }
 
 /**
@@ -190,10 +181,10 @@ function parametersOf(sections, functions, imported) {
  */
 export function rewrite(bytes, style, { wrong = null, turns = 20_000 } = {}) {
   const sections = sectionsOf(bytes);
-  const { functions: imported, globals, memory, isImported } = outside(sections);
-  const firstGlobal = globals + (sections.get(SECTION.globals)?.().u32() ?? 0);
-  const hooks = new Hooks(imported);
-  const rewriter = (shift) => new CodeRewriter({ hooks, style, wrong, imported, shift, firstGlobal, limit: turns });
+  const { memory, isImported } = outside(sections);
+  const firstGlobal = sections.get(SECTION.globals)?.().u32() ?? 0;
+  const hooks = new Hooks();
+  const rewriter = (shift) => new CodeRewriter({ hooks, style, wrong, shift, firstGlobal, limit: turns });
   // The first pass finds out how many hooks there are, by which the functions' numbers are then shifted.
   rewriter(0).all(sections.get(SECTION.code)?.());
   const shift = hooks.list.length;
@@ -204,7 +195,7 @@ export function rewrite(bytes, style, { wrong = null, turns = 20_000 } = {}) {
   if (!isImported) imports.unshift([...name('recorder'), ...name('memory'), MEMORY, ...memory.bytes]);
   // The number of active calls, and that of the turns made.
   const own = [1, 0].map((start) => [VALUE_TYPE.i32, 1, OP.i32Const, ...s32(start), OP.end]);
-  const exports = exportsOf(sections, (index) => (index < imported ? index : index + shift));
+  const exports = exportsOf(sections, shift);
   const copied = (id) => (sections.has(id) ? section(id, sections.get(id)().rest()) : []);
   const made = [
     ...HEADER,
@@ -217,7 +208,7 @@ export function rewrite(bytes, style, { wrong = null, turns = 20_000 } = {}) {
     ...section(SECTION.code, vector(code)),
     ...copied(SECTION.data),
   ];
-  return { bytes: Uint8Array.from(made), memory, parameters: parametersOf(sections, exports.functions, imported) };
+  return { bytes: Uint8Array.from(made), memory, parameters: parametersOf(sections, exports.functions) };
 }
 
 /** A module that makes each access natively, as an exported function of its name that takes address and operands. */

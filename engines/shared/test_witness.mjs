@@ -1,7 +1,8 @@
 /** Tests of the search for a witness, over events made by hand. The rules of wmlab judge what is found. */
 
-import { eventsAlone, documentOf } from './document.mjs';
+import { eventsAlone, documentOf, json } from './document.mjs';
 import { partsOf } from './machine.mjs';
+import { hasRun } from './test_all_runs.mjs';
 import { witnessesOf } from './witness.mjs';
 import { ask } from './wmlab.mjs';
 
@@ -21,8 +22,9 @@ async function search(threads, limits) {
   }
 }
 
-async function first(threads) {
-  const { value, done } = await witnessesOf(threads, zeros()).next();
+/** The first witness, or null. The time is no limit here, whatever else the machine does. */
+async function first(threads, limits, memory = zeros()) {
+  const { value, done } = await witnessesOf(threads, memory, { seconds: 600, ...limits }).next();
   return done ? null : value;
 }
 
@@ -77,9 +79,10 @@ function randomFrom(seed) {
   };
 }
 
-/** A run of a machine with store buffers and torn accesses over 24 bytes, with random moves; values are 0, 1 or 257. */
+/** A run of a machine with store buffers and torn accesses over some places, with random moves; values are 0, 1 or 257. */
 class RandomRun {
-  constructor(seed, threads, length) {
+  constructor(seed, threads, length, { places = 16, widths = [1, 2, 4, 8] } = {}) {
+    Object.assign(this, { places, widths });
     this.random = randomFrom(seed);
     this.memory = new Uint8Array(24);
     this.buffers = Array.from({ length: threads }, () => []);
@@ -106,9 +109,9 @@ class RandomRun {
   }
 
   access(thread) {
-    const { random } = this;
-    const width = [1, 2, 4, 8][random(4)], isAtomic = random(5) === 0;
-    const address = isAtomic ? width * random(16 / width) : random(16);
+    const { random, places, widths } = this;
+    const width = widths[random(widths.length)], isAtomic = random(5) === 0;
+    const address = isAtomic ? width * random(places / width) : random(places);
     if (isAtomic) while (this.buffers[thread].length) this.publishPart(thread);
     const parts = partsOf(address, width, isAtomic), order = isAtomic ? 'sc' : 'un';
     const written = BigInt([0, 1, width > 1 ? 257 : 1][random(3)]);
@@ -143,6 +146,70 @@ async function testRandomRuns({ note, wmlab }) {
   );
 }
 
+/** An event over two places whose value is chosen by chance. */
+function chosenEvent(random) {
+  const width = random(4) ? 1 : 2, isAtomic = random(4) === 0;
+  const address = width === 2 && isAtomic ? 0 : random(2);
+  const value = () => BigInt([0, 1, width > 1 ? 257 : 1][random(3)]);
+  if (isAtomic && random(3) === 0) return ['x', 'sc', address, width, value(), value()];
+  return [random(2) ? 'w' : 'r', isAtomic ? 'sc' : 'un', address, width, value()];
+}
+
+const chosenEvents = (random) => Array.from({ length: 2 + random(2) }, () => Array.from({ length: 2 + random(3) }, () => chosenEvent(random)));
+
+/** Store buffering by atomic accesses, which only the weak machine gives, with other events at its ends and between. */
+function weakEvents(random) {
+  const threads = [0, 1].map((place) => [store(place, 1, 'sc', 1), load(1 - place, 0, random(2) ? 'sc' : 'un', 1)]);
+  for (let left = random(3); left > 0; left--) threads[random(2)].splice(random(3), 0, chosenEvent(random));
+  return threads;
+}
+
+/** A few events of a run, of which one read may have another value. */
+function changedRun(random, seed) {
+  const { threads } = new RandomRun(seed, 2 + random(2), 3, { places: 2 + 2 * random(2), widths: [1, 1, 2] });
+  const reads = threads.flat().filter(([kind]) => kind === 'r');
+  if (reads.length && random(2)) reads[random(reads.length)][4] ^= 1n;
+  return threads;
+}
+
+/** Whether a witness has each event once, each thread's in their order, and for each byte read an event that writes its value. */
+function isWitness(threads, { writers, order }) {
+  const byteOf = ([, , address, , ...values], at, value) => Number((values.at(value) >> BigInt(8 * (at - address))) & 255n);
+  const writes = ([thread, number], at, byte) => {
+    const event = threads[thread]?.[number];
+    const isThere = event && event[0] !== 'r' && at >= event[2] && at < event[2] + event[3];
+    return isThere && byteOf(event, at, -1) === byte;
+  };
+  const isSeen = (event, from, k) => {
+    const at = event[2] + k, byte = byteOf(event, at, 0);
+    return from.length ? writes(from, at, byte) : byte === 0;
+  };
+  const hasWriters = threads.every((events, t) => events.every((event, i) => (
+    event[0] === 'w' ? !writers[t][i].length : writers[t][i].length === event[3] && writers[t][i].every((from, k) => isSeen(event, from, k)))));
+  const hasOrder = threads.every((events, t) => (
+    order.filter(([thread]) => thread === t).map(([, number]) => number).join() === [...events.keys()].join()));
+  return hasWriters && hasOrder && order.length === threads.flat().length;
+}
+
+/** A witness is found exactly if one of all runs gives the events, on the machine that is right or on the weak one. */
+async function testAllRuns({ note }) {
+  const memory = new Uint8Array(8);
+  const counts = { right: 0, weak: 0, none: 0 };
+  const wrong = [];
+  for (let seed = 1; seed <= 600; seed++) {
+    const random = randomFrom(seed);
+    const threads = [chosenEvents, weakEvents, changedRun][seed % 3](random, seed);
+    const isRight = hasRun(threads, memory.length), isWeak = isRight || hasRun(threads, memory.length, { isWeak: true });
+    const [one, other] = [await first(threads, { isStrict: true }, memory), await first(threads, {}, memory)];
+    counts[isRight ? 'right' : isWeak ? 'weak' : 'none']++;
+    const holds = (one !== null) === isRight && (other !== null) === isWeak && (!other || isWitness(threads, other));
+    if (!holds) wrong.push(json(threads));
+  }
+  const { right, weak, none } = counts;
+  const isMixed = right > 200 && weak > 50 && none > 200;
+  note(!wrong.length && isMixed, `a witness is found if a run exists, and else not: ${right} runs, ${weak} weak, ${none} none`, wrong.join(' '));
+}
+
 export async function testWitness({ note, wmlab }) {
   const weak = [[store(0, 1), load(4, 0)], [store(4, 1), load(0, 0)]];
   note(
@@ -171,12 +238,19 @@ export async function testWitness({ note, wmlab }) {
     [[store(0, 1)], [store(0, 2)], [load(0, 2), load(0, 1)]],
   ];
   for (const threads of delayed) note(await first(threads), 'a store that another thread still needs unpublished waits');
+  const inParts = [
+    ['a thread loads what is over the half of its store that was published', [
+      [store(1, 257, 'un', 2), load(1, 2, 'un', 1), load(5, 0, 'un', 1)], [store(1, 2, 'sc', 1), store(5, 1, 'sc', 1), load(2, 0, 'un', 1)]]],
+    ['a byte that was read may change before the rest of its load', [[store(1, 1, 'un', 1), store(2, 1, 'un', 1)], [load(1, 256, 'un', 2)]]],
+  ];
+  for (const [what, threads] of inParts) note(await first(threads, { isStrict: true }), what);
   const whole = [[store(0, 0x11112222)], [load(0, 0x2222)]];
   note(!(await first(whole)), 'an aligned access of 4 bytes does not tear');
   note(JSON.stringify([partsOf(64, 8), partsOf(62, 4), partsOf(64, 4), partsOf(64, 8, true)])
     === '[[[0,4],[4,8]],[[0,1],[1,2],[2,3],[3,4]],[[0,4]],[[0,8]]]', 'the parts of accesses');
 
   await testRandomRuns({ note, wmlab });
+  await testAllRuns({ note });
   const { list } = await search(LATE);
   const lines = await Promise.all(list.map((witness) => rulesOn(wmlab, LATE, witness)));
   note(

@@ -19,7 +19,6 @@ export const CONTROL_WORDS = 48;
 /** The most items of a schedule: an access, and at most two publications, for each event; and an end for each thread. */
 export const MOST_ITEMS = 3 * 16_384 + 16;
 
-const NOBODY = -1;
 const OVER = -2;
 const SPINS = 2_000;
 
@@ -92,7 +91,6 @@ export class Scheduler {
     for (let k = 0; k < 8; k++) nextRandom(control);
     control[CONTROL.given] = items ? items.length : -1;
     if (items) schedule.set(items);
-    control[CONTROL.turn] = NOBODY;
     control[CONTROL.turn] = this.next();
   }
 

@@ -18,10 +18,13 @@ export const PARTS = {
   commands: async (context) => (await import('../commands/test_commands.mjs')).testCommands(context),
   recorder: async (context) => (await import('../node/test_command.mjs')).testCommand(context),
   conditions: async (context) => (await import('../node/test_conditions.mjs')).testConditions(context),
+  modes: async (context) => (await import('../shared/test_modes.mjs')).testModes(context),
   witness: async (context) => (await import('../shared/test_witness.mjs')).testWitness(context),
   lowering: async (context) => (await import('../lowering/test_lowering.mjs')).testLowering(context),
   'self-command': async (context) => (await import('../selfrecord/test_command.mjs')).testCommand(context),
   stream: async (context) => (await import('../node/test_stream.mjs')).testStream(context),
   server: async (context) => (await import('../browser/test_browsers.mjs')).testServer(context),
+  starts: async (context) => (await import('../shared/test_starts.mjs')).testStarts(context),
+  binary: async (context) => (await import('../shared/test_binary.mjs')).testBinary(context),
   links: async (context) => (await import('./test_links.mjs')).testLinks(context),
 };

@@ -124,4 +124,5 @@ def cycle_named(text):
             cycle = Cycle(shape.edges, accesses_of(shape, words if words != [""] else [PLAIN.word]))
             check_joints(cycle)
             return cycle
-    raise BadCycle(f"{text}: no shape has this name; README.md lists them, or write a cycle in quotes")
+    given = repr(text) if text.strip() else "an empty name"
+    raise BadCycle(f"{given}: no shape has this name; litmus/README.md lists them, or write a cycle in quotes")

@@ -93,7 +93,7 @@ prove() {
     say "building the program"
     (cd "$top/crates/wmlab" && exec rt run) </dev/null >>"$log" 2>&1 || true
     if [ ! -x "$made" ]; then
-        tail -n 20 "$log" >&2
+        tail -n 20 "$log" >&2 || true
         say "the build failed; $log has the rest"
         exit 3
     fi

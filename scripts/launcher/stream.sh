@@ -27,13 +27,12 @@ count_answers() {
     '
 }
 
-# Runs the program with the counts beside it, and ends with its status. The counts move only if the answers go
-# elsewhere.
+# Runs the program with the counts beside it, and ends with its status, or with 3 if its answers could not be passed on.
+# The counts move only if the answers go elsewhere.
 answer_with_counts() {
-    local status shows=yes
+    local statuses=(0 0) shows=yes
     if [ -t 1 ]; then shows=; fi
-    set +e
-    "$program" "$@" | count_answers "$shows"
-    status=${PIPESTATUS[0]}
-    exit "$status"
+    "$program" "$@" | count_answers "$shows" || statuses=("${PIPESTATUS[@]}")
+    if [ "${statuses[1]}" -ne 0 ]; then exit 3; fi
+    exit "${statuses[0]}"
 }

@@ -26,7 +26,7 @@ usage_for() {
 
 # Refuses the command line, and says why. The answer is the program's.
 refuse() {
-    printf 'refused command %s\n' "$1"
+    print "refused command $1"
     say "$2"
     exit 2
 }
@@ -39,7 +39,8 @@ refuse_words() {
 # word, turns, rounds or starts that spell none, a file that cannot be read. The program looks in this order too.
 look_at_words() {
     [ -f "$help" ] || return 0
-    local usage word least=0
+    # The shell takes many times longer over letters that may have several bytes.
+    local LC_ALL=C usage word least=0
     [[ ${1-} =~ ^[a-z]+$ ]] || refuse_words
     usage=$(usage_for "$1" $#)
     [ -n "$usage" ] || refuse_words
@@ -60,10 +61,11 @@ look_at_words() {
         ;;
     esac
     look_at_files "$usage" "${@:2}"
+    case $1 in drive | trace | run) look_at_plan "$@" ;; esac
 }
 
 are_ascii() {
-    local LC_ALL=C word
+    local word
     for word in "$@"; do
         case $word in *[!\ -~]*) return 1 ;; esac
     done
@@ -73,44 +75,47 @@ are_ascii() {
 
 # Whether a word is a number from 0 to a greatest one, in decimal digits.
 is_number() {
-    local LC_ALL=C digits=$1 greatest=$2
-    [[ $digits =~ ^[0-9]+$ ]] || return 1
-    digits=${digits#"${digits%%[!0]*}"}
+    local digits greatest=$2
+    [[ -n $1 && $1 =~ ^0*([1-9][0-9]*)?$ ]] || return 1
+    digits=${BASH_REMATCH[1]}
     [ ${#digits} -lt ${#greatest} ] && return 0
     [ ${#digits} -eq ${#greatest} ] && ! [[ $digits > $greatest ]]
 }
 
-is_small_number() { is_number "$1" 4294967295; }
-
-is_argument() { is_number "$1" 18446744073709551615; }
+# The same for awk, which reads words of 65,536 numbers in no time.
+awk_number='
+    function is_number(digits, greatest) {
+        if (digits !~ /^[0-9]+$/) return 0
+        sub(/^0+/, "", digits)
+        if (length(digits) != length(greatest)) return length(digits) < length(greatest)
+        return digits "" <= greatest ""
+    }
+'
 
 # ---- turns, rounds and starts
 
-# Whether a word is an item of turns: N, dN or dN/I, with *K if it repeats.
-is_item() {
-    local turn=${1%%\**} index
-    if [ "$turn" != "$1" ]; then
-        is_small_number "${1#*\*}" && [[ ${1#*\*} =~ [1-9] ]] || return 1
-    fi
-    case $turn in
-    d*/*)
-        index=${turn#*/}
-        is_small_number "$index" || return 1
-        turn=${turn%%/*}
-        ;;
-    esac
-    is_small_number "${turn#d}"
+# Prints the number and the text of the first item that is none: not N, dN or dN/I, with *K if it repeats.
+wrong_item() {
+    printf '%s,' "$1" | LC_ALL=C awk -v RS=, "$awk_number"'
+        function is_item(item, parts, count) {
+            if (item !~ /^(d?[0-9]+|d[0-9]+\/[0-9]+)([*]0*[1-9][0-9]*)?$/) return 0
+            if (length(item) < 10) return 1 # no number has ten digits
+            sub(/^d/, "", item)
+            for (count = split(item, parts, "[/*]"); count > 0; count--)
+                if (!is_number(parts[count], "4294967295")) return 0
+            return 1
+        }
+        !found && !is_item($0) { found = 1; print NR, $0 }
+    '
 }
 
 look_at_turns() {
-    local rest="$1," item number=0
-    while [ -n "$rest" ]; do
-        item=${rest%%,*}
-        rest=${rest#*,}
-        number=$((number + 1))
-        is_item "$item" || refuse turns "item $number of TURNS is ${item@Q}. Expected: N (a step of thread N), dN or\
- dN/I (a store of its buffer), with *K after it if it repeats; K from 1, no number above 4294967295"
-    done
+    local found item
+    found=$(wrong_item "$1" || true)
+    [ -n "$found" ] || return 0
+    item=${found#* }
+    refuse turns "item ${found%% *} of TURNS is ${item@Q}. Expected: N (a step of thread N), dN or dN/I (a store of its\
+ buffer), with *K after it if it repeats; K from 1, no number above 4294967295"
 }
 
 look_at_rounds() {
@@ -145,22 +150,48 @@ refuse_argument() {
  bits$hint"
 }
 
+# Prints where the first argument that is none stands: the number of its START, its place there, how many letters come
+# before it, and how many it has.
+wrong_argument() {
+    printf '%s\n' "$@" | LC_ALL=C awk -F : "$awk_number"'
+        !found {
+            before = length($1) + 1
+            for (at = 2; at <= NF && !found; at++) {
+                if (is_number($at, "18446744073709551615")) before += length($at) + 1
+                else { found = 1; print NR, at - 1, before, length($at) }
+            }
+        }
+    '
+}
+
 look_at_starts() {
-    local start before rest argument number=0 place
-    for start in "$@"; do
-        number=$((number + 1))
-        case $start in *:*) ;; *) continue ;; esac
-        before="${start%%:*}:"
-        rest="${start#*:}:"
-        place=0
-        while [ -n "$rest" ]; do
-            argument=${rest%%:*}
-            rest=${rest#*:}
-            place=$((place + 1))
-            is_argument "$argument" || refuse_argument "$place" "$number" "$before" "$argument" "${rest:+:${rest%:}}"
-            before="$before$argument:"
-        done
-    done
+    local found number place before length start
+    found=$(wrong_argument "$@" || true)
+    [ -n "$found" ] || return 0
+    read -r number place before length <<<"$found"
+    start=${!number}
+    refuse_argument "$place" "$number" "${start:0:before}" "${start:before:length}" "${start:before+length}"
+}
+
+# The least thread of right TURNS that is not below a number, as the program names it.
+least_absent() {
+    printf '%s,' "$1" | LC_ALL=C awk -v RS=, -v starts="$2" '
+        { sub(/^d/, ""); thread = $0 + 0 }
+        thread >= starts && (least == "" || thread < least) { least = thread }
+        END { if (least != "") printf "%.0f", least }
+    '
+}
+
+# Says why the program will refuse the plan, which it does if the module is right. The launcher looks at no modules, so
+# the refusal is the program's.
+look_at_plan() {
+    local starts=$(($# - 3)) thread
+    if [ "$starts" -eq 0 ] || [ "$starts" -gt 16 ]; then
+        say "there are $starts STARTs. Expected: 1 to 16, one for each thread"
+    elif [ "$1" != run ]; then
+        thread=$(least_absent "$3" "$starts" || true)
+        [ -z "$thread" ] || say "TURNS names thread $thread. Expected: a thread below $starts, the number of STARTs"
+    fi
 }
 
 # ---- files
@@ -189,7 +220,7 @@ look_at_files() {
         if [ "$place $name" = "DOC -" ]; then continue; fi
         reason=$(why_unreadable "$name")
         [ -n "$reason" ] || continue
-        printf 'cannot read %s\n' "$name" >&2
+        note "cannot read $name"
         if [ "$name" = - ]; then reason="$reason; only DOC can be standard input"; fi
         say "$place: $reason"
         exit 3

@@ -220,13 +220,11 @@ impl fmt::Display for MemArgPhrase {
         if offset != 0 {
             write!(f, " offset={offset}")?;
         }
-        let bytes = match alignment {
-            0 => 1,
-            1 => 2,
-            2 => 4,
-            _ => 8,
-        };
-        if bytes != kind.width().bytes() {
+        if alignment >= 64 {
+            return write!(f, " align=2^{alignment}");
+        }
+        let bytes = 1u64 << alignment;
+        if bytes != u64::from(kind.width().bytes()) {
             write!(f, " align={bytes}")?;
         }
         Ok(())

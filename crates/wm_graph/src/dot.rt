@@ -274,7 +274,7 @@ impl<'a> Sketch<'a> {
             add_column(&mut text, number, column, self, caption, &mut places)?;
         }
         let drawn = drawn_edges(alloc, picture, self.verdict)?;
-        add_lines(&mut text, drawn.as_slice())?;
+        add_lines(&mut text, drawn.as_slice(), picture.shown.has_all())?;
         text.push_str("}\n")?;
         Ok(text)
     }

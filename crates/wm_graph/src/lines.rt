@@ -134,12 +134,25 @@ struct Line<'a> {
     to: EventKey,
     /// All edges that are drawn.
     edges: &'a [DrawnEdge],
+    /// Whether the picture shows all events.
+    is_whole: bool,
 }
 
 impl Line<'_> {
     /// Whether an edge belongs to the line.
     fn has(&self, edge: &DrawnEdge) -> bool {
         edge.from == self.from && edge.to == self.to
+    }
+
+    /// Whether the nodes may be in one row. Graphviz fails on some pictures ("trouble in init_rank") if such a line has a
+    /// `label`, which takes up space, and not an `xlabel`. If all events are shown, each is in the row of its number.
+    fn may_be_level(&self) -> bool {
+        match self.from {
+            EventId::Init => false,
+            EventId::At(from) => {
+                from.thread != self.to.thread && (!self.is_whole || from.number == self.to.number)
+            }
+        }
     }
 
     /// What its edges state.
@@ -186,29 +199,39 @@ impl Line<'_> {
 impl fmt::Display for Line<'_> {
     fn fmt<W: fmt::Write>(&self, f: &mut fmt::Formatter<W>) -> fmt::Result {
         let (from, to) = (NodeName(self.from), NodeName(EventId::At(self.to)));
-        write!(f, "  {from} -> {to} [label=\"")?;
-        self.write_label(f)?;
         let relations = self.relations();
         let place = if relations.sequenced {
             ""
         } else {
             ", constraint=false"
         };
+        let label = if self.may_be_level() {
+            "xlabel"
+        } else {
+            "label"
+        };
+        write!(f, "  {from} -> {to} [{label}=\"")?;
+        self.write_label(f)?;
         write!(f, "\"{}{place}];", relations.style())
     }
 }
 
-/// Adds the lines of what is drawn.
+/// Adds the lines of what is drawn; `is_whole` if the picture shows all events.
 ///
 /// # Errors
 ///
 /// Only if an allocation fails.
-pub(crate) fn add_lines(text: &mut String, edges: &[DrawnEdge]) -> Result<(), AllocError> {
+pub(crate) fn add_lines(
+    text: &mut String,
+    edges: &[DrawnEdge],
+    is_whole: bool,
+) -> Result<(), AllocError> {
     for (number, edge) in edges.iter().enumerate() {
         let line = Line {
             from: edge.from,
             to: edge.to,
             edges,
+            is_whole,
         };
         let is_first = !edges
             .iter()

@@ -52,6 +52,11 @@ fn is_marked(marks: &[List<bool>], key: EventKey) -> bool
 }
 
 impl Shown {
+    /// Whether all events are shown.
+    pub(crate) fn has_all(&self) -> bool {
+        self.marks.is_none()
+    }
+
     /// Whether a listed event is shown.
     pub(crate) fn has_listed(&self, key: EventKey) -> bool
         ensures { IsTrue result ↔ IsShown self.now key }

@@ -93,10 +93,13 @@ impl fmt::Display for DecodeSentence {
                 "An else is outside of every if, or is the second one of its if."
             }
             FaultKind::UnknownOpcode(0xfe) => {
-                "No instruction has this code after the prefix fe."
+                "No instruction of the threads proposal has this code after the prefix fe."
             }
             FaultKind::UnknownOpcode(opcode) => {
-                return write!(f, "No instruction has the opcode {opcode:02x}.");
+                return write!(
+                    f,
+                    "No instruction that is known here has the opcode {opcode:02x}."
+                );
             }
             FaultKind::Unsupported(feature) => {
                 let (part, location) = (Part::of(feature), Location::Module);

@@ -130,16 +130,42 @@ fn shown(bytes: &[u8]) -> usize
     0
 }
 
+/// Writes a character. Control characters are written as JSON escapes them (RFC 8259, section 7), so that no document can
+/// control the terminal, and a byte order mark too, since it cannot be seen.
+fn write_visible<W: fmt::Write>(f: &mut fmt::Formatter<W>, character: char) -> fmt::Result {
+    match character {
+        '\u{0}'..='\u{1f}' | '\u{7f}'..='\u{9f}' | '\u{feff}' => write!(
+            f,
+            "\\u{:04x}",
+            character as u32
+        ),
+        _ => write!(f, "{character}"),
+    }
+}
+
+/// Writes a piece of a JSON text in one line: the line ends and tabs between its values are left out.
+fn write_in_one_line<W: fmt::Write>(f: &mut fmt::Formatter<W>, text: &str) -> fmt::Result {
+    let mut in_string = false;
+    let mut is_escaped = false;
+    for character in text.chars() {
+        if in_string || !matches!(character, '\n' | '\r' | '\t') {
+            write_visible(f, character)?;
+        }
+        in_string = if in_string {
+            is_escaped || character != '"'
+        } else {
+            character == '"'
+        };
+        is_escaped = in_string && !is_escaped && character == '\\';
+    }
+    Ok(())
+}
+
 impl fmt::Display for PartPhrase<'_> {
     fn fmt<W: fmt::Write>(&self, f: &mut fmt::Formatter<W>) -> fmt::Result {
         let value = value_at(self.document, self.path).unwrap_or(&[]);
         let length = shown(value);
-        for piece in str::from_utf8(&value[..length])
-            .unwrap_or("")
-            .split(['\n', '\r', '\t'])
-        {
-            f.write_str(piece)?;
-        }
+        write_in_one_line(f, str::from_utf8(&value[..length]).unwrap_or(""))?;
         if length < value.len() {
             write!(f, ".. ({} bytes)", value.len())?;
         }

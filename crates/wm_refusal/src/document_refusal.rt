@@ -9,6 +9,9 @@ use std::fmt;
 use wm_event::MAX_THREADS;
 use wm_logfile::{DocFault, MAX_DOCUMENT_BYTES};
 
+/// The nesting depth that a JSON text may have.
+const MAX_DEPTH: usize = 127;
+
 /// What a document has at a path, and what is expected there.
 #[derive(Clone, Copy)]
 struct FoundAndExpected<'a> {
@@ -111,6 +114,27 @@ fn offset_of(bytes: &[u8], line: usize, column: usize) -> usize
         .min(bytes.len())
 }
 
+/// The nesting depth at an offset of a text: how many lists and objects are open there.
+fn depth_at(bytes: &[u8], offset: usize) -> usize {
+    let mut depth = 0usize;
+    let mut in_string = false;
+    let mut is_escaped = false;
+    for byte in bytes.iter().take(offset) {
+        if in_string {
+            in_string = is_escaped || *byte != b'"';
+            is_escaped = !is_escaped && *byte == b'\\';
+            continue;
+        }
+        match *byte {
+            b'"' => in_string = true,
+            b'[' | b'{' => depth = depth.saturating_add(1),
+            b']' | b'}' => depth = depth.saturating_sub(1),
+            _ => {}
+        }
+    }
+    depth
+}
+
 /// What JSON (RFC 8259) allows at the offset of a fault in a text.
 fn expected_at(bytes: &[u8], offset: usize) -> &'static str {
     let before = bytes
@@ -118,11 +142,17 @@ fn expected_at(bytes: &[u8], offset: usize) -> &'static str {
         .take(offset)
         .rev()
         .find(|byte| !matches!(**byte, b' ' | b'\t' | b'\n' | b'\r'));
+    if depth_at(bytes, offset) > MAX_DEPTH {
+        return "at most 127 nested lists and objects";
+    }
     let is_value = matches!(before, None | Some(b',' | b':' | b'['));
     match bytes.get(offset) {
-        Some(b'[' | b'{' | b'"' | b'-' | b'0'..=b'9') if is_value => {
-            "JSON (RFC 8259) with at most 127 nested lists"
+        Some(b'"') if is_value => {
+            "a string with its control characters escaped, and only the escapes of JSON (RFC 8259, section 7)"
         }
+        Some(b'-' | b'0'..=b'9') if is_value =>
+            "a number as in JSON, without leading zeros (RFC 8259, section 6)",
+        Some(0xEF) if before.is_none() => "a value, without a byte order mark before it",
         _ if before == Some(&b'[') => "a value or ]",
         _ if is_value => "a value",
         _ => "JSON (RFC 8259)",

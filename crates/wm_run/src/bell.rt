@@ -1,4 +1,6 @@
 //! A count that threads wait on.
+ghost use Rattle.std.specs.Prelude.{◌≢◌};
+
 use std::hint::spin_loop;
 use std::sync::Wait;
 use std::sync::atomic::{AtomicU64, Ordering};
@@ -42,7 +44,9 @@ impl Bell {
     }
 
     /// Waits until it has not rung `heard` times, and returns how often it has.
-    pub fn wait<R: Wait>(&self, rt: &R, heard: u64) -> u64 {
+    pub fn wait<R: Wait>(&self, rt: &R, heard: u64) -> u64
+        ensures { result ≢ heard }
+    {
         for _ in rt.forever() {
             let rings = self.look(heard);
             if rings != heard {

@@ -1,5 +1,5 @@
 //! What the threads of a crew leave for the one that gathers a round.
-ghost use Rattle.std.specs.Prelude.{◌≡◌, IfOk, None, Some, All, length, map};
+ghost use Rattle.std.specs.Prelude.{◌≡◌, ◌==◌, ◌-◌, ◌||◌, IfOk, None, Some, All, false, length, map, slice_set, suc};
 ghost use Rattle.std.proofs.Props.{props};
 ghost use Rattle.wm_run.specs.Crew.{AreSlotsOf, EndFits-prop, IsSlotOf};
 
@@ -25,6 +25,9 @@ impl<N: Assigned> Board<N> {
     /// The board of a crew whose threads begin a round.
     pub fn new(slots: Vec<Option<ThreadEnd>>) -> Board<N>
         requires { AreSlotsOf N.is_open N.program N.plan slots.items }
+        ensures slots { result.slots.items ≡ slots.items }
+        ensures memory { result.is_short ≡ false }
+        ensures at_work { result.at_work ≡ suc (length slots.items) }
     {
         let at_work = slots.len() + 1;
         Board {
@@ -36,7 +39,12 @@ impl<N: Assigned> Board<N> {
     }
 
     /// One of the threads isn't at work any more. Answers whether it was the last.
-    fn leave(&mut self) -> bool {
+    fn leave(&mut self) -> bool
+        ensures slots { self.new.slots.items ≡ self.old.slots.items }
+        ensures memory { self.new.is_short ≡ self.old.is_short }
+        ensures at_work { self.new.at_work ≡ self.old.at_work - 1 }
+        ensures last { result ≡ (self.new.at_work == 0) }
+    {
         self.at_work = self.at_work.saturating_sub(1);
         self.at_work == 0
     }
@@ -44,6 +52,9 @@ impl<N: Assigned> Board<N> {
     /// Takes the end of a thread, or notes that it found no memory. Answers whether it was the last at work.
     pub fn take_end(&mut self, thread: u32, end: Option<ThreadEnd>) -> bool
         requires { IsSlotOf N.is_open N.program N.plan thread end }
+        ensures slots { self.new.slots.items ≡ slice_set self.old.slots.items thread end }
+        ensures at_work { self.new.at_work ≡ self.old.at_work - 1 }
+        ensures last { result ≡ (self.new.at_work == 0) }
     {
         match self.slots.get_mut(thread as usize) {
             Some(slot) => *slot = end,
@@ -53,7 +64,12 @@ impl<N: Assigned> Board<N> {
     }
 
     /// Notes how the drainer ended. Answers whether it was the last at work.
-    pub fn take_drainer(&mut self, is_short: bool) -> bool {
+    pub fn take_drainer(&mut self, is_short: bool) -> bool
+        ensures slots { self.new.slots.items ≡ self.old.slots.items }
+        ensures memory { self.new.is_short ≡ (self.old.is_short || is_short) }
+        ensures at_work { self.new.at_work ≡ self.old.at_work - 1 }
+        ensures last { result ≡ (self.new.at_work == 0) }
+    {
         if is_short {
             self.is_short = true;
         }
@@ -63,7 +79,12 @@ impl<N: Assigned> Board<N> {
     /// Whether a thread found no memory, and the slots; the board has these others then, for the next round.
     pub fn exchange(&mut self, slots: Vec<Option<ThreadEnd>>) -> (bool, Vec<Option<ThreadEnd>>)
         requires { AreSlotsOf N.is_open N.program N.plan slots.items }
-        ensures { AreSlotsOf N.is_open N.program N.plan result.1.items }
+        ensures of_plan { AreSlotsOf N.is_open N.program N.plan result.1.items }
+        ensures memory { result.0 ≡ self.old.is_short }
+        ensures slots { result.1.items ≡ self.old.slots.items }
+        ensures new_memory { self.new.is_short ≡ false }
+        ensures new_slots { self.new.slots.items ≡ slots.items }
+        ensures at_work { self.new.at_work ≡ suc (length slots.items) }
     {
         let Board {
             slots,

@@ -1,5 +1,5 @@
 //! Threads that make the rounds of a plan, one after the other, over one locked memory.
-ghost use Rattle.std.specs.Prelude.{◌≡◌, ◌≤◌, IfErr, IfOk, Some, map};
+ghost use Rattle.std.specs.Prelude.{◌≡◌, IfErr, IfOk, Some, length, map};
 ghost use Rattle.wm_recorder.specs.Locked.{IsOver};
 ghost use Rattle.wm_run.specs.Crew.{AreSlotsOf, CanMakeRounds};
 ghost use Rattle.wm_run.specs.Own.{IsWithinPlan};
@@ -91,7 +91,7 @@ impl<'a, R: Wait, N: Over + Assigned, G: Gate, B: Collects<N>> Crew<'a, R, N, G,
 
     /// How many workers it has.
     pub fn workers(&self) -> u32
-        ensures { 1 ≤ result }
+        ensures { result ≡ length N.plan.starts }
     {
         self.plan.starts.len() as u32
     }
