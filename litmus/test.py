@@ -293,10 +293,10 @@ def test_refusals(tally, room):
         ("'nosuch': there is no such edit; they are edits/CRATE/NAME.edit", "wrong-judges", "nosuch"),
         ("'edits': there is no such edit", "wrong-judges", "edits"),
         ("litmus/README.md: it changes nothing", "wrong-judges", "litmus/README.md"),
-        ("/nowhere: this is no program", "candidates", "--wmlab", "/nowhere", "SB"),
-        ("/nowhere: this is no program", "gallery", "--test", "SB", "--wmlab", "/nowhere"),
-        ("/nowhere: this is no program", "test.py", "--wmlab", "/nowhere"),
-        (f"{room}: this is no program", "test.py", "--wmlab", room),
+        ("/nowhere: this is not a program", "candidates", "--wmlab", "/nowhere", "SB"),
+        ("/nowhere: this is not a program", "gallery", "--test", "SB", "--wmlab", "/nowhere"),
+        ("/nowhere: this is not a program", "test.py", "--wmlab", "/nowhere"),
+        (f"{room}: this is not a program", "test.py", "--wmlab", room),
         ("/bin/true: this program has no command stream", "test.py", "--wmlab", "/bin/true"),
     ):
         check_refusal(tally, sentence, command, *words_of_command)

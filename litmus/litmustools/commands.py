@@ -18,7 +18,7 @@ def arguments(description):
 def program_of(options):
     """The program that the options name, or the one that ./wmlab runs; it has to have `stream`."""
     if options.wmlab and not (os.path.isfile(options.wmlab) and os.access(options.wmlab, os.X_OK)):
-        raise Failed(f"{options.wmlab}: this is no program; name one by --wmlab PATH")
+        raise Failed(f"{options.wmlab}: this is not a program; name one by --wmlab PATH")
     program = harness.program_of(options)
     if not has_stream(program):
         raise Failed(f"{program}: this program has no command stream")

@@ -94,7 +94,7 @@ awk_number='
 
 # ---- turns, rounds and starts
 
-# Prints the number and the text of the first item that is none: not N, dN or dN/I, with *K if it repeats.
+# Prints the number and the text of the first item that is not N, dN or dN/I, with *K if it repeats.
 wrong_item() {
     printf '%s,' "$1" | LC_ALL=C awk -v RS=, "$awk_number"'
         function is_item(item, parts, count) {
@@ -150,8 +150,8 @@ refuse_argument() {
  bits$hint"
 }
 
-# Prints where the first argument that is none stands: the number of its START, its place there, how many letters come
-# before it, and how many it has.
+# Prints the place of the first argument that is not a number: its START's number, its place there, how many letters
+# come before it, and how many it has.
 wrong_argument() {
     printf '%s\n' "$@" | LC_ALL=C awk -F : "$awk_number"'
         !found {
