@@ -29,8 +29,8 @@ measure_crates() {
     done
 }
 
-# Prints how many crates are proved and left, and an estimate by those that were proved in this many seconds. It starts
-# no process, which an interrupt would end.
+# Prints how many crates are proved and left. As soon as a tenth of the work is done, it adds an estimate by the crates
+# that were proved in this many seconds. It starts no process, which an interrupt would end.
 report_progress() {
     local seconds=$1 finished=$2 name left="" todo=0 done_now=0 at
     # shellcheck disable=SC2206 # the words are names and numbers
@@ -44,7 +44,9 @@ report_progress() {
         *) todo=$((todo + ${bytes[$name]})) ;;
         esac
     done
-    if [ "$done_now" -gt 0 ]; then left="; about $(((seconds * todo / done_now + 59) / 60)) min left"; fi
+    if [ "$done_now" -gt 0 ] && [ $((9 * done_now)) -ge "$todo" ]; then
+        left="; about $(((seconds * todo / done_now + 59) / 60)) min left"
+    fi
     say "$((at / 2)) crates proved, $((${#bytes[@]} - at / 2)) left after $((seconds / 60)) min$left"
 }
 
