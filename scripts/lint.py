@@ -1,8 +1,8 @@
 #!/usr/bin/env python3
 """Lints the scripts: Python with pyflakes and at most 120 columns, shell with shellcheck. Lints the crates and pages:
 a line of a clause has at most 140 characters, each name that a page on the crates cites is one of theirs, each library
-that crates.txt lists is named by its crate, and each name that a file imports in braces by that file. The last line is
-`N passed, N failed`.
+that crates.txt lists is named by its crate, each name that a file imports in braces by that file, and a paragraph of a
+page has at most 60 words and a table cell 40. The last line is `N passed, N failed`.
 
     scripts/lint.py        it needs Debian's python3-pyflakes and shellcheck; what is missing is named and not counted
 """
@@ -11,7 +11,7 @@ import os
 import shutil
 import subprocess
 
-from wmlabtools import TOP, cited, clauses, harness, imports, prover
+from wmlabtools import TOP, cited, clauses, harness, imports, paragraphs, prover
 
 COLUMNS = 120
 
@@ -71,9 +71,16 @@ def lint_crates(tally):
         tally.check(not unused, f"{crate} imports what it doesn't name", "\n".join(unused))
 
 
+def lint_pages(tally, names):
+    for name in names:
+        long_ones = paragraphs.long_ones(name)
+        tally.check(not long_ones, f"{name} has paragraphs or cells that are too long", "\n".join(long_ones))
+
+
 def main():
     tally = harness.Tally()
     lint_crates(tally)
+    lint_pages(tally, [name for name in tracked() if name.endswith(".md")])
     by_language = {"python": [], "sh": []}
     for name in tracked():
         language = language_of(name)

@@ -108,9 +108,10 @@ Made on {date} with {version}. {engines}: {rounds} rounds of each test in the mo
   `wmlab check` the first of them. *Not found among N* means that it allows none. How many break which rule follows:
   `V3 case 2` is the second case of coherence.
 - **Store buffers**: the script with the fewest moves for `wmlab drive`, found by a search; then how often `wmlab run`
-  gave the outcome. *no*: a search over all moves of such buffers found none. The buffers make loads in order, and all
-  threads see a published store at once. So load buffering (`LB`), and what needs a store that only some threads see
-  (`IRIW`, `WRC`), cannot come from them, although the rules permit the plain tests.
+  gave the outcome. *no*: a search over all moves of such buffers found none.
+  - The buffers make loads in order, and all threads see a published store at once. So load buffering (`LB`), and what
+    needs a store that only some threads see (`IRIW`, `WRC`), cannot come from them, although the rules permit the
+    plain tests.
 - **{names}**: how often the engine gave the outcome. Each of its logs was checked. Each thread runs once in a round and
   ends within microseconds, so threads seldom overlap.
 """

@@ -1,9 +1,9 @@
 //! Whether a broken rule depends on the witness: whether other writers, or another order, could mend the fault.
 
-use std::alloc::{AllocError, Global};
+use std::alloc::AllocError;
 use std::fmt;
-use wm_event::{Candidate, EventKey, Rule, RuleFault};
-use wm_writers::{ByteFit, FaultWriters, Writers, writers_that_fit};
+use wm_event::{EventKey, Rule, RuleFault};
+use wm_writers::{ByteFit, FaultWriters, Writers};
 
 /// How many of the events that fit a byte are named.
 const MAX_NAMED: usize = 8;
@@ -53,31 +53,27 @@ fn add_fits(text: &mut String, writers: &FaultWriters) -> Result<(), AllocError>
     Ok(())
 }
 
-/// The remark on a fault that depends on the order.
+/// The remark on a fault that another order may mend.
 fn order_remedy(fault: &RuleFault) -> &'static str {
     match (fault.rule, fault.case) {
-        (Rule::Order, 1) => "With another order of the events, the same accesses may be allowed.\n",
+        (Rule::Order, 1) => {
+            "Happens-before has no cycle: with an order that agrees with it, the same accesses may be allowed.\n"
+        }
+        (Rule::Order, _) => {
+            "Happens-before has no cycle: with an order that agrees with it, or with other writers, the same accesses may be allowed.\n"
+        }
         _ => {
             "With another order of the events, or other writers, the same accesses may be allowed.\n"
         }
     }
 }
 
-/// Adds what a fault depends on with these writers that fit.
-fn add_writers(text: &mut String, writers: &Writers, fault: &RuleFault) -> Result<(), AllocError> {
-    match writers {
-        Writers::Only(_) => text.push_str(
-            "This rule doesn't depend on the order of the events. No other writer fits: with these values, no witness makes this run allowed.\n",
-        )?,
-        Writers::Several(writers) => {
-            text.push_str(
-                "This rule doesn't depend on the order of the events. With other writers, the same accesses may be allowed. Events whose value at the address is the value read:\n",
-            )?;
-            add_fits(text, writers)?;
-        }
-        Writers::Other => text.push_str(order_remedy(fault))?,
+/// Why no order mends a fault.
+fn order_reason(fault: &RuleFault) -> &'static str {
+    match fault.rule {
+        Rule::Order => "Happens-before has a cycle, so no order agrees with it.",
+        _ => "This rule doesn't depend on the order of the events.",
     }
-    Ok(())
 }
 
 /// Adds what a fault depends on: on the order, or only on the writers; and for the writers whether others fit.
@@ -86,13 +82,24 @@ fn add_writers(text: &mut String, writers: &Writers, fault: &RuleFault) -> Resul
 ///
 /// Only if an allocation fails.
 pub(crate) fn add_remedy(
-    alloc: Global,
     text: &mut String,
-    candidate: &Candidate,
+    writers: &Writers,
     fault: &RuleFault,
 ) -> Result<(), AllocError> {
-    let writers = writers_that_fit(alloc, candidate, fault)?;
-    let added = add_writers(text, &writers, fault);
-    drop(writers);
-    added
+    let reason = order_reason(fault);
+    match writers {
+        Writers::Only(_) => writeln!(
+            text,
+            "{reason} No other writer fits: with these values, no witness makes this run allowed."
+        )?,
+        Writers::Several(writers) => {
+            writeln!(
+                text,
+                "{reason} With other writers, the same accesses may be allowed. Events whose value at the address is the value read:"
+            )?;
+            add_fits(text, writers)?;
+        }
+        Writers::Other => text.push_str(order_remedy(fault))?,
+    }
+    Ok(())
 }

@@ -10,6 +10,7 @@ use std::fmt;
 use wm_event::{Candidate, Event, EventId, Rule, RuleFault, byte_of};
 use wm_hb::{FaultChain, Link, LinkKind, fault_chains};
 use wm_list::List;
+use wm_writers::{Writers, writers_that_fit};
 
 /// A fault with what the sentence needs to know about its byte.
 #[derive(Clone, Copy)]
@@ -261,10 +262,29 @@ impl fmt::Display for LinkSentence {
     }
 }
 
-/// Adds the reason why one event happens before another.
+/// The end of a chain, as it prints after its beginning.
+#[derive(Clone, Copy)]
+struct EndName {
+    from: EventId,
+    to: EventId,
+}
+
+impl fmt::Display for EndName {
+    fn fmt<W: fmt::Write>(&self, f: &mut fmt::Formatter<W>) -> fmt::Result {
+        if self.from == self.to {
+            f.write_str("itself")
+        } else {
+            write!(f, "{}", self.to)
+        }
+    }
+}
+
+/// Adds the reason why one event happens before another, or before itself.
 fn add_chain(text: &mut String, chain: &FaultChain) -> Result<(), AllocError> {
-    writeln!(text, "Why {} happens before {}:", chain.from, chain.to)?;
-    let mut last = chain.from;
+    let FaultChain { from, to, .. } = *chain;
+    let end = EndName { from, to };
+    writeln!(text, "Why {from} happens before {end}:")?;
+    let mut last = from;
     for link in chain.links.as_slice() {
         let sentence = LinkSentence(last, *link);
         writeln!(text, "  {sentence}")?;
@@ -317,8 +337,37 @@ fn add_grounds(
     Ok(())
 }
 
+/// Adds the events of a fault that another order may mend, and a shortest chain for each happens-before of the fault.
+fn add_order_grounds(
+    text: &mut String,
+    tables: &mut EventTables,
+    fault: &RuleFault,
+) -> Result<(), AllocError> {
+    let chains = match fault_chains(tables.alloc, tables.candidate, fault)? {
+        Some(chains) => chains,
+        None => List::new(tables.alloc),
+    };
+    add_grounds(text, tables, fault, chains.as_slice())
+}
+
+/// Adds what a fault rests on, and whether other writers or another order could mend it.
+fn add_reason(
+    text: &mut String,
+    tables: &mut EventTables,
+    fault: &RuleFault,
+    writers: &Writers,
+) -> Result<(), AllocError> {
+    match writers {
+        Writers::Only(found) => add_grounds(text, tables, fault, found.chains.as_slice())?,
+        Writers::Several(found) => add_grounds(text, tables, fault, found.chains.as_slice())?,
+        Writers::Other => add_order_grounds(text, tables, fault)?,
+    }
+    add_remedy(text, writers, fault)
+}
+
 /// Why a run breaks a memory rule: the rule, the fault in a sentence, its events, a shortest chain for each
-/// happens-before that it rests on, and whether other writers or another order could mend it.
+/// happens-before that it rests on, or a cycle of happens-before, and whether other writers or another order could mend
+/// it.
 ///
 /// # Errors
 ///
@@ -332,11 +381,9 @@ pub(crate) fn rule_reason(
     let rule = RuleName(fault.rule);
     let sentence = RuleSentence::of(candidate, fault);
     let mut text = format!(in alloc; "{rule}\n{sentence}\n")?;
-    let chains = match fault_chains(alloc, candidate, fault)? {
-        Some(chains) => chains,
-        None => List::new(alloc),
-    };
-    add_grounds(&mut text, tables, fault, chains.as_slice())?;
-    add_remedy(alloc, &mut text, candidate, fault)?;
+    let writers = writers_that_fit(alloc, candidate, fault)?;
+    let added = add_reason(&mut text, tables, fault, &writers);
+    drop(writers);
+    added?;
     Ok(text)
 }

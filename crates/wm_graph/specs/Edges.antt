@@ -50,8 +50,9 @@ abbrev pub ReadsBefore : LoggedRun → EventId → EventKey → Type 0
 ReadsBefore x Init b = ⊥
 ReadsBefore x (At a) b = (k : ℕ) × (w : EventId) × ReadsFrom (execution x) a k w × Overwrites x w b
 
--- b reads these bytes from a
+-- b reads these bytes from a, at least one
 pub record ReadsFromBy (x : LoggedRun) (a : EventId) (b : EventKey) (bytes : Bytes) : Type 0 where
+  pub some : bytes.first ≤ bytes.last
   pub from_writer : (k : ℕ) → bytes.first ≤ k → k ≤ bytes.last → slice_get (writers_in x.witness b) k ≡ Some a
   pub whole : IsTrue bytes.is_whole ↔ ((bytes.first ≡ 0) × (bytes.last + 1 ≡ length (writers_in x.witness b)))
   pub synchronizes : IsTrue bytes.synchronizes ↔ SyncsWith x a b

@@ -1,5 +1,5 @@
 //! The edges of a picture.
-ghost use Rattle.std.specs.Prelude.{◌≡◌, ◌↔◌, ℕ, All, Contains, IfOk, IfSome, IsTrue, OnOk, Some, slice_get};
+ghost use Rattle.std.specs.Prelude.{◌≡◌, ◌↔◌, ◌≤◌, ℕ, All, Contains, IfOk, IfSome, IsTrue, OnOk, Some, slice_get};
 ghost use Rattle.wm_event.specs.Event.{key_of};
 ghost use Rattle.wm_event.specs.declared.event.EventId.TheVariants.{At};
 ghost use Rattle.wm_event.specs.declared.event.EventKey.{EventKey};
@@ -100,7 +100,8 @@ fn is_synchronized(candidate: &Candidate, writer: EventId, reader: EventKey) -> 
 
 /// The edge to a read from the writer of a run of its bytes.
 fn read_edge(candidate: &Candidate, run: &WriterRun, reader: EventKey) -> Edge
-    requires { (k : ℕ) → NamesByte run.now k → slice_get (writers_in candidate.now.witness reader) k ≡ Some run.now.writer }
+    requires writer { (k : ℕ) → NamesByte run.now k → slice_get (writers_in candidate.now.witness reader) k ≡ Some run.now.writer }
+    requires some { run.now.first ≤ run.now.last }
     ensures right { IsRight candidate.now result }
     ensures from { result.from ≡ run.now.writer }
     ensures to { result.to ≡ reader }

@@ -51,7 +51,7 @@ edge_there x (At a) b e = ⊎_elim
     (λ (s : SynchronizesWith (execution x) a b). subst (λ o. IsSome o) (sym s.is_reader) refl)
     e
 
-chain_there : (x : LoggedRun) (between : List EventId) (a : EventId) (b : EventKey) → Chain (execution x) a between (At b) → IsSome (event_in x.log b)
+pub chain_there : (x : LoggedRun) (between : List EventId) (a : EventId) (b : EventKey) → Chain (execution x) a between (At b) → IsSome (event_in x.log b)
 chain_there x [] a b h = edge_there x a b h
 chain_there x (id ∷ ids) a b h = chain_there x ids id b h.1
 

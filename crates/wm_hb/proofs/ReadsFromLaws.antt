@@ -5,7 +5,7 @@ use Rattle.std.proofs.lemmas.Grind.{common_steps}
 use Rattle.std.proofs.lemmas.Option.{gets, none-some, same_Some}
 use Rattle.wm_event.specs.declared.event.EventId.{EventId}
 use Rattle.wm_hb.specs.declared.reads_from.WriterRun.{WriterRun}
-use Rattle.wm_hb.specs.ReadsFrom.{AreFromWriters, ComeFromWriters, IsNamed, NamesByte}
+use Rattle.wm_hb.specs.ReadsFrom.{AreFromWriters, ComeFromWriters, HaveBytes, IsNamed, NamesByte}
 
 get_more : (runs : List WriterRun) (run : WriterRun) (n : ℕ) (r : WriterRun) → slice_get (runs ++ run ∷ []) n ≡ Some r → (slice_get runs n ≡ Some r) ⊎ (run ≡ r)
 get_more [] run zero r h = inr (same_Some run r h)
@@ -49,6 +49,7 @@ pub record HasRunsTo (writers : List EventId) (runs : List WriterRun) (first n :
   pub order : first ≤ n
   pub same : (k : ℕ) → first ≤ k → k < n → slice_get writers k ≡ slice_get writers n
   pub come : ComeFromWriters writers runs
+  pub have : HaveBytes runs
   pub before : (k : ℕ) → k < first → IsNamed runs k
 
 -- the next byte has the same writer
@@ -60,6 +61,7 @@ runs_on writers runs first n so_far next = record {
       (λ (above : n ≤ k). let is : n ≡ k = omega (arith, above, to) in subst (λ m. slice_get writers m ≡ slice_get writers (n + 1)) is (sym next))
       (cases_lt k n);
   come = so_far.come;
+  have = so_far.have;
   before = so_far.before;
 }
 
@@ -70,6 +72,10 @@ runs_next writers runs run so_far is = record {
   order = omega arith;
   same = λ k from to. absurd (omega (arith, from, to));
   come = from_writers_more writers runs run so_far.come is so_far.same;
+  have = λ i r at. ⊎_elim
+      (λ (old : slice_get runs i ≡ Some r). so_far.have i r old)
+      (λ (new : run ≡ r). subst (λ (a : WriterRun). a.first ≤ a.last) new so_far.order)
+      (get_more runs run i r at);
   before = λ k below. named_more runs run so_far.before k (omega (arith, below));
 }
 
@@ -82,6 +88,7 @@ past writers n h = grind (arith, common_steps, gets)
 pub runs_all : (writers : List EventId) (runs : List WriterRun) (first n : ℕ) → HasRunsTo writers runs first n → length writers ≤ n → AreFromWriters writers runs
 runs_all writers runs first n so_far all = record {
   from_writers = so_far.come;
+  have_bytes = so_far.have;
   each = λ k w is. ⊎_elim
       (λ (below : k < first). so_far.before k below)
       (λ (above : first ≤ k).

@@ -16,7 +16,12 @@ abbrev pub ComeFromWriters : List EventId → List WriterRun → Type 0
 ComeFromWriters writers runs =
     (i : ℕ) (run : WriterRun) → slice_get runs i ≡ Some run → (k : ℕ) → NamesByte run k → slice_get writers k ≡ Some run.writer
 
+-- each run has a byte
+abbrev pub HaveBytes : List WriterRun → Type 0
+HaveBytes runs = (i : ℕ) (run : WriterRun) → slice_get runs i ≡ Some run → run.first ≤ run.last
+
 -- each byte is in a run of its writer, and there is no other run
 pub record AreFromWriters (writers : List EventId) (runs : List WriterRun) : Type 0 where
   pub from_writers : ComeFromWriters writers runs
+  pub have_bytes : HaveBytes runs
   pub each : (k : ℕ) (writer : EventId) → slice_get writers k ≡ Some writer → IsNamed runs k

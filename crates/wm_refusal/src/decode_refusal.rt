@@ -164,6 +164,20 @@ impl fmt::Display for BytesAround<'_> {
     }
 }
 
+/// How many bytes a module has, as it prints. Of one that is too large no more than the limit and a byte are read.
+#[derive(Clone, Copy)]
+struct ModuleSize(usize);
+
+impl fmt::Display for ModuleSize {
+    fn fmt<W: fmt::Write>(&self, f: &mut fmt::Formatter<W>) -> fmt::Result {
+        if self.0 > MAX_MODULE_BYTES {
+            write!(f, "more than {MAX_MODULE_BYTES}")
+        } else {
+            write!(f, "{}", self.0)
+        }
+    }
+}
+
 /// A fault at an offset of a module in a sentence, the bytes there, and what else there is to say.
 fn fault_text<S: fmt::Display>(
     alloc: Global,
@@ -172,8 +186,8 @@ fn fault_text<S: fmt::Display>(
     bytes: &[u8],
     more: &str,
 ) -> Result<String, AllocError> {
-    let size = bytes.len();
-    let heading = Heading(offset, size);
+    let size = ModuleSize(bytes.len());
+    let heading = Heading(offset, bytes.len());
     let around = BytesAround(bytes, offset);
     format!(in alloc;
         "The module can't be decoded at byte {offset} of {size}. {sentence}\n{heading}{around}\n{more}"

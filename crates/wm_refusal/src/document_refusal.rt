@@ -142,19 +142,23 @@ fn expected_at(bytes: &[u8], offset: usize) -> &'static str {
         .take(offset)
         .rev()
         .find(|byte| !matches!(**byte, b' ' | b'\t' | b'\n' | b'\r'));
-    if depth_at(bytes, offset) > MAX_DEPTH {
+    let depth = depth_at(bytes, offset);
+    if depth > MAX_DEPTH {
         return "at most 127 nested lists and objects";
     }
     let is_value = matches!(before, None | Some(b',' | b':' | b'['));
     match bytes.get(offset) {
         Some(b'"') if is_value => {
-            "a string with its control characters escaped, and only the escapes of JSON (RFC 8259, section 7)"
+            "a string with its control characters escaped, only the escapes of JSON (RFC 8259, section 7), and surrogates in pairs"
         }
         Some(b'-' | b'0'..=b'9') if is_value =>
             "a number as in JSON, without leading zeros (RFC 8259, section 6)",
         Some(0xEF) if before.is_none() => "a value, without a byte order mark before it",
         _ if before == Some(&b'[') => "a value or ]",
         _ if is_value => "a value",
+        _ if depth == 0 => {
+            "the end of the document, which is one JSON value (wmlab stream reads one from each line)"
+        }
         _ => "JSON (RFC 8259)",
     }
 }

@@ -25,8 +25,10 @@ use Rattle.wm_hb.specs.declared.chain.LinkKind.{LinkKind}
 use Rattle.wm_hb.specs.declared.chain.LinkKind.TheVariants.{Initial, Sequenced, Synchronizes}
 use Rattle.wm_hb.specs.declared.fault_chain.FaultChain.{FaultChain}
 use Rattle.wm_writers.specs.Forced.{ForcedFaultStays, IsForced, IsNamed, with_witness}
-use Rattle.wm_hb.specs.Premises.{coherence_premises, ends_of, premises_by}
-use Rattle.wm_writers.specs.Needs.{IsOfOrder, byte_needs, link_needs, own_needs, own_needs_by, step_needs, tearing_needs, any_byte}
+use Rattle.wm_hb.specs.Cycle.{IsCycle}
+use Rattle.wm_hb.specs.Premises.{coherence_premises, ends_of, premises, premises_by}
+use Rattle.wm_writers.specs.Lasting.{AreCycle, LastsBy}
+use Rattle.wm_writers.specs.Needs.{byte_needs, link_needs, own_needs, own_needs_by, step_needs, tearing_needs, any_byte}
 use Rattle.wm_writers.specs.declared.need.Need.{Need}
 use Rattle.wm_hb.specs.declared.premise.Premise.{Premise}
 use Rattle.wm_writers.proofs.AllLemmas.{all-first, all-head, all-second, all-tail}
@@ -90,9 +92,12 @@ module _ (run : LoggedRun) (shape : IsWellShaped run) (witness : Witness) (other
       let rest = chain_kept (At link.event) next links b leads.1 (all-second (IsForced run) (link_needs link.kind a link) (step_needs (At link.event) (next ∷ links)) forced) in
       (At link.event ∷ rest.0, (first, rest.1))
 
+  led_kept : (a : EventId) (links : List Link) (b : EventId) → Leads (execution run) a links b → 0 < length links → All (IsForced run) (step_needs a links) → HappensBefore (execution other) a b
+  led_kept a [] b leads some forced = absurd (omega (arith, some))
+  led_kept a (link ∷ links) b leads some forced = chain_kept a link links b leads forced
+
   links_kept : (a : EventId) (links : List Link) (b : EventId) → IsShortestChain (execution run) a links b → All (IsForced run) (step_needs a links) → HappensBefore (execution other) a b
-  links_kept a [] b chain forced = absurd (let s = chain.some in omega (arith, s))
-  links_kept a (link ∷ links) b chain forced = chain_kept a link links b chain.leads forced
+  links_kept a links b chain forced = led_kept a links b chain.leads chain.some forced
 
   module _ (f : RuleFault) where
     -- what the fault states about its read holds of the forced one
@@ -176,16 +181,29 @@ module _ (run : LoggedRun) (shape : IsWellShaped run) (witness : Witness) (other
             let here : Writes (execution other) v (e.address + f.byte) = subst (λ o. IsSome o) (left_by run v (e.address + f.byte) ∙ sym (left_by other v (e.address + f.byte))) there in
             keeps.1 v here both.0 both.1
 
-    fault_stays : (chains : List FaultChain) (rule : Rule) → (IsOfOrder rule → ⊥) → BreaksRule (execution run) f rule → AreChains (execution run) chains → map ends_of chains ≡ premises_by rule f
+    -- a cycle whose steps are forced is one in the other run too, and its order agrees with none
+    cycle_stays : (c : FaultChain) → IsCycle (execution run) c → All (IsForced run) (step_needs c.from c.links) → ⊥
+    cycle_stays c cycle steps =
+        let around : HappensBefore (execution other) c.from c.to = led_kept c.from c.links c.to cycle.leads cycle.some steps in
+        let below = valid.keeps_order c.from c.from (subst (HappensBefore (execution other) c.from) cycle.closed around) in
+        omega (arith, below)
+
+    order_stays : (chains : List FaultChain) → AreCycle (execution run) chains → All (IsForced run) (flat_map (λ (c : FaultChain). step_needs c.from c.links) chains) → ⊥
+    order_stays chains is steps =
+        let one : All (IsForced run) (flat_map (λ (c : FaultChain). step_needs c.from c.links) (is.0 ∷ [])) =
+        subst (λ cs. All (IsForced run) (flat_map (λ (c : FaultChain). step_needs c.from c.links) cs)) is.1 steps in
+        cycle_stays is.0 is.2 (all-first (IsForced run) (step_needs is.0.from is.0.links) [] one)
+
+    fault_stays : (chains : List FaultChain) (rule : Rule) → BreaksRule (execution run) f rule → LastsBy rule (execution run) f chains → premises f ≡ premises_by rule f
         → All (IsForced run) (own_needs_by rule f) → All (IsForced run) (flat_map (λ (c : FaultChain). step_needs c.from c.links) chains) → ⊥
-    fault_stays chains WrittenValues not breaks are ends own steps = value_stays breaks.1.0 breaks.1.1 breaks.1.3 own
-    fault_stays chains Order not breaks are ends own steps = not tt
-    fault_stays chains Coherence not breaks are ends own steps = coherence_stays breaks.0 f.other chains breaks.1 breaks.3 are ends own steps
-    fault_stays chains NoTearing not breaks are ends own steps = let v = breaks.1 in tearing_stays v.2.0 v.0 f.other v.1 v.2.1 v.2.3 own
-    fault_stays chains SequentialConsistency not breaks are ends own steps = not tt
+    fault_stays chains WrittenValues breaks lasts of own steps = value_stays breaks.1.0 breaks.1.1 breaks.1.3 own
+    fault_stays chains Order breaks lasts of own steps = order_stays chains lasts steps
+    fault_stays chains Coherence breaks lasts of own steps = coherence_stays breaks.0 f.other chains breaks.1 breaks.3 lasts.chains (lasts.for_premises ∙ of) own steps
+    fault_stays chains NoTearing breaks lasts of own steps = let v = breaks.1 in tearing_stays v.2.0 v.0 f.other v.1 v.2.1 v.2.3 own
+    fault_stays chains SequentialConsistency breaks lasts of own steps = lasts
 
 pub forced-fault-stays : ForcedFaultStays
-forced-fault-stays run f chains shape not breaks shows forced witness other_shape valid =
-    fault_stays run shape witness other_shape valid f chains f.rule not breaks shows.chains shows.for_premises
+forced-fault-stays run f chains shape breaks lasts forced witness other_shape valid =
+    fault_stays run shape witness other_shape valid f chains f.rule breaks lasts refl
     (all-first (IsForced run) (own_needs f) (flat_map (λ (c : FaultChain). step_needs c.from c.links) chains) forced)
     (all-second (IsForced run) (own_needs f) (flat_map (λ (c : FaultChain). step_needs c.from c.links) chains) forced)

@@ -8,8 +8,8 @@ use Rattle.wm_event.specs.Log.{event_in}
 use Rattle.wm_event.specs.LoggedRun.{LoggedRun, execution}
 use Rattle.wm_writers.specs.Fits.{fitting}
 use Rattle.wm_writers.specs.Forced.{IsForcedFault, IsNeverValid, Meets}
-use Rattle.wm_hb.specs.Premises.{Shows}
-use Rattle.wm_writers.specs.Needs.{IsOfOrder, needs}
+use Rattle.wm_writers.specs.Lasting.{DependsOnOrder, Lasts}
+use Rattle.wm_writers.specs.Needs.{needs}
 use Rattle.wm_writers.specs.declared.need.Need.{Need}
 use Rattle.wm_writers.specs.declared.source.ByteFit.{ByteFit}
 use Rattle.wm_writers.specs.declared.source.Source.{Source}
@@ -36,21 +36,17 @@ pub record IsSource (run : LoggedRun) (s : Source) : Type 0 where
   pub all : IsSome (event_in run.log s.need.reader) → (k : ℕ) → Meets (execution run) s.need k → HasByte s.bytes k
   pub rising : (m n : ℕ) (a b : ByteFit) → m < n → slice_get s.bytes m ≡ Some a → slice_get s.bytes n ≡ Some b → a.byte < b.byte
 
--- chains that show the fault, and a source for each thing that the fault needs, given these chains
+-- chains that show that no order mends the fault, and a source for each thing that it needs, given these chains
 pub record AreWriters (run : LoggedRun) (f : RuleFault) (w : FaultWriters) : Type 0 where
-  pub shows : Shows (execution run) f w.chains
+  pub lasts : Lasts (execution run) f w.chains
   pub needs : map (λ s. s.need) w.sources ≡ needs f w.chains
   pub sources : All (IsSource run) w.sources
 
--- the fault isn't a fault of the order, and its writers are these
-abbrev pub IsFaultOf : LoggedRun → RuleFault → FaultWriters → Type 0
-IsFaultOf run f w = (IsOfOrder f.rule → ⊥) × AreWriters run f w
-
--- Only exactly if these chains show a forced fault; Other only for a fault of the order, or one that isn't the run's first fault
+-- Only exactly if these chains show a forced fault; Other only if another order may mend it, or it isn't the run's first fault
 abbrev pub IsAnswer : LoggedRun → RuleFault → Writers → Type 0
-IsAnswer run f (Only w) = IsFaultOf run f w × IsForcedFault run f w.chains
-IsAnswer run f (Several w) = IsFaultOf run f w × (IsForcedFault run f w.chains → ⊥)
-IsAnswer run f Other = IsOfOrder f.rule ⊎ (Judges (execution run) (Broken f) → ⊥)
+IsAnswer run f (Only w) = AreWriters run f w × IsForcedFault run f w.chains
+IsAnswer run f (Several w) = AreWriters run f w × (IsForcedFault run f w.chains → ⊥)
+IsAnswer run f Other = DependsOnOrder (execution run) f.rule ⊎ (Judges (execution run) (Broken f) → ⊥)
 
 -- if a rule is broken as the fault states, and the answer is Only, then no witness mends it
 abbrev pub StaysIfOnly : LoggedRun → RuleFault → Writers → Type 0

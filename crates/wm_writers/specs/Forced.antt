@@ -12,8 +12,8 @@ use Rattle.wm_event.specs.Rules.{IsValid}
 use Rattle.wm_event.specs.Shape.{IsWellShaped}
 use Rattle.wm_hb.specs.declared.fault_chain.FaultChain.{FaultChain}
 use Rattle.wm_writers.specs.Fits.{fits}
-use Rattle.wm_hb.specs.Premises.{Shows}
-use Rattle.wm_writers.specs.Needs.{IsOfOrder, needs}
+use Rattle.wm_writers.specs.Lasting.{Lasts}
+use Rattle.wm_writers.specs.Needs.{needs}
 use Rattle.wm_writers.specs.declared.need.Need.{Need}
 
 -- byte k is the named one; if none is named, it is any byte
@@ -49,7 +49,7 @@ with_witness run witness = record { log = run.log; witness = witness; initial = 
 abbrev pub IsNeverValid : LoggedRun → Type 0
 IsNeverValid run = (witness : Witness) → IsWellShaped (with_witness run witness) → IsValid (execution (with_witness run witness)) → ⊥
 
--- no witness mends a forced fault of written values, coherence or tearing
+-- no witness mends a forced fault that no order mends
 abbrev pub ForcedFaultStays : Type 0
-ForcedFaultStays = (run : LoggedRun) (f : RuleFault) (chains : List FaultChain) → IsWellShaped run → (IsOfOrder f.rule → ⊥)
-    → Breaks (execution run) f → Shows (execution run) f chains → IsForcedFault run f chains → IsNeverValid run
+ForcedFaultStays = (run : LoggedRun) (f : RuleFault) (chains : List FaultChain) → IsWellShaped run
+    → Breaks (execution run) f → Lasts (execution run) f chains → IsForcedFault run f chains → IsNeverValid run

@@ -11,14 +11,6 @@ use Rattle.wm_hb.specs.declared.chain.LinkKind.TheVariants.{Initial, Sequenced, 
 use Rattle.wm_hb.specs.declared.fault_chain.FaultChain.{FaultChain}
 use Rattle.wm_writers.specs.declared.need.Need.{Need}
 
--- the rules about the order of the events
-abbrev pub IsOfOrder : Rule → Type 0
-IsOfOrder WrittenValues = ⊥
-IsOfOrder Order = Unit {0}
-IsOfOrder Coherence = ⊥
-IsOfOrder NoTearing = ⊥
-IsOfOrder SequentialConsistency = Unit {0}
-
 -- that any byte of the read with the fault comes from w
 abbrev pub any_byte : RuleFault → EventId → Need
 any_byte f w = record { reader = f.event; writer = w; byte = None }
