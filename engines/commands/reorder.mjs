@@ -2,7 +2,7 @@
 /** Looks for another witness of a log that a memory rule refuses. `--help` prints the usage. */
 
 import { readFileSync } from 'node:fs';
-import { HELP, TEXT, countOf, wordsOf } from '../shared/command_line.mjs';
+import { HELP, TEXT, countOf, fileOf, wordsOf } from '../shared/command_line.mjs';
 import { UserError, withFile } from '../shared/errors.mjs';
 import { logsOf } from '../shared/logs.mjs';
 import { initialOf } from '../shared/recorder.mjs';
@@ -39,7 +39,7 @@ function optionsOf(args) {
   if (positionals.length !== 2) {
     throw new UserError(`${positionals.length} words: expected MODULE and DOC; --help prints the usage`);
   }
-  const [module, path] = positionals;
+  const [module, path] = positionals.map(fileOf);
   const [steps, seconds] = [countOf('steps', values.steps ?? '2000000'), countOf('seconds', values.seconds ?? '20')];
   return { module, path, steps, seconds, wmlab: values.wmlab };
 }

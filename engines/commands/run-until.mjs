@@ -2,7 +2,7 @@
 /** Runs `wmlab run` with conditions on its outcomes, and keeps a log of each outcome. `--help` prints the usage. */
 
 import { join } from 'node:path';
-import { HELP, SEVERAL, TEXT, countOf, wordsOf } from '../shared/command_line.mjs';
+import { HELP, SEVERAL, TEXT, countOf, fileOf, wordsOf } from '../shared/command_line.mjs';
 import { UserError } from '../shared/errors.mjs';
 import { keep, missingPictures, prepareFolder } from '../shared/kept.mjs';
 import { conditionsOf, judgeConditions } from '../shared/outcomes.mjs';
@@ -39,13 +39,13 @@ function optionsOf(args) {
   };
   const { values, positionals } = wordsOf({ args, allowPositionals: true, options });
   if (values.help) return null;
-  const [module, rounds, ...starts] = positionals;
+  const [word, rounds, ...starts] = positionals;
   if (!starts.length) {
     throw new UserError(`${positionals.length} words: expected MODULE, ROUNDS and at least one START; --help prints the usage`);
   }
   const [tries, seed] = [countOf('tries', values.tries ?? '400'), countOf('seed', values.seed ?? '1')];
   const { kept = 'recorded', wmlab } = values;
-  return { module, rounds, starts, tries, seed, kept, wmlab, conditions: conditionsOf(values, starts.length) };
+  return { module: fileOf(word), rounds, starts, tries, seed, kept, wmlab, conditions: conditionsOf(values, starts.length) };
 }
 
 /** Numbers below `n` that look random, the same ones for the same seed. */

@@ -2,7 +2,7 @@
 
 import { readFileSync, writeFileSync } from 'node:fs';
 import { UserError, withFile } from '../shared/errors.mjs';
-import { HELP, TEXT, countOf, wordsOf } from '../shared/command_line.mjs';
+import { HELP, TEXT, countOf, endOnLostOutput, wordsOf } from '../shared/command_line.mjs';
 import { Refused, lower } from './lower.mjs';
 
 export const USAGE = `Brings a module that a compiler made into the part of WebAssembly that wmlab takes.
@@ -46,6 +46,9 @@ function optionsOf(args) {
   const { stacks = null, quiet = false, out } = values;
   const stackBytes = countOf('stack-bytes', values['stack-bytes'] ?? '4096', MOST_STACK_BYTES);
   if (stackBytes % 16) throw new UserError(`--stack-bytes ${stackBytes}: expected a multiple of 16`);
+  if (values['stack-bytes'] !== undefined && stacks === null) {
+    throw new UserError('--stack-bytes needs --stacks, without which all threads have the one stack of the module');
+  }
   const count = stacks === null || stacks === 'each' ? stacks : countOf('stacks', stacks, MOST_STACKS);
   return { module: positionals[0], out, quiet, stackBytes, stacks: count };
 }
@@ -80,8 +83,7 @@ function complaint(error) {
 
 /** Lowers as the words of the command line ask. Answers the exit status. */
 export function main(args) {
-  // A reader of the output that ends early, as `head` does.
-  process.stdout.on('error', () => process.exit(3));
+  endOnLostOutput('lower');
   try {
     const options = optionsOf(args);
     if (options) run(options);

@@ -25,6 +25,7 @@ export function testCommand({ note }) {
       ['a module that is not there', [file('none.wasm'), '-o', out]], ['a folder', [folder, '-o', out]],
       ['a module that is cut', [file('cut.wasm'), '-o', out]], ['no stacks', [file('fence.wasm'), '-o', out, '--stacks', '0']],
       ['stacks of 8 bytes', [file('fence.wasm'), '-o', out, '--stack-bytes', '8']],
+      ['a size without stacks', [file('fence.wasm'), '-o', out, '--stack-bytes', '32']],
       ['an unknown option', [file('fence.wasm'), '-o', out, '--none']],
       ['a folder that is not there', [file('fence.wasm'), '-o', file('none/out.wasm')]],
     ];
@@ -42,6 +43,11 @@ export function testCommand({ note }) {
     note(lowered.status === 0 && lowered.out.endsWith(line) && isWritten, 'a fence is dropped, and reported', lowered);
     const quiet = lower(file('fence.wasm'), '-o', out, '--quiet');
     note(quiet.status === 0 && quiet.out === '', '--quiet prints no changes', quiet);
+    if (existsSync('/dev/full')) {
+      const lost = run('sh', ['-c', `"${COMMAND}" "${file('fence.wasm')}" -o "${out}" >/dev/full`]);
+      const isTold = lost.err === 'lower: cannot write the output: no space left\n';
+      note(lost.status === 3 && isTold, 'output that cannot be written is reported', lost);
+    }
     const help = lower('--help');
     note(help.status === 0 && /^USAGE$/m.test(help.out), '--help prints the usage', help);
   } finally {

@@ -1,6 +1,6 @@
 /** The command line of record.mjs. */
 
-import { HELP, SEVERAL, TEXT, countOf, wordsOf } from '../shared/command_line.mjs';
+import { HELP, SEVERAL, TEXT, countOf, fileOf, wordsOf } from '../shared/command_line.mjs';
 import { UserError } from '../shared/errors.mjs';
 import { conditionsOf } from '../shared/outcomes.mjs';
 import { campaignName } from '../shared/report.mjs';
@@ -70,8 +70,9 @@ export function optionsOf(args) {
   const { values, positionals } = wordsOf({ args, allowPositionals: true, options: WORDS });
   if (values.help) return null;
   const given = { wrong: null, ...DEFAULTS, ...values };
-  const [module, ...starts] = positionals;
-  if (module === undefined) throw new UserError('no module is given; --help prints the usage');
+  const [word, ...starts] = positionals;
+  if (word === undefined) throw new UserError('no module is given; --help prints the usage');
+  const module = fileOf(word);
   if (starts.length === 0) throw new UserError(`no start is given: name an exported function of ${module} for each thread`);
   if (starts.length > MOST_THREADS) throw new UserError(`${starts.length} starts: a log has at most ${MOST_THREADS} threads`);
   oneOf('engine', given.engine, ENGINES);

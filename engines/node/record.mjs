@@ -5,6 +5,7 @@ import { accessSync, appendFileSync, constants, readFileSync, realpathSync, stat
 import { dirname } from 'node:path';
 import { fileURLToPath } from 'node:url';
 import { openRecorder } from './engines.mjs';
+import { endOnLostOutput } from '../shared/command_line.mjs';
 import { UserError, withFile } from '../shared/errors.mjs';
 import { hasNoWitness, keep, keepWithShrunk, missingPictures, prepareFolder, writeTo } from '../shared/kept.mjs';
 import { judgeConditions } from '../shared/outcomes.mjs';
@@ -30,9 +31,6 @@ function preparePlaces({ keep: path, out, answers, kept, report }) {
   withFile(`write ${path}`, () => accessSync(dirname(path), constants.W_OK));
   if (answers !== undefined) writeTo(answers, '');
 }
-
-// A reader of the tables that ends early, as `head` does.
-const onClosedOutput = () => process.exit(3);
 
 /** What is printed on a round whose log is not allowed. */
 function keptText(line, path) {
@@ -139,7 +137,7 @@ async function main(args) {
 }
 
 if (process.argv[1] && realpathSync(process.argv[1]) === fileURLToPath(import.meta.url)) {
-  process.stdout.on('error', onClosedOutput);
+  endOnLostOutput('record.mjs');
   try {
     const status = await main(process.argv.slice(2));
     // A search that was stopped would go on otherwise.

@@ -3,7 +3,7 @@
 import { readFileSync, writeFileSync } from 'node:fs';
 import { UserError, withFile } from '../shared/errors.mjs';
 import { endsOf, json } from '../shared/document.mjs';
-import { HELP, TEXT, countOf, wordsOf } from '../shared/command_line.mjs';
+import { HELP, TEXT, countOf, endOnLostOutput, wordsOf } from '../shared/command_line.mjs';
 import { ask, examine, findProgram } from '../shared/wmlab.mjs';
 import { readRecording } from './region.mjs';
 import { recordingModule } from './rewrite.mjs';
@@ -107,8 +107,7 @@ async function run(args) {
 
 /** Does what the words of the command line ask. Answers the exit status. */
 export async function main(args) {
-  // A reader of the output that ends early, as `head` does.
-  process.stdout.on('error', () => process.exit(3));
+  endOnLostOutput('self');
   try {
     return await run(args);
   } catch (error) {

@@ -7,12 +7,15 @@ const REASONS = {
   ELOOP: 'too many links', ENAMETOOLONG: 'the name is too long',
 };
 
+/** Why the system refused, in words if it is a common reason. */
+export const reasonOf = (error) => REASONS[error.code] ?? error.code;
+
 /** Does something with a file. If the system refuses, the answer is a `UserError` with what was tried and the reason. */
 export function withFile(attempt, action) {
   try {
     return action();
   } catch (error) {
     if (!error.code || error.syscall === undefined) throw error;
-    throw new UserError(`cannot ${attempt}: ${REASONS[error.code] ?? error.code}`);
+    throw new UserError(`cannot ${attempt}: ${reasonOf(error)}`);
   }
 }

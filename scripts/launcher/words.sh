@@ -50,8 +50,9 @@ look_at_words() {
     [ $# -ge "$least" ] || refuse_words
     case $usage in *..) ;; *) [ $# -eq "$least" ] || refuse_words ;; esac
     for word in "${@:2}"; do
-        case $word in -) ;; -*) refuse_words ;; esac
+        case $word in -) ;; -*) refuse words "a word begins with a hyphen: ./wmlab has no options; a file named -x is ./-x" ;; esac
     done
+    is_utf8 "${@:2}" || refuse words "a word is not UTF-8, as all words have to be, also the names of files"
     case $1 in
     drive | trace | run)
         # Words that may not be UTF-8 are left to the program.
@@ -69,6 +70,11 @@ are_ascii() {
     for word in "$@"; do
         case $word in *[!\ -~]*) return 1 ;; esac
     done
+}
+
+# Whether the words are UTF-8, as far as it can be told.
+is_utf8() {
+    are_ascii "$@" || ! command -v iconv >/dev/null || printf '%s\n' "$@" | iconv -f UTF-8 -t UTF-8 >/dev/null 2>&1
 }
 
 # ---- numbers
