@@ -50,7 +50,10 @@ look_at_words() {
     [ $# -ge "$least" ] || refuse_words
     case $usage in *..) ;; *) [ $# -eq "$least" ] || refuse_words ;; esac
     for word in "${@:2}"; do
-        case $word in -) ;; -*) refuse words "a word begins with a hyphen: ./wmlab has no options; a file named -x is ./-x" ;; esac
+        case $word in
+        -) ;;
+        -*) refuse words "a word begins with a hyphen: ./wmlab has no options; a file named -x is ./-x" ;;
+        esac
     done
     is_utf8 "${@:2}" || refuse words "a word is not UTF-8, as all words have to be, also the names of files"
     case $1 in
