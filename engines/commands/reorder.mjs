@@ -2,7 +2,7 @@
 /** Looks for another witness of a log that a memory rule refuses. `--help` prints the usage. */
 
 import { readFileSync } from 'node:fs';
-import { HELP, TEXT, countOf, fileOf, wordsOf } from '../shared/command_line.mjs';
+import { HELP, TEXT, countOf, endOnLostOutput, fileOf, wordsOf } from '../shared/command_line.mjs';
 import { UserError, withFile } from '../shared/errors.mjs';
 import { logsOf } from '../shared/logs.mjs';
 import { initialOf } from '../shared/recorder.mjs';
@@ -102,6 +102,7 @@ async function main(args) {
   }
 }
 
+endOnLostOutput('reorder');
 try {
   process.exitCode = await main(process.argv.slice(2));
 } catch (error) {

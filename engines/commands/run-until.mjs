@@ -2,11 +2,11 @@
 /** Runs `wmlab run` with conditions on its outcomes, and keeps a log of each outcome. `--help` prints the usage. */
 
 import { join } from 'node:path';
-import { HELP, SEVERAL, TEXT, countOf, fileOf, wordsOf } from '../shared/command_line.mjs';
+import { HELP, SEVERAL, TEXT, countOf, endOnLostOutput, fileOf, wordsOf } from '../shared/command_line.mjs';
 import { UserError } from '../shared/errors.mjs';
 import { keep, missingPictures, prepareFolder } from '../shared/kept.mjs';
 import { conditionsOf, judgeConditions } from '../shared/outcomes.mjs';
-import { Judge, Stopped, ask, findProgram } from '../shared/wmlab.mjs';
+import { Judge, Stopped, ask, examine, findProgram } from '../shared/wmlab.mjs';
 
 const USAGE = `Runs a module on threads by wmlab run, with conditions on the outcomes, and keeps a log of each outcome.
 
@@ -106,6 +106,7 @@ async function main(args) {
   }
   const { module, rounds, starts, kept, conditions } = options;
   const program = findProgram(options.wmlab);
+  await examine(program, module);
   const { text, status } = await ask(program, ['run', module, rounds, ...starts], '');
   if (status !== 0) throw new UserError(`wmlab run: ${text.split('\n')[0]}`);
   const rows = rowsOf(text);
@@ -124,6 +125,7 @@ async function main(args) {
   return judged.some(({ fails }) => fails) ? 1 : 0;
 }
 
+endOnLostOutput('run-until');
 try {
   process.exitCode = await main(process.argv.slice(2));
 } catch (error) {

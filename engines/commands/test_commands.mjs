@@ -62,12 +62,13 @@ const MISTAKES = [
   ['engines/reorder', [], /0 words: expected MODULE and DOC/],
   ['engines/reorder', [module('store-buffering'), 'nothing.json'], /cannot read nothing\.json: no such file/],
   ['engines/reorder', [module('store-buffering'), 'text.json'], /the log is not read: refused /],
-  ['engines/reorder', ['nothing.wasm', '-'], /nothing\.wasm: cannot read/],
+  ['engines/reorder', ['nothing.wasm', '-'], /^reorder: cannot read nothing\.wasm$/m],
   ['engines/reorder', ['--seconds', '0', module('store-buffering'), '-'], /--seconds 0: expected/],
   ['engines/run-until', [], /0 words: expected MODULE, ROUNDS and at least one START/],
   ['engines/run-until', [module('store-buffering'), '0', 'a', 'b'], /wmlab run: refused command rounds/],
   ['engines/run-until', ['--want', '1', module('store-buffering'), '5', 'a', 'b'], /--want "1": 1 ends for 2 threads/],
-  ['engines/run-until', ['nothing.wasm', '5', 'a', 'b'], /wmlab run: cannot read/],
+  ['engines/run-until', ['nothing.wasm', '5', 'a', 'b'], /^run-until: cannot read nothing\.wasm$/m],
+  ['engines/run-until', ['--wmlab', '/bin/cat', module('store-buffering'), '5', 'a', 'b'], /--wmlab \/bin\/cat: this is not wmlab/],
   ['engines/run-until', ['--kept', '/dev/full', module('store-buffering'), '5', 'a', 'b'], /cannot write to the folder \/dev\/full/],
 ];
 

@@ -12,13 +12,16 @@ export function parseStart(word) {
   return { name, args: args.map(BigInt) };
 }
 
+/** A name as it is shown in one line. */
+const shown = (name) => (/[\u0000-\u001f\u007f-\u009f\u2028\u2029]/.test(name) ? JSON.stringify(name) : name);
+
 const counted = (count) => `${count} ${count === 1 ? 'argument' : 'arguments'}`;
 
 /** A start of an exported function, with its arguments as unsigned integers, as a log has them. */
 export function unsignedStart({ name, args }, functions) {
   const parameters = functions.get(name);
   if (!parameters) {
-    const known = [...functions.keys()].join(', ') || 'none';
+    const known = [...functions.keys()].map(shown).join(', ') || 'none';
     throw new UserError(`start ${name}: no function is exported under this name; exported are ${known}`);
   }
   const usage = [name, ...parameters.map((type) => type.toUpperCase())].join(':');

@@ -9,12 +9,15 @@ const TAKING = moduleOf({
   types: [[0x60, 0, 0], [0x60, 2, 0x7f, 0x7e, 0]], functions: [{ code: [], exported: 'none' }, { code: [], type: 1, exported: 'two' }],
 });
 
+const ODDLY_NAMED = moduleOf({ functions: [{ code: [], exported: 'a\nb' }, { code: [], exported: 'c' }] });
+
 /** What cannot be recorded, or is not there, and what the refusal says. */
 const REFUSED = [
   [() => startsOf(moduleOf({ functions: [], types: [], memory: null }), [parseStart('a')]), /no function is exported under this name; exported are none$/],
   [() => startsOf(TAKING, [parseStart('none:1:2')]), /^start none:1:2: none takes 0 arguments, and 2 are given; write none$/],
   [() => startsOf(TAKING, [parseStart('two:1')]), /^start two:1: two takes 2 arguments, and 1 is given; write two:I32:I64$/],
   [() => startsOf(TAKING, [parseStart('other')]), /^start other: no function is exported under this name; exported are none, two$/],
+  [() => startsOf(ODDLY_NAMED, [parseStart('b')]), /^start b: no function is exported under this name; exported are "a\\nb", c$/],
   [() => refuseOptions({ mode: 'fast' }, ['a']), /^mode fast: the modes are locked, buffered, free$/],
   [() => refuseOptions({ mode: 'free', wrong: 'fence' }, ['a']), /^--wrong fence: expected plain-atomics, torn-store, stale-load$/],
   [() => refuseOptions({ mode: 'locked', wrong: 'stale-load' }, ['a']), /^--wrong needs --mode buffered or --mode free$/],

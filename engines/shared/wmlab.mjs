@@ -75,9 +75,9 @@ export async function examine(program, module) {
   const { text, status } = await ask(program, ['check', module, '-'], EMPTY_LOG);
   if (status === 0 && text === 'allowed threads=0 events=0') return;
   const line = text.split('\n')[0];
-  if ((status === 2 && line.startsWith('refused ')) || (status === 3 && line.startsWith('cannot '))) {
-    throw new UserError(`${module}: ${line}`);
-  }
+  if (status === 2 && line.startsWith('refused ')) throw new UserError(`${module}: ${line}`);
+  // This line names the module.
+  if (status === 3 && line.startsWith('cannot ')) throw new UserError(line);
   throw new UserError(`--wmlab ${program}: this is not wmlab; it answers an empty log with status ${status}`);
 }
 
