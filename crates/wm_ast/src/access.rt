@@ -6,7 +6,7 @@ use wm_access::{AccessWidth, MemoryOrder, RmwOperator};
 
 /// The type of the operand, and how many of its low bytes are in memory.
 /// `I32` and `I64` take all of them.
-#[derive(Clone, Copy, Debug, PartialEq, Eq)]
+#[derive(Clone, Copy, PartialEq, Eq)]
 pub enum Storage {
     I32,
     I64,
@@ -44,7 +44,7 @@ impl Storage {
 }
 
 /// The type of an operand that memory holds in fewer bytes than the operand has.
-#[derive(Clone, Copy, Debug, PartialEq, Eq)]
+#[derive(Clone, Copy, PartialEq, Eq)]
 pub enum Narrow {
     I32As8,
     I32As16,
@@ -71,7 +71,7 @@ impl Narrow {
 }
 
 /// What is done to memory. Plain accesses are unordered, atomic ones sequentially consistent.
-#[derive(Clone, Copy, Debug, PartialEq, Eq)]
+#[derive(Clone, Copy, PartialEq, Eq)]
 pub enum AccessKind {
     /// A plain load; bytes that aren't in memory are 0.
     Read(Storage),

@@ -7,7 +7,7 @@ use std::alloc::{AllocError, Global};
 use std::marker::Model;
 
 /// What an export names.
-#[derive(Clone, Copy, Debug, PartialEq, Eq)]
+#[derive(Clone, Copy, PartialEq, Eq)]
 pub enum ExportKind {
     Func,
     Memory,
@@ -15,7 +15,7 @@ pub enum ExportKind {
 }
 
 /// An export: what it names, and its index among the items of that kind.
-#[derive(Clone, Copy, Debug, PartialEq, Eq)]
+#[derive(Clone, Copy, PartialEq, Eq)]
 pub struct Export {
     pub kind: ExportKind,
     pub index: u32,

@@ -9,14 +9,14 @@ use wm_num::{BinaryOperator, Comparison, Conversion, UnaryOperator, Width};
 pub type Block = List<Instr>;
 
 /// Whether the bytes of an `if` have an else part.
-#[derive(Clone, Copy, Debug, PartialEq, Eq)]
+#[derive(Clone, Copy)]
 pub enum Else {
     Present,
     Absent,
 }
 
 /// The immediates of a memory instruction (Core 1.0, section 2.4.4).
-#[derive(Clone, Copy, Debug, PartialEq, Eq)]
+#[derive(Clone, Copy, PartialEq, Eq)]
 pub struct MemArg {
     /// The alignment hint, as an exponent of 2.
     pub alignment: u32,

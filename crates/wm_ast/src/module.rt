@@ -19,14 +19,14 @@ pub struct Func {
 }
 
 /// An initial value: one constant (Core 1.0, section 3.3.7), modulo 2 to the power 32 or 64.
-#[derive(Clone, Copy, Debug, PartialEq, Eq)]
+#[derive(Clone, Copy, PartialEq, Eq)]
 pub enum ConstExpr {
     I32(u32),
     I64(u64),
 }
 
 /// A global (Core 1.0, section 2.5.6).
-#[derive(Clone, Copy, Debug, PartialEq, Eq)]
+#[derive(Clone, Copy, PartialEq, Eq)]
 pub struct Global {
     pub ty: ValType,
     pub mutability: Mutability,

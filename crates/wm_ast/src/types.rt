@@ -5,7 +5,7 @@ use wm_list::List;
 use wm_num::Width;
 
 /// The type of a value (Core 1.0, section 2.3.1), without the floats.
-#[derive(Clone, Copy, Debug, PartialEq, Eq)]
+#[derive(Clone, Copy, PartialEq, Eq)]
 pub enum ValType {
     I32,
     I64,
@@ -37,14 +37,14 @@ pub struct FuncType {
 
 /// The initial and the maximal number of pages, of 65,536 bytes each, of a shared memory (Core 1.0, section 2.3.4; a
 /// shared memory has a maximum by the threads proposal).
-#[derive(Clone, Copy, Debug, PartialEq, Eq)]
+#[derive(Clone, Copy, PartialEq, Eq)]
 pub struct Limits {
     pub minimum: u32,
     pub maximum: u32,
 }
 
 /// Whether a global may be set (Core 1.0, section 2.3.7).
-#[derive(Clone, Copy, Debug, PartialEq, Eq)]
+#[derive(Clone, Copy, PartialEq, Eq)]
 pub enum Mutability {
     Constant,
     Variable,

@@ -22,7 +22,7 @@ use wm_rules::judge;
 use wm_valid::{ValidFault, ValidModule, validate};
 
 /// Why there is no run to compare.
-#[derive(Debug, Drop)]
+#[derive(Drop)]
 pub enum Unread {
     Refused(Refusal),
     /// An allocation failed.

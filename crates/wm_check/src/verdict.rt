@@ -10,7 +10,7 @@ use wm_replay::ReplayAnswer;
 use wm_valid::ValidFault;
 
 /// The size of an allowed run.
-#[derive(Clone, Copy, Debug, PartialEq, Eq)]
+#[derive(Clone, Copy)]
 pub struct Certificate {
     /// How many threads its log has.
     pub threads: usize,
@@ -19,7 +19,7 @@ pub struct Certificate {
 }
 
 /// Why a module or a log is refused. A fault comes only if none of those above it does. None of them is `OutOfMemory`.
-#[derive(Debug, Drop)]
+#[derive(Drop)]
 pub enum Refusal {
     /// The bytes are not a module within the limits.
     Decode(DecodeFault),
@@ -46,7 +46,7 @@ impl fmt::Display for Refusal {
 }
 
 /// Why a run isn't a run of the module, or isn't permitted by the memory rules.
-#[derive(Clone, Copy, Debug, PartialEq, Eq)]
+#[derive(Clone, Copy)]
 pub enum Breach {
     /// The first thread whose log isn't its run. The answer isn't `Same`.
     Replay(ReplayAnswer),
@@ -68,7 +68,7 @@ impl fmt::Display for Breach {
 }
 
 /// The verdict on a module and a log.
-#[derive(Debug, Drop)]
+#[derive(Drop)]
 pub enum Verdict {
     /// The module and the memory rules permit the run.
     Allowed(Certificate),

@@ -10,7 +10,7 @@ use clap::{Arg, ArgAction, ArgMatches, Command as Parser, Error};
 use std::alloc::{AllocError, Global};
 
 /// What is asked about the run of a document over a module.
-#[derive(Clone, Copy, Debug, PartialEq, Eq)]
+#[derive(Clone, Copy)]
 pub enum RunTask {
     /// Checks the run.
     Check,
@@ -27,7 +27,7 @@ pub enum RunTask {
 }
 
 /// What is asked about a document alone.
-#[derive(Clone, Copy, Debug, PartialEq, Eq)]
+#[derive(Clone, Copy)]
 pub enum DocumentTask {
     /// Judges its run by the memory rules.
     Rules,
@@ -42,7 +42,7 @@ pub enum DocumentTask {
 }
 
 /// A command of the program.
-#[derive(Clone, Copy, Debug, PartialEq, Eq)]
+#[derive(Clone, Copy)]
 pub enum Command<'a> {
     /// Answers what is asked about the run of a document over a module.
     OfRun {
@@ -81,7 +81,7 @@ pub enum Command<'a> {
 }
 
 /// Why the words are not a command.
-#[derive(Clone, Copy, Debug, PartialEq, Eq)]
+#[derive(Clone, Copy)]
 pub enum CommandFault {
     Words,
     OutOfMemory,

@@ -34,7 +34,7 @@ pub enum Feature {
 }
 
 /// A quantity that is over its limit.
-#[derive(Clone, Copy, Debug, PartialEq, Eq)]
+#[derive(Clone, Copy, Debug)]
 pub enum Limit {
     /// More than 1,048,576 bytes.
     ModuleBytes,
@@ -49,7 +49,7 @@ pub enum Limit {
 }
 
 /// What is wrong with the bytes.
-#[derive(Clone, Copy, Debug, PartialEq, Eq)]
+#[derive(Clone, Copy, Debug)]
 pub enum FaultKind {
     /// The first four bytes aren't the magic number of a binary module.
     Magic,
@@ -78,7 +78,7 @@ pub enum FaultKind {
 }
 
 /// Why bytes were not decoded.
-#[derive(Clone, Copy, Debug, PartialEq, Eq, Error)]
+#[derive(Clone, Copy, Debug, Error)]
 pub enum DecodeFault {
     /// What is wrong, and the offset of the faulty item's first byte.
     At(FaultKind, usize),

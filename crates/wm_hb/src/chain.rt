@@ -13,7 +13,7 @@ use wm_event::{Candidate, EventId, EventKey};
 use wm_list::List;
 
 /// Which edge of happens-before a link is.
-#[derive(Clone, Copy, Debug, PartialEq, Eq)]
+#[derive(Clone, Copy)]
 pub enum LinkKind {
     /// From Init to an event.
     Initial,
@@ -24,7 +24,7 @@ pub enum LinkKind {
 }
 
 /// A link of a chain of happens-before.
-#[derive(Clone, Copy, Debug, PartialEq, Eq)]
+#[derive(Clone, Copy)]
 pub struct Link {
     pub kind: LinkKind,
     /// The event that it leads to.

@@ -43,7 +43,7 @@ pub struct Ordered<'c, 'i> {
 
 /// An edge of happens-before that the order doesn't agree with: its later end as the event, its earlier end as the
 /// writer.
-#[derive(Clone, Copy, Debug, PartialEq, Eq)]
+#[derive(Clone, Copy)]
 pub struct Edge {
     pub case: u8,
     pub event: EventKey,

@@ -7,7 +7,7 @@ use wm_event::{EventId, Rule, RuleFault};
 use wm_list::List;
 
 /// A premise: one event happens before another.
-#[derive(Clone, Copy, Debug, PartialEq, Eq)]
+#[derive(Clone, Copy)]
 pub struct Premise {
     pub from: EventId,
     pub to: EventId,

@@ -8,7 +8,7 @@ use wm_event::{Candidate, EventId, EventKey};
 use wm_list::List;
 
 /// Adjacent bytes of a read that one writer wrote.
-#[derive(Clone, Copy, Debug, PartialEq, Eq)]
+#[derive(Clone, Copy)]
 pub struct WriterRun {
     pub writer: EventId,
     /// The first byte, counted from 0 in the read's range.

@@ -1,14 +1,14 @@
 //! The operators and their widths, under the standard's names (Core 1.0, section 2.4.1).
 
 /// How many bits an operand has: an i32 has 32, an i64 has 64.
-#[derive(Clone, Copy, Debug, PartialEq, Eq)]
+#[derive(Clone, Copy, Debug)]
 pub enum Width {
     W32,
     W64,
 }
 
 /// An operator on two operands whose result is an operand too.
-#[derive(Clone, Copy, Debug, PartialEq, Eq)]
+#[derive(Clone, Copy, Debug)]
 pub enum BinaryOperator {
     Add,
     Sub,
@@ -28,7 +28,7 @@ pub enum BinaryOperator {
 }
 
 /// An operator on one operand that counts bits.
-#[derive(Clone, Copy, Debug, PartialEq, Eq)]
+#[derive(Clone, Copy, Debug)]
 pub enum UnaryOperator {
     Clz,
     Ctz,
@@ -36,7 +36,7 @@ pub enum UnaryOperator {
 }
 
 /// A comparison of two operands. The standard's `eqz` is `Eq` with 0.
-#[derive(Clone, Copy, Debug, PartialEq, Eq)]
+#[derive(Clone, Copy, Debug)]
 pub enum Comparison {
     Eq,
     Ne,
@@ -51,7 +51,7 @@ pub enum Comparison {
 }
 
 /// A conversion from one width to the other.
-#[derive(Clone, Copy, Debug, PartialEq, Eq)]
+#[derive(Clone, Copy)]
 pub enum Conversion {
     /// An i64 to an i32.
     WrapI64,

@@ -12,7 +12,7 @@ use wm_event::{Candidate, Event, EventId, EventKey};
 use wm_hb::HappensBefore;
 
 /// Two events that race.
-#[derive(Clone, Copy, Debug, PartialEq, Eq)]
+#[derive(Clone, Copy)]
 pub struct RacingPair {
     /// An event that only reads, or that also writes and comes later in the order than `write`.
     pub event: EventKey,

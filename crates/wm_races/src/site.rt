@@ -6,7 +6,7 @@ use wm_event::EventKey;
 use wm_list::List;
 
 /// An instruction of a module; for a log without a module the event itself, by its thread and its number.
-#[derive(Clone, Copy, Debug, PartialEq, Eq, Hash)]
+#[derive(Clone, Copy, PartialEq, Eq, Hash)]
 pub struct Site {
     /// The function, by its index.
     pub function: u32,
@@ -26,7 +26,7 @@ pub(crate) struct SitePair {
 }
 
 /// The races between two sites.
-#[derive(Clone, Copy, Debug, PartialEq, Eq)]
+#[derive(Clone, Copy)]
 pub struct SiteRace {
     /// The site of `event`.
     pub site: Site,

@@ -6,7 +6,7 @@ use std::fmt;
 use wm_machine::StartFault;
 
 /// Where a thread differs from its log.
-#[derive(Clone, Copy, Debug, PartialEq, Eq)]
+#[derive(Clone, Copy, PartialEq, Eq)]
 pub enum Place {
     /// At the log's event of that number: the thread makes an access there that can't be that event, whatever value it
     /// reads; or it makes an access and the log has no event; or it makes none and the log has one.
@@ -28,7 +28,7 @@ impl fmt::Display for Place {
 }
 
 /// How a log compares with the runs of its threads. The thread named is the first that differs.
-#[derive(Clone, Copy, Debug, PartialEq, Eq)]
+#[derive(Clone, Copy, PartialEq, Eq)]
 pub enum ReplayAnswer {
     /// Each thread's events and end are the ones that its run has on the values that it read.
     Same,

@@ -16,7 +16,7 @@ pub trait Gate {
 }
 
 /// The gate that is always open.
-#[derive(Clone, Copy, Debug)]
+#[derive(Clone, Copy)]
 pub struct OpenGate;
 
 impl Gate for OpenGate {

@@ -7,7 +7,7 @@ use wm_list::List;
 use wm_machine::CodePosition;
 
 /// Why a thread makes no step. The first reason that applies is named.
-#[derive(Clone, Copy, Debug, PartialEq, Eq)]
+#[derive(Clone, Copy)]
 pub enum Rest {
     /// It has ended.
     Ended,
@@ -18,7 +18,7 @@ pub enum Rest {
 }
 
 /// What a turn of a script did.
-#[derive(Clone, Copy, Debug, PartialEq, Eq)]
+#[derive(Clone, Copy)]
 pub enum TurnDone {
     /// The thread made a step without an access.
     Stepped,

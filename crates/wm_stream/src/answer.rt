@@ -6,7 +6,7 @@ ghost use Rattle.wm_stream.specs.Answers.{status_code, worse};
 use std::alloc::{AllocError, Global};
 
 /// The kind of answer to a line.
-#[derive(Clone, Copy, Debug, PartialEq, Eq)]
+#[derive(Clone, Copy)]
 pub enum LineStatus {
     Allowed,
     Broken,

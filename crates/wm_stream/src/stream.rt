@@ -21,7 +21,7 @@ const GROWTH: usize = 1 << 4;
 const PART: usize = 1 << 24;
 
 /// Why a stream was not answered to its end.
-#[derive(Clone, Copy, Debug, PartialEq, Eq)]
+#[derive(Clone, Copy)]
 pub enum StreamFault {
     /// A read failed.
     Read,

@@ -8,7 +8,7 @@ use wm_hb::{FaultChain, LinkKind};
 use wm_list::List;
 
 /// That a read takes a byte from a writer.
-#[derive(Clone, Copy, Debug, PartialEq, Eq)]
+#[derive(Clone, Copy, PartialEq, Eq)]
 pub struct Need {
     pub reader: EventKey,
     pub writer: EventId,
