@@ -200,17 +200,24 @@ impl fmt::Display for Feature {
     }
 }
 
+/// The name of a limit, as a fault prints it.
+fn limit_name(limit: Limit) -> &'static str
+    ensures { result.now ≡ limit_text limit }
+{
+    match limit {
+        Limit::ModuleBytes => "ModuleBytes",
+        Limit::Pages => "Pages",
+        Limit::Functions => "Functions",
+        Limit::Locals => "Locals",
+        Limit::Nesting => "Nesting",
+    }
+}
+
 impl fmt::Display for Limit {
     ghost output = { λ limit. Some (limit_text limit) };
 
     fn fmt<W: fmt::Write>(&self, f: &mut fmt::Formatter<W>) -> fmt::Result {
-        match self {
-            Limit::ModuleBytes => f.write_str("ModuleBytes"),
-            Limit::Pages => f.write_str("Pages"),
-            Limit::Functions => f.write_str("Functions"),
-            Limit::Locals => f.write_str("Locals"),
-            Limit::Nesting => f.write_str("Nesting"),
-        }
+        f.write_str(limit_name(*self))
     }
 }
 

@@ -2,11 +2,6 @@
 
 use std::fmt;
 
-/// A string in quotes, with the escapes of JSON (RFC 8259, section 7). Control characters are escaped, including
-/// U+007F, so that no name can control the terminal.
-#[derive(Clone, Copy)]
-pub struct JsonText<'a>(pub &'a str);
-
 /// Writes a character of a string.
 fn write_char<W: fmt::Write>(f: &mut fmt::Formatter<W>, character: char) -> fmt::Result {
     match character {
@@ -20,13 +15,27 @@ fn write_char<W: fmt::Write>(f: &mut fmt::Formatter<W>, character: char) -> fmt:
     }
 }
 
+/// Writes a string in quotes; after `most` of its characters, `..` replaces the rest.
+fn write_quoted<W: fmt::Write>(f: &mut fmt::Formatter<W>, text: &str, most: usize) -> fmt::Result {
+    f.write_str("\"")?;
+    for (number, character) in text.chars().enumerate() {
+        if number == most {
+            f.write_str("..")?;
+            break;
+        }
+        write_char(f, character)?;
+    }
+    f.write_str("\"")
+}
+
+/// A string in quotes, with the escapes of JSON (RFC 8259, section 7). Control characters are escaped, including
+/// U+007F, so that no name can control the terminal.
+#[derive(Clone, Copy)]
+pub struct JsonText<'a>(pub &'a str);
+
 impl fmt::Display for JsonText<'_> {
     fn fmt<W: fmt::Write>(&self, f: &mut fmt::Formatter<W>) -> fmt::Result {
-        f.write_str("\"")?;
-        for character in self.0.chars() {
-            write_char(f, character)?;
-        }
-        f.write_str("\"")
+        write_quoted(f, self.0, usize::MAX)
     }
 }
 
@@ -39,14 +48,6 @@ pub struct ShortText<'a>(pub &'a str);
 
 impl fmt::Display for ShortText<'_> {
     fn fmt<W: fmt::Write>(&self, f: &mut fmt::Formatter<W>) -> fmt::Result {
-        f.write_str("\"")?;
-        for (number, character) in self.0.chars().enumerate() {
-            if number == MAX_CHARACTERS {
-                f.write_str("..")?;
-                break;
-            }
-            write_char(f, character)?;
-        }
-        f.write_str("\"")
+        write_quoted(f, self.0, MAX_CHARACTERS)
     }
 }

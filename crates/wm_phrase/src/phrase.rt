@@ -13,11 +13,8 @@ pub struct Count<'a>(pub u64, pub &'a str);
 impl fmt::Display for Count<'_> {
     fn fmt<W: fmt::Write>(&self, f: &mut fmt::Formatter<W>) -> fmt::Result {
         let Count(number, thing) = *self;
-        if number == 1 {
-            write!(f, "{number} {thing}")
-        } else {
-            write!(f, "{number} {thing}s")
-        }
+        let ending = if number == 1 { "" } else { "s" };
+        write!(f, "{number} {thing}{ending}")
     }
 }
 
@@ -73,8 +70,9 @@ impl<'a> EventPhrase<'a> {
         }
     }
 
-    /// Writes a value of the event.
-    fn write_value<W: fmt::Write>(&self, out: &mut W, value: u64) -> fmt::Result {
+    /// Writes a value of the event after these words.
+    fn write_value<W: fmt::Write>(&self, out: &mut W, words: &str, value: u64) -> fmt::Result {
+        out.write_str(words)?;
         match self.form {
             ValueForm::Decimal => write_number(out, value),
             ValueForm::WithHex => {
@@ -94,17 +92,15 @@ impl<'a> EventPhrase<'a> {
         out.write_str(self.deed())?;
         out.write_str(bytes_at(event.width))?;
         write_number(out, u64::from(event.address))?;
-        if event.reads() {
-            out.write_str(", which reads ")?;
-            self.write_value(out, event.read)?;
-            if !event.writes() {
-                return Ok(());
-            }
-            out.write_str(" and writes ")?;
-        } else {
-            out.write_str(", which writes ")?;
+        if !event.reads() {
+            return self.write_value(out, ", which writes ", event.written);
         }
-        self.write_value(out, event.written)
+        self.write_value(out, ", which reads ", event.read)?;
+        if event.writes() {
+            self.write_value(out, " and writes ", event.written)
+        } else {
+            Ok(())
+        }
     }
 }
 

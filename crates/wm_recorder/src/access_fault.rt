@@ -1,5 +1,5 @@
 //! Why an access isn't made.
-ghost use Rattle.std.specs.Prelude.{Some};
+ghost use Rattle.std.specs.Prelude.{◌≡◌, Some};
 ghost use Rattle.wm_recorder.specs.Texts.{access_fault_text};
 
 use std::fmt;
@@ -18,15 +18,22 @@ pub enum AccessFault {
     Full,
 }
 
+/// The name of a fault, as it prints.
+fn access_fault_name(fault: AccessFault) -> &'static str
+    ensures { result.now ≡ access_fault_text fault }
+{
+    match fault {
+        AccessFault::NoThread => "NoThread",
+        AccessFault::OutOfBounds => "OutOfBounds",
+        AccessFault::OutOfMemory => "OutOfMemory",
+        AccessFault::Full => "Full",
+    }
+}
+
 impl fmt::Display for AccessFault {
     ghost output = { λ fault. Some (access_fault_text fault) };
 
     fn fmt<W: fmt::Write>(&self, f: &mut fmt::Formatter<W>) -> fmt::Result {
-        match self {
-            AccessFault::NoThread => f.write_str("NoThread"),
-            AccessFault::OutOfBounds => f.write_str("OutOfBounds"),
-            AccessFault::OutOfMemory => f.write_str("OutOfMemory"),
-            AccessFault::Full => f.write_str("Full"),
-        }
+        f.write_str(access_fault_name(*self))
     }
 }

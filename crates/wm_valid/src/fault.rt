@@ -96,19 +96,26 @@ impl<T: Drop> From<AllocFailed<T>> for InstrFault {
     }
 }
 
+/// The name of a rule, as a fault prints it.
+fn kind_name(kind: FaultKind) -> &'static str
+    ensures { result.now ≡ kind_text kind }
+{
+    match kind {
+        FaultKind::BadType => "BadType",
+        FaultKind::Index => "Index",
+        FaultKind::Label => "Label",
+        FaultKind::Alignment => "Alignment",
+        FaultKind::DataOutOfRange => "DataOutOfRange",
+        FaultKind::MemoryAbsent => "MemoryAbsent",
+        FaultKind::MemoryLimits => "MemoryLimits",
+    }
+}
+
 impl fmt::Display for FaultKind {
     ghost output = { λ kind. Some (kind_text kind) };
 
     fn fmt<W: fmt::Write>(&self, f: &mut fmt::Formatter<W>) -> fmt::Result {
-        match self {
-            FaultKind::BadType => f.write_str("BadType"),
-            FaultKind::Index => f.write_str("Index"),
-            FaultKind::Label => f.write_str("Label"),
-            FaultKind::Alignment => f.write_str("Alignment"),
-            FaultKind::DataOutOfRange => f.write_str("DataOutOfRange"),
-            FaultKind::MemoryAbsent => f.write_str("MemoryAbsent"),
-            FaultKind::MemoryLimits => f.write_str("MemoryLimits"),
-        }
+        f.write_str(kind_name(*self))
     }
 }
 

@@ -8,7 +8,7 @@ use wm_hb::{FaultChain, LinkKind};
 use wm_list::List;
 
 /// That a read takes a byte from a writer.
-#[derive(Clone, Copy, PartialEq, Eq)]
+#[derive(Clone, Copy)]
 pub struct Need {
     pub reader: EventKey,
     pub writer: EventId,
