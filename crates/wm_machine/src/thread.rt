@@ -60,7 +60,6 @@ pub struct CodePosition {
 
 /// A thread of a module, with its calls and its own globals. Contracts see it as these and the module; `config_of` is
 /// its configuration in the semantics.
-#[derive(Drop)]
 pub struct Thread<'m> {
     module: &'m Module,
     end: Option<End>,
@@ -69,6 +68,20 @@ pub struct Thread<'m> {
     call_stack: CallStack<'m>,
     globals: List<TypedValue>,
     alloc: Global,
+}
+
+// By hand, since a derived drop is written out wherever a thread goes out of scope.
+impl<'m> Drop for Thread<'m> {
+    fn drop(self) {
+        let Thread {
+            module: _module,
+            end: _end,
+            running: _running,
+            call_stack: _call_stack,
+            globals: _globals,
+            alloc: _alloc,
+        } = self;
+    }
 }
 
 impl<'m> Model for Thread<'m> {
