@@ -259,15 +259,15 @@ fn instr<'a>(
     ensures { ReadsInstr blocks.old.items blocks.new.items depth_left op (λ x. (x.0, x.1.now)) result bytes.now }
 {
     match op {
-        0x02 => {
+        0x02 | 0x03 => {
             let (ty, rest) = block_header(depth_left, bytes)?;
             let (number, rest) = closed(alloc, depth_left - 1, blocks, rest)?;
-            Ok((Instr::Block(ty, number), rest))
-        }
-        0x03 => {
-            let (ty, rest) = block_header(depth_left, bytes)?;
-            let (number, rest) = closed(alloc, depth_left - 1, blocks, rest)?;
-            Ok((Instr::Loop(ty, number), rest))
+            let instr = if op == 0x02 {
+                Instr::Block(ty, number)
+            } else {
+                Instr::Loop(ty, number)
+            };
+            Ok((instr, rest))
         }
         0x04 => {
             let (ty, rest) = block_header(depth_left, bytes)?;
