@@ -5,7 +5,7 @@ use Rattle.std.proofs.Math.Seq.{drop-length}
 use Rattle.std.proofs.lemmas.Bool.{cases_lt}
 use Rattle.std.proofs.lemmas.Grind.{common_steps, get_or-set_at}
 use Rattle.std.proofs.lemmas.List.{drop-append-le, get_or-set_other, length-append, length-drop, length-reverse, reverse-append, take-append-drop, take_at}
-use Rattle.std.proofs.lemmas.Option.{gets, same_Some, slice_get-get_or}
+use Rattle.std.proofs.lemmas.Option.{gets, same_Some, slice_get-get_or, slice_get_within}
 use Rattle.wm_event.specs.declared.event.Event.{Event}
 use Rattle.wm_event.specs.declared.event.EventKey.{EventKey}
 use Rattle.wm_event.specs.declared.event.EventId.{EventId}
@@ -185,6 +185,13 @@ in-thread (Some th) n there = (th, refl, some-within th.events n there)
 -- the thread of an event of a log
 pub thread-of : (log : List ThreadLog) (t n : ℕ) → IsSome (event_in log (record { thread = t; number = n })) → (thread : ThreadLog) × (slice_get log t ≡ Some thread) × (n < length thread.events)
 thread-of log t n there = in-thread (slice_get log t) n there
+
+-- the thread of an event is one of the threads of the log
+pub thread-within : (log : List ThreadLog) (key : EventKey) (threads : ℕ) → IsSome (event_in log key) → threads ≡ length log → key.thread < threads
+thread-within log key threads there size =
+    let thread = thread-of log key.thread key.number there in
+    let within = slice_get_within log key.thread thread.0 thread.1 in
+    omega (arith, within, size)
 
 -- what stands in a list after one item is set
 pub set-same : {X : Type 0} (xs : List X) (i : ℕ) (x y : X) → i < length xs → slice_get (slice_set xs i x) i ≡ Some y → x ≡ y

@@ -1,22 +1,28 @@
 use Rattle.std.proofs.Common.{◌≡◌, ◌-◌, ◌<◌, ℕ, List, Option, None, Some, true, false, not, is_some, ap, arith, drop, length, refl, reverse, slice_get, slice_set, subst, sym, take, unwrap_or, ◌∙◌}
 use Rattle.std.proofs.lemmas.List.{length-drop, length-reverse, length-set}
-use Rattle.std.proofs.lemmas.Option.{slice_get-get_or, slice_get_within}
+use Rattle.std.proofs.lemmas.Option.{slice_get-get_or}
 use Rattle.wm_event.specs.declared.event.EventId.TheVariants.{At}
 use Rattle.wm_event.specs.LoggedRun.{execution}
 use Rattle.wm_hb.specs.Chain.{Leads}
 use Rattle.wm_hb.specs.Cycle.{next_key}
 use Rattle.wm_hb.specs.declared.chain.Link.{Link}
-use Rattle.wm_hb.proofs.CycleLaws.{LeadsBack, blank, blanks-less, led-back, leads-on, thread-of, turned-rest}
+use Rattle.wm_hb.proofs.CycleLaws.{LeadsBack, blank, blanks-less, led-back, leads-on, thread-within, turned-rest}
 use Rattle.wm_hb.proofs.cycle.cycle_before.Goals as goal
+
+pub index-requires : goal.index-requires
+index-requires c = thread-within c.args.candidate.now.log c.loop-backwards.event _ c.loop-backwards.invariant.next.1 (c.loop-backwards.entered.ok.0 ∙ c.loop-backwards.invariant.size)
+
+pub index_mut-requires : goal.index_mut-requires
+index_mut-requires c = thread-within c.args.candidate.now.log c.loop-backwards.event _ c.loop-backwards.invariant.next.1 (c.loop-backwards.entered.ok.0 ∙ c.loop-backwards.invariant.size)
+
+pub index-requires-2 : goal.index-requires-2
+index-requires-2 c = thread-within c.args.candidate.now.log c.loop-backwards.event _ c.loop-backwards.invariant.next.1 (c.loop-backwards.entered.ok.0 ∙ c.loop-backwards.invariant.size)
 
 pub loop-backwards-smaller : goal.loop-backwards-smaller
 loop-backwards-smaller c =
     let entered : List (Option ℕ) = c.loop-backwards.entered.items in
     let event = c.loop-backwards.event in
-    let thread = thread-of c.args.candidate.now.log event.thread event.number c.loop-backwards.invariant.next.1 in
-    let within = slice_get_within c.args.candidate.now.log event.thread thread.0 thread.1 in
-    let size = c.loop-backwards.invariant.size in
-    let inside : event.thread < length entered = omega (arith, within, size) in
+    let inside = thread-within c.args.candidate.now.log event (length entered) c.loop-backwards.invariant.next.1 c.loop-backwards.invariant.size in
     let none : c.index.result.now ≡ None = blank c.index.result.now (c.is_none.ensures ∙ ap not c.loop-backwards-test.true) in
     let at : slice_get entered event.thread ≡ Some None = slice_get-get_or entered event.thread c.index.result.now inside ∙ ap Some (sym c.index.ensures ∙ none) in
     blanks-less entered event.thread c.len.result at
@@ -30,16 +36,13 @@ loop-backwards-preserved c =
     let new : List Link = c.go_back.new.backwards.items in
     let event = c.loop-backwards.event in
     let before = c.in_ok-event.event in
-    let thread = thread-of c.args.candidate.now.log event.thread event.number c.loop-backwards.invariant.next.1 in
-    let within = slice_get_within c.args.candidate.now.log event.thread thread.0 thread.1 in
-    let size = c.loop-backwards.invariant.size in
-    let inside : event.thread < length entered = omega (arith, within, size) in
+    let inside = thread-within c.args.candidate.now.log event (length entered) c.loop-backwards.invariant.next.1 c.loop-backwards.invariant.size in
     let len : c.len.result ≡ length old = c.len.ensures ∙ c.loop-backwards.backwards.ok.0 in
     let on : LeadsBack x s (slice_set entered event.thread (Some (length old))) new before =
     leads-on x s old new entered before event c.loop-backwards.invariant.next.0 inside c.in_ok-event.ensures.links c.loop-backwards.invariant.back in
     record {
       next = c.in_ok-event.ensures.next;
-      size = length-set entered event.thread (Some c.len.result) ∙ size;
+      size = length-set entered event.thread (Some c.len.result) ∙ c.loop-backwards.invariant.size;
       back = subst (λ n. LeadsBack x s (slice_set entered event.thread (Some n)) new before) (sym len) on;
     }
 
@@ -50,11 +53,8 @@ overflow_sub-count c =
     let entered : List (Option ℕ) = c.loop-backwards.entered.items in
     let links : List Link = c.loop-backwards.backwards.items in
     let event = c.loop-backwards.event in
-    let thread = thread-of c.args.candidate.now.log event.thread event.number c.loop-backwards.invariant.next.1 in
-    let within = slice_get_within c.args.candidate.now.log event.thread thread.0 thread.1 in
-    let size = c.loop-backwards.invariant.size in
     let some : is_some c.index.result.now ≡ true = c.is_none.ensures ∙ ap not c.loop-backwards-test.false in
-    let led = led-back x s entered links event c.loop-backwards.invariant.back (omega (arith, within, size)) c.index.result.now c.index-2.result.now c.index.ensures c.index-2.ensures some in
+    let led = led-back x s entered links event c.loop-backwards.invariant.back (thread-within c.args.candidate.now.log event (length entered) c.loop-backwards.invariant.next.1 c.loop-backwards.invariant.size) c.index.result.now c.index-2.result.now c.index.ensures c.index-2.ensures some in
     let inside = led.0 in
     let start = c.unwrap_or-start.ensures in
     let len : c.len-2.result ≡ length links = c.len-2.ensures ∙ c.loop-backwards.backwards.ok.0 in
@@ -67,11 +67,8 @@ returns c =
     let entered : List (Option ℕ) = c.loop-backwards.entered.items in
     let links : List Link = c.loop-backwards.backwards.items in
     let event = c.loop-backwards.event in
-    let thread = thread-of c.args.candidate.now.log event.thread event.number c.loop-backwards.invariant.next.1 in
-    let within = slice_get_within c.args.candidate.now.log event.thread thread.0 thread.1 in
-    let size = c.loop-backwards.invariant.size in
     let some : is_some c.index.result.now ≡ true = c.is_none.ensures ∙ ap not c.loop-backwards-test.false in
-    let led = led-back x s entered links event c.loop-backwards.invariant.back (omega (arith, within, size)) c.index.result.now c.index-2.result.now c.index.ensures c.index-2.ensures some in
+    let led = led-back x s entered links event c.loop-backwards.invariant.back (thread-within c.args.candidate.now.log event (length entered) c.loop-backwards.invariant.next.1 c.loop-backwards.invariant.size) c.index.result.now c.index-2.result.now c.index.ensures c.index-2.ensures some in
     let n = unwrap_or c.index-2.result.now 0 in
     let inside = led.0 in
     let len : c.len-2.result ≡ length links = c.len-2.ensures ∙ c.loop-backwards.backwards.ok.0 in
