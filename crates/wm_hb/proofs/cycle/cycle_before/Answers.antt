@@ -1,4 +1,4 @@
-use Rattle.std.proofs.Common.{◌≡◌, ◌-◌, ◌<◌, ℕ, List, Option, None, Some, true, false, not, is_some, ap, arith, drop, length, refl, reverse, slice_get, slice_set, subst, sym, take, unwrap_or, ◌∙◌}
+use Rattle.std.proofs.Common.{◌≡◌, ◌-◌, ℕ, List, Option, None, Some, true, false, not, is_some, ap, arith, drop, length, refl, reverse, slice_get, slice_set, subst, sym, take, unwrap_or, ◌∙◌}
 use Rattle.std.proofs.lemmas.List.{length-drop, length-reverse, length-set}
 use Rattle.std.proofs.lemmas.Option.{slice_get-get_or}
 use Rattle.wm_event.specs.declared.event.EventId.TheVariants.{At}
