@@ -1,41 +1,13 @@
 //! The names of functions in a module's custom section `name` (Core 1.0, appendix "Custom Sections").
 
 use crate::byte_reader::{ByteReader, Section};
-use std::alloc::{AllocError, AllocFailed, Global};
+use std::alloc::{AllocError, Global};
 
 /// The number of custom sections (Core 1.0, section 5.5.3).
 const CUSTOM_SECTION: u8 = 0;
 
 /// The number of the subsection with the names of functions.
 const FUNCTION_NAMES: u8 = 1;
-
-/// Why names can't be read.
-#[derive(Clone, Copy)]
-enum Unread {
-    /// The section violates its format.
-    Malformed,
-    OutOfMemory,
-}
-
-impl From<AllocError> for Unread {
-    fn from(_refused: AllocError) -> Unread {
-        Unread::OutOfMemory
-    }
-}
-
-impl<T: Drop> From<AllocFailed<T>> for Unread {
-    fn from(_refused: AllocFailed<T>) -> Unread {
-        Unread::OutOfMemory
-    }
-}
-
-/// The value that was read, or `Malformed` without one.
-fn well_formed<T: Drop>(read: Option<T>) -> Result<T, Unread> {
-    match read {
-        Some(read) => Ok(read),
-        None => Err(Unread::Malformed),
-    }
-}
 
 /// The contents of the first custom section of this name.
 fn custom_section<'m>(module_bytes: &'m [u8], name: &str) -> Option<&'m [u8]> {
@@ -50,8 +22,10 @@ fn custom_section<'m>(module_bytes: &'m [u8], name: &str) -> Option<&'m [u8]> {
     None
 }
 
-/// The subsection with the names of functions, if the section has it. The numbers of subsections increase.
-fn function_subsection(section: &[u8]) -> Result<Option<&[u8]>, Unread> {
+/// The subsection with the names of a module's functions; None without one, or if the custom section
+/// `name` violates its format. The numbers of subsections increase.
+fn function_subsection(module_bytes: &[u8]) -> Option<&[u8]> {
+    let section = custom_section(module_bytes, "name")?;
     let mut reader = ByteReader::new(section);
     let mut names = None;
     let mut least = 0u8;
@@ -59,54 +33,33 @@ fn function_subsection(section: &[u8]) -> Result<Option<&[u8]>, Unread> {
         if reader.is_at_end() {
             break;
         }
-        let Section { id, contents, .. } = well_formed(reader.section())?;
+        let Section { id, contents, .. } = reader.section()?;
         if id < least {
-            return Err(Unread::Malformed);
+            return None;
         }
         least = id.saturating_add(1);
         if id == FUNCTION_NAMES {
             names = Some(contents);
         }
     }
-    Ok(names)
+    names
 }
 
-/// The names of the functions below `functions`, by index. The indices in the subsection increase.
-fn read_names<'m>(
-    alloc: Global,
-    subsection: &'m [u8],
-    functions: usize,
-) -> Result<Vec<Option<&'m str>>, Unread> {
-    let mut names = vec![in alloc; None; functions]?;
+/// Reads the names of functions from their subsection, each to the place of its index; None if the subsection violates its
+/// format, or names a function that has no place. The indices in the subsection increase.
+fn read_names<'m>(names: &mut [Option<&'m str>], subsection: &'m [u8]) -> Option<()> {
     let mut reader = ByteReader::new(subsection);
-    let count = well_formed(reader.number())?;
     let mut least = 0usize;
-    for _ in 0..count {
-        let index = well_formed(reader.number())?;
-        let name = well_formed(reader.name())?;
+    for _ in 0..reader.number()? {
+        let index = reader.number()?;
+        let name = reader.name()?;
         if index < least {
-            return Err(Unread::Malformed);
+            return None;
         }
         least = index.saturating_add(1);
-        *well_formed(names.get_mut(index))? = Some(name);
+        *names.get_mut(index)? = Some(name);
     }
-    if reader.is_at_end() {
-        Ok(names)
-    } else {
-        Err(Unread::Malformed)
-    }
-}
-
-/// The names that a section has for the functions below `functions`.
-fn names_of<'m>(
-    alloc: Global,
-    section: &'m [u8],
-    functions: usize,
-) -> Result<Vec<Option<&'m str>>, Unread> {
-    match function_subsection(section)? {
-        Some(subsection) => read_names(alloc, subsection, functions),
-        None => Ok(Vec::new(alloc)),
-    }
+    if reader.is_at_end() { Some(()) } else { None }
 }
 
 /// The names that the module's custom section `name` has for its functions, by their indices. There are none if its
@@ -121,12 +74,12 @@ pub fn section_names<'m>(
     module_bytes: &'m [u8],
     functions: usize,
 ) -> Result<Vec<Option<&'m str>>, AllocError> {
-    let Some(section) = custom_section(module_bytes, "name") else {
+    let Some(subsection) = function_subsection(module_bytes) else {
         return Ok(Vec::new(alloc));
     };
-    match names_of(alloc, section, functions) {
-        Ok(names) => Ok(names),
-        Err(Unread::Malformed) => Ok(Vec::new(alloc)),
-        Err(Unread::OutOfMemory) => Err(AllocError),
+    let mut names = vec![in alloc; None; functions]?;
+    match read_names(names.as_mut_slice(), subsection) {
+        Some(()) => Ok(names),
+        None => Ok(Vec::new(alloc)),
     }
 }
