@@ -24,18 +24,19 @@ impl Part {
 
 /// An instruction with the prefix `FE` that is not supported.
 fn atomic_part(code: usize) -> Option<Part> {
-    match code {
-        0x00 => Some(Part::named(Feature::Notify, "memory.atomic.notify")),
-        0x01 => Some(Part::named(Feature::Wait, "memory.atomic.wait32")),
-        0x02 => Some(Part::named(Feature::Wait, "memory.atomic.wait64")),
-        0x03 => Some(Part::named(Feature::Fence, "atomic.fence")),
-        0x4A => Some(Part::named(Feature::NarrowCmpxchg, "i32.atomic.rmw8.cmpxchg_u")),
-        0x4B => Some(Part::named(Feature::NarrowCmpxchg, "i32.atomic.rmw16.cmpxchg_u")),
-        0x4C => Some(Part::named(Feature::NarrowCmpxchg, "i64.atomic.rmw8.cmpxchg_u")),
-        0x4D => Some(Part::named(Feature::NarrowCmpxchg, "i64.atomic.rmw16.cmpxchg_u")),
-        0x4E => Some(Part::named(Feature::NarrowCmpxchg, "i64.atomic.rmw32.cmpxchg_u")),
-        _ => None,
-    }
+    let (feature, name) = match code {
+        0x00 => (Feature::Notify, "memory.atomic.notify"),
+        0x01 => (Feature::Wait, "memory.atomic.wait32"),
+        0x02 => (Feature::Wait, "memory.atomic.wait64"),
+        0x03 => (Feature::Fence, "atomic.fence"),
+        0x4A => (Feature::NarrowCmpxchg, "i32.atomic.rmw8.cmpxchg_u"),
+        0x4B => (Feature::NarrowCmpxchg, "i32.atomic.rmw16.cmpxchg_u"),
+        0x4C => (Feature::NarrowCmpxchg, "i64.atomic.rmw8.cmpxchg_u"),
+        0x4D => (Feature::NarrowCmpxchg, "i64.atomic.rmw16.cmpxchg_u"),
+        0x4E => (Feature::NarrowCmpxchg, "i64.atomic.rmw32.cmpxchg_u"),
+        _ => return None,
+    };
+    Some(Part { feature, name })
 }
 
 /// The name of an instruction with the prefix `FC`.
@@ -56,48 +57,6 @@ fn bulk_name(code: usize) -> &'static str {
     }
 }
 
-/// The name of an instruction for tail calls or exceptions.
-fn reserved_name(code: u8) -> Option<&'static str> {
-    match code {
-        0x06 => Some("try"),
-        0x07 => Some("catch"),
-        0x08 => Some("throw"),
-        0x09 => Some("rethrow"),
-        0x0A => Some("throw_ref"),
-        0x12 => Some("return_call"),
-        0x13 => Some("return_call_indirect"),
-        0x18 => Some("delegate"),
-        0x19 => Some("catch_all"),
-        0x1F => Some("try_table"),
-        _ => None,
-    }
-}
-
-/// The name of an instruction on references or tables.
-fn reference_name(code: u8) -> Option<&'static str> {
-    match code {
-        0x1C => Some("select with a type"),
-        0x25 => Some("table.get"),
-        0x26 => Some("table.set"),
-        0xD0 => Some("ref.null"),
-        0xD1 => Some("ref.is_null"),
-        0xD2 => Some("ref.func"),
-        _ => None,
-    }
-}
-
-/// The name of a sign-extension instruction.
-fn extension_name(code: u8) -> Option<&'static str> {
-    match code {
-        0xC0 => Some("i32.extend8_s"),
-        0xC1 => Some("i32.extend16_s"),
-        0xC2 => Some("i64.extend8_s"),
-        0xC3 => Some("i64.extend16_s"),
-        0xC4 => Some("i64.extend32_s"),
-        _ => None,
-    }
-}
-
 /// Whether an instruction takes or gives a float.
 fn is_float(code: u8) -> bool {
     matches!(
@@ -111,20 +70,33 @@ fn plain_part(code: u8) -> Option<Part> {
     if is_float(code) {
         return Some(Part::of(Feature::Floats));
     }
-    if let Some(name) = reserved_name(code) {
-        return Some(Part::named(Feature::Reserved, name));
-    }
-    if let Some(name) = reference_name(code) {
-        return Some(Part::named(Feature::References, name));
-    }
-    if let Some(name) = extension_name(code) {
-        return Some(Part::named(Feature::SignExtension, name));
-    }
-    match code {
-        0x11 => Some(Part::named(Feature::Table, "call_indirect")),
-        0x40 => Some(Part::of(Feature::Growth)),
-        _ => None,
-    }
+    let (feature, name) = match code {
+        0x06 => (Feature::Reserved, "try"),
+        0x07 => (Feature::Reserved, "catch"),
+        0x08 => (Feature::Reserved, "throw"),
+        0x09 => (Feature::Reserved, "rethrow"),
+        0x0A => (Feature::Reserved, "throw_ref"),
+        0x11 => (Feature::Table, "call_indirect"),
+        0x12 => (Feature::Reserved, "return_call"),
+        0x13 => (Feature::Reserved, "return_call_indirect"),
+        0x18 => (Feature::Reserved, "delegate"),
+        0x19 => (Feature::Reserved, "catch_all"),
+        0x1C => (Feature::References, "select with a type"),
+        0x1F => (Feature::Reserved, "try_table"),
+        0x25 => (Feature::References, "table.get"),
+        0x26 => (Feature::References, "table.set"),
+        0x40 => (Feature::Growth, "memory.grow"),
+        0xC0 => (Feature::SignExtension, "i32.extend8_s"),
+        0xC1 => (Feature::SignExtension, "i32.extend16_s"),
+        0xC2 => (Feature::SignExtension, "i64.extend8_s"),
+        0xC3 => (Feature::SignExtension, "i64.extend16_s"),
+        0xC4 => (Feature::SignExtension, "i64.extend32_s"),
+        0xD0 => (Feature::References, "ref.null"),
+        0xD1 => (Feature::References, "ref.is_null"),
+        0xD2 => (Feature::References, "ref.func"),
+        _ => return None,
+    };
+    Some(Part { feature, name })
 }
 
 /// The part that an instruction belongs to; None if it is supported, or no part is known.

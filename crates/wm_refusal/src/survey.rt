@@ -4,7 +4,7 @@
 //! a section.
 
 use crate::feature::{Part, remedy, unsupported_part, unsupported_type};
-use std::alloc::{AllocError, AllocFailed, Global};
+use std::alloc::{AllocError, Global};
 use std::fmt;
 use wm_decode::Feature;
 use wm_module_bytes::{ByteReader, Immediates, Opcode, immediates_of, skip_immediates};
@@ -59,38 +59,12 @@ impl fmt::Display for Use {
     }
 }
 
-/// Why reading stops.
-#[derive(Clone, Copy)]
-enum Stop {
-    /// The rest of the bytes can't be read.
-    Unread,
-    OutOfMemory,
-}
-
-impl From<AllocError> for Stop {
-    fn from(_refused: AllocError) -> Stop {
-        Stop::OutOfMemory
-    }
-}
-
-impl<T: Drop> From<AllocFailed<T>> for Stop {
-    fn from(_refused: AllocFailed<T>) -> Stop {
-        Stop::OutOfMemory
-    }
-}
-
-/// The value that was read, or `Unread` without one.
-fn read<T: Drop>(found: Option<T>) -> Result<T, Stop> {
-    match found {
-        Some(found) => Ok(found),
-        None => Err(Stop::Unread),
-    }
-}
-
-/// The parts found so far.
+/// The parts found so far. A function that reads returns None if it meets bytes that can't be read.
 #[derive(Drop)]
 struct Survey {
     uses: Vec<Use>,
+    /// Whether a use is missing, since an allocation failed.
+    is_out_of_memory: bool,
     location: Location,
     imported_functions: usize,
     memories: usize,
@@ -98,266 +72,266 @@ struct Survey {
 
 impl Survey {
     /// Records that a part is used at an offset.
-    fn add(&mut self, part: Part, offset: usize) -> Result<(), Stop> {
+    fn add(&mut self, part: Part, offset: usize) {
         for known in self.uses.iter_mut() {
             if known.part == part {
                 known.count = known.count.saturating_add(1);
-                return Ok(());
+                return;
             }
         }
-        self.uses.push(Use {
+        let first = Use {
             part,
             location: self.location,
             offset,
             count: 1,
-        })?;
-        Ok(())
+        };
+        if self.uses.push(first).is_err() {
+            self.is_out_of_memory = true;
+        }
     }
 
     /// A value type.
-    fn value_type(&mut self, reader: &mut ByteReader) -> Result<(), Stop> {
+    fn value_type(&mut self, reader: &mut ByteReader) -> Option<()> {
         let offset = reader.at;
-        let byte = read(reader.byte())?;
+        let byte = reader.byte()?;
         match unsupported_type(byte) {
             Some(part) => self.add(part, offset),
-            None if byte == 0x7F || byte == 0x7E => Ok(()),
-            None => Err(Stop::Unread),
+            None if byte == 0x7F || byte == 0x7E => {}
+            None => return None,
         }
+        Some(())
     }
 
     /// Value types.
-    fn value_types(&mut self, reader: &mut ByteReader, count: usize) -> Result<(), Stop> {
+    fn value_types(&mut self, reader: &mut ByteReader, count: usize) -> Option<()> {
         for _ in 0..count {
             self.value_type(reader)?;
         }
-        Ok(())
+        Some(())
     }
 
     /// The section of types.
-    fn types(&mut self, reader: &mut ByteReader) -> Result<(), Stop> {
-        for number in 0..read(reader.number())? {
+    fn types(&mut self, reader: &mut ByteReader) -> Option<()> {
+        for number in 0..reader.number()? {
             self.location = Location::Type(number);
-            if read(reader.byte())? != 0x60 {
-                return Err(Stop::Unread);
+            if reader.byte()? != 0x60 {
+                return None;
             }
-            let parameters = read(reader.number())?;
+            let parameters = reader.number()?;
             self.value_types(reader, parameters)?;
             let offset = reader.at;
-            let results = read(reader.number())?;
+            let results = reader.number()?;
             if results > 1 {
-                self.add(Part::of(Feature::MultiValue), offset)?;
+                self.add(Part::of(Feature::MultiValue), offset);
             }
             self.value_types(reader, results)?;
         }
-        Ok(())
+        Some(())
     }
 
     /// The limits of a table or of a memory, after their flag.
-    fn skip_limits(reader: &mut ByteReader, flag: u8) -> Result<(), Stop> {
+    fn skip_limits(reader: &mut ByteReader, flag: u8) -> Option<()> {
         let count = if flag & 1 == 1 { 2 } else { 1 };
-        read(reader.skip_numbers(count))
+        reader.skip_numbers(count)
     }
 
     /// A memory.
-    fn memory(&mut self, reader: &mut ByteReader) -> Result<(), Stop> {
+    fn memory(&mut self, reader: &mut ByteReader) -> Option<()> {
         let offset = reader.at;
-        let flag = read(reader.byte())?;
+        let flag = reader.byte()?;
         self.memories = self.memories.saturating_add(1);
         if flag & 2 == 0 {
-            self.add(Part::of(Feature::UnsharedMemory), offset)?;
+            self.add(Part::of(Feature::UnsharedMemory), offset);
         }
         Survey::skip_limits(reader, flag)
     }
 
     /// An import after its names.
-    fn import(&mut self, reader: &mut ByteReader) -> Result<(), Stop> {
+    fn import(&mut self, reader: &mut ByteReader) -> Option<()> {
         let offset = reader.at;
-        match read(reader.byte())? {
+        match reader.byte()? {
             0x00 => {
                 self.imported_functions = self.imported_functions.saturating_add(1);
-                self.add(Part::named(Feature::Import, "an imported function"), offset)?;
-                read(reader.skip_number())
+                self.add(Part::named(Feature::Import, "an imported function"), offset);
+                reader.skip_number()
             }
             0x01 => {
-                self.add(Part::named(Feature::Import, "an imported table"), offset)?;
+                self.add(Part::named(Feature::Import, "an imported table"), offset);
                 reader.skip(1);
-                let flag = read(reader.byte())?;
+                let flag = reader.byte()?;
                 Survey::skip_limits(reader, flag)
             }
             0x02 => {
                 if self.memories > 0 {
-                    self.add(Part::of(Feature::SeveralMemories), offset)?;
+                    self.add(Part::of(Feature::SeveralMemories), offset);
                 }
                 self.memory(reader)
             }
             0x03 => {
-                self.add(Part::named(Feature::Import, "an imported global"), offset)?;
+                self.add(Part::named(Feature::Import, "an imported global"), offset);
                 reader.skip(2);
-                Ok(())
+                Some(())
             }
-            _ => Err(Stop::Unread),
+            _ => None,
         }
     }
 
     /// The section of imports.
-    fn imports(&mut self, reader: &mut ByteReader) -> Result<(), Stop> {
-        for number in 0..read(reader.number())? {
+    fn imports(&mut self, reader: &mut ByteReader) -> Option<()> {
+        for number in 0..reader.number()? {
             self.location = Location::Import(number);
-            read(reader.skip_vector())?;
-            read(reader.skip_vector())?;
+            reader.skip_vector()?;
+            reader.skip_vector()?;
             self.import(reader)?;
         }
-        Ok(())
+        Some(())
     }
 
     /// A section whose items are all uses of a part.
-    fn items(&mut self, reader: &mut ByteReader, name: &'static str) -> Result<(), Stop> {
+    fn items(&mut self, reader: &mut ByteReader, name: &'static str) -> Option<()> {
         let offset = reader.at;
-        if read(reader.number())? > 0 {
-            self.add(Part::named(Feature::Table, name), offset)?;
+        if reader.number()? > 0 {
+            self.add(Part::named(Feature::Table, name), offset);
         }
-        Ok(())
+        Some(())
     }
 
     /// The section of memories.
-    fn memories(&mut self, reader: &mut ByteReader) -> Result<(), Stop> {
+    fn memories(&mut self, reader: &mut ByteReader) -> Option<()> {
         let offset = reader.at;
-        let count = read(reader.number())?;
+        let count = reader.number()?;
         if count.saturating_add(self.memories) > 1 {
-            self.add(Part::of(Feature::SeveralMemories), offset)?;
+            self.add(Part::of(Feature::SeveralMemories), offset);
         }
         for _ in 0..count {
             self.memory(reader)?;
         }
-        Ok(())
+        Some(())
     }
 
     /// An initial value, up to its end.
-    fn initial_value(&mut self, reader: &mut ByteReader) -> Result<(), Stop> {
+    fn initial_value(&mut self, reader: &mut ByteReader) -> Option<()> {
         let size = reader.bytes.len();
         for number in 0..size {
             let offset = reader.at;
-            let opcode = read(Opcode::read(reader))?;
+            let opcode = Opcode::read(reader)?;
             let is_end = opcode.byte == 0x0B;
             let is_constant = opcode.byte == 0x41 || opcode.byte == 0x42;
             if (number == 0 && !is_constant) || (number == 1 && !is_end) {
-                self.add(Part::of(Feature::ConstExpression), offset)?;
+                self.add(Part::of(Feature::ConstExpression), offset);
             }
             if is_end {
-                return Ok(());
+                return Some(());
             }
-            let immediates = read(immediates_of(opcode))?;
-            read(skip_immediates(reader, immediates))?;
+            let immediates = immediates_of(opcode)?;
+            skip_immediates(reader, immediates)?;
         }
-        Err(Stop::Unread)
+        None
     }
 
     /// The section of globals.
-    fn globals(&mut self, reader: &mut ByteReader) -> Result<(), Stop> {
-        for number in 0..read(reader.number())? {
+    fn globals(&mut self, reader: &mut ByteReader) -> Option<()> {
+        for number in 0..reader.number()? {
             self.location = Location::Global(number);
             self.value_type(reader)?;
             reader.skip(1);
             self.initial_value(reader)?;
         }
-        Ok(())
+        Some(())
     }
 
     /// The section of data segments.
-    fn segments(&mut self, reader: &mut ByteReader) -> Result<(), Stop> {
-        for number in 0..read(reader.number())? {
+    fn segments(&mut self, reader: &mut ByteReader) -> Option<()> {
+        for number in 0..reader.number()? {
             self.location = Location::Segment(number);
             let offset = reader.at;
-            match read(reader.byte())? {
+            match reader.byte()? {
                 0x00 => self.initial_value(reader)?,
-                0x01 => self.add(Part::of(Feature::PassiveData), offset)?,
+                0x01 => self.add(Part::of(Feature::PassiveData), offset),
                 0x02 => {
-                    self.add(Part::of(Feature::DataMemoryIndex), offset)?;
-                    read(reader.skip_number())?;
+                    self.add(Part::of(Feature::DataMemoryIndex), offset);
+                    reader.skip_number()?;
                     self.initial_value(reader)?;
                 }
-                _ => return Err(Stop::Unread),
+                _ => return None,
             }
-            read(reader.skip_vector())?;
+            reader.skip_vector()?;
         }
-        Ok(())
+        Some(())
     }
 
     /// The type of a block.
-    fn block_type(&mut self, reader: &mut ByteReader) -> Result<(), Stop> {
+    fn block_type(&mut self, reader: &mut ByteReader) -> Option<()> {
         let offset = reader.at;
-        let Some(byte) = reader.bytes.get(offset).copied() else {
-            return Err(Stop::Unread);
-        };
+        let byte = reader.bytes.get(offset).copied()?;
         match unsupported_type(byte) {
-            Some(part) => self.add(part, offset)?,
+            Some(part) => self.add(part, offset),
             None if byte < 0x40 || byte >= 0x80 => {
-                self.add(Part::of(Feature::MultiValue), offset)?;
+                self.add(Part::of(Feature::MultiValue), offset);
             }
             None => {}
         }
-        read(reader.skip_number())
+        reader.skip_number()
     }
 
     /// An instruction.
-    fn instruction(&mut self, reader: &mut ByteReader) -> Result<(), Stop> {
+    fn instruction(&mut self, reader: &mut ByteReader) -> Option<()> {
         let offset = reader.at;
-        let opcode = read(Opcode::read(reader))?;
+        let opcode = Opcode::read(reader)?;
         if let Some(part) = unsupported_part(opcode) {
-            self.add(part, offset)?;
+            self.add(part, offset);
         }
-        let immediates = read(immediates_of(opcode))?;
+        let immediates = immediates_of(opcode)?;
         if immediates == Immediates::BlockType {
             return self.block_type(reader);
         }
-        read(skip_immediates(reader, immediates))
+        skip_immediates(reader, immediates)
     }
 
     /// The locals and the instructions of a function, which take up all the bytes.
-    fn body(&mut self, reader: &mut ByteReader) -> Result<(), Stop> {
-        for _ in 0..read(reader.number())? {
-            read(reader.skip_number())?;
+    fn body(&mut self, reader: &mut ByteReader) -> Option<()> {
+        for _ in 0..reader.number()? {
+            reader.skip_number()?;
             self.value_type(reader)?;
         }
         for _ in reader.at..reader.bytes.len() {
             if reader.at >= reader.bytes.len() {
-                return Ok(());
+                return Some(());
             }
             self.instruction(reader)?;
         }
-        Ok(())
+        Some(())
     }
 
     /// The section of code.
-    fn code(&mut self, reader: &mut ByteReader) -> Result<(), Stop> {
-        for number in 0..read(reader.number())? {
+    fn code(&mut self, reader: &mut ByteReader) -> Option<()> {
+        for number in 0..reader.number()? {
             self.location = Location::Function(number.saturating_add(self.imported_functions));
-            let size = read(reader.number())?;
+            let size = reader.number()?;
             let mut body = part_of(reader, size);
-            if let Err(Stop::OutOfMemory) = self.body(&mut body) {
-                return Err(Stop::OutOfMemory);
-            }
+            self.body(&mut body);
             reader.skip(size);
         }
-        Ok(())
+        Some(())
     }
 
     /// A section, whose number is at an offset.
-    fn section(&mut self, number: u8, offset: usize, reader: &mut ByteReader) -> Result<(), Stop> {
+    fn section(&mut self, number: u8, offset: usize, reader: &mut ByteReader) -> Option<()> {
         self.location = Location::Module;
         match number {
-            1 => self.types(reader),
-            2 => self.imports(reader),
-            4 => self.items(reader, "a table"),
-            5 => self.memories(reader),
-            6 => self.globals(reader),
+            1 => return self.types(reader),
+            2 => return self.imports(reader),
+            4 => return self.items(reader, "a table"),
+            5 => return self.memories(reader),
+            6 => return self.globals(reader),
             8 => self.add(Part::of(Feature::Start), offset),
-            9 => self.items(reader, "an element segment"),
-            10 => self.code(reader),
-            11 => self.segments(reader),
+            9 => return self.items(reader, "an element segment"),
+            10 => return self.code(reader),
+            11 => return self.segments(reader),
             13 => self.add(Part::named(Feature::Reserved, "an exception tag"), offset),
-            _ => Ok(()),
+            _ => {}
         }
+        Some(())
     }
 }
 
@@ -378,6 +352,7 @@ fn part_of<'a>(reader: &ByteReader<'a>, size: usize) -> ByteReader<'a> {
 pub(crate) fn unsupported_parts(alloc: Global, bytes: &[u8]) -> Result<Vec<Use>, AllocError> {
     let mut survey = Survey {
         uses: Vec::new(alloc),
+        is_out_of_memory: false,
         location: Location::Module,
         imported_functions: 0,
         memories: 0,
@@ -388,11 +363,17 @@ pub(crate) fn unsupported_parts(alloc: Global, bytes: &[u8]) -> Result<Vec<Use>,
         let Some(number) = reader.byte() else { break };
         let Some(size) = reader.number() else { break };
         let mut content = part_of(&reader, size);
-        if let Err(Stop::OutOfMemory) = survey.section(number, offset, &mut content) {
-            return Err(AllocError);
-        }
+        survey.section(number, offset, &mut content);
         reader.skip(size);
     }
-    let Survey { uses, .. } = survey;
-    Ok(uses)
+    let Survey {
+        uses,
+        is_out_of_memory,
+        ..
+    } = survey;
+    if is_out_of_memory {
+        Err(AllocError)
+    } else {
+        Ok(uses)
+    }
 }
