@@ -1,15 +1,15 @@
 -- No edge is missing.
-use Rattle.std.proofs.Common.{◌≡◌, ◌<◌, ◌++◌, ℕ, List, get_or, length, [], ◌∷◌, All, subst, sym, ◌∙◌}
+use Rattle.std.proofs.Common.{◌≡◌, ◌<◌, ◌++◌, ℕ, List, get_or, length, [], ◌∷◌, All, Option, Some, IfSome, refl, subst, sym, ◌∙◌}
 use Rattle.std.proofs.lemmas.List.Elements.{All-weaker, Contains-append_left}
 use Rattle.std.proofs.lemmas.Option.{get_or_from_slice_get, same_Some, slice_get-get_or, slice_get_within}
-use Rattle.std.specs.List.{HoldsAt}
+use Rattle.std.specs.List.{Contains, HoldsAt}
 use Rattle.wm_event.specs.Event.{key_of}
 use Rattle.wm_event.specs.LoggedRun.{LoggedRun}
 use Rattle.wm_event.specs.Witness.{writers_in}
 use Rattle.wm_event.specs.declared.event.Event.{Event}
 use Rattle.wm_event.specs.declared.event.EventKey.{EventKey}
 use Rattle.wm_event.specs.declared.log.ThreadLog.{ThreadLog}
-use Rattle.wm_graph.specs.Edges.{AreComplete, HasEdge, HasEdgesOf, HasEdgesTo, HasReads, HasShownEdgesTo, Keeps, ReadsByte, ShowsContrary, ordered}
+use Rattle.wm_graph.specs.Edges.{AreComplete, HasEdge, HasEdgesOf, HasEdgesTo, HasReads, HasShownEdgesTo, Keeps, Precedes, ReadsByte, ShowsContrary, ordered}
 use Rattle.wm_graph.specs.declared.edges.Edge.{Edge}
 use Rattle.wm_graph.specs.declared.edges.EdgeKind.{EdgeKind}
 use Rattle.wm_graph.specs.declared.shown.Shown.{Shown}
@@ -18,6 +18,12 @@ use Rattle.wm_hb.specs.ReadsFrom.{AreFromWriters, NamesByte}
 use Rattle.wm_hb.specs.declared.reads_from.WriterRun.{WriterRun}
 use Rattle.wm_event.specs.declared.event.EventId.{EventId}
 use Rattle.wm_event.specs.declared.event.EventId.TheVariants.{Init, At}
+
+-- the edge of the order, if there is one, is included
+pub shows_found : (x : LoggedRun) (edges : List Edge) (a : EventId) (b : EventKey) (found : Option Edge)
+    → ((first : EventKey) → a ≡ At first → Precedes x (At b) first → found ≡ Some (ordered b first)) → IfSome found (Contains edges) → ShowsContrary x edges a b
+shows_found x edges Init b found gives there = tt
+shows_found x edges (At a) b found gives there = λ before. subst (λ edge. IfSome edge (Contains edges)) (gives a refl before) there
 
 -- each byte of a run has its edge
 abbrev pub IsDrawn : LoggedRun → List Edge → EventKey → WriterRun → Type 0
