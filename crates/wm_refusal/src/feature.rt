@@ -85,7 +85,7 @@ fn plain_part(code: u8) -> Option<Part> {
         0x1F => (Feature::Reserved, "try_table"),
         0x25 => (Feature::References, "table.get"),
         0x26 => (Feature::References, "table.set"),
-        0x40 => (Feature::Growth, "memory.grow"),
+        0x40 => return Some(Part::of(Feature::Growth)),
         0xC0 => (Feature::SignExtension, "i32.extend8_s"),
         0xC1 => (Feature::SignExtension, "i32.extend16_s"),
         0xC2 => (Feature::SignExtension, "i64.extend8_s"),
