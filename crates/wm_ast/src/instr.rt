@@ -9,7 +9,7 @@ use wm_num::{BinaryOperator, Comparison, Conversion, UnaryOperator, Width};
 pub type Block = List<Instr>;
 
 /// Whether the bytes of an `if` have an else part.
-#[derive(Clone, Copy)]
+#[derive(Clone, Copy, PartialEq, Eq)]
 pub enum Else {
     Present,
     Absent,

@@ -13,7 +13,7 @@ use wm_event::{Candidate, EventId, EventKey};
 use wm_list::List;
 
 /// Which edge of happens-before a link is.
-#[derive(Clone, Copy)]
+#[derive(Clone, Copy, PartialEq, Eq)]
 pub enum LinkKind {
     /// From Init to an event.
     Initial,
