@@ -71,6 +71,7 @@ const MISTAKES = [
   [['--wmlab', '/bin/ls', BUFFERS, 'a', 'b'], /--wmlab \/bin\/ls: this is not wmlab; it answers an empty log with status 2$/],
   [['--wmlab', 'nothing', BUFFERS, 'a', 'b'], /--wmlab nothing: no program is there/],
   [['--out', '/dev/full', BUFFERS, 'a', 'b'], /cannot write to the folder \/dev\/full/],
+  [['--out', '/proc/wmlab', BUFFERS, 'a', 'b'], /cannot write to the folder \/proc\/wmlab/],
   [['--answers', '/nothing/answers', BUFFERS, 'a', 'b'], /cannot write \/nothing\/answers: no such file or folder/],
   [['--keep', 'nowhere/log.json', BUFFERS, 'a', 'b'], /cannot write nowhere\/log\.json: no such file or folder/],
   [['--keep', '.', BUFFERS, 'a', 'b'], /cannot write \.: it is a folder/],

@@ -1,6 +1,6 @@
 /** Tests of conditions, of runs that a seed repeats, and of smaller runs. */
 
-import { existsSync, mkdtempSync, readdirSync, rmSync } from 'node:fs';
+import { existsSync, mkdirSync, mkdtempSync, readdirSync, rmSync, writeFileSync } from 'node:fs';
 import { tmpdir } from 'node:os';
 import { join } from 'node:path';
 import { fileURLToPath } from 'node:url';
@@ -36,6 +36,10 @@ function testSeeds({ note, wmlab, folder }) {
 
 function testForbid({ note, wmlab, folder }) {
   const args = ['--mode', 'buffered', '--rounds', '30', '--forbid', '0 0', '--want', '* 1', '--kept', 'kept'];
+  mkdirSync(join(folder, 'kept'));
+  for (let round = 0; round < 30; round++) {
+    for (const ending of ['svg', 'dot']) writeFileSync(join(folder, `kept/round-${round}.${ending}`), 'an old picture');
+  }
   const ran = record(folder, wmlab, [...args, ...BUFFERS]);
   const { status, out } = ran;
   const isReported = /FAILED --forbid "0 0": came: round \d+\n/.test(out) && /ok --want "\* 1": came: round \d+/.test(out);
@@ -45,7 +49,9 @@ function testForbid({ note, wmlab, folder }) {
   const [, path] = /^ +\d+ {2}0 0 {2}(\S+)\.json$/m.exec(out) ?? [null, ''];
   const explanation = textOf(join(folder, `${path}.txt`));
   note(/^turns [d0-9*,]+\nallowed threads=2 events=4\n/.test(explanation), 'its explanation is kept', explanation);
-  note(existsSync(join(folder, `${path}.svg`)) || existsSync(join(folder, `${path}.dot`)), 'its picture is kept');
+  const pictures = ['svg', 'dot'].map((ending) => textOf(join(folder, `${path}.${ending}`)));
+  const isNew = pictures.filter(Boolean).length === 1 && !pictures.includes('an old picture');
+  note(isNew, 'its picture is kept, and an old one of the other kind is removed', pictures);
   const smaller = join(folder, `${path}-shrunk.json`);
   const answer = checked(wmlab, BUFFERS[0], smaller);
   const has = /\["done",\[0\]\].*\["done",\[0\]\]/.test(textOf(smaller));

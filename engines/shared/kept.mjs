@@ -1,7 +1,7 @@
 /** Keeps logs in files, each with its explanation, its picture, and the smaller run that was found. */
 
 import { spawnSync } from 'node:child_process';
-import { accessSync, constants, mkdirSync, writeFileSync } from 'node:fs';
+import { accessSync, constants, mkdirSync, rmSync, statSync, writeFileSync } from 'node:fs';
 import { basename, dirname, join } from 'node:path';
 import { withFile } from './errors.mjs';
 import { outcomeOf, satisfies } from './outcomes.mjs';
@@ -11,10 +11,17 @@ import { GAVE_UP, NONE_EXISTS } from './verdict.mjs';
 
 export const writeTo = (path, text) => withFile(`write ${path}`, () => writeFileSync(path, text));
 
+/** Makes a folder and those around it, one by one: for a folder in /proc, node's option `recursive` does not end. */
+export function makeFolder(folder) {
+  if (statSync(folder, { throwIfNoEntry: false })?.isDirectory()) return;
+  makeFolder(dirname(folder));
+  mkdirSync(folder);
+}
+
 /** Makes a folder to write to, or refuses it. */
 export function prepareFolder(folder) {
   withFile(`write to the folder ${folder}`, () => {
-    mkdirSync(folder, { recursive: true });
+    makeFolder(folder);
     accessSync(folder, constants.W_OK);
   });
 }
@@ -64,9 +71,15 @@ export async function explained(judge, found) {
 /** The path of a file beside that of a log. */
 const beside = (path, ending) => join(dirname(path), `${basename(path, '.json')}${ending}`);
 
+/** Writes a file beside that of a log; without a text, removes the file that an earlier log left there. */
+function writeBeside(path, ending, text) {
+  if (text) writeTo(beside(path, ending), text);
+  else withFile(`remove ${beside(path, ending)}`, () => rmSync(beside(path, ending), { force: true }));
+}
+
 /**
  * Keeps a log at a path that ends in `.json`, with its explanation (`.txt`) and its picture beside it: `.svg`, or `.dot` with the
- * graph alone if dot does not make the picture.
+ * graph alone if dot does not make the picture. A picture of an earlier log at this path is removed.
  */
 export async function keep(judge, path, found) {
   writeTo(path, found.document);
@@ -74,8 +87,8 @@ export async function keep(judge, path, found) {
   const schedule = found.turns?.length ? `turns ${scheduleText(found.turns)}\n` : '';
   writeTo(beside(path, '.txt'), schedule + explanation);
   const picture = await pictureOf(judge, found);
-  if (picture.svg) writeTo(beside(path, '.svg'), picture.svg);
-  else if (picture.graph) writeTo(beside(path, '.dot'), picture.graph);
+  writeBeside(path, '.svg', picture.svg);
+  writeBeside(path, '.dot', picture.svg ? null : picture.graph);
   return { ...found, explanation, ...picture, path };
 }
 

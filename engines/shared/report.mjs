@@ -1,8 +1,9 @@
 /** The page of a campaign: one static HTML file with everything in it, made of the data of each campaign in its folder. */
 
-import { mkdirSync, readFileSync, readdirSync, writeFileSync } from 'node:fs';
+import { readFileSync, readdirSync, writeFileSync } from 'node:fs';
 import { basename, join, relative } from 'node:path';
 import { withFile } from './errors.mjs';
+import { makeFolder } from './kept.mjs';
 
 const ESCAPES = { '&': '&amp;', '<': '&lt;', '>': '&gt;', '"': '&quot;' };
 const escaped = (value) => `${value}`.replace(/[&<>"]/g, (character) => ESCAPES[character]);
@@ -123,7 +124,7 @@ export async function writeReport(folder, campaign) {
   const data = await dataOf(folder, campaign);
   const store = join(folder, 'campaigns');
   withFile(`write to the folder ${store}`, () => {
-    mkdirSync(store, { recursive: true });
+    makeFolder(store);
     writeFileSync(join(store, `${data.name}.json`), JSON.stringify(data));
     const names = readdirSync(store).filter((name) => name.endsWith('.json')).sort();
     writeFileSync(join(folder, 'index.html'), pageOf(names.map((name) => JSON.parse(readFileSync(join(store, name), 'utf8')))));
