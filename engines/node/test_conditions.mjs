@@ -51,7 +51,7 @@ function testForbid({ note, wmlab, folder }) {
   note(/^turns [d0-9*,]+\nallowed threads=2 events=4\n/.test(explanation), 'its explanation is kept', explanation);
   const pictures = ['svg', 'dot'].map((ending) => textOf(join(folder, `${path}.${ending}`)));
   const isNew = pictures.filter(Boolean).length === 1 && !pictures.includes('an old picture');
-  note(isNew, 'its picture is kept, and an old one of the other kind is removed', pictures);
+  note(isNew, 'its picture is kept, and an old one of the other kind is removed', ...pictures);
   const smaller = join(folder, `${path}-shrunk.json`);
   const answer = checked(wmlab, BUFFERS[0], smaller);
   const has = /\["done",\[0\]\].*\["done",\[0\]\]/.test(textOf(smaller));
