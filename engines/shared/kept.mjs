@@ -13,9 +13,15 @@ export const writeTo = (path, text) => withFile(`write ${path}`, () => writeFile
 
 /** Makes a folder and those around it, one by one: for a folder in /proc, node's option `recursive` does not end. */
 export function makeFolder(folder) {
-  if (statSync(folder, { throwIfNoEntry: false })?.isDirectory()) return;
+  const isThere = () => statSync(folder, { throwIfNoEntry: false })?.isDirectory();
+  if (isThere()) return;
   makeFolder(dirname(folder));
-  mkdirSync(folder);
+  try {
+    mkdirSync(folder);
+  } catch (error) {
+    // Another recording may just have made it.
+    if (!isThere()) throw error;
+  }
 }
 
 /** Makes a folder to write to, or refuses it. */
