@@ -1,14 +1,15 @@
 -- Faults of one byte, by their case and then by the place of their other write.
-use Rattle.std.proofs.Common.{◌≡◌, ℕ, ◌+◌, ◌<◌, ◌≤◌, List, [], ◌∷◌, ◌++◌, Option, None, Some, IsSome, is_some, true, refl, ap, ◌∙◌, arith, slice_get, get_or, zero, suc, ⊎_elim}
+use Rattle.std.proofs.Common.{◌≡◌, ℕ, ◌+◌, ◌<◌, ◌≤◌, List, [], ◌∷◌, ◌++◌, Option, None, Some, IsSome, is_some, true, false, refl, sym, ap, subst, ◌∙◌, arith, length, slice_get, get_or, zero, suc, ⊎_elim}
 use Rattle.std.specs.Option.{option_map, option_map_or}
 use Rattle.std.proofs.lemmas.Bool.{cases_lt}
+use Rattle.std.proofs.lemmas.Option.{slice_get_within}
 use Rattle.wm_event.specs.declared.event.EventKey.{EventKey}
 use Rattle.wm_event.specs.declared.event.EventId.{EventId}
 use Rattle.wm_event.specs.declared.event.EventId.TheVariants.{At}
 use Rattle.wm_event.specs.declared.rule.Rule.TheVariants.{Coherence, NoTearing, SequentialConsistency}
 use Rattle.wm_event.specs.declared.rule.RuleFault.{RuleFault}
-use Rattle.wm_event.specs.Execution.{Execution, place}
-use Rattle.wm_event.specs.Faults.{Breaks, rank, rule_number}
+use Rattle.wm_event.specs.Execution.{Execution, ReadsFrom, place}
+use Rattle.wm_event.specs.Faults.{AtRead, Breaks, BreaksCoherence, BreaksRule, BreaksWrittenValues, rank, rule_number}
 use Rattle.wm_event.specs.First.{BeginsWith, IsFirst, NoLater, Under}
 use Rattle.wm_event.specs.LoggedRun.{LoggedRun, execution}
 use Rattle.wm_event.specs.Shape.{ListsEachOnce}
@@ -18,6 +19,7 @@ use Rattle.wm_rules.specs.declared.scan.LateRule.TheVariants.{Coherence, NoTeari
 use Rattle.wm_rules.specs.Late.{late_number}
 use Rattle.wm_rules.specs.Others.{FindsListed}
 use Rattle.wm_hb.specs.Scan.{Finds}
+use Rattle.wm_hb.proofs.FaultLemmas.{rule_one, rule_three, same_key_parts}
 
 -- of two faults of one case, the one whose other write is no later comes no later
 pub other_no_later : (x : Execution) (a t i k c : ℕ) (f g : RuleFault) → BeginsWith (a ∷ t ∷ i ∷ k ∷ c ∷ []) (rank x f) → BeginsWith (a ∷ t ∷ i ∷ k ∷ c ∷ []) (rank x g)
@@ -87,3 +89,25 @@ late_at zero l = refl
 late_at (suc zero) l = refl
 late_at (suc (suc zero)) l = refl
 late_at (suc (suc (suc i))) l = absurd (omega arith)
+
+-- where none of the bytes so far has a fault, nor the next one
+pub byte_more : (x : Execution) (a t i k : ℕ) (r : Option RuleFault) → is_some r ≡ false → Finds x (a ∷ t ∷ i ∷ k ∷ []) r → NoneBelow (rank x) (Breaks x) (a ∷ t ∷ i ∷ []) k
+    → NoneBelow (rank x) (Breaks x) (a ∷ t ∷ i ∷ []) (k + 1)
+byte_more x a t i k r none found seen = scan-more (rank x) (Breaks x) (a ∷ t ∷ i ∷ []) k r none found seen
+
+-- a fault of V1 or of V3 is at one of the bytes that have a writer
+module _ (x : Execution) (t i : ℕ) (writers : List EventId) (same : writers ≡ x.writers_of (record { thread = t; number = i })) (f : RuleFault) where
+  read_byte : (f.event.thread ≡ t) → (f.event.number ≡ i) → ReadsFrom x f.event f.byte f.writer → f.byte < length writers
+  read_byte thread number reads =
+      let key : f.event ≡ record { thread = t; number = i } = same_key_parts f.event (record { thread = t; number = i }) thread number in
+      slice_get_within writers f.byte f.writer (ap (λ (ws : List EventId). slice_get ws f.byte) (same ∙ ap x.writers_of (sym key)) ∙ reads)
+
+  pub value_byte : Under (rank x) (Breaks x) (1 ∷ t ∷ i ∷ []) f → f.byte < length writers
+  value_byte u =
+      let says : (f.other ≡ None) × AtRead x f (λ e. BreaksWrittenValues x f.event e f.byte f.writer f.case) = subst (BreaksRule x f) (rule_one f.rule u.1.0) u.0 in
+      read_byte u.1.1.0 u.1.1.1.0 says.1.2
+
+  pub coherence_byte : Under (rank x) (Breaks x) (3 ∷ t ∷ i ∷ []) f → f.byte < length writers
+  coherence_byte u =
+      let says : AtRead x f (λ e. BreaksCoherence x f.event e f.byte f.writer f.case f.other) = subst (BreaksRule x f) (rule_three f.rule u.1.0) u.0 in
+      read_byte u.1.1.0 u.1.1.1.0 says.2
