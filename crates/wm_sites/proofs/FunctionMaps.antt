@@ -1,8 +1,8 @@
 -- The functions of a module that were read.
-use Rattle.std.proofs.Common.{◌≡◌, ℕ, ◌<◌, ◌≤◌, List, length, Option, Some, None, refl, sym, ap, subst, ◌∙◌, slice_get, arith}
+use Rattle.std.proofs.Common.{◌≡◌, ℕ, ◌<◌, ◌≤◌, List, length, get_or, Option, Some, None, IfSome, inl, inr, refl, sym, ap, subst, ◌∙◌, slice_get, arith}
 use Rattle.std.specs.Option.{option_flatten}
 use Rattle.std.specs.Prelude.{option_and_then, unwrap_or}
-use Rattle.std.proofs.lemmas.Option.{none-some, same_Some, slice_get_within}
+use Rattle.std.proofs.lemmas.Option.{none-some, same_Some, slice_get_read, slice_get_within}
 use Rattle.wm_ast.specs.declared.module.Func.{Func}
 use Rattle.wm_ast.specs.declared.module.Module.{Module}
 use Rattle.wm_machine.specs.declared.thread.CodePosition.{CodePosition}
@@ -10,7 +10,7 @@ use Rattle.wm_sites.specs.declared.code_map.FunctionMap.{FunctionMap}
 use Rattle.wm_races.specs.declared.site.Site.{Site}
 use Rattle.wm_sites.specs.declared.opcode_numbers.BlockPosition.{BlockPosition}
 use Rattle.wm_sites.specs.Numbering.{IsNumbered, number_at}
-use Rattle.wm_sites.specs.Sites.{AreFunctionMaps, Code, IsNoOpcode, IsRead, IsSiteOf, in_32_bits, in_function, offset_in, opcode_in}
+use Rattle.wm_sites.specs.Sites.{AreFunctionMaps, Code, IsFunctionMap, IsNoOpcode, IsRead, IsSiteOf, PutsMap, in_32_bits, in_function, offset_in, opcode_in}
 
 -- a function that was read now
 pub read_now : (m : Module) (maps now : List (Option FunctionMap)) (f : ℕ) (read : Option FunctionMap) → length maps ≡ length m.funcs → (f < length maps → slice_get now f ≡ Some read)
@@ -68,3 +68,23 @@ found_site c maps p n offset site are is place function instruction made =
 -- none was read
 pub unread_maps : (c : Code) (maps : List (Option FunctionMap)) → length maps ≡ length c.module.funcs → ((f : ℕ) (map : FunctionMap) → slice_get maps f ≡ Some (Some map) → ⊥) → AreFunctionMaps c maps
 unread_maps c maps count none = record { count = count; each = λ f map at. absurd (none f map at) }
+
+-- a function's map that was put down
+pub put_maps : (c : Code) (old new : List (Option FunctionMap)) (f : ℕ) (read : Option FunctionMap) → AreFunctionMaps c old → PutsMap old new f read → IfSome read (IsFunctionMap c f) → AreFunctionMaps c new
+put_maps c old new f read are puts is = record {
+  count = puts.count ∙ are.count;
+  each = λ g map at. elim (puts.from g (Some map) at) [
+    | inl before ↦ are.each g map before
+    | inr now ↦ subst (λ (h : ℕ). IsFunctionMap c h map) (sym now.0) (subst (λ (o : Option FunctionMap). IfSome o (IsFunctionMap c f)) (sym now.1) is)
+  ];
+}
+
+-- a position in a function that was read
+pub map_at : (maps : List (Option FunctionMap)) (f : ℕ) (place : Option FunctionMap) (map : FunctionMap) → f < length maps → place ≡ get_or maps f place → place ≡ Some map → slice_get maps f ≡ Some (Some map)
+map_at maps f place map within found is = slice_get_read maps (length maps) f place refl within found ∙ ap Some is
+
+pub opcode_in_map : (maps : List (Option FunctionMap)) (p : CodePosition) (map : FunctionMap) → slice_get maps p.func ≡ Some (Some map) → opcode_in maps p ≡ number_at map.numbers (in_function p)
+opcode_in_map maps p map at = ap (λ (o : Option (Option FunctionMap)). option_and_then (λ (x : FunctionMap). number_at x.numbers (in_function p)) (option_flatten o)) at
+
+pub offset_in_map : (maps : List (Option FunctionMap)) (p : CodePosition) (map : FunctionMap) (n : ℕ) → slice_get maps p.func ≡ Some (Some map) → offset_in maps p n ≡ slice_get map.offsets.items n
+offset_in_map maps p map n at = ap (λ (o : Option (Option FunctionMap)). option_and_then (λ (x : FunctionMap). slice_get x.offsets.items n) (option_flatten o)) at

@@ -19,3 +19,4 @@ pub mod BodySteps
 pub mod LocalsSteps
 pub mod OpcodeSteps
 pub mod Begins
+pub mod Pushed

@@ -1,7 +1,8 @@
 use Rattle.std.proofs.Common.{◌≡◌, ◌≤◌, List, Option, Some, length, refl, subst, slice_get}
 use Rattle.std.proofs.lemmas.Option.{slice_get_read}
 use Rattle.wm_sites.specs.declared.code_map.FunctionMap.{FunctionMap}
-use Rattle.wm_sites.proofs.FunctionMaps.{no_function, read_before, read_now}
+use Rattle.wm_sites.specs.Sites.{code_of}
+use Rattle.wm_sites.proofs.FunctionMaps.{no_function, put_maps, read_before, read_now}
 use Rattle.wm_sites.proofs.code_map.read_once.Goals as goal
 
 pub returns-in_ok-read-in-Some-None-clause-read : goal.returns-in_ok-read-in-Some-None-clause-read
@@ -23,3 +24,7 @@ pub returns-in-None-clause-read : goal.returns-in-None-clause-read
 returns-in-None-clause-read c =
     no_function c.args.reader.now.module.now c.args.functions.now.items c.args.function c.requires.maps.count
     (subst (λ (maps : List (Option FunctionMap)). length maps ≤ c.args.function) c.deref.ensures.value c.in-None.ensures.lookup.3)
+
+pub returns-in_ok-read-in-Some-None-clause-maps : goal.returns-in_ok-read-in-Some-None-clause-maps
+returns-in_ok-read-in-Some-None-clause-maps c =
+    put_maps (code_of c.args.reader.now) c.args.functions.now.items c.put.new.functions.items c.args.function c.in_ok-read-in-Some-None.read c.requires.maps c.put.ensures c.in_ok-read-in-Some-None.ensures.some
