@@ -1,5 +1,5 @@
 -- What a list shows after one more item.
-use Rattle.std.proofs.Common.{◌≡◌, ℕ, zero, suc, List, [], ◌∷◌, ◌++◌, ◌+◌, ◌<◌, length, refl, ap, sym, ◌∙◌, subst, arith, below_more, Some, slice_get}
+use Rattle.std.proofs.Common.{◌≡◌, ℕ, zero, suc, List, [], ◌∷◌, ◌++◌, ◌+◌, ◌<◌, length, refl, ap, ◌∙◌, arith, below_more, Some, slice_get}
 use Rattle.std.proofs.lemmas.List.{length-append}
 
 pub length_pushed : {X : Type 0} (xs ys : List X) (x : X) (n : ℕ) → length xs ≡ n → ys ≡ xs ++ x ∷ [] → length ys ≡ n + 1
