@@ -4,6 +4,7 @@ use Rattle.std.specs.Prelude.{count_by, sum_by}
 use Rattle.std.specs.List.{AllZip, find, insert, position_or_len, range_with_len}
 use Rattle.std.proofs.lemmas.Bool.{cases_lt, false≢true}
 use Rattle.std.proofs.lemmas.Grind.{common_steps}
+use Rattle.std.proofs.lemmas.List.{map_more}
 use Rattle.std.proofs.lemmas.List.Sums.{sum_by-cons}
 use Rattle.std.proofs.lemmas.List.FromFn.{get_or-range_with_len, length-range_with_len}
 use Rattle.std.proofs.lemmas.Option.{get_or_from_slice_get, same_Some, slice_get_within}
@@ -317,3 +318,7 @@ module _ {X : Type 0} (p : X → Bool) where
       let none : ℕ = 0 in
       let e : cond (p x) one none ≡ none = ap (λ b. cond b one none) (all 0 x refl) in
       omega (arith, r, a, e)
+
+-- what is made of the items so far, and of one more
+pub map_pushed : {X Y : Type 0} (f : X → Y) (xs : List X) (i : ℕ) (x : X) (was now : List Y) → i < length xs → was ≡ map f (take i xs) → now ≡ was ++ f (get_or xs i x) ∷ [] → now ≡ map f (take (i + 1) xs)
+map_pushed f xs i x was now inside so_far pushed = rw (map_more f xs i x inside, ← so_far) pushed
