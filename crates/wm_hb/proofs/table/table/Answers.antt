@@ -30,3 +30,14 @@ loop-key-preserved c =
       table = subst (IsTable x c.args.from) (sym p) (table_more x rows c.row_of-row.result c.args.from key c.loop-key.invariant.table stands row);
       small = subst IsSmall (sym p) (small_more x rows c.row_of-row.result c.args.from key c.loop-key.invariant.small row);
     }
+
+pub row_of-row-requires-clause-stands : goal.row_of-row-requires-clause-stands
+row_of-row-requires-clause-stands c =
+    let x = c.args.candidate.now in
+    let order = c.as_slice-order.result.now in
+    let blank : EventKey = record { thread = 0; number = 0 } in
+    let key = get_or order c.loop-key.key-index blank in
+    let inside : c.loop-key.key-index < length order = c.loop-key-test.true in
+    let e : order ≡ x.witness.order = c.as_slice-order.ensures ∙ ap (λ (w : Witness). w.order) c.witness.ensures.value in
+    let here : StandsAt x c.loop-key.key-index key = subst (λ o. slice_get o c.loop-key.key-index ≡ Some key) e (slice_get-get_or order c.loop-key.key-index blank inside) in
+    subst (λ n. StandsAt x n key) (sym (ap length c.as_slice.ensures.value ∙ c.loop-key.invariant.size)) here
