@@ -1,6 +1,7 @@
-use Rattle.std.proofs.Common.{◌≡◌, ◌-◌, ℕ, List, Option, None, Some, true, false, not, is_some, ap, arith, drop, length, refl, reverse, slice_get, slice_set, subst, sym, take, unwrap_or, ◌∙◌}
-use Rattle.std.proofs.lemmas.List.{length-drop, length-reverse, length-set}
-use Rattle.std.proofs.lemmas.Option.{slice_get-get_or}
+use Rattle.std.proofs.Common.{◌≡◌, ◌-◌, ℕ, List, Option, None, Some, true, not, is_some, ap, arith, drop, length, refl, replicate, reverse, slice_get, slice_set, subst, sym, take, unwrap_or, ◌∙◌, ◌<◌, get_or}
+use Rattle.std.proofs.lemmas.Grind.{common_steps}
+use Rattle.std.proofs.lemmas.List.{get_or-replicate, length-drop, length-replicate, length-reverse, length-set}
+use Rattle.std.proofs.lemmas.Option.{get_or_from_slice_get, slice_get-get_or, slice_get_within}
 use Rattle.wm_event.specs.declared.event.EventId.TheVariants.{At}
 use Rattle.wm_event.specs.LoggedRun.{execution}
 use Rattle.wm_hb.specs.Chain.{Leads}
@@ -83,3 +84,26 @@ returns c =
       leads = subst (λ ls. Leads x (At event) ls (At event)) (sym kept) around;
       some = (let long : length c.from_vec.result ≡ length links - n = ap length kept ∙ length-reverse (drop n links) ∙ length-drop n links in omega (arith, long, inside));
     }
+
+pub go_back-requires : goal.go_back-requires
+go_back-requires c = record {
+  stuck = c.requires.stuck;
+  next = c.loop-backwards.invariant.next;
+}
+
+-- where all are None, there is no Some
+none-within : (items : List (Option ℕ)) (count t n : ℕ) → items ≡ replicate count None → slice_get items t ≡ Some (Some n) → ⊥
+none-within items count t n is at =
+    let within = slice_get_within items t (Some n) at in
+    let few : t < count = omega (arith, within, ap length is, length-replicate {A = Option ℕ} count None) in
+    let none = get_or-replicate count t None (Some n) few in
+    let some = get_or_from_slice_get items t (Some n) (Some n) at in
+    let same = ap (λ (xs : List (Option ℕ)). get_or xs t (Some n)) is in
+    absurd (cc)
+
+pub loop-backwards-init : goal.loop-backwards-init
+loop-backwards-init c = record {
+  next = c.requires.next;
+  size = grind (arith, common_steps);
+  back = λ t n at. absurd (none-within c.in_ok-entered.entered.items _ t n (c.in_ok-entered.ensures.items_if_clones_equal (λ y same. grind (arith, common_steps))) at);
+}
