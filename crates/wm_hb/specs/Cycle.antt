@@ -1,5 +1,5 @@
 -- Cycles of happens-before, and the events that are on none.
-use Rattle.std.specs.Prelude.{◌≡◌, ℕ, ◌<◌, ◌≤◌, List, IsSome, MatchOption, Option, None, length, get_or, reverse, ◌++◌}
+use Rattle.std.specs.Prelude.{◌≡◌, ℕ, ◌+◌, ◌<◌, ◌≤◌, List, IsSome, MatchOption, Option, None, length, get_or, reverse, ◌++◌}
 use Rattle.wm_event.specs.declared.event.EventKey.{EventKey}
 use Rattle.wm_event.specs.declared.event.EventId.{EventId}
 use Rattle.wm_event.specs.declared.event.EventId.TheVariants.{At}
