@@ -9,7 +9,7 @@ use Rattle.wm_event.specs.declared.event.EventId.TheVariants.{At}
 use Rattle.wm_event.specs.declared.rule.Rule.TheVariants.{Coherence, NoTearing, SequentialConsistency}
 use Rattle.wm_event.specs.declared.rule.RuleFault.{RuleFault}
 use Rattle.wm_event.specs.Execution.{Execution, ReadsFrom, place}
-use Rattle.wm_event.specs.Faults.{AtRead, Breaks, BreaksCoherence, BreaksRule, BreaksWrittenValues, rank, rule_number}
+use Rattle.wm_event.specs.Faults.{AtRead, Breaks, BreaksCoherence, BreaksRule, rank, rule_number}
 use Rattle.wm_event.specs.First.{BeginsWith, IsFirst, NoLater, Under}
 use Rattle.wm_event.specs.LoggedRun.{LoggedRun, execution}
 use Rattle.wm_event.specs.Shape.{ListsEachOnce}
@@ -19,7 +19,7 @@ use Rattle.wm_rules.specs.declared.scan.LateRule.TheVariants.{Coherence, NoTeari
 use Rattle.wm_rules.specs.Late.{late_number}
 use Rattle.wm_rules.specs.Others.{FindsListed}
 use Rattle.wm_hb.specs.Scan.{Finds}
-use Rattle.wm_hb.proofs.FaultLemmas.{rule_one, rule_three, same_key_parts}
+use Rattle.wm_hb.proofs.FaultLemmas.{rule_three, same_key_parts}
 
 -- of two faults of one case, the one whose other write is no later comes no later
 pub other_no_later : (x : Execution) (a t i k c : ℕ) (f g : RuleFault) → BeginsWith (a ∷ t ∷ i ∷ k ∷ c ∷ []) (rank x f) → BeginsWith (a ∷ t ∷ i ∷ k ∷ c ∷ []) (rank x g)
@@ -101,11 +101,6 @@ module _ (x : Execution) (t i : ℕ) (writers : List EventId) (same : writers �
   read_byte thread number reads =
       let key : f.event ≡ record { thread = t; number = i } = same_key_parts f.event (record { thread = t; number = i }) thread number in
       slice_get_within writers f.byte f.writer (ap (λ (ws : List EventId). slice_get ws f.byte) (same ∙ ap x.writers_of (sym key)) ∙ reads)
-
-  pub value_byte : Under (rank x) (Breaks x) (1 ∷ t ∷ i ∷ []) f → f.byte < length writers
-  value_byte u =
-      let says : (f.other ≡ None) × AtRead x f (λ e. BreaksWrittenValues x f.event e f.byte f.writer f.case) = subst (BreaksRule x f) (rule_one f.rule u.1.0) u.0 in
-      read_byte u.1.1.0 u.1.1.1.0 says.1.2
 
   pub coherence_byte : Under (rank x) (Breaks x) (3 ∷ t ∷ i ∷ []) f → f.byte < length writers
   coherence_byte u =
