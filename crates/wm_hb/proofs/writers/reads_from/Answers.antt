@@ -10,8 +10,8 @@ loop-from-preserved c =
     let k = c.loop-from.from-index in
     let here = slice_get-get_or items k Init c.loop-from-test.true in
     below_more _ _ c.loop-from.invariant (λ is.
-        let same : get_or items k Init ≡ c.args.writer = same_Some _ _ (sym here ∙ is) in
-        grind (arith, common_steps))
+    let same : get_or items k Init ≡ c.args.writer = same_Some _ _ (sym here ∙ is) in
+    grind (arith, common_steps))
 
 pub returns-then-eq : goal.returns-then-eq
 returns-then-eq c =
@@ -23,8 +23,10 @@ returns-then-eq c =
 
 pub returns : goal.returns
 returns c =
-    let items = c.writers-from-items.result.now in
-    (λ (t : false ≡ true). absurd (cc), λ r.
-        let at : slice_get items r.0 ≡ Some c.args.writer = subst (λ writers. slice_get writers r.0 ≡ Some c.args.writer) (sym c.writers-from-items.ensures.value) r.1 in
-        let within : r.0 < length items = slice_get_within items r.0 c.args.writer at in
-        absurd (c.loop-from.invariant r.0 (omega (arith, within, c.loop-from-test.false)) at))
+    let items = c.writers-from-items.result.now in (
+      λ (t : false ≡ true). absurd (cc),
+      λ r.
+          let at : slice_get items r.0 ≡ Some c.args.writer = subst (λ writers. slice_get writers r.0 ≡ Some c.args.writer) (sym c.writers-from-items.ensures.value) r.1 in
+          let within : r.0 < length items = slice_get_within items r.0 c.args.writer at in
+          absurd (c.loop-from.invariant r.0 (omega (arith, within, c.loop-from-test.false)) at),
+    )

@@ -30,9 +30,10 @@ loop-earlier-preserved c =
 pub returns : goal.returns
 returns c =
     let ws = c.writers-writer-items.result.now in
-    let listed : ws ≡ writers_in c.args.candidate.now.witness (key_of c.args.event.now) = c.writers-writer-items.ensures.value ∙ ap (writers_in c.args.candidate.now.witness) c.key.ensures in
-    (λ none. absurd (cc),
-    λ found.
-    let at : slice_get ws found.0 ≡ Some c.args.id = ap (λ (ids : List EventId). slice_get ids found.0) listed ∙ found.2 in
-    let inside : found.0 < length ws = slice_get_within ws found.0 c.args.id at in
-    absurd (c.loop-earlier.invariant found.0 (omega arith) found.1 at))
+    let listed : ws ≡ writers_in c.args.candidate.now.witness (key_of c.args.event.now) = c.writers-writer-items.ensures.value ∙ ap (writers_in c.args.candidate.now.witness) c.key.ensures in (
+      λ none. absurd (cc),
+      λ found.
+          let at : slice_get ws found.0 ≡ Some c.args.id = ap (λ (ids : List EventId). slice_get ids found.0) listed ∙ found.2 in
+          let inside : found.0 < length ws = slice_get_within ws found.0 c.args.id at in
+          absurd (c.loop-earlier.invariant found.0 (omega arith) found.1 at),
+    )

@@ -4,8 +4,7 @@ use Rattle.wm_run.proofs.board.ends_of.Goals as goal
 
 pub loop-slot-preserved : goal.loop-slot-preserved
 loop-slot-preserved c =
-    let steps = c.in-Some.ensures.steps in
-    (
+    let steps = c.in-Some.ensures.steps in (
       rw (c.loop-slot.invariant.0, steps.0, c.in-Some-slot.is, c.push_reserved.ensures.items) (simp (map-append, append_assoc)),
       omega (arith, steps),
     )
