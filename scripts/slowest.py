@@ -5,12 +5,15 @@ one after the other.
 
     scripts/slowest.py [--count N] [--tests] [CRATE..]      these crates, or all; it needs what `rt ci` left in out/
 
-Seconds are those of the processor. The prover takes a function apart into modules and writes a file for each when it is
-done with it; `strace` names these files as they are written. A module is counted to its function. `Lts` is the
-function's code under the rules for borrows: it grows with each owned value that is dropped at each exit. `Tie` ties it
-to the contract, and `Proof` is the proof. --tests checks the crates with their tests.
+Seconds are those of the processor, which on a busy host are up to twice as many. The prover takes a function apart into
+modules and writes a file for each when it is done with it; `strace` names these files as they are written. A module is
+counted to its function. The MB of these files are the same in every run. `Lts` is the function's code under the rules
+for borrows: it grows with each owned value that is dropped at each exit. `Tie` ties it to the contract, and `Proof` is
+the proof. --tests checks the crates with their tests.
 """
 import argparse
+import collections
+import os
 import re
 import resource
 import shutil
@@ -21,8 +24,20 @@ from wmlabtools import TOP, harness, prover
 
 # What `strace` says, beside what the prover says.
 TRACED = re.compile(r"\d+ (?:openat\(|\+\+\+|---|<\.\.\.)")
-# A module's file that is written, with the crate, the module of the source, and the module's own name.
-WRITTEN = re.compile(r"(\d+) .*rattle-logic-built-[^/]*/Rattle-(\w+)-(?:proofs|specs)\.(\S*?)([^.]+)\.oantt\.tmp")
+# A module's file that is written, with the process, its path, the module of the source, and the module's own name.
+WRITTEN = re.compile(r'(\d+) .*"(\S*rattle-logic-built-[^/]*/Rattle-\w+-(?:proofs|specs)\.(\S*?)([^.]+)\.oantt)\.tmp')
+
+
+class Function:
+    """What the prover did for a function."""
+
+    def __init__(self):
+        # Seconds of the processor, by the part of the work.
+        self.parts = collections.Counter()
+        self.size = 0
+
+    def seconds(self):
+        return sum(self.parts.values())
 
 
 def processor_seconds(process):
@@ -35,10 +50,18 @@ def processor_seconds(process):
     return (int(fields[11]) + int(fields[12])) / 100
 
 
+def size_of(path):
+    """The size of a file, or 0 if it is not there any more."""
+    try:
+        return os.path.getsize(path)
+    except FileNotFoundError:
+        return 0
+
+
 def checked(crate, more):
-    """The seconds of each part of each function of a crate; ends if the crate is not proved."""
+    """What the prover did for each function of a crate; ends if the crate is not proved."""
     words = prover.check_words(crate, *more)
-    functions, before, said = {}, None, []
+    functions, before, last, said = collections.defaultdict(Function), None, None, []
     traced = ["strace", "-f", "-e", "trace=openat", "-o", "|cat", *words]
     with subprocess.Popen(
         traced, cwd=f"{TOP}/crates/{crate}", stdout=subprocess.PIPE, stderr=subprocess.STDOUT, text=True
@@ -49,14 +72,15 @@ def checked(crate, more):
             found = WRITTEN.match(line)
             now = processor_seconds(found[1]) if found else None
             if now is not None:
-                _, _, function, part = found.groups()
+                # The file before this one is complete. The last one is gone when the prover ends.
+                if last is not None:
+                    last[0].size += size_of(last[1])
+                _, path, name, part = found.groups()
+                function = functions[f"{crate}::{name.rstrip('.').replace('.', '::')}"]
                 # What comes before the first module, reading the libraries, is no function's.
                 if before is not None:
-                    key = f"{crate}::{function.rstrip('.').replace('.', '::')}"
-                    parts = functions.setdefault(key, {})
-                    part = part.split("-")[0]
-                    parts[part] = parts.get(part, 0) + now - before
-                before = now
+                    function.parts[part.split("-")[0]] += now - before
+                before, last = now, (function, path)
     if not any(line.startswith("logic=proved") for line in said):
         sys.exit(f"{crate} is not proved:\n{''.join(said[-20:])}")
     return functions
@@ -80,11 +104,13 @@ def main():
         start = children_seconds()
         found = checked(crate, ["--test"] if options.tests else [])
         functions.update(found)
-        print(f"{children_seconds() - start:7.1f} s {crate}, {len(found)} functions and types", flush=True)
-    slowest = sorted(functions.items(), key=lambda each: -sum(each[1].values()))
-    for name, parts in slowest[: options.count]:
-        part = max(parts, key=parts.get)
-        print(f"{sum(parts.values()):7.1f} s {name}, {part} {parts[part]:.1f} s")
+        size = sum(function.size for function in found.values())
+        seconds = children_seconds() - start
+        print(f"{seconds:7.1f} s {size / 1e6:7.1f} MB {crate}, {len(found)} functions and types", flush=True)
+    slowest = sorted(functions.items(), key=lambda each: -each[1].seconds())
+    for name, function in slowest[: options.count]:
+        part = max(function.parts, key=function.parts.get, default="no part")
+        print(f"{function.seconds():7.1f} s {function.size / 1e6:7.1f} MB {name}, {part} {function.parts[part]:.1f} s")
 
 
 if __name__ == "__main__":
