@@ -5,7 +5,7 @@ one after the other.
 
     scripts/slowest.py [--count N] [--tests] [CRATE..]      these crates, or all; it needs what `rt ci` left in out/
 
-Seconds are those of the processor, which on a busy host are up to twice as many. The prover takes a function apart into
+Seconds are those of the processor, on a busy host up to three times as many. The prover takes a function apart into
 modules and writes a file for each when it is done with it; `strace` names these files as they are written. A module is
 counted to its function. The MB of these files are the same in every run. `Lts` is the function's code under the rules
 for borrows: it grows with each owned value that is dropped at each exit. `Tie` ties it to the contract, and `Proof` is
