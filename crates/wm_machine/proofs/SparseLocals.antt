@@ -1,10 +1,8 @@
 -- Locals of which those that were set are held.
-use Rattle.std.proofs.Common.{◌≡◌, ◌≢◌, ℕ, zero, suc, ◌+◌, ◌<◌, ◌≤◌, List, [], ◌∷◌, ◌++◌, Option, Some, None, length, map, get_or, set, slice_get, option_map, option_and_then, refl, sym, ap, subst, ◌∙◌, arith, ◌⊎◌, inl, inr, ⊎_elim}
-use Rattle.std.proofs.lemmas.Bool.{cases_eq, cases_lt}
+use Rattle.std.proofs.Common.{◌≡◌, ◌≢◌, ℕ, zero, suc, ◌+◌, ◌<◌, ◌≤◌, List, [], ◌∷◌, Option, Some, None, length, map, get_or, set, slice_get, option_map, option_and_then, refl, sym, ap, subst, ◌∙◌, arith, ⊎_elim}
+use Rattle.std.proofs.lemmas.Bool.{cases_eq}
 use Rattle.std.proofs.lemmas.Bool.Decides.{nat_tests}
 use Rattle.std.proofs.lemmas.Option.{slice_get-get_or, slice_get_past}
-use Rattle.std.proofs.lemmas.List.{length-append}
-use Rattle.std.specs.List.{AllClonesOf}
 use Rattle.wm_ast.specs.declared.types.ValType.{ValType}
 use Rattle.wm_machine.specs.declared.sparse_locals.Kept.{Kept}
 use Rattle.wm_machine.specs.declared.value.TypedValue.{TypedValue}
@@ -31,35 +29,6 @@ value_is index ty kept e = grind (arith, nat_tests)
 value_not : (index : ℕ) (ty : ValType) (kept : Kept) → kept.index ≢ index → value_of index ty (Some kept) ≡ zero_of ty
 value_not index ty kept n = grind (arith, nat_tests)
 
--- a list with one more item at the end
-get_last : {X : Type 0} (xs : List X) (v : X) → slice_get (xs ++ v ∷ []) (length xs) ≡ Some v
-get_last [] v = refl
-get_last (x ∷ xs) v = get_last xs v
-
-get_before : {X : Type 0} (xs ys : List X) (j : ℕ) → j < length xs → slice_get (xs ++ ys) j ≡ slice_get xs j
-get_before [] ys j h = absurd (omega arith)
-get_before (x ∷ xs) ys zero h = refl
-get_before (x ∷ xs) ys (suc j) h = get_before xs ys j (omega arith)
-
--- what is beyond all held entries before one is appended, and is another local's then
-value_behind : (held : List Kept) (index other slot : ℕ) (ty : ValType) (value : TypedValue) → other ≢ index → length held ≤ slot → value_of other ty (slice_get (held ++ record { index = index; value = value } ∷ []) slot) ≡ zero_of ty
-value_behind [] index other zero ty value n h = value_not other ty (record { index = index; value = value }) (λ e. n (sym e))
-value_behind [] index other (suc slot) ty value n h = refl
-value_behind (k ∷ held) index other zero ty value n h = absurd (omega arith)
-value_behind (k ∷ held) index other (suc slot) ty value n h = value_behind held index other slot ty value n (omega arith)
-
--- at any slot: one that is held for another local changes nothing
-value_push : (held : List Kept) (index other slot : ℕ) (ty : ValType) (value : TypedValue) → other ≢ index → value_of other ty (slice_get (held ++ record { index = index; value = value } ∷ []) slot) ≡ value_of other ty (slice_get held slot)
-value_push held index other slot ty value n =
-    ⊎_elim
-    (λ (h : slot < length held). ap (value_of other ty) (get_before held _ slot h))
-    (λ (h : length held ≤ slot). value_behind held index other slot ty value n h ∙ sym (ap (value_of other ty) (slice_get_past held slot h)))
-    (cases_lt slot (length held))
-
-value_push_at : (held : List Kept) (index other : ℕ) (o : Option ℕ) (ty : ValType) (value : TypedValue) → other ≢ index → value_of other ty (option_and_then (slice_get (held ++ record { index = index; value = value } ∷ [])) o) ≡ value_of other ty (option_and_then (slice_get held) o)
-value_push_at held index other None ty value n = refl
-value_push_at held index other (Some slot) ty value n = value_push held index other slot ty value n
-
 -- a value that is held is written
 value_write : (held : List Kept) (index other slot q : ℕ) (d : Kept) (ty : ValType) (value : TypedValue) → other ≢ index → slot < length held → (get_or held slot d).index ≡ index → value_of other ty (slice_get (set held slot (record { index = index; value = value })) q) ≡ value_of other ty (slice_get held q)
 value_write held index other slot q d ty value n h k =
@@ -80,56 +49,6 @@ pub sets_held : (slots : List ℕ) (held : List Kept) (index slot : ℕ) (d : Ke
 sets_held slots held index slot d value p h k = record {
   set = λ ty. ap (λ o. value_of index ty (option_and_then (slice_get (set held slot (record { index = index; value = value }))) o)) p ∙ (ap (value_of index ty) (get_same held slot _ h) ∙ value_is index ty (record { index = index; value = value }) refl);
   others = λ other ty n. value_write_at held index other slot (slice_get slots other) d ty value n h k;
-}
-
--- slots that point where they pointed, or after all held entries
-pub record Leads (slots : List ℕ) (index count : ℕ) (now : List ℕ) : Type 0 where
-  pub at : slice_get now index ≡ Some count
-  pub others : (other : ℕ) → other ≢ index → (slice_get now other ≡ slice_get slots other) ⊎ ((slice_get slots other ≡ None) × (slice_get now other ≡ Some count))
-
--- one that wasn't held is set
-pub sets_new : (slots now : List ℕ) (held : List Kept) (index : ℕ) (value : TypedValue) → Leads slots index (length held) now → Sets slots held index value now (held ++ record { index = index; value = value } ∷ [])
-sets_new slots now held index value l = record {
-  set = λ ty. ap (λ o. value_of index ty (option_and_then (slice_get (held ++ record { index = index; value = value } ∷ [])) o)) l.at ∙ (ap (value_of index ty) (get_last held _) ∙ value_is index ty (record { index = index; value = value }) refl);
-  others = λ other ty n. value_push_at held index other (slice_get now other) ty value n
-      ∙ ⊎_elim
-      (λ (e : slice_get now other ≡ slice_get slots other). ap (λ o. value_of other ty (option_and_then (slice_get held) o)) e)
-      (λ (e : (slice_get slots other ≡ None) × (slice_get now other ≡ Some (length held))).
-      ap (λ o. value_of other ty (option_and_then (slice_get held) o)) e.1 ∙ (ap (value_of other ty) (slice_get_past held (length held) (omega arith)) ∙ sym (ap (λ o. value_of other ty (option_and_then (slice_get held) o)) e.0)))
-      (l.others other n);
-}
-
--- a slot is written
-pub leads_set : (slots : List ℕ) (index count : ℕ) → index < length slots → Leads slots index count (set slots index count)
-leads_set slots index count h = record {
-  at = get_same slots index count h;
-  others = λ other n. inl (get_other slots index other count n);
-}
-
--- the same slot for more locals, the last of which is the one that is set
-filled : (count : ℕ) (ys : List ℕ) (j : ℕ) → AllClonesOf (λ x y. y ≡ x) count ys → j < length ys → slice_get ys j ≡ Some count
-filled count [] j a h = absurd (omega arith)
-filled count (y ∷ ys) zero a h = ap Some (⊎_elim (λ (e : y ≡ count). e) (λ (e : y ≡ count). e) a.0)
-filled count (y ∷ ys) (suc j) a h = filled count ys j a.1 (omega arith)
-
-get_behind : (slots ys : List ℕ) (count j : ℕ) → AllClonesOf (λ x y. y ≡ x) count ys → length slots ≤ j → j < length slots + length ys → slice_get (slots ++ ys) j ≡ Some count
-get_behind [] ys count j a l h = filled count ys j a (omega arith)
-get_behind (p ∷ slots) ys count zero a l h = absurd (omega arith)
-get_behind (p ∷ slots) ys count (suc j) a l h = get_behind slots ys count j a (omega arith) (omega arith)
-
-get_past : (slots ys : List ℕ) (j : ℕ) → length slots + length ys ≤ j → (slice_get (slots ++ ys) j ≡ None) × (slice_get slots j ≡ None)
-get_past slots ys j l = (slice_get_past (slots ++ ys) j (omega (arith, length-append slots ys)), slice_get_past slots j (omega arith))
-
-pub leads_more : (slots ys : List ℕ) (index count : ℕ) → AllClonesOf (λ x y. y ≡ x) count ys → length slots ≤ index → index + 1 ≡ length slots + length ys → Leads slots index count (slots ++ ys)
-leads_more slots ys index count a l h = record {
-  at = get_behind slots ys count index a l (omega arith);
-  others = λ other n. ⊎_elim
-      (λ (b : other < length slots). inl (get_before slots ys other b))
-      (λ (b : length slots ≤ other). ⊎_elim
-      (λ (c : other < length slots + length ys). inr (slice_get_past slots other b, get_behind slots ys count other a b c))
-      (λ (c : length slots + length ys ≤ other). let g = get_past slots ys other c in inl (g.0 ∙ sym g.1))
-      (cases_lt other (length slots + length ys)))
-      (cases_lt other (length slots));
 }
 
 nothing : (index : ℕ) (ty : ValType) (o : Option ℕ) → value_of index ty (option_and_then (slice_get []) o) ≡ zero_of ty
