@@ -24,7 +24,7 @@ step_edge x p r s = ⊎_elim (λ (h : SequencedBefore (execution x) p r × (p.nu
 pub edge_inside : (graph : List (List ℕ)) (m k : ℕ) → HasEdge graph m k → k < length graph
 edge_inside graph m k h = ⊎_elim (λ (l : k < length graph). l) (λ (l : length graph ≤ k). absurd (chain_inside graph m [] k l h)) (cases_lt k (length graph))
 
-earlier_there : (log : List ThreadLog) (t i j : ℕ) → i < j → IsSome (event_in log (record { thread = t; number = j })) → IsSome (event_in log (record { thread = t; number = i }))
+pub earlier_there : (log : List ThreadLog) (t i j : ℕ) → i < j → IsSome (event_in log (record { thread = t; number = j })) → IsSome (event_in log (record { thread = t; number = i }))
 earlier_there log t i j h there = grind (arith, common_steps, gets)
 
 module _ (x : LoggedRun) (graph : List (List ℕ)) (is : IsGraphOf x graph) (order : ListsEachOnce x.log x.witness.order) where

@@ -1,8 +1,7 @@
 -- Chains with named links, and chains of happens-before.
 use Rattle.std.proofs.Common.{◌≡◌, ℕ, ◌+◌, ◌<◌, ◌≤◌, List, [], ◌∷◌, ◌++◌, length, slice_get, reverse, Option, Some, IsSome, is_some, option_and_then, unwrap_or, false, true, refl, sym, ap, ◌∙◌, subst, arith, ◌⊎◌, ⊎_elim}
-use Rattle.std.proofs.lemmas.Grind.{common_steps}
 use Rattle.std.proofs.lemmas.List.{reverse-append}
-use Rattle.std.proofs.lemmas.Option.{gets, same_Some}
+use Rattle.std.proofs.lemmas.Option.{same_Some}
 use Rattle.wm_event.specs.declared.event.EventKey.{EventKey}
 use Rattle.wm_event.specs.declared.event.EventId.{EventId}
 use Rattle.wm_event.specs.declared.event.EventId.TheVariants.{Init, At}
@@ -20,9 +19,6 @@ use Rattle.wm_hb.specs.declared.table.Hop.{Hop}
 use Rattle.wm_hb.specs.declared.table.Reach.{Reach}
 use Rattle.wm_hb.specs.declared.table.Reach.TheVariants.{Never, First, By}
 use Rattle.wm_hb.specs.declared.table.Row.{Row}
-
-pub key_inside : (order : List EventKey) (n : ℕ) (key : EventKey) → slice_get order n ≡ Some key → n < length order
-key_inside order n key h = grind (arith, common_steps, gets)
 
 pub reverse_more : (links : List Link) (link : Link) → reverse (links ++ link ∷ []) ≡ link ∷ reverse links
 reverse_more links link = reverse-append links (link ∷ [])

@@ -20,14 +20,11 @@ use Rattle.wm_hb.specs.Chain.{Leads}
 use Rattle.wm_hb.specs.Cycle.{AddsBack, IsAcyclic, IsReady, IsSchedule, IsScheduled, next_key}
 use Rattle.wm_hb.specs.declared.chain.Link.{Link}
 use Rattle.wm_hb.proofs.ChainLaws.{chain_there, never_init}
+use Rattle.wm_hb.proofs.FaultLemmas.{same_key_parts}
 
 -- the numbers of a schedule, with one event more of a thread
 abbrev pub with_next : List ℕ → ℕ → List ℕ
 with_next s t = slice_set s t (get_or s t 0 + 1)
-
--- a key by its thread and number
-same_key_of : (a b : EventKey) → a.thread ≡ b.thread → a.number ≡ b.number → a ≡ b
-same_key_of a b t n = λ i. record { thread = t i; number = n i }
 
 there_of : (s : List ℕ) (t u : ℕ) → t < length s → u ≡ t → get_or (with_next s t) u 0 ≡ get_or s t 0 + 1
 there_of s t u l same = get_or-set_at s t u (get_or s t 0 + 1) 0 same l
@@ -58,7 +55,7 @@ newly s t key l is = ⊎_elim
     let now = there_of s t key.thread l e in
     let same : get_or s key.thread 0 ≡ get_or s t 0 = ap (λ u. get_or s u 0) e in ⊎_elim
     (λ (less : key.number < get_or s t 0). inl (omega (arith, less, same)))
-    (λ (more : get_or s t 0 ≤ key.number). inr (same_key_of key (next_key s t) e (omega (arith, more, is, now))))
+    (λ (more : get_or s t 0 ≤ key.number). inr (same_key_parts key (next_key s t) e (omega (arith, more, is, now))))
     (cases_lt key.number (get_or s t 0)))
     (λ (not : key.thread ≢ t). let now = other_of s t key.thread not in inl (omega (arith, is, now)))
     (same_or_not key.thread t)
@@ -168,7 +165,7 @@ pub next-there : (log : List ThreadLog) → HasKeys log → (t n : ℕ) (thread 
 next-there log keys t n thread e at_t at_n =
     let there : event_in log (record { thread = t; number = n }) ≡ Some e = ap (option_and_then (λ (th : ThreadLog). slice_get th.events n)) at_t ∙ at_n in
     let named = keys (record { thread = t; number = n }) e there in
-    (same_key_of (key_of e) (record { thread = t; number = n }) named.0 named.1, there)
+    (same_key_parts (key_of e) (record { thread = t; number = n }) named.0 named.1, there)
 
 -- what a search that found nothing states
 pub found-none : {X N : Type 0} (S : X → Type 0) (o : Option X) → MatchOption o N S → false ≡ is_some o → N

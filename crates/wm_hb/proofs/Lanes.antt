@@ -1,28 +1,21 @@
 -- The threads are lanes of the graph: in its thread each event reaches the later ones.
-use Rattle.std.proofs.Common.{◌≡◌, ℕ, ◌+◌, ◌<◌, ◌≤◌, List, [], length, get_or, IsSome, sym, ap, ◌∙◌, subst, arith, inl, ⊎_elim}
+use Rattle.std.proofs.Common.{◌≡◌, ℕ, ◌+◌, ◌<◌, ◌≤◌, List, [], length, get_or, sym, ap, ◌∙◌, subst, arith, inl, ⊎_elim}
 use Rattle.std.specs.Prelude.{slice_index}
 use Rattle.std.proofs.lemmas.Bool.{cases_lt}
-use Rattle.std.proofs.lemmas.Grind.{common_steps}
 use Rattle.std.proofs.lemmas.List.{get_or-map, length-map}
-use Rattle.std.proofs.lemmas.Option.{slice_get-get_or, gets}
+use Rattle.std.proofs.lemmas.Option.{slice_get-get_or}
 use Rattle.wm_event.specs.declared.event.EventKey.{EventKey}
 use Rattle.wm_event.specs.declared.event.EventId.TheVariants.{At}
-use Rattle.wm_event.specs.declared.log.ThreadLog.{ThreadLog}
-use Rattle.wm_event.specs.Log.{event_in}
 use Rattle.wm_event.specs.LoggedRun.{LoggedRun, execution}
 use Rattle.wm_event.specs.Execution.{place}
 use Rattle.wm_event.specs.Rules.{KeepsOrder}
 use Rattle.wm_event.specs.Shape.{ListsEachOnce}
+use Rattle.wm_event.proofs.LogLemmas.{thread_inside}
 use Rattle.wm_closure.specs.Graph.{AreLanes, Reaches}
 use Rattle.wm_hb.specs.Steps.{AreThreads, IsGraphOf, StandsAt}
 use Rattle.wm_hb.proofs.Bridge.{edge_reaches, nowhere}
+use Rattle.wm_hb.proofs.FaultLemmas.{same_key_parts}
 use Rattle.wm_hb.proofs.OrderLaws.{place_is}
-
-thread_there : (log : List ThreadLog) (key : EventKey) → IsSome (event_in log key) → key.thread < length log
-thread_there log key there = grind (arith, common_steps, gets)
-
-same_event : (a b : EventKey) → a.thread ≡ b.thread → a.number ≡ b.number → a ≡ b
-same_event a b t u = λ i. record { thread = t i; number = u i }
 
 module _ (x : LoggedRun) (graph : List (List ℕ)) (threads : List ℕ) (is : IsGraphOf x graph) (order : ListsEachOnce x.log x.witness.order) (agrees : KeepsOrder (execution x)) (are : AreThreads x threads) where
   key_at : ℕ → EventKey
@@ -52,7 +45,7 @@ module _ (x : LoggedRun) (graph : List (List ℕ)) (threads : List ℕ) (is : Is
       let back : place (execution x) (At b) < place (execution x) (At a) = agrees (At b) (At a) ([], inl (record { first = there_b; second = there_a; same_thread = sym t; earlier = earlier })) in
       absurd (omega (arith, back, pa, pb, less)))
       (λ (not : a.number ≤ b.number).
-      let e : a ≡ b = same_event a b t (omega (arith, late, not)) in
+      let e : a ≡ b = same_key_parts a b t (omega (arith, late, not)) in
       let one : p ≡ q = order.once p q b (subst (λ k. StandsAt x p k) e at_a) at_b in
       absurd (omega (arith, one, less)))
       (cases_lt b.number a.number))
@@ -61,6 +54,6 @@ module _ (x : LoggedRun) (graph : List (List ℕ)) (threads : List ℕ) (is : Is
   pub are_lanes : AreLanes graph threads (length x.log)
   are_lanes = record {
     size = (let size = is.size in ap length are ∙ length-map x.witness.order (λ (key : EventKey). key.thread) ∙ sym size);
-    inside = λ n l. rw (thread_at n l) (thread_there x.log (get_or x.witness.order n nowhere) (order.events n (get_or x.witness.order n nowhere) (stands n l)));
+    inside = λ n l. rw (thread_at n l) (thread_inside x.log (get_or x.witness.order n nowhere) (order.events n (get_or x.witness.order n nowhere) (stands n l)));
     linked = linked;
   }

@@ -1,52 +1,22 @@
 -- The graph is in order, and what chains begin and end at is there.
-use Rattle.std.proofs.Common.{◌≡◌, ℕ, ◌+◌, ◌<◌, List, [], ◌∷◌, Bool, true, false, length, get_or, slice_get, Option, None, Some, IsSome, IsTrue, refl, sym, ap, ◌∙◌, subst, arith, ⊎_elim, ◌↔◌}
-use Rattle.std.proofs.lemmas.Grind.{common_steps}
-use Rattle.std.proofs.lemmas.Option.{slice_get-get_or, gets, same_Some}
-use Rattle.std.proofs.lemmas.List.Sums.{position_or_len_is}
+use Rattle.std.proofs.Common.{◌≡◌, ℕ, ◌+◌, ◌<◌, List, [], ◌∷◌, false, length, get_or, slice_get, Option, None, Some, IsSome, IsTrue, refl, sym, ap, subst, arith, ⊎_elim, ◌↔◌}
+use Rattle.std.proofs.lemmas.Option.{slice_get-get_or}
 use Rattle.wm_event.specs.declared.event.EventKey.{EventKey}
 use Rattle.wm_event.specs.declared.event.EventId.{EventId}
 use Rattle.wm_event.specs.declared.event.EventId.TheVariants.{Init, At}
-use Rattle.wm_event.specs.Event.{same_key}
 use Rattle.wm_event.specs.Log.{event_in}
 use Rattle.wm_event.specs.Execution.{place}
 use Rattle.wm_event.specs.LoggedRun.{LoggedRun, execution}
 use Rattle.wm_event.specs.Rules.{KeepsOrder}
 use Rattle.wm_event.specs.Shape.{ListsEachOnce}
 use Rattle.wm_event.specs.HappensBefore.{SequencedBefore, SynchronizesWith, Edge, Chain as HbChain, HappensBefore}
+use Rattle.wm_event.proofs.PlaceLemmas.{position_listed}
 use Rattle.wm_closure.specs.Graph.{IsOrdered}
 use Rattle.wm_hb.specs.Steps.{StandsAt, IsGraphOf}
 use Rattle.wm_hb.proofs.Bridge.{edge_inside, step_edge}
 
-same_key_is : (a b : EventKey) → same_key a b ≡ true → a ≡ b
-same_key_is a b h =
-    let t : a.thread ≡ b.thread = grind (arith, common_steps) in
-    let u : a.number ≡ b.number = grind (arith, common_steps) in
-    λ i. record { thread = t i; number = u i }
-
-same_key_self : (a : EventKey) → same_key a a ≡ true
-same_key_self a = grind (arith, common_steps)
-
-inside : (ws : List EventKey) (k : ℕ) (w : EventKey) → slice_get ws k ≡ Some w → k < length ws
-inside ws k w h = grind (arith, common_steps, gets)
-
-at_default : (ws : List EventKey) (k : ℕ) (w : EventKey) → slice_get ws k ≡ Some w → get_or ws k w ≡ w
-at_default ws k w h = same_Some (get_or ws k w) w (sym (slice_get-get_or ws k w (inside ws k w h)) ∙ h)
-
-is_false : (b : Bool) → (b ≡ true → ⊥) → b ≡ false
-is_false true h = absurd (h refl)
-is_false false h = refl
-
 pub place_is : (x : LoggedRun) → ListsEachOnce x.log x.witness.order → (n : ℕ) (key : EventKey) → StandsAt x n key → place (execution x) (At key) ≡ 1 + n
-place_is x order n key at =
-    let l = inside x.witness.order n key at in
-    ap (λ k. 1 + k) (position_or_len_is (same_key key) x.witness.order n key (omega (arith, l))
-    (λ k h. is_false (same_key key (get_or x.witness.order k key)) (λ t.
-    let e : key ≡ get_or x.witness.order k key = same_key_is key (get_or x.witness.order k key) t in
-    let below : k < length x.witness.order = omega (arith, h, l) in
-    let here : StandsAt x k key = slice_get-get_or x.witness.order k key below ∙ ap Some (sym e) in
-    let same : k ≡ n = order.once k n key here at in
-    absurd (omega (arith, h, same))))
-    (λ _. ap (same_key key) (at_default x.witness.order n key at) ∙ same_key_self key))
+place_is x order n key at = ap (λ k. 1 + k) (position_listed x.log x.witness.order order n key at)
 
 pub graph_ordered : (x : LoggedRun) (graph : List (List ℕ)) → IsGraphOf x graph → ListsEachOnce x.log x.witness.order → KeepsOrder (execution x) → IsOrdered graph
 graph_ordered x graph is order agrees m n h =

@@ -2,7 +2,7 @@
 use Rattle.std.proofs.Common.{◌≡◌, ◌<◌, ◌≤◌, ◌+◌, ◌⊎◌, ⊎_elim, inl, inr, ℕ, zero, suc, List, [], ◌∷◌, ◌++◌, length, Some, None, slice_get, refl, sym, subst, ◌∙◌, arith}
 use Rattle.std.proofs.lemmas.Bool.{cases_lt}
 use Rattle.std.proofs.lemmas.Grind.{common_steps}
-use Rattle.std.proofs.lemmas.Option.{gets, none-some, same_Some}
+use Rattle.std.proofs.lemmas.Option.{gets, none-some, same_Some, slice_get_within}
 use Rattle.wm_event.specs.declared.event.EventId.{EventId}
 use Rattle.wm_hb.specs.declared.reads_from.WriterRun.{WriterRun}
 use Rattle.wm_hb.specs.ReadsFrom.{AreFromWriters, ComeFromWriters, HaveBytes, IsNamed, NamesByte}
@@ -79,9 +79,6 @@ runs_next writers runs run so_far is = record {
   before = λ k below. named_more runs run so_far.before k (omega (arith, below));
 }
 
-inside : (writers : List EventId) (k : ℕ) (w : EventId) → slice_get writers k ≡ Some w → k < length writers
-inside writers k w h = grind (arith, common_steps, gets)
-
 past : (writers : List EventId) (n : ℕ) → length writers ≤ n → slice_get writers n ≡ None
 past writers n h = grind (arith, common_steps, gets)
 
@@ -92,7 +89,7 @@ runs_all writers runs first n so_far all = record {
   each = λ k w is. ⊎_elim
       (λ (below : k < first). so_far.before k below)
       (λ (above : first ≤ k).
-      let here : k < length writers = inside writers k w is in
+      let here : k < length writers = slice_get_within writers k w is in
       let under : k < n = omega (arith, here, all) in
       let none : None ≡ Some w = sym (past writers n all) ∙ sym (so_far.same k above under) ∙ is in
       absurd (none-some w none))

@@ -1,11 +1,10 @@
 -- The sources of an event, one writer after the other.
-use Rattle.std.proofs.Common.{◌≡◌, ℕ, ◌+◌, ◌<◌, ◌≤◌, List, [], ◌∷◌, ◌++◌, length, slice_get, Some, sym, ap, ◌∙◌, subst, arith, ◌⊎◌, inl, inr, ⊎_elim, ◌↔◌, length-append}
+use Rattle.std.proofs.Common.{◌≡◌, ℕ, ◌+◌, ◌<◌, ◌≤◌, List, [], ◌∷◌, ◌++◌, length, Some, sym, ap, ◌∙◌, subst, arith, ◌⊎◌, inl, inr, ⊎_elim, ◌↔◌, length-append}
 use Rattle.std.specs.Prelude.{slice_index}
 use Rattle.std.proofs.lemmas.Bool.{cases_lt}
 use Rattle.std.proofs.Math.Seq.{get_or-append_seam}
 use Rattle.std.proofs.lemmas.List.{get_or_append_left}
-use Rattle.std.proofs.lemmas.Grind.{common_steps}
-use Rattle.std.proofs.lemmas.Option.{gets, same_Some}
+use Rattle.std.proofs.lemmas.Option.{same_Some, slice_get_within}
 use Rattle.wm_event.specs.declared.event.EventKey.{EventKey}
 use Rattle.wm_event.specs.declared.event.EventId.{EventId}
 use Rattle.wm_event.specs.declared.event.EventId.TheVariants.{Init, At}
@@ -126,11 +125,8 @@ module _ (x : LoggedRun) (r : EventKey) where
     )),
   )
     where
-      inside : (ws : List EventId) (k : ℕ) (w : EventId) → slice_get ws k ≡ Some w → k < length ws
-      inside ws k w h = grind (arith, common_steps, gets)
-
       below : (k : ℕ) (p : EventKey) → ReadsFrom (execution x) r k (At p) → k < n
-      below k p h = let l = inside (writers_in x.witness r) k (At p) h in omega (arith, l, size)
+      below k p h = let l = slice_get_within (writers_in x.witness r) k (At p) h in omega (arith, l, size)
 
 -- one event after the other
 pub graph_more : (x : LoggedRun) (graph : List (List ℕ)) (n : ℕ) (sources : List ℕ) (key : EventKey) → length graph ≡ n → StandsAt x n key → AreSources x key sources
@@ -149,8 +145,5 @@ pub graph_whole : (x : LoggedRun) (graph : List (List ℕ)) (n : ℕ) → length
     → ((m : ℕ) (r : EventKey) → m < n → StandsAt x m r → AreSources x r (sources_of graph m)) → IsGraphOf x graph
 graph_whole x graph n size whole before = record {
   size = size ∙ sym whole;
-  edges = λ m r at. before m r (let l = inside x.witness.order m r at in omega (arith, l, whole)) at;
+  edges = λ m r at. before m r (let l = slice_get_within x.witness.order m r at in omega (arith, l, whole)) at;
 }
-  where
-    inside : (ws : List EventKey) (k : ℕ) (w : EventKey) → slice_get ws k ≡ Some w → k < length ws
-    inside ws k w h = grind (arith, common_steps, gets)

@@ -12,7 +12,6 @@ use Rattle.wm_event.specs.HappensBefore.{SequencedBefore, SynchronizesWith}
 use Rattle.wm_event.specs.LoggedRun.{LoggedRun, execution}
 use Rattle.wm_event.specs.Rules.{KeepsOrder}
 use Rattle.wm_event.specs.Shape.{ListsEachOnce}
-use Rattle.wm_event.proofs.PlaceLemmas.{position_listed}
 use Rattle.wm_hb.specs.Chain.{IsEdge, Leads}
 use Rattle.wm_hb.specs.Table.{BoundsChains, BoundsThrough, IsBestOfThread, IsHop, IsReach, IsReachedAt, IsRow, IsSmall, IsTable, IsWithin, StandsAt, hop_links, links_of}
 use Rattle.wm_hb.specs.declared.chain.Link.{Link}
@@ -22,9 +21,7 @@ use Rattle.wm_hb.specs.declared.table.Hop.{Hop}
 use Rattle.wm_hb.specs.declared.table.Reach.{Reach}
 use Rattle.wm_hb.specs.declared.table.Reach.TheVariants.{Never, First, By}
 use Rattle.wm_hb.specs.declared.table.Row.{Row}
-
-pub place_is : (x : LoggedRun) → ListsEachOnce x.log x.witness.order → (n : ℕ) (key : EventKey) → StandsAt x n key → place (execution x) (At key) ≡ 1 + n
-place_is x order n key at = ap (λ k. 1 + k) (position_listed x.log x.witness.order order n key at)
+use Rattle.wm_hb.proofs.OrderLaws.{place_is}
 
 -- an event that is sequenced before another is at a lower place
 pub sequenced_below : (x : LoggedRun) → ListsEachOnce x.log x.witness.order → KeepsOrder (execution x) → (m n : ℕ) (p b : EventKey) → StandsAt x m p → StandsAt x n b → SequencedBefore (execution x) p b → m < n
@@ -220,9 +217,6 @@ module _ (x : LoggedRun) (table : List Row) (row : Row) where
       let same = g.0 in
       omega (arith, l, same))
       (get_more table row n h.0 h.1)
-
-pub writer_inside : (writers : List EventId) (k : ℕ) (w : EventId) → slice_get writers k ≡ Some w → k < length writers
-writer_inside writers k w h = grind (arith, common_steps, gets)
 
 same_key_self : (a : EventKey) → same_key a a ≡ true
 same_key_self a = grind (arith, common_steps)

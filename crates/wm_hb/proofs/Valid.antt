@@ -1,21 +1,18 @@
 -- Where no fault breaks a rule, the rule holds.
 use Rattle.std.proofs.Common.{◌≡◌, ◌≢◌, ℕ, zero, suc, ◌+◌, ◌-◌, ◌<◌, ◌≤◌, List, [], ◌∷◌, Option, None, Some, IsSome, arith, refl, sym, subst, ⊎_elim}
 use Rattle.std.proofs.lemmas.Bool.{cases_eq, cases_lt}
-use Rattle.std.proofs.lemmas.Option.{gets}
-use Rattle.std.proofs.lemmas.Grind.{common_steps}
 use Rattle.wm_event.specs.declared.event.EventKey.{EventKey}
 use Rattle.wm_event.specs.declared.event.EventId.{EventId}
 use Rattle.wm_event.specs.declared.event.EventId.TheVariants.{Init, At}
 use Rattle.wm_event.specs.declared.rule.Rule.TheVariants.{WrittenValues, Order}
-use Rattle.wm_event.specs.declared.log.ThreadLog.{ThreadLog}
 use Rattle.wm_event.specs.Byte.{byte_of}
 use Rattle.wm_event.specs.Execution.{Execution, byte_by, place}
-use Rattle.wm_event.specs.Log.{event_in}
 use Rattle.wm_event.specs.LoggedRun.{LoggedRun, execution}
 use Rattle.wm_event.specs.HappensBefore.{Edge, Chain, SequencedBefore, SynchronizesWith}
 use Rattle.wm_event.specs.Rules.{KeepsWrittenValues, KeepsOrder}
 use Rattle.wm_event.specs.Faults.{BreaksWrittenValues, reads_itself, not_written, other_value, in_thread, synchronized}
 use Rattle.wm_hb.specs.Scan.{Finds}
+use Rattle.wm_hb.proofs.Bridge.{earlier_there}
 
 -- no fault of V1
 pub keeps_written_values : (x : Execution) → Finds x (1 ∷ []) None → KeepsWrittenValues x
@@ -32,9 +29,6 @@ keeps_written_values x none r e k w there reads = (own, other (byte_by x w (e.ad
     other (Some b) h = ⊎_elim (λ (s : b ≡ byte_of e.read k). rw (sym s) h) (λ (d : b ≢ byte_of e.read k). absurd (broken 3 (other_value refl b h d))) (cases_eq b (byte_of e.read k))
 
 -- an event has each earlier one of its thread before it
-earlier_there : (log : List ThreadLog) (t i j : ℕ) → i < j → IsSome (event_in log (record { thread = t; number = j })) → IsSome (event_in log (record { thread = t; number = i }))
-earlier_there log t i j h there = grind (arith, common_steps, gets)
-
 abbrev pub HasEarlier : Execution → Type 0
 HasEarlier x = (t i j : ℕ) → i < j → IsSome (x.event_of (record { thread = t; number = j })) → IsSome (x.event_of (record { thread = t; number = i }))
 

@@ -1,10 +1,11 @@
 //! Happens-before of a candidate whose order agrees with it.
-ghost use Rattle.std.specs.Prelude.{◌≡◌, ◌↔◌, IsTrue, IfOk, Some, None};
+ghost use Rattle.std.specs.Prelude.{◌≡◌, ◌≤◌, ◌↔◌, IsTrue, IfOk, Some, None, length};
 ghost use Rattle.wm_event.specs.declared.event.EventId.TheVariants.{Init, At};
 ghost use Rattle.wm_event.specs.declared.event.EventKey.{EventKey};
 ghost use Rattle.wm_event.specs.HappensBefore.{HappensBefore as IsBefore};
 ghost use Rattle.wm_event.specs.LoggedRun.{execution};
 ghost use Rattle.wm_event.specs.Rules.{KeepsOrder};
+ghost use Rattle.wm_hb.specs.Sequence.{AreInSequence, HoldsFrom};
 ghost use Rattle.wm_hb.specs.Steps.{DecidesBefore};
 
 use crate::ordered::Ordered;
@@ -97,5 +98,25 @@ impl<'c, 'i> HappensBefore<'c, 'i> {
             }
             EventId::At(start) => self.is_before(start, end),
         }
+    }
+
+    /// How many of these events `id` doesn't happen before. Each of them happens before the next ones, so `id` happens
+    /// before all those after the counted ones.
+    pub fn count_not_after(&self, id: EventId, events: &[EventId]) -> usize
+        requires { AreInSequence (execution self.now) events.now }
+        ensures bound { result ≤ length events.now }
+        ensures turn { HoldsFrom (IsBefore (execution self.now) id) events.now result }
+    {
+        let mut low = 0usize;
+        let mut high = events.len();
+        while low < high {
+            let middle = low + (high - low) / 2;
+            if self.before(id, events[middle]) {
+                high = middle;
+            } else {
+                low = middle + 1;
+            }
+        }
+        low
     }
 }

@@ -1,5 +1,5 @@
 -- The answers to the lines of a stream, over the module that was read.
-use Rattle.std.proofs.Common.{◌≡◌, ℕ, ◌+◌, List, [], ◌∷◌, Option, OnErr, Result, Ok, Err, ap, refl, ◌∙◌}
+use Rattle.std.proofs.Common.{◌≡◌, ℕ, ◌+◌, List, [], ◌∷◌, Option, ap, refl, ◌∙◌}
 use Rattle.std.specs.Borrow.{Bor}
 use Rattle.wm_decode.specs.Bounds.{max_module_bytes}
 use Rattle.wm_logfile.specs.Limits.{max_document_bytes}
@@ -68,7 +68,3 @@ module _ (given : Given) (name : Bor Text) (old new : Option (List ℕ)) (comman
   pub writes_front : StreamsFront (given.files name.now) given.input old new → WritesFront given old new
   writes_front (streamed_nothing same) = written_nothing same
   writes_front (streamed_front module_bytes text read answers gains) = first_lines name module_bytes text command read answers gains
-
-pub on_err : {T E P : Type 0} (r : Result T E) → P → OnErr r P
-on_err (Ok value) p = tt
-on_err (Err error) p = p

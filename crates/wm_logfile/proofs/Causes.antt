@@ -22,6 +22,7 @@ use Rattle.wm_logfile.specs.Grammar.{format_name, keys, thread, thread_by, witne
 use Rattle.wm_logfile.specs.FirstFault.{as_first, document_fault, few_fault, pair_fault, parts_fault_with, threads_fault, version_fault}
 use Rattle.wm_logfile.specs.Paths.{child}
 use Rattle.wm_logfile.specs.Reading.{◌>>=◌, list_at, parts_from, version_from}
+use Rattle.wm_logfile.proofs.DocumentPlaces.{first_none, one_of_two}
 use Rattle.wm_logfile.proofs.Leaves.{texts}
 use Rattle.wm_logfile.proofs.Lists.{list_takes, list_again}
 use Rattle.wm_logfile.proofs.Whole.{parts_cells, parts_take, version_number, version_takes}
@@ -37,10 +38,6 @@ abbrev in_parts : List Data → Found
 in_parts = parts_fault_with (λ v threads last. pair_fault v [] threads last) []
 
 -- ---- what a fault came from
-
-one_of_two : (x y : Found) (e : DocFault) → option_or x y ≡ Some e → (x ≡ Some e) ⊎ ((x ≡ None) × (y ≡ Some e))
-one_of_two None y e h = inr (refl, h)
-one_of_two (Some f) y e h = inl h
 
 -- a list, or another value
 pub from_list : (f : List Data → Found) (path : List ℕ) (o : Option (List Data)) (e : DocFault) → option_map_or f o (Some (BadShape path)) ≡ Some e → (BadShape path ≡ e) ⊎ ((ds : List Data) × (o ≡ Some ds) × (f ds ≡ Some e))
@@ -63,10 +60,6 @@ inside_not_large None h = absurd cc
 inside_not_large (Some (Shape p)) h = (let same : BadShape p ≡ TooLarge = cc in absurd cc)
 inside_not_large (Some (Range p)) h = (let same : NumberRange p ≡ TooLarge = cc in absurd cc)
 inside_not_large (Some Memory) h = (let same : OutOfMemory ≡ TooLarge = cc in absurd cc)
-
-inside_none : (x : Option ReadFault) → as_first x ≡ None → x ≡ None
-inside_none None h = refl
-inside_none (Some f) h = absurd cc
 
 -- ---- the threads
 
@@ -222,7 +215,7 @@ in_four e whole a b c d h =
           version = b;
           threads = c;
           last = d;
-          is = ap (λ (x : Data). list (x ∷ b ∷ c ∷ d ∷ [])) (named a (child [] 0) (inside_none (first_fault format_name (child [] 0) a) second.0));
+          is = ap (λ (x : Data). list (x ∷ b ∷ c ∷ d ∷ [])) (named a (child [] 0) (first_none (first_fault format_name (child [] 0) a) second.0));
           fault = fault;
         }
       ]

@@ -58,11 +58,11 @@ first_is : (x : Option ReadFault) (f : ReadFault) → as_first x ≡ Some (as_do
 first_is None f h = absurd cc
 first_is (Some e) f h = ap (λ (g : ReadFault). Some g) (as_document-injective e f (same_Some (as_document e) (as_document f) h))
 
-first_none : (x : Option ReadFault) → as_first x ≡ None → x ≡ None
+pub first_none : (x : Option ReadFault) → as_first x ≡ None → x ≡ None
 first_none None h = refl
 first_none (Some e) h = absurd cc
 
-one_of_two : (x y : Found) (e : DocFault) → option_or x y ≡ Some e → (x ≡ Some e) ⊎ ((x ≡ None) × (y ≡ Some e))
+pub one_of_two : (x y : Found) (e : DocFault) → option_or x y ≡ Some e → (x ≡ Some e) ⊎ ((x ≡ None) × (y ≡ Some e))
 one_of_two None y e h = inr (refl, h)
 one_of_two (Some f) y e h = inl h
 

@@ -118,7 +118,7 @@ from_test : (b : Bool) (x y : Found) (f : ReadFault) → cond b x y ≡ Some f �
 from_test true x y f h = inl (refl, h)
 from_test false x y f h = inr (refl, h)
 
-from_unless : (b : Bool) (e f : ReadFault) → unless b e ≡ Some f → (b ≡ false) × (e ≡ f)
+pub from_unless : (b : Bool) (e f : ReadFault) → unless b e ≡ Some f → (b ≡ false) × (e ≡ f)
 from_unless true e f h = absurd cc
 from_unless false e f h = (refl, same_Some e f h)
 

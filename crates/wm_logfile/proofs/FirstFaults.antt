@@ -16,7 +16,7 @@ use Rattle.std.specs.Prelude.{codes}
 use Rattle.wm_logfile.specs.Document.{count, list}
 use Rattle.wm_logfile.specs.Document.{end as ended}
 use Rattle.wm_logfile.specs.Faults.{IsFirst}
-use Rattle.wm_logfile.specs.Forms.{Form, Fields, is_word, unless, in_list, first_fault, exact_fault, case_fault, tagged_fault, numbered}
+use Rattle.wm_logfile.specs.Forms.{Form, Fields, is_word, in_list, first_fault, exact_fault, case_fault, tagged_fault, numbered}
 use Rattle.wm_logfile.specs.Grammar.{cases_with, event_cases, event_by_cases, kind, thread_fields}
 use Rattle.wm_logfile.specs.FirstFault.{by_fault, head_fault}
 use Rattle.wm_logfile.specs.FirstFault as first_faults
@@ -25,6 +25,7 @@ use Rattle.wm_logfile.specs.Grammar as grammar
 use Rattle.wm_logfile.specs.Paths.{child}
 use Rattle.wm_logfile.specs.Words.{kind_word}
 use Rattle.wm_logfile.specs.Reading.{list_at, head_at, head_from, kind_at, values_len, values_by_len}
+use Rattle.wm_logfile.proofs.FaultSteps.{from_unless}
 use Rattle.wm_logfile.proofs.Format.{bind_some}
 use Rattle.wm_logfile.proofs.Leaves.{kinds}
 use Rattle.wm_logfile.proofs.Threads.{head_takes, head_cells}
@@ -70,16 +71,12 @@ no_word : (by : Fields) (path : List ℕ) (word : Option (List ℕ)) (ds : List 
 no_word by path None ds h = refl
 no_word by path (Some s) ds h = cond_of_none (bytes_eq s (codes "r")) (bytes_eq s (codes "w")) (bytes_eq s (codes "x")) _ _ _ _ h
 
-is_unless : (b : Bool) (f e : ReadFault) → unless b f ≡ Some e → (b ≡ false) × (f ≡ e)
-is_unless true f e h = absurd cc
-is_unless false f e h = (refl, cc)
-
 kind_fault : (by : Fields) (path at : List ℕ) (tag : Data) (ds : List Data) (e : ReadFault) → at ≡ child path 0 → IsFirst e (first_fault kind at tag) → IsFirst e (case_fault (cases_with by) path (as_str tag) ds)
 unfolding kind
 kind_fault by path at tag ds e place first =
     first_by e (first_fault kind at tag) (case_fault (cases_with by) path (as_str tag) ds)
     (λ (h : first_fault kind at tag ≡ Some e). (
-    let one = is_unless (is_word (codes "r" ∷ codes "w" ∷ codes "x" ∷ []) (as_str tag)) (Shape at) e h in
+    let one = from_unless (is_word (codes "r" ∷ codes "w" ∷ codes "x" ∷ []) (as_str tag)) (Shape at) e h in
     no_word by path (as_str tag) ds one.0 ∙ ap (λ (p : List ℕ). Some (Shape p)) (sym place) ∙ ap (λ (f : ReadFault). Some f) one.1))
     first
 

@@ -20,7 +20,7 @@ use Rattle.wm_machine.specs.Inside.{out_of_labels, call_step, vars_of, made_of, 
 use Rattle.wm_machine.proofs.Lift.{labels_lift}
 use Rattle.wm_machine.proofs.Calls.{out_of_calls, calls_lift, running_in}
 
-made_gives : (vars : Vars) (operands : List TypedValue) (rest : List Instr) (o : Option (List TypedValue)) → made_of (gives vars operands rest o) ≡ None
+pub made_gives : (vars : Vars) (operands : List TypedValue) (rest : List Instr) (o : Option (List TypedValue)) → made_of (gives vars operands rest o) ≡ None
 made_gives vars operands rest None = refl
 made_gives vars operands rest (Some v) = refl
 
@@ -52,7 +52,7 @@ made_call m callee vars operands rest (Returns v) = made_gives vars operands res
 made_call m callee vars operands rest (Traps k) = refl
 made_call m callee vars operands rest Stuck = refl
 
-made_ended : (o : Option (List TypedValue)) → access_of (ended o) ≡ None
+pub made_ended : (o : Option (List TypedValue)) → access_of (ended o) ≡ None
 made_ended None = refl
 made_ended (Some v) = refl
 

@@ -1,11 +1,11 @@
 -- A cell that is replaced, if it is there.
-use Rattle.std.proofs.Common.{◌≡◌, ◌≢◌, ℕ, zero, suc, List, [], ◌∷◌, ◌/◌, ◌%◌, ◌<◌, ◌≤◌, inl, inr, length, refl, ap, sym, ◌∙◌, arith, if◌then◌else◌, Option, None, Some, option_and_then, option_map, slice_get, slice_set}
+use Rattle.std.proofs.Common.{◌≡◌, ◌≢◌, ℕ, zero, suc, List, [], ◌∷◌, ◌/◌, ◌%◌, ◌<◌, ◌≤◌, inl, inr, length, refl, ap, sym, ◌∙◌, arith, if◌then◌else◌, Option, None, Some, option_map, slice_get, slice_set}
 use Rattle.std.proofs.lemmas.Bool.{cases_eq, eq-eqb, ne_eqb}
 use Rattle.std.proofs.lemmas.Option.{slice_get_within}
 use Rattle.wm_memory.specs.declared.TheConstants.{CHUNK, REGION}
 use Rattle.wm_memory.specs.declared.cells.Cell.{Cell}
 use Rattle.wm_memory.specs.Table.{CellTable, Sets, SetsCell, own_cell}
-use Rattle.wm_memory.proofs.Chunks.{slice_get-set_same, slice_get-set_other}
+use Rattle.wm_memory.proofs.Chunks.{cell_in, chunk_in, slice_get-set_same, slice_get-set_other}
 
 pub get_past : {X : Type 0} (xs : List X) (i : ℕ) → length xs ≤ i → slice_get xs i ≡ None
 get_past [] i h = refl
@@ -36,12 +36,6 @@ sets_nothing r number place cell h = record {
 }
 
 -- ---- of a table
-
-abbrev cell_in : ℕ → Option (List Cell) → Option Cell
-cell_in b o = option_and_then (λ c. slice_get c (b % CHUNK)) o
-
-abbrev chunk_in : ℕ → Option (List (List Cell)) → Option (List Cell)
-chunk_in b o = option_and_then (λ r. slice_get r (b % REGION / CHUNK)) o
 
 abbrev replaced : CellTable → ℕ → List (List Cell) → CellTable
 replaced t a r = record { initial = t.initial; regions = slice_set t.regions (a / REGION) r }

@@ -1,9 +1,8 @@
 -- Places before or after which the writes of a byte are ordered with an event.
-use Rattle.std.proofs.Common.{◌≡◌, ℕ, ◌+◌, ◌<◌, ◌≤◌, ◌&&◌, List, Bool, true, false, not, ltb, length, slice_get, Some, is_some, refl, sym, ap, ◌∙◌, subst, arith, ◌⊎◌, inl, inr, ⊎_elim}
+use Rattle.std.proofs.Common.{◌≡◌, ℕ, ◌+◌, ◌<◌, ◌≤◌, List, Bool, true, false, length, slice_get, Some, is_some, refl, sym, ap, ◌∙◌, subst, arith, ◌⊎◌, inl, inr, ⊎_elim}
 use Rattle.std.specs.List.{filter}
 use Rattle.std.proofs.lemmas.Bool.{cases_lt, false≢true}
 use Rattle.std.proofs.lemmas.Option.{same_Some, slice_get_within}
-use borrow.Author.Tests.{tests}
 use Rattle.wm_event.specs.declared.event.Event.{Event}
 use Rattle.wm_event.specs.declared.event.EventKey.{EventKey}
 use Rattle.wm_event.specs.declared.event.EventId.{EventId}
@@ -20,14 +19,17 @@ use Rattle.wm_event.specs.Shape.{IsListedAt, ListsEachOnce}
 use Rattle.wm_event.specs.Writes.{writes_byte, writes_from}
 use Rattle.wm_event.proofs.LogLemmas.{thread_inside}
 use Rattle.wm_event.proofs.WritesLemmas.{in_filter}
-use Rattle.wm_races.specs.Bounds.{IsEnd, IsEndFor, IsStart, IsWriteBy, stands_between}
+use Rattle.wm_hb.specs.Between.{stands_between}
+use Rattle.wm_hb.proofs.BetweenLemmas.{between, rises_kept}
+use Rattle.wm_hb.proofs.FilterLemmas.{from_filter}
+use Rattle.wm_hb.proofs.ThreadLemmas.{event_among, in_sequence, thread_ids}
+use Rattle.wm_races.specs.Bounds.{IsEnd, IsEndFor, IsStart, IsWriteBy}
 use Rattle.wm_races.specs.Listing.{event_place, write_place}
 use Rattle.wm_races.specs.Races.{IsRacingPair, first_common}
 use Rattle.wm_races.specs.Window.{AreRacingWrites}
 use Rattle.wm_races.specs.declared.pair.RacingPair.{RacingPair}
 use Rattle.wm_races.proofs.RaceLemmas.{first-written, place-is, stands}
 use Rattle.wm_races.proofs.ScanLemmas.{event-is}
-use Rattle.wm_races.proofs.ThreadLemmas.{from_filter, in_sequence, rises_kept, thread_ids, write_among}
 use Rattle.wm_races.proofs.WindowLemmas.{racing_all}
 
 -- where an id is listed is inside the list
@@ -37,20 +39,20 @@ listed_inside order (At key) n h = slice_get_within order n key h
 
 -- of the writes of one thread
 module _ (run : LoggedRun) (once : ListsEachOnce run.log run.witness.order) (keys : HasKeys run.log) (t a : ℕ) (event : EventId) (count : ℕ) where
-  among : (n : ℕ) (w : EventKey) → IsWriteBy run (λ s. s ≡ t) a n w → (i : ℕ) × (slice_get (thread_ids run keys t a) i ≡ Some (At w))
-  among n w is = write_among run keys t a w is.by_thread (once.events n w is.listed) is.written
+  among : (n : ℕ) (w : EventKey) → IsWriteBy run (λ s. s ≡ t) a n w → (i : ℕ) × (slice_get (thread_ids run keys t (writes_byte run.log a)) i ≡ Some (At w))
+  among n w is = event_among run keys t (writes_byte run.log a) w is.by_thread (once.events n w is.listed) is.written
 
   placed : (n : ℕ) (w : EventKey) → IsWriteBy run (λ s. s ≡ t) a n w → place (execution run) (At w) ≡ 1 + n
   placed n w is = ap (λ m. 1 + m) (place-is run once n w is.listed)
 
-  module _ (before : (i : ℕ) (v : EventId) → i < count → slice_get (thread_ids run keys t a) i ≡ Some v → HappensBefore (execution run) v event) where
-    pub start_all : length (thread_ids run keys t a) ≤ count → (start : ℕ) → IsStart run (λ s. s ≡ t) a event start
+  module _ (before : (i : ℕ) (v : EventId) → i < count → slice_get (thread_ids run keys t (writes_byte run.log a)) i ≡ Some v → HappensBefore (execution run) v event) where
+    pub start_all : length (thread_ids run keys t (writes_byte run.log a)) ≤ count → (start : ℕ) → IsStart run (λ s. s ≡ t) a event start
     start_all all start n w l is =
         let i = among n w is in
-        let within = slice_get_within (thread_ids run keys t a) i.0 (At w) i.1 in
+        let within = slice_get_within (thread_ids run keys t (writes_byte run.log a)) i.0 (At w) i.1 in
         before i.0 (At w) (omega (arith, within, all)) i.1
 
-    pub start_at : KeepsOrder (execution run) → (v : EventId) → slice_get (thread_ids run keys t a) count ≡ Some v → (start : ℕ) → (start ≡ 0) ⊎ (place (execution run) v ≡ start + 1) → IsStart run (λ s. s ≡ t) a event start
+    pub start_at : KeepsOrder (execution run) → (v : EventId) → slice_get (thread_ids run keys t (writes_byte run.log a)) count ≡ Some v → (start : ℕ) → (start ≡ 0) ⊎ (place (execution run) v ≡ start + 1) → IsStart run (λ s. s ≡ t) a event start
     start_at agrees v at start (inl zero) n w l is = absurd (omega (arith, l, zero))
     start_at agrees v at start (inr here) n w l is =
         let i = among n w is in
@@ -59,21 +61,21 @@ module _ (run : LoggedRun) (once : ListsEachOnce run.log run.witness.order) (key
         (λ (h : i.0 < count). before i.0 (At w) h i.1)
         (λ (h : count ≤ i.0). ⊎_elim
         (λ (k : count < i.0).
-        let later = agrees v (At w) (in_sequence run keys t a count i.0 v (At w) k at i.1) in
+        let later = agrees v (At w) (in_sequence run keys t (writes_byte run.log a) count i.0 v (At w) k at i.1) in
         absurd (omega (arith, later, here, p, l)))
         (λ (k : i.0 ≤ count).
         let e : count ≡ i.0 = omega (arith, h, k) in
-        let same : v ≡ At w = same_Some v (At w) (sym at ∙ ap (slice_get (thread_ids run keys t a)) e ∙ i.1) in
+        let same : v ≡ At w = same_Some v (At w) (sym at ∙ ap (slice_get (thread_ids run keys t (writes_byte run.log a))) e ∙ i.1) in
         let q = ap (place (execution run)) same in
         absurd (omega (arith, here, p, q, l)))
         (cases_lt count i.0))
         (cases_lt i.0 count)
 
-  module _ (after : (i : ℕ) (v : EventId) → count ≤ i → slice_get (thread_ids run keys t a) i ≡ Some v → HappensBefore (execution run) event v) where
+  module _ (after : (i : ℕ) (v : EventId) → count ≤ i → slice_get (thread_ids run keys t (writes_byte run.log a)) i ≡ Some v → HappensBefore (execution run) event v) where
     pub end_none : count ≡ 0 → IsEnd run (λ s. s ≡ t) a event 0
     end_none zero n w l is = let i = among n w is in after i.0 (At w) (omega (arith, zero)) i.1
 
-    pub end_at : KeepsOrder (execution run) → length run.witness.order ≤ max_events → (last : ℕ) (v : EventId) → last + 1 ≡ count → slice_get (thread_ids run keys t a) last ≡ Some v
+    pub end_at : KeepsOrder (execution run) → length run.witness.order ≤ max_events → (last : ℕ) (v : EventId) → last + 1 ≡ count → slice_get (thread_ids run keys t (writes_byte run.log a)) last ≡ Some v
         → (end : ℕ) → (max_events ≤ end) ⊎ (place (execution run) v ≡ end) → IsEnd run (λ s. s ≡ t) a event end
     end_at agrees few last v next at end (inl most) n w l is =
         let within = slice_get_within run.witness.order n w is.listed in
@@ -84,11 +86,11 @@ module _ (run : LoggedRun) (once : ListsEachOnce run.log run.witness.order) (key
         ⊎_elim
         (λ (h : i.0 < count). ⊎_elim
         (λ (k : i.0 < last).
-        let earlier = agrees (At w) v (in_sequence run keys t a i.0 last (At w) v k i.1 at) in
+        let earlier = agrees (At w) v (in_sequence run keys t (writes_byte run.log a) i.0 last (At w) v k i.1 at) in
         absurd (omega (arith, earlier, here, p, l)))
         (λ (k : last ≤ i.0).
         let e : last ≡ i.0 = omega (arith, h, k, next) in
-        let same : v ≡ At w = same_Some v (At w) (sym at ∙ ap (slice_get (thread_ids run keys t a)) e ∙ i.1) in
+        let same : v ≡ At w = same_Some v (At w) (sym at ∙ ap (slice_get (thread_ids run keys t (writes_byte run.log a))) e ∙ i.1) in
         let q = ap (place (execution run)) same in
         absurd (omega (arith, here, p, q, l)))
         (cases_lt i.0 last))
@@ -126,7 +128,7 @@ module _ (run : LoggedRun) (once : ListsEachOnce run.log run.witness.order) (e :
     all = λ p racing here d.
         let k = whole.all p racing here d in
         let w = k.1.0 in
-        let q = in_filter passes all k.0 w k.1.1 (test w.place start end
+        let q = in_filter passes all k.0 w k.1.1 (between start end w.place w.address
         (⊎_elim (λ (l : w.place < start). absurd (early p racing here d (omega (arith, l, k.1.2)))) (λ (l : start ≤ w.place). l) (cases_lt w.place start))
         (⊎_elim (λ (l : w.place < end). l) (λ (l : end ≤ w.place). absurd (late p racing here d to (omega (arith, l, k.1.2)))) (cases_lt w.place end))) in
         (q.0, (w, q.1, k.1.2));
@@ -140,9 +142,6 @@ module _ (run : LoggedRun) (once : ListsEachOnce run.log run.witness.order) (e :
 
       whole : AreRacingWrites run j a all
       whole = racing_all run once j a
-
-      test : (n start end : ℕ) → start ≤ n → n < end → (not (ltb n start) && ltb n end) ≡ true
-      test n start end h l = grind (arith, tests)
 
       is_write : (p : RacingPair) → IsRacingPair (execution run) p → first_common (execution run) p ≡ a → IsWriteBy run (λ t. t < length run.log) a (write_place run p) p.write
       is_write p racing d = record {

@@ -25,7 +25,7 @@ use Rattle.wm_races.specs.declared.classes.Class.{Class}
 use Rattle.wm_races.specs.declared.pair.RacingPair.{RacingPair}
 use Rattle.wm_races.proofs.ListLemmas.{get-part, part-get, part-length}
 use Rattle.wm_races.proofs.RaceLemmas.{IsMet, Meets, met-pair, pair-met, place-is, there_writes}
-use Rattle.wm_races.proofs.ThreadLemmas.{in_program}
+use Rattle.wm_hb.proofs.ThreadLemmas.{in_program}
 
 module _ (run : LoggedRun) (once : ListsEachOnce run.log run.witness.order) (keys : HasKeys run.log) (agrees : KeepsOrder (execution run)) where
   placed : (n : ℕ) (w : EventKey) → StandsAt run n w → place (execution run) (At w) ≡ 1 + n

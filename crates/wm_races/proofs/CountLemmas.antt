@@ -18,7 +18,7 @@ use Rattle.wm_event.specs.Log.{event_in}
 use Rattle.wm_event.specs.LoggedRun.{LoggedRun}
 use Rattle.wm_event.specs.Shape.{IsWellShaped, event_count}
 use Rattle.wm_event.proofs.PlacesLemmas.{key_from_same}
-use Rattle.wm_races.proofs.RaceLemmas.{named_so}
+use Rattle.wm_hb.proofs.ThreadLemmas.{named_so}
 
 key_self : (a : EventKey) → same_key a a ≡ true
 key_self a = and_from (eqb a.thread a.thread) (eqb a.number a.number) (eq-eqb a.thread a.thread refl) (eq-eqb a.number a.number refl)

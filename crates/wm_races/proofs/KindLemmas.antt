@@ -14,7 +14,7 @@ use Rattle.wm_event.specs.LoggedRun.{LoggedRun}
 use Rattle.wm_event.specs.Shape.{ListsEachOnce}
 use Rattle.wm_event.specs.Writes.{writes_byte, writes_from}
 use Rattle.wm_event.proofs.WritesLemmas.{write_listed}
-use Rattle.wm_races.specs.Bounds.{Rises}
+use Rattle.wm_hb.specs.Between.{Rises}
 use Rattle.wm_races.specs.Classes.{AreClasses, AreKinds, AreMembers, AreOfSites, IsAmong, IsListed, RisePlaces, kind_in, kind_of}
 use Rattle.wm_races.specs.Report.{site_at}
 use Rattle.wm_races.specs.declared.classes.Class.{Class}

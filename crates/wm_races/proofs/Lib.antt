@@ -4,7 +4,6 @@ pub mod ListingLemmas
 pub mod RaceLemmas
 pub mod ScanLemmas
 pub mod WindowLemmas
-pub mod ThreadLemmas
 pub mod BoundLemmas
 pub mod CountLemmas
 pub mod RaceListLaws

@@ -5,7 +5,7 @@ use Rattle.wm_event.specs.declared.event.EventId.TheVariants.{At}
 use Rattle.wm_event.specs.LoggedRun.{LoggedRun, execution}
 use Rattle.wm_hb.specs.Steps.{DecidesBefore}
 use Rattle.wm_races.specs.Parts.{AreInSequenceAt, IsBeforeAt, IsNotBeforeAt}
-use Rattle.wm_races.proofs.ThreadLemmas.{before_join}
+use Rattle.wm_hb.proofs.SequenceLemmas.{before_join}
 
 module _ (run : LoggedRun) where
   pub decided : (m n : ℕ) (b : Bool) → DecidesBefore run m n b → IsTrue b → IsBeforeAt run m n

@@ -1,5 +1,5 @@
 -- Racing pairs by the places of their events.
-use Rattle.std.proofs.Common.{◌≡◌, ℕ, ◌+◌, ◌-◌, ◌<◌, ◌≤◌, ◌&&◌, List, true, false, max, slice_get, Option, Some, is_some, IsSome, IsTrue, sym, ap, ◌∙◌, subst, arith, inl, inr, ⊎_elim}
+use Rattle.std.proofs.Common.{◌≡◌, ℕ, ◌+◌, ◌-◌, ◌<◌, ◌≤◌, ◌&&◌, true, false, max, slice_get, Some, is_some, IsTrue, sym, ap, ◌∙◌, subst, arith, inl, inr, ⊎_elim}
 use Rattle.std.specs.Prelude.{nat_le, nat_lt, option_and_then}
 use Rattle.std.specs.Option.{option_map_or}
 use Rattle.std.proofs.lemmas.Bool.{and_parts, and_from}
@@ -10,19 +10,16 @@ use Rattle.wm_event.specs.declared.event.Event.{Event}
 use Rattle.wm_event.specs.declared.event.EventKey.{EventKey}
 use Rattle.wm_event.specs.Byte.{byte_of}
 use Rattle.wm_event.specs.Event.{byte_written, key_of, writes}
-use Rattle.wm_event.specs.declared.log.ThreadLog.{ThreadLog}
-use Rattle.wm_event.specs.Log.{HasKeys, event_in}
+use Rattle.wm_event.specs.Log.{event_in}
 use Rattle.wm_event.specs.LoggedRun.{LoggedRun, execution}
 use Rattle.wm_event.specs.Shape.{ListsEachOnce}
 use Rattle.wm_event.specs.Writes.{writes_byte}
 use Rattle.wm_event.proofs.PlaceLemmas.{position_listed}
 use Rattle.wm_event.proofs.WritesLemmas.{is_some_if}
+use Rattle.wm_hb.proofs.FaultLemmas.{some_of}
 use Rattle.wm_races.specs.Listing.{IsNamed, IsPairAt}
 use Rattle.wm_races.specs.Races.{Accesses, IsRacingPair, IsUnordered, IsWeak, Overlap, Race, address_of, first_common}
 use Rattle.wm_races.specs.declared.pair.RacingPair.{RacingPair}
-
-some_there : {X : Type 0} (o : Option X) (x : X) → o ≡ Some x → IsSome o
-some_there o x e = ap is_some e
 
 -- the first byte of two ranges that overlap is in both
 pub overlap-first : (a b : Event) → Overlap a b → Accesses a (max a.address b.address) × Accesses b (max a.address b.address)
@@ -37,15 +34,11 @@ test-to low a high h = let p = and_parts (nat_le low a) (nat_lt a high) h in (gr
 written-byte : (w : Event) (a : ℕ) → is_some (byte_written w a) ≡ (writes w && (nat_le w.address a && nat_lt a (w.address + bytes_of w.width)))
 written-byte w a = is_some_if (writes w && (nat_le w.address a && nat_lt a (w.address + bytes_of w.width))) (byte_of w.written (a - w.address))
 
--- an event has the name under which it is found
-pub named_so : (log : List ThreadLog) → HasKeys log → (key : EventKey) (e : Event) → event_in log key ≡ Some e → key_of e ≡ key
-named_so log keys key e there = let s = (keys key e there).0 in let t = (keys key e there).1 in λ i. record { thread = s i; number = t i }
-
 module _ (run : LoggedRun) (once : ListsEachOnce run.log run.witness.order) where
   -- an event's place is where the order lists it
   pub stands : (key : EventKey) (e : Event) (n : ℕ) → event_in run.log key ≡ Some e → (execution run).place_of key ≡ n → slice_get run.witness.order n ≡ Some key
   stands key e n there at =
-      let l = once.listed key (some_there (event_in run.log key) e there) in
+      let l = once.listed key (some_of (event_in run.log key) e there) in
       let p : (execution run).place_of key ≡ l.0 = position_listed run.log run.witness.order once l.0 key l.1 in
       let same : l.0 ≡ n = sym p ∙ at in
       subst (λ (m : ℕ). slice_get run.witness.order m ≡ Some key) same l.1

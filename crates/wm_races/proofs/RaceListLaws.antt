@@ -1,5 +1,5 @@
 -- The races of all places are all races, and their report is that of the execution.
-use Rattle.std.proofs.Common.{◌≡◌, ℕ, ◌+◌, ◌<◌, ◌≤◌, List, [], ◌++◌, true, false, length, slice_get, Option, Some, IsSome, is_some, IsTrue, refl, sym, ap, ◌∙◌, subst, arith, ◌⊎◌, inl, inr, ⊎_elim}
+use Rattle.std.proofs.Common.{◌≡◌, ℕ, ◌+◌, ◌<◌, ◌≤◌, List, [], ◌++◌, true, false, length, slice_get, Some, IsTrue, refl, sym, ap, ◌∙◌, subst, arith, ◌⊎◌, inl, inr, ⊎_elim}
 use Rattle.std.specs.Prelude.{sum_by}
 use Rattle.std.proofs.lemmas.Bool.{cases_Bool, cases_lt, false≢true}
 use Rattle.std.proofs.lemmas.List.Sums.{sum_by-append}
@@ -11,6 +11,7 @@ use Rattle.wm_event.specs.Limits.{max_events}
 use Rattle.wm_event.specs.Log.{event_in}
 use Rattle.wm_event.specs.LoggedRun.{LoggedRun, execution}
 use Rattle.wm_event.specs.Shape.{ListsEachOnce}
+use Rattle.wm_hb.proofs.FaultLemmas.{some_of}
 use Rattle.wm_races.specs.Gathering.{HasGroupSites, IsGathered, IsGroupReport, ReportsMore, count_of}
 use Rattle.wm_races.specs.Groups.{AreGroupsAt, AreGroupsOf, size_of}
 use Rattle.wm_races.specs.Listing.{Lists, event_place}
@@ -128,14 +129,11 @@ module _ (run : LoggedRun) (once : ListsEachOnce run.log run.witness.order) wher
       }
 
 -- the first pair of a group has its sites
-some_there : {X : Type 0} (o : Option X) (x : X) → o ≡ Some x → IsSome o
-some_there o x e = ap is_some e
-
 pub group-sites-there : (run : LoggedRun) (sites : List (List Site)) → HasSites run.log sites → (place : ℕ) (groups : List Group) → AreGroupsAt run sites place groups → HasGroupSites sites groups
 group-sites-there run sites has place groups are n g at =
     let k = are.groups_of.gathers.among n g at in
     let racing = (are.groups_of.list.sound k.0 g.pair k.1).0 in
-    (has g.pair.event (some_there (event_in run.log g.pair.event) racing.race.first racing.race.is_first), has g.pair.write (some_there (event_in run.log g.pair.write) racing.race.second racing.race.is_second))
+    (has g.pair.event (some_of (event_in run.log g.pair.event) racing.race.first racing.race.is_first), has g.pair.write (some_of (event_in run.log g.pair.write) racing.race.second racing.race.is_second))
 
 -- no line yet
 pub report-none : (run : LoggedRun) (sites : List (List Site)) (report : Report) → report.lines ≡ [] → IsGathered report → IsReportBelow run sites 0 report

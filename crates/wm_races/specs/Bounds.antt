@@ -1,20 +1,13 @@
 -- Places of the order before or after which the writes of a byte are ordered with an event.
-use Rattle.std.specs.Prelude.{◌≡◌, ◌⊎◌, ◌&&◌, ℕ, ◌<◌, ◌≤◌, Bool, List, Some, IsTrue, ltb, not, slice_get, true, false}
-use Rattle.std.specs.List.Sorted.{IsPartitionPoint}
+use Rattle.std.specs.Prelude.{◌≡◌, ◌⊎◌, ℕ, ◌<◌, ◌≤◌, Some, IsTrue, slice_get, true}
 use Rattle.wm_event.specs.declared.event.Event.{Event}
 use Rattle.wm_event.specs.declared.event.EventKey.{EventKey}
 use Rattle.wm_event.specs.declared.event.EventId.{EventId}
 use Rattle.wm_event.specs.declared.event.EventId.TheVariants.{At}
-use Rattle.wm_event.specs.declared.writes.ByteWrite.{ByteWrite}
 use Rattle.wm_event.specs.Event.{key_of, writes}
-use Rattle.wm_event.specs.Execution.{Execution}
 use Rattle.wm_event.specs.HappensBefore.{HappensBefore}
 use Rattle.wm_event.specs.LoggedRun.{LoggedRun, execution}
 use Rattle.wm_event.specs.Writes.{writes_byte}
-
--- each happens before those after it
-abbrev pub AreInSequence : Execution → List EventId → Type 0
-AreInSequence x ids = (i j : ℕ) (a b : EventId) → i < j → slice_get ids i ≡ Some a → slice_get ids j ≡ Some b → HappensBefore x a b
 
 -- the listed write of a byte at a place, by a thread that P holds of
 pub record IsWriteBy (run : LoggedRun) (P : ℕ → Type 0) (byte place : ℕ) (w : EventKey) : Type 0 where
@@ -33,15 +26,3 @@ IsEnd run P byte event end = (n : ℕ) (w : EventKey) → end ≤ n → IsWriteB
 -- the event at a place writes, and its races are named by earlier writes, or it happens before each write of the byte from there on
 abbrev pub IsEndFor : LoggedRun → (ℕ → Type 0) → Event → ℕ → ℕ → ℕ → Type 0
 IsEndFor run P e place byte end = (IsTrue (writes e) × (end ≡ place)) ⊎ IsEnd run P byte (At (key_of e)) end
-
--- from one place up to but not including another
-abbrev pub stands_between : ℕ → ℕ → ByteWrite → Bool
-stands_between start end write = not (ltb write.place start) && ltb write.place end
-
--- how many of the writes come before the place; they are the first ones
-abbrev pub IsCountBelow : ℕ → List ByteWrite → ℕ → Type 0
-IsCountBelow place writes count = IsPartitionPoint (λ (b : ByteWrite). ltb b.place place ≡ true) (λ (b : ByteWrite). ltb b.place place ≡ false) writes count
-
--- each write comes before those after it
-abbrev pub Rises : List ByteWrite → Type 0
-Rises writes = (i j : ℕ) (a b : ByteWrite) → i < j → slice_get writes i ≡ Some a → slice_get writes j ≡ Some b → a.place < b.place

@@ -5,7 +5,8 @@ ghost use Rattle.wm_event.specs.HappensBefore.{HappensBefore as IsBefore};
 ghost use Rattle.wm_event.specs.Limits.{max_events};
 ghost use Rattle.wm_event.specs.LoggedRun.{execution};
 ghost use Rattle.wm_event.specs.declared.event.EventId.{EventId};
-ghost use Rattle.wm_races.specs.Bounds.{AreInSequence, IsEnd, IsStart};
+ghost use Rattle.wm_hb.specs.Sequence.{AreInSequence};
+ghost use Rattle.wm_races.specs.Bounds.{IsEnd, IsStart};
 
 use wm_event::{Candidate, EventId};
 use wm_hb::HappensBefore;
@@ -24,25 +25,6 @@ fn count_before(before: &HappensBefore, writes: &[EventId], event: EventId) -> u
             low = middle + 1;
         } else {
             high = middle;
-        }
-    }
-    low
-}
-
-/// How many of a thread's writes an event may not happen before. It happens before all those after them.
-fn count_not_after(before: &HappensBefore, writes: &[EventId], event: EventId) -> usize
-    requires { AreInSequence (execution before.now) writes.now }
-    ensures bound { result ≤ length writes.now }
-    ensures after { (i : ℕ) (v : EventId) → result ≤ i → slice_get writes.now i ≡ Some v → IsBefore (execution before.now) event v }
-{
-    let mut low = 0usize;
-    let mut high = writes.len();
-    while low < high {
-        let middle = low + (high - low) / 2;
-        if before.before(event, writes[middle]) {
-            high = middle;
-        } else {
-            low = middle + 1;
         }
     }
     low
@@ -102,7 +84,7 @@ fn end_in_thread(before: &HappensBefore, event: EventId, thread: usize, address:
     let candidate = before.candidate();
     let _log = candidate.log();
     let writes = candidate.thread_writes_to(thread, address);
-    let count = count_not_after(before, writes, event);
+    let count = before.count_not_after(event, writes);
     if count == 0 {
         return 0;
     }

@@ -1,7 +1,7 @@
 //! The writes of a byte, divided into classes that race alike.
 ghost use Rattle.std.specs.Prelude.{◌≡◌, ◌↔◌, ℕ, IfOk, IfSome, IsTrue, None, Some, length, nat_eq};
 ghost use Rattle.indexmap.specs.IndexMap.{get};
-ghost use Rattle.wm_races.specs.Bounds.{Rises};
+ghost use Rattle.wm_hb.specs.Between.{Rises};
 ghost use Rattle.wm_races.specs.Classes.{AreClasses, AreKinds, AreMembers, AreOfSites, HasClassSites, HasClasses, IsAmong, kind_of as spec_kind_of};
 ghost use Rattle.wm_races.specs.Report.{HasSites};
 

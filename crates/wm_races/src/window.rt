@@ -1,45 +1,18 @@
 //! Which writes of a byte may race with an event.
-ghost use Rattle.std.specs.Prelude.{◌≡◌, ◌<◌, ◌≤◌, Some, length, ltb, slice_get};
-ghost use Rattle.std.specs.List.{filter};
-ghost use Rattle.std.specs.List.Sorted.{IsNonDecreasingBy};
+ghost use Rattle.std.specs.Prelude.{◌≡◌, ◌<◌, Some, length, slice_get};
 ghost use Rattle.wm_event.specs.Event.{key_of};
 ghost use Rattle.wm_event.specs.LoggedRun.{execution};
-ghost use Rattle.wm_event.specs.declared.writes.ByteWrite.{ByteWrite};
 ghost use Rattle.wm_hb.specs.Scan.{IsEventOf};
-ghost use Rattle.wm_races.specs.Bounds.{IsCountBelow, IsEndFor, Rises, stands_between};
+ghost use Rattle.wm_races.specs.Bounds.{IsEndFor};
 ghost use Rattle.wm_races.specs.Window.{AreRacingWrites, HasBegins};
 
 use crate::begins::Begins;
 use crate::bounds::{end_of, start_of};
 use wm_event::{ByteWrite, Event, EventId};
-use wm_hb::HappensBefore;
+use wm_hb::{HappensBefore, part_between};
 
 /// Up to this number, all writes are looked at; if there are more, those of each thread or class are searched.
 pub(crate) const FEW: usize = 16;
-
-/// How many of the writes are before a place.
-fn count_below(writes: &[ByteWrite], place: usize) -> usize
-    requires { IsNonDecreasingBy (λ (b : ByteWrite). b.place) writes.now }
-    ensures bound { result ≤ length writes.now }
-    ensures parted { IsCountBelow place writes.now result }
-{
-    writes.partition_point(
-        |write: &ByteWrite| -> bool
-            ensures { result ≡ ltb write.now.place place }
-        { write.place < place },
-    )
-}
-
-/// The writes from one place up to but not including another.
-fn part_between(writes: &[ByteWrite], start: usize, end: usize) -> &[ByteWrite]
-    requires { Rises writes.now }
-    ensures { result.now ≡ filter (stands_between start end) writes.now }
-{
-    let skipped = count_below(writes, start);
-    let rest = &writes[skipped..];
-    let count = count_below(rest, end);
-    &rest[..count]
-}
 
 /// A place from which on no write of a byte has a race that is named as one of the event at a place.
 fn end_for(before: &HappensBefore, event: &Event, place: usize, address: u64) -> usize

@@ -15,7 +15,7 @@ use Rattle.wm_replay.specs.Replay.{AreRuns}
 use Rattle.wm_replay.proofs.Logs.{RunsBelow, first_other, runs_more}
 use Rattle.wm_replay.proofs.LogPositions.{other_has_positions, positions_more}
 
-item_there : {X : Type 0} (xs : List X) (k : ℕ) → k < length xs → (x : X) × (slice_get xs k ≡ Some x)
+pub item_there : {X : Type 0} (xs : List X) (k : ℕ) → k < length xs → (x : X) × (slice_get xs k ≡ Some x)
 item_there [] k within = absurd (omega arith)
 item_there (x ∷ xs) zero within = (x, refl)
 item_there (x ∷ xs) (suc k) within = item_there xs k (omega arith)

@@ -69,7 +69,7 @@ made_reads (CmpXchg expected new) r = either (r == expected)
     either false = refl
 
 -- where an access that reads nothing makes an event, that read 0
-no_read : (kind : OpKind) (r : ℕ) → kind_finds kind ≡ false → made_read kind r ≡ 0
+pub no_read : (kind : OpKind) (r : ℕ) → kind_finds kind ≡ false → made_read kind r ≡ 0
 no_read Read r e = absurd (cc e)
 no_read (Write v) r e = refl
 no_read (Rmw op v) r e = absurd (cc e)

@@ -1,9 +1,10 @@
 -- The positions of the events that a thread makes.
-use Rattle.std.proofs.Common.{◌≡◌, ℕ, zero, suc, ◌+◌, List, [], ◌∷◌, ◌++◌, length, Some, refl, sym, ap, subst, ◌∙◌, length-append}
-use Rattle.std.specs.Prelude.{Ok, slice_get}
-use Rattle.std.proofs.lemmas.Option.{none-some, same_Some}
+use Rattle.std.proofs.Common.{◌≡◌, ℕ, ◌+◌, List, [], ◌∷◌, ◌++◌, length, Some, refl, sym, ap, subst, ◌∙◌, length-append}
+use Rattle.std.specs.Prelude.{Ok}
+use Rattle.std.proofs.lemmas.Option.{none-some}
 use Rattle.wm_ast.specs.declared.module.Module.{Module}
 use Rattle.wm_event.specs.declared.log.ThreadLog.{ThreadLog}
+use Rattle.wm_event.proofs.WritesLemmas.{each_more}
 use Rattle.wm_machine.specs.declared.thread.CodePosition.{CodePosition}
 use Rattle.wm_machine.specs.Run.{steps}
 use Rattle.wm_machine.specs.State.{State, config_of, position_of}
@@ -16,14 +17,6 @@ use Rattle.wm_replay.proofs.Following.{so_far}
 pub no_positions : (m : Module) (k : ℕ) (t : ThreadLog) → ArePositions m k t 0 []
 no_positions m k t = record { count = refl; each = λ i p is. absurd (none-some p is) }
 
--- one more of which P holds
-all_and_one : {X : Type 0} (P : ℕ → X → Type 0) (xs : List X) (x : X) → ((i : ℕ) (y : X) → slice_get xs i ≡ Some y → P i y) → P (length xs) x
-    → (i : ℕ) (y : X) → slice_get (xs ++ x ∷ []) i ≡ Some y → P i y
-all_and_one P [] x each last zero y is = subst (P 0) (same_Some x y is) last
-all_and_one P [] x each last (suc i) y is = absurd (none-some y is)
-all_and_one P (z ∷ zs) x each last zero y is = each 0 y is
-all_and_one P (z ∷ zs) x each last (suc i) y is = all_and_one (λ j. P (suc j)) zs x (λ j. each (suc j)) last i y is
-
 module _ (m : Module) (k : ℕ) (t : ThreadLog) (start : Config) (is_start : start_of m t ≡ Ok start) where
   -- the positions after one event more
   pub positions_on : (s : State) (new : Config) (j n : ℕ) (old ps : List CodePosition)
@@ -35,7 +28,7 @@ module _ (m : Module) (k : ℕ) (t : ThreadLog) (start : Config) (is_start : sta
   positions_on s new j n old ps so made noted of_module are =
       subst (ArePositions m k t (n + 1)) (sym noted) record {
         count = length-append old (position_of s ∷ []) ∙ ap (λ i. i + 1) are.count;
-        each = all_and_one (IsMadeAt m k t) old (position_of s) are.each
+        each = each_more (IsMadeAt m k t) old (position_of s) are.each
             (subst (λ i. IsMadeAt m k t i (position_of s)) (sym are.count) record {
               start = start;
               is_start = is_start;

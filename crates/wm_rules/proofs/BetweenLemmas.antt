@@ -1,12 +1,9 @@
 -- The first write of a byte between two places of which something holds.
-use Rattle.std.proofs.Common.{◌≡◌, ℕ, zero, suc, ◌+◌, ◌-◌, ◌<◌, ◌≤◌, ◌&&◌, List, [], ◌∷◌, Bool, true, false, not, ltb, length, get_or, slice_get, drop, Option, None, Some, sym, ap, ◌∙◌, subst, arith, ⊎_elim, if◌then◌else◌, is_some}
+use Rattle.std.proofs.Common.{◌≡◌, ℕ, ◌+◌, ◌-◌, ◌<◌, ◌≤◌, List, Bool, true, false, not, length, get_or, slice_get, Option, None, Some, sym, ap, ◌∙◌, subst, arith, ⊎_elim, is_some}
 use Rattle.std.specs.Prelude.{unwrap_or, MatchOption}
 use Rattle.std.specs.List.{filter}
-use Rattle.std.specs.List.Sorted.{IsNonDecreasingBy}
 use Rattle.std.proofs.lemmas.Bool.{cases_lt}
-use Rattle.std.proofs.lemmas.Grind.{common_steps}
 use Rattle.std.proofs.lemmas.Option.{slice_get-get_or, slice_get_within, same_Some}
-use borrow.Author.Tests.{tests}
 use Rattle.wm_event.specs.declared.event.EventKey.{EventKey}
 use Rattle.wm_event.specs.declared.event.EventId.{EventId}
 use Rattle.wm_event.specs.declared.event.EventId.TheVariants.{Init, At}
@@ -17,45 +14,10 @@ use Rattle.wm_event.specs.Shape.{ListsEachOnce}
 use Rattle.wm_event.specs.Writes.{listed_from}
 use Rattle.wm_event.proofs.PlaceLemmas.{position_listed}
 use Rattle.wm_event.proofs.WritesLemmas.{in_filter, rises_from, write_listed}
-use Rattle.wm_rules.specs.Between.{IsPlaceOf, Rises, stands_between}
+use Rattle.wm_hb.specs.Between.{Rises, stands_between}
+use Rattle.wm_hb.proofs.BetweenLemmas.{between, rises_kept}
+use Rattle.wm_rules.specs.Between.{IsPlaceOf}
 use Rattle.wm_rules.specs.Others.{FindsListed}
-
-pub rises_places : (writes : List ByteWrite) → Rises writes → IsNonDecreasingBy (λ (b : ByteWrite). b.place) writes
-rises_places writes rises i j d l inside = ⊎_elim
-    (λ (h : i < j). let r = rises i j (get_or writes i d) (get_or writes j d) h (slice_get-get_or writes i d (omega arith)) (slice_get-get_or writes j d inside) in omega (arith, r))
-    (λ (h : j ≤ i). let e : i ≡ j = omega arith in let s = ap (λ (k : ℕ). (get_or writes k d).place) e in omega (arith, s))
-    (cases_lt i j)
-
-pub rises_drop : (writes : List ByteWrite) (n : ℕ) → IsNonDecreasingBy (λ (b : ByteWrite). b.place) writes → IsNonDecreasingBy (λ (b : ByteWrite). b.place) (drop n writes)
-rises_drop writes n up i j d l inside =
-    let long : length (drop n writes) ≡ length writes - n = grind (arith, common_steps) in
-    let e : get_or (drop n writes) i d ≡ get_or writes (n + i) d = grind (arith, common_steps) in
-    let f : get_or (drop n writes) j d ≡ get_or writes (n + j) d = grind (arith, common_steps) in
-    let h = up (n + i) (n + j) d (omega arith) (omega (arith, inside, long)) in
-    let r = ap (λ (b : ByteWrite). b.place) e in let s = ap (λ (b : ByteWrite). b.place) f in
-    omega (arith, h, r, s)
-
--- what passes is listed
-pub from_filter : {X : Type 0} (p : X → Bool) (xs : List X) (j : ℕ) (x : X) → slice_get (filter p xs) j ≡ Some x → (i : ℕ) × (slice_get xs i ≡ Some x)
-from_filter p [] j x at = absurd (cc)
-from_filter {X} p (y ∷ ys) j x at = one (p y) j at (λ j at. from_filter p ys j x at)
-  where
-    one : (b : Bool) (j : ℕ) → slice_get (if b then y ∷ filter p ys else filter p ys) j ≡ Some x → ((j : ℕ) → slice_get (filter p ys) j ≡ Some x → (i : ℕ) × (slice_get ys i ≡ Some x))
-        → (i : ℕ) × (slice_get (y ∷ ys) i ≡ Some x)
-    one true zero at h = (0, at)
-    one true (suc j) at h = let r = h j at in (suc r.0, r.1)
-    one false j at h = let r = h j at in (suc r.0, r.1)
-
-pub rises_kept : (p : ByteWrite → Bool) (xs : List ByteWrite) → Rises xs → Rises (filter p xs)
-rises_kept p [] rises i j a b l at_a at_b = absurd (cc)
-rises_kept p (y ∷ ys) rises i j a b l at_a at_b = one (p y) i j l at_a at_b (rises_kept p ys (λ i j a b l at_a at_b. rises (suc i) (suc j) a b (omega arith) at_a at_b))
-  where
-    one : (t : Bool) (i j : ℕ) → i < j → slice_get (if t then y ∷ filter p ys else filter p ys) i ≡ Some a → slice_get (if t then y ∷ filter p ys else filter p ys) j ≡ Some b
-        → Rises (filter p ys) → a.place < b.place
-    one true i zero l at_a at_b h = absurd (omega arith)
-    one true zero (suc j) l at_a at_b h = let k = from_filter p ys j b at_b in rises 0 (suc k.0) a b (omega arith) at_a k.1
-    one true (suc i) (suc j) l at_a at_b h = h i j a b (omega arith) at_a at_b
-    one false i j l at_a at_b h = h i j a b l at_a at_b
 
 -- the listed writes rise
 pub writes_rise : (p : EventKey → Bool) (a : ℕ) (order : List EventKey) → Rises (listed_from p a 0 order)
@@ -77,20 +39,14 @@ module _ (run : LoggedRun) (once : ListsEachOnce run.log run.witness.order) wher
       let p = stands_at n v at_v in let q = stands_at end r at_r in
       let l : n < end = omega (arith, before, p, q) in
       let z : first ≡ 0 = f in
-      test n first end (omega arith) l
-    where
-      test : (n first end : ℕ) → first ≤ n → n < end → (not (ltb n first) && ltb n end) ≡ true
-      test n first end h l = grind (arith, tests)
+      between first end n a (omega arith) l
   passes_between Init (Some m) first end n r v is f at_r at_v after before a = absurd is
   passes_between (At w) (Some m) first end n r v is f at_r at_v after before a =
       let p = stands_at n v at_v in let q = stands_at end r at_r in let s = stands_at m w is in
       let l : n < end = omega (arith, before, p, q) in
       let h : m < n = omega (arith, after, p, s) in
       let z : first ≡ m = f in
-      test n first end (omega arith) l
-    where
-      test : (n first end : ℕ) → first ≤ n → n < end → (not (ltb n first) && ltb n end) ≡ true
-      test n first end h l = grind (arith, tests)
+      between first end n a (omega arith) l
 
 -- P holds at none of the first n of these writes
 abbrev pub NoneWritten : List EventKey → List ByteWrite → (EventKey → Type 0) → ℕ → Type 0

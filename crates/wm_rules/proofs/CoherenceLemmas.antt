@@ -19,7 +19,8 @@ use Rattle.std.specs.Prelude.{unwrap_or}
 use Rattle.wm_event.specs.declared.writes.ByteWrite.{ByteWrite}
 use Rattle.wm_event.specs.Rules.{KeepsOrder}
 use Rattle.wm_event.specs.Writes.{writes_byte, writes_from}
-use Rattle.wm_rules.specs.Between.{IsPlaceOf, stands_between}
+use Rattle.wm_hb.specs.Between.{stands_between}
+use Rattle.wm_rules.specs.Between.{IsPlaceOf}
 use Rattle.wm_rules.proofs.BetweenLemmas.{Covers, covers_between}
 use Rattle.wm_rules.specs.Others.{FindsListed, IsWrittenBetween}
 use Rattle.wm_hb.specs.Scan.{Finds, IsEventOf}

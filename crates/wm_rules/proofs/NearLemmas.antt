@@ -1,7 +1,6 @@
 -- What is between a read and its one writer, and what it means for coherence and sequential consistency.
-use Rattle.std.proofs.Common.{◌≡◌, ◌==◌, ℕ, ◌+◌, ◌<◌, ◌≤◌, ◌&&◌, List, [], ◌∷◌, Bool, IsTrue, not, ltb, true, false, Option, None, Some, IsSome, IfSome, arith, refl, length, slice_get, subst, ap, ◌∙◌, if◌then◌else◌}
+use Rattle.std.proofs.Common.{◌≡◌, ◌==◌, ℕ, ◌+◌, ◌<◌, ◌≤◌, List, [], ◌∷◌, Bool, IsTrue, not, true, false, Option, None, Some, IsSome, IfSome, arith, refl, length, slice_get, subst, ap, ◌∙◌, if◌then◌else◌}
 use Rattle.std.specs.List.{filter}
-use borrow.Author.Tests.{tests}
 use Rattle.std.proofs.lemmas.Bool.Decides.{nat_tests}
 use Rattle.std.specs.Option.{option_map_or}
 use Rattle.std.proofs.lemmas.Option.{slice_get_within}
@@ -22,7 +21,9 @@ use Rattle.wm_event.specs.LoggedRun.{LoggedRun, execution}
 use Rattle.wm_event.specs.Rules.{KeepsOrder}
 use Rattle.wm_event.specs.Shape.{IsWellShaped, ListsEachOnce}
 use Rattle.wm_event.specs.Witness.{writers_in}
-use Rattle.wm_rules.specs.Between.{IsPlaceOf, stands_between}
+use Rattle.wm_hb.specs.Between.{stands_between}
+use Rattle.wm_hb.proofs.BetweenLemmas.{between}
+use Rattle.wm_rules.specs.Between.{IsPlaceOf}
 use Rattle.wm_rules.specs.Near.{IsTrueIfIncoherent, IsTrueIfInconsistent}
 use Rattle.wm_rules.specs.Others.{IsOnlyWriter, IsWrittenBetween}
 use Rattle.wm_hb.specs.Scan.{Finds, IsEventOf}
@@ -97,13 +98,6 @@ coherent_none run e w b there only if_incoherent is_not f u =
     (subst (λ (v : EventId). BreaksCoherence (execution run) (key_of e) e f.byte v f.case f.other) same breaks))
     is_not
 
--- an event at a place from the first up to but not including the last passes the test
-in_between : (first last n a : ℕ) → first ≤ n → n < last → stands_between first last (record { address = a; place = n }) ≡ true
-in_between first last n a from before = test n first last from before
-  where
-    test : (n first last : ℕ) → first ≤ n → n < last → (not (ltb n first) && ltb n last) ≡ true
-    test n first last from before = grind (arith, tests)
-
 -- a write of a fault of V5 is one of the atomic writes of the read's range between the two
 pub atomic_write_between : (run : LoggedRun) → ListsEachOnce run.log run.witness.order → (e : Event) (w v : EventId) (c : ℕ) (start : Option ℕ) (end first : ℕ) → IsPlaceOf run.witness.order start w
     → slice_get run.witness.order end ≡ Some (key_of e) → first ≡ option_map_or (λ m. m + 1) start 0 → ((f : Event) → event_at (execution run) w ≡ Some f → range_of e ≡ range_of f)
@@ -119,7 +113,7 @@ atomic_write_between run once e w (At v) c start end first is at next range brea
     let after = stands_after run once w start listed.0 v is listed.1 breaks.between.0 in
     let before = stands_earlier run once (key_of e) v end listed.0 at listed.1 breaks.between.1 in
     let write = write_listed p a 0 run.witness.order listed.0 v listed.1 passes in
-    let kept = in_filter (stands_between first end) (listed_from p a 0 run.witness.order) write.0 (record { address = a; place = 0 + listed.0 }) write.1 (in_between first end (0 + listed.0) a (omega (arith, after, next)) (omega (arith, before))) in
+    let kept = in_filter (stands_between first end) (listed_from p a 0 run.witness.order) write.0 (record { address = a; place = 0 + listed.0 }) write.1 (between first end (0 + listed.0) a (omega (arith, after, next)) (omega (arith, before))) in
     let inside = slice_get_within part kept.0 (record { address = a; place = 0 + listed.0 }) (ap (λ (ws : List ByteWrite). slice_get ws kept.0) same ∙ kept.1) in
     omega (arith, inside)
 

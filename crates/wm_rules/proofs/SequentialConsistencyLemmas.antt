@@ -26,7 +26,8 @@ use Rattle.wm_event.specs.Rules.{HasRange, IsAtomicWrite, KeepsOrder, Overtakes,
 use Rattle.wm_event.specs.Shape.{ListsEachOnce}
 use Rattle.wm_rules.specs.Others.{FindsListed, IsOutOfOrder}
 use Rattle.wm_rules.specs.Overtaking.{IsPast}
-use Rattle.wm_rules.proofs.ThreadLemmas.{HoldsSooner, before_join}
+use Rattle.wm_hb.proofs.SequenceLemmas.{before_join}
+use Rattle.wm_rules.proofs.ThreadLemmas.{HoldsSooner}
 use Rattle.wm_hb.specs.Scan.{Finds, IsEventOf}
 use Rattle.wm_rules.proofs.CaseLemmas.{finds_other}
 use Rattle.wm_hb.proofs.FaultLemmas.{read_moves, rule_five, same_key_parts, some_of}

@@ -1,19 +1,8 @@
 -- The event that the order lists first among those with some property.
-use Rattle.std.specs.Prelude.{◌≡◌, ℕ, ◌<◌, ◌≤◌, List, Option, None, Some, ltb, slice_get, if◌then◌else◌}
+use Rattle.std.specs.Prelude.{◌≡◌, ℕ, ◌<◌, ◌≤◌, Option, None, Some, ltb, if◌then◌else◌}
 use Rattle.wm_event.specs.declared.event.EventKey.{EventKey}
-use Rattle.wm_event.specs.declared.event.EventId.{EventId}
 use Rattle.wm_event.specs.declared.event.EventId.TheVariants.{At}
 use Rattle.wm_event.specs.Execution.{Execution, place}
-use Rattle.wm_event.specs.HappensBefore.{HappensBefore}
-
--- each happens before those after it
-abbrev pub AreInSequence : Execution → List EventId → Type 0
-AreInSequence x ids = (i j : ℕ) (a b : EventId) → i < j → slice_get ids i ≡ Some a → slice_get ids j ≡ Some b → HappensBefore x a b
-
--- among the ids, T holds from the n-th on, and of none before it
-pub record HoldsFrom (T : EventId → Type 0) (ids : List EventId) (n : ℕ) : Type 0 where
-  pub fails : (i : ℕ) (v : EventId) → i < n → slice_get ids i ≡ Some v → T v → ⊥
-  pub holds : (i : ℕ) (v : EventId) → n ≤ i → slice_get ids i ≡ Some v → T v
 
 -- among the events that P holds of, the one that the order lists first, or None if there is no such event
 abbrev pub FindsEarliest : Execution → (EventKey → Type 0) → Option EventKey → Type 0

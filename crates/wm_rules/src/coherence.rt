@@ -11,12 +11,11 @@ ghost use Rattle.wm_rules.specs.Near.{IsTrueIfIncoherent};
 ghost use Rattle.wm_rules.specs.Others.{FindsListed, IsWrittenBetween, WritesBetween};
 ghost use Rattle.wm_hb.specs.Scan.{Finds, IsEventOf};
 
-use crate::between::{is_after, part_between};
 use crate::by_thread::earliest_between;
-use crate::near::{is_any_between, place_after};
+use crate::near::{is_after, is_any_between, place_after};
 use crate::writers::only_writer;
 use wm_event::{Event, EventId, EventKey, Rule, RuleFault};
-use wm_hb::HappensBefore;
+use wm_hb::{HappensBefore, part_between};
 
 /// Up to this number, writes are looked at one after the other; if there are more, each thread's are searched.
 const FEW: usize = 64;

@@ -1,13 +1,32 @@
 //! The events between a read and its writer, if they are few.
-ghost use Rattle.std.specs.Prelude.{◌≡◌, ℕ, ◌+◌, ◌<◌, IsSome, IsTrue, Some, slice_get};
+ghost use Rattle.std.specs.Prelude.{◌≡◌, ℕ, ◌+◌, ◌<◌, ◌↔◌, IsSome, IsTrue, Some, slice_get};
 ghost use Rattle.wm_access.specs.AccessWidth.{bytes_of};
+ghost use Rattle.wm_event.specs.declared.event.EventId.TheVariants.{At};
 ghost use Rattle.wm_event.specs.Event.{byte_written, key_of};
-ghost use Rattle.wm_rules.specs.Between.{IsPlaceAfter, IsPlaceOf};
+ghost use Rattle.wm_event.specs.HappensBefore.{HappensBefore as IsBefore};
+ghost use Rattle.wm_event.specs.LoggedRun.{execution};
+ghost use Rattle.wm_rules.specs.Between.{IfListedAt, IsPlaceAfter, IsPlaceOf};
 ghost use Rattle.wm_rules.specs.Near.{IsTrueIfBetweenAt, IsTrueIfNear, IsTrueIfOverlapped};
 
-use crate::between::is_after;
 use wm_event::{Candidate, Event, EventId};
 use wm_hb::HappensBefore;
+
+/// Whether a writer happens before the event at a place of the order.
+pub fn is_after(
+    relation: &HappensBefore,
+    writer: EventId,
+    start: Option<usize>,
+    place: usize,
+) -> bool
+    requires { IsPlaceOf relation.now.witness.order start writer }
+    ensures { IfListedAt relation.now.witness.order place (λ v. IsTrue result ↔ IsBefore (execution relation.now) writer (At v)) }
+{
+    let _order = relation.candidate().witness();
+    match start {
+        None => true,
+        Some(start) => relation.before_at(start, place),
+    }
+}
 
 /// The place after a writer's, which is 0 for Init; None if the writer isn't before a read's place.
 pub fn place_after(start: Option<usize>, end: usize) -> Option<usize>

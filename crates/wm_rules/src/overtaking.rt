@@ -4,7 +4,8 @@ ghost use Rattle.wm_event.specs.LoggedRun.{execution};
 ghost use Rattle.wm_event.specs.Shape.{IsThere};
 ghost use Rattle.wm_event.specs.Writes.{id_in, thread_keys};
 ghost use Rattle.wm_hb.specs.Scan.{IsEventOf};
-ghost use Rattle.wm_rules.specs.Earliest.{AreInSequence, FindsBelow, FindsInThread, HoldsFrom};
+ghost use Rattle.wm_hb.specs.Sequence.{AreInSequence, HoldsFrom};
+ghost use Rattle.wm_rules.specs.Earliest.{FindsBelow, FindsInThread};
 ghost use Rattle.wm_rules.specs.Others.{IsOutOfOrder};
 ghost use Rattle.wm_rules.specs.Overtaking.{IsPast, ids_in_thread};
 

@@ -14,13 +14,12 @@ ghost use Rattle.wm_rules.specs.Near.{IsTrueIfInconsistent};
 ghost use Rattle.wm_rules.specs.Others.{FindsListed, IsOutOfOrder};
 ghost use Rattle.wm_hb.specs.Scan.{Finds, IsEventOf};
 
-use crate::between::part_between;
 use crate::near::place_after;
 use crate::no_tearing::has_earlier;
 use crate::overtaking::earliest_out_of_order;
 use crate::writers::only_writer;
 use wm_event::{Candidate, Event, EventId, EventKey, Range, Rule, RuleFault};
-use wm_hb::{HappensBefore, stands_before, synchronizes};
+use wm_hb::{HappensBefore, part_between, stands_before, synchronizes};
 
 /// How many cases the rule has.
 const CASES: u8 = 3;

@@ -1,5 +1,5 @@
 -- What an access reads, and what it adds to a history.
-use Rattle.std.proofs.Common.{◌≡◌, ℕ, ◌<◌, ◌==◌, List, [], ◌∷◌, ◌++◌, Bool, true, false, Some, None, refl, sym, ap, ◌∙◌, arith, reverse, All}
+use Rattle.std.proofs.Common.{◌≡◌, ℕ, ◌<◌, List, [], ◌∷◌, ◌++◌, Bool, true, false, Some, None, refl, sym, ap, ◌∙◌, arith, reverse, All}
 use Rattle.std.specs.Prelude.{if◌then◌else◌}
 use Rattle.std.proofs.lemmas.List.{reverse-append}
 use Rattle.wm_access.specs.declared.AccessWidth.{AccessWidth}
@@ -22,17 +22,8 @@ use Rattle.wm_memory.specs.Visibility.{Drained, Step, made_after, seen, step_of,
 use Rattle.wm_memory.proofs.Digits.{value_below}
 use Rattle.wm_memory.proofs.Values.{seen_below}
 use Rattle.wm_recorder.specs.Transcript.{access_items}
-
-finds_if : (b : Bool) → kind_reads (if b then event.Update else event.Read) ≡ true
-finds_if true = refl
-finds_if false = refl
-
--- the event of an access reads where the access does
-pub finds : (kind : OpKind) (r : ℕ) → kind_reads (made_kind kind r) ≡ kind_finds kind
-finds Read r = refl
-finds (Write v) r = refl
-finds (Rmw op v) r = refl
-finds (CmpXchg expected new) r = finds_if (r == expected)
+use Rattle.wm_recorder.proofs.Recording.{reads_made}
+use Rattle.wm_replay.proofs.Following.{no_read as no_value}
 
 fits_zero : (w : AccessWidth) → Fits w 0
 fits_zero One = omega arith
@@ -62,12 +53,6 @@ again key op (CmpXchg expected new) r = refl
 pub made_again : (key : EventKey) (op : OpFields) (r : ℕ) → event_made key op (event_made key op r).read ≡ event_made key op r
 made_again key op r = again key op op.kind r
 
-no_value : (kind : OpKind) (r : ℕ) → kind_finds kind ≡ false → made_read kind r ≡ 0
-no_value Read r e = absurd (cc e)
-no_value (Write v) r e = refl
-no_value (Rmw op v) r e = absurd (cc e)
-no_value (CmpXchg expected new) r e = absurd (cc e)
-
 value_as : (b : Bool) (v : ℕ) → (b ≡ false → v ≡ 0) → value_or_zero (if b then Some v else None) ≡ v
 value_as true v h = refl
 value_as false v h = sym (h refl)
@@ -76,7 +61,7 @@ value_as false v h = sym (h refl)
 pub reply_value : (initial : List ℕ) (s : List Step) (t : ℕ) (op : OpFields) → value_or_zero (reply_after initial s t op).read ≡ (made_after initial s t op).read
 reply_value initial s t op =
     let r = value_at (seen initial (visible s t)) op.address (bytes_of op.width) in
-    value_as (kind_reads (made_kind op.kind r)) (made_after initial s t op).read (λ e. no_value op.kind r (sym (finds op.kind r) ∙ e))
+    value_as (kind_reads (made_kind op.kind r)) (made_after initial s t op).read (λ e. no_value op.kind r (sym (reads_made op.kind r) ∙ e))
 
 -- an access that doesn't read brings 0
 pub no_read : (initial : List ℕ) (s : List Step) (t : ℕ) (op : OpFields) → kind_finds op.kind ≡ false → (made_after initial s t op).read ≡ 0

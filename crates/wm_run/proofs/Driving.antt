@@ -16,6 +16,7 @@ use Rattle.wm_memory.specs.Visibility.{steps}
 use Rattle.wm_memory.proofs.Listed.{get-by_thread, length-by_thread}
 use Rattle.wm_recorder.specs.Recorder.{IsNew, IsRecording, Recording, initial_of, steps_of, threads_of}
 use Rattle.wm_replay.specs.Replay.{AreRuns, IsRun}
+use Rattle.wm_replay.proofs.Comparisons.{item_there}
 use Rattle.wm_valid.specs.Valid.{IsInit}
 use Rattle.wm_run.specs.declared.plan.Plan.{Plan}
 use Rattle.wm_run.specs.declared.runner.Runner.{Runner}
@@ -29,7 +30,7 @@ use Rattle.wm_run.specs.Runner.{IsSet, PlaysTurns, script_state, setting_of, run
 use Rattle.wm_run.specs.Script.{ScriptState, Setting, ThreadState, done}
 use Rattle.wm_run.specs.Scripted.{Begins, IsFirstState, IsLogOf, IsScripted, thread_log}
 use Rattle.wm_run.proofs.Limits.{AllWithin, first_within, turns_within}
-use Rattle.wm_run.proofs.Logging.{get_some, logged_events}
+use Rattle.wm_run.proofs.Logging.{logged_events}
 use Rattle.wm_run.proofs.Runs.{AllRun, first_run, is_run, turns_run}
 use Rattle.wm_run.proofs.Turns.{IsOf, standing_at}
 
@@ -43,13 +44,13 @@ launched_set m starts xs init r are new is_init = record { programs = programs; 
     programs : All (IsOf m) xs
     programs k d lt =
         let there : k < length starts = omega (arith, lt, are.count) in
-        program k (get_or xs k d) (slice_get-get_or xs k d lt) (get_some starts k there)
+        program k (get_or xs k d) (slice_get-get_or xs k d lt) (item_there starts k there)
 
 -- a thread of the list as it is seen
 seen_as : (xs : List Runner) (t : ℕ) (z : ThreadState) → slice_get (map runner_state xs) t ≡ Some z → (x : Runner) × (slice_get xs t ≡ Some x) × (runner_state x ≡ z)
 seen_as xs t z at =
     let within : t < length xs = omega (arith, slice_get_within (map runner_state xs) t z at, length-map xs runner_state) in
-    let x = get_some xs t within in
+    let x = item_there xs t within in
     (x.0, x.1, same_Some (runner_state x.0) z (sym (standing_at xs t x.0 x.1) ∙ at))
 
 pub first_scene : (m : Module) (starts : List Start) (xs : List Runner) (init : List ℕ) (r : Recording) → AreLaunched m starts xs → IsNew (length xs) init r → IsFirstState m starts (script_state xs r)
@@ -80,7 +81,7 @@ finished_log starts xs r run same count f = record {
 
 -- the threads of a log of the last state are their runs
 pub logged_runs : (g : Setting) (starts : List Start) (last : ScriptState) (run : Record) → length last.threads ≡ length starts → AllRun g starts last → IsLogOf starts last.threads (done g last.history) run → AreRuns g.program run.log
-logged_runs g starts last run count runs logged k log at = named (get_some starts k in_starts) (get_some last.threads k in_threads)
+logged_runs g starts last run count runs logged k log at = named (item_there starts k in_starts) (item_there last.threads k in_threads)
   where
     in_starts : k < length starts
     in_starts = omega (arith, slice_get_within run.log k log at, logged.count)
@@ -135,8 +136,8 @@ logged_at : (starts : List Start) (ys : List Runner) (r : Recording) (logs : Lis
 logged_at starts ys r logs t log same are at =
     let in_starts : t < length starts = omega (arith, slice_get_within logs t log at, are.count) in
     let in_ys : t < length ys = omega (arith, in_starts, same) in
-    let start = get_some starts t in_starts in
-    let runner = get_some ys t in_ys in
+    let start = item_there starts t in_starts in
+    let runner = item_there ys t in_ys in
     record { start = start.0; runner = runner.0; at = runner.1; is = same_Some (log_of r t start.0 runner.0) log (sym (are.each t start.0 runner.0 start.1 runner.1) ∙ at) }
 
 -- at most the number of threads and steps of the plan

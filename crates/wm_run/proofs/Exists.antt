@@ -24,6 +24,7 @@ use Rattle.wm_memory.proofs.Leaving.{meets, overlaps}
 use Rattle.wm_memory.proofs.Listed.{get-by_thread, length-by_thread}
 use Rattle.wm_recorder.specs.Transcript.{access_items}
 use Rattle.wm_replay.proofs.Needs.{made_access, made_local}
+use Rattle.wm_replay.proofs.Comparisons.{item_there}
 use Rattle.wm_valid.specs.Memory.{init}
 use Rattle.wm_valid.specs.Valid.{IsInit, Valid}
 use Rattle.wm_run.specs.declared.turn.Turn.{Turn}
@@ -33,7 +34,6 @@ use Rattle.wm_run.specs.Refusal.{AllStart}
 use Rattle.wm_run.specs.Run.{Record}
 use Rattle.wm_run.specs.Script.{MayDrain, Rests, ScriptState, Setting, StepsTo, ThreadState, TurnLeads, TurnsLead, access, done, drains, ended, full, keeps, local, rests, spent, steps_on, value_read}
 use Rattle.wm_run.specs.Scripted.{Begins, HasScriptedRun, IsLogOf, thread_log}
-use Rattle.wm_run.proofs.Logging.{get_some}
 use Rattle.wm_run.proofs.OneEach.{among_others, first_is, one_later}
 use Rattle.wm_run.proofs.Runs.{IsSetAt, set_at, turn_count, turns_count}
 use Rattle.wm_run.proofs.Runs as runs
@@ -186,7 +186,7 @@ goes_turn g state t thread at all (stays rest) = (state, rests at rest, all)
 
 turn_leads : (g : Setting) (state : ScriptState) (t : Turn) → Valid g.program → AllReach g.program state → thread_of t < length state.threads → HasNext g state t
 turn_leads g state (turn.Step t) valid all there =
-    let thread = get_some state.threads t there in
+    let thread = item_there state.threads t there in
     goes_turn g state t thread.0 thread.1 all (goes g state.history t thread.0 valid (all t thread.0 thread.1))
 turn_leads g state (turn.Drain t) valid all there = elim (may_drain_or_not g state t there) [
   | inl may ↦ (_, drains refl may, all)
@@ -275,7 +275,7 @@ has_log starts threads s count = (
 reach_first : (m : Module) (starts : List Start) (b : AreBegun m starts) → AllReach m (record { threads = b.threads; history = [] })
 reach_first m starts b t thread at =
     let within : t < length b.threads = slice_get_within b.threads t thread at in
-    let start = get_some starts t (let count = b.count in omega (arith, within, count)) in
+    let start = item_there starts t (let count = b.count in omega (arith, within, count)) in
     record { name = start.0.name; args = start.0.args; first = thread.config; is_first = (b.each t start.0 thread start.1 at).config; leads = at_once }
 
 pub has_run : HasScriptedRun

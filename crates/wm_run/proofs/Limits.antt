@@ -3,10 +3,10 @@ use Rattle.std.proofs.Common.{◌≡◌, ℕ, ◌<◌, ◌≤◌, List, [], ◌�
 use Rattle.std.proofs.lemmas.Option.{slice_get_within}
 use Rattle.wm_event.specs.declared.log.Start.{Start}
 use Rattle.wm_memory.specs.declared.history_step.HistoryStep.{HistoryStep}
+use Rattle.wm_replay.proofs.Comparisons.{item_there}
 use Rattle.wm_run.specs.declared.turn.Turn.{Turn}
 use Rattle.wm_run.specs.Script.{TurnsLead, ScriptState, Setting, ThreadState, StepsTo, TurnLeads, access, drains, keeps, local, rests, steps_on}
 use Rattle.wm_run.specs.Scripted.{IsFirstState}
-use Rattle.wm_run.proofs.Logging.{get_some}
 use Rattle.wm_run.proofs.Runs.{new, other, set_at}
 
 -- no thread made more
@@ -16,7 +16,7 @@ AllWithin g state = (t : ℕ) (thread : ThreadState) → slice_get state.threads
 pub first_within : (g : Setting) (starts : List Start) (state : ScriptState) → IsFirstState g.program starts state → AllWithin g state
 first_within g starts state f t thread at =
     let within : t < length starts = omega (arith, slice_get_within state.threads t thread at, f.count) in
-    let start = get_some starts t within in
+    let start = item_there starts t within in
     let none = (f.each t start.0 thread start.1 at).made in
     omega (arith, none)
 

@@ -12,13 +12,9 @@ use Rattle.wm_machine.specs.Run.{end_of}
 use Rattle.wm_machine.specs.State.{config_of}
 use Rattle.wm_memory.proofs.Listed.{get-end, get-front}
 use Rattle.wm_recorder.specs.Recorder.{Recording}
+use Rattle.wm_replay.proofs.Comparisons.{item_there}
 use Rattle.wm_run.specs.declared.runner.Runner.{Runner}
 use Rattle.wm_run.specs.Finish.{AreLogs, log_of}
-
--- the item of a number below the length
-pub get_some : {X : Type 0} (xs : List X) (k : ℕ) → k < length xs → (x : X) × (slice_get xs k ≡ Some x)
-get_some [] k lt = absurd (omega (arith, lt))
-get_some (x ∷ xs) k lt = (get_or (x ∷ xs) k x, slice_get-get_or (x ∷ xs) k x lt)
 
 abbrev pub LogsBelow : List Start → List Runner → Recording → List ThreadLog → ℕ → Type 0
 LogsBelow starts runners r logs n = (t : ℕ) (start : Start) (runner : Runner) → t < n → slice_get starts t ≡ Some start → slice_get runners t ≡ Some runner
@@ -79,7 +75,7 @@ logged_events starts runners r logs same count are = same_lists (map (λ (log : 
         let in_events : k < length r.events = omega (arith, lt, lengths) in
         let in_starts : k < length starts = omega (arith, in_events, count) in
         let in_runners : k < length runners = omega (arith, in_starts, same) in
-        some_at k d in_events (get_some starts k in_starts) (get_some runners k in_runners)
+        some_at k d in_events (item_there starts k in_starts) (item_there runners k in_runners)
       where
         some_at : (k : ℕ) (d : List Event) → k < length r.events → (start : Start) × (slice_get starts k ≡ Some start) → (runner : Runner) × (slice_get runners k ≡ Some runner)
             → get_or (map (λ (log : ThreadLog). log.events) logs) k d ≡ get_or r.events k d

@@ -14,13 +14,13 @@ use Rattle.wm_memory.specs.Memory.{drains_first}
 use Rattle.wm_memory.specs.Visibility.{Step}
 use Rattle.wm_recorder.specs.Transcript.{access_items}
 use Rattle.wm_valid.proofs.Initial.{one_init}
+use Rattle.wm_replay.proofs.Comparisons.{item_there}
 use Rattle.wm_run.specs.declared.plan.Plan.{Plan}
 use Rattle.wm_run.specs.declared.turn.Turn.{Turn}
 use Rattle.wm_run.specs.declared.turn.Turn.TheVariants as turn
 use Rattle.wm_run.specs.Run.{Record}
 use Rattle.wm_run.specs.Script.{MayDrain, TurnsLead, Rests, ScriptState, Setting, ThreadState, StepsTo, TurnLeads, access, done, drain_of, drains, ended, full, keeps, local, rests, spent, steps_on, value_read}
 use Rattle.wm_run.specs.Scripted.{IsFirstState, IsLogOf, IsScripted, thread_log}
-use Rattle.wm_run.proofs.Logging.{get_some}
 use Rattle.wm_run.proofs.Runs.{turns_count}
 
 -- ---- a turn leads to one state
@@ -115,7 +115,7 @@ one_first m starts a b first second = ap₂ (λ threads history. record { thread
     item k d lt =
         let in_starts : k < length starts = (let count = first.count in omega (arith, lt, count)) in
         let in_b : k < length b.threads = (let count = second.count in omega (arith, in_starts, count)) in
-        let start = get_some starts k in_starts in
+        let start = item_there starts k in_starts in
         let x = get_or a.threads k d in
         let y = get_or b.threads k d in
         let x_begins = first.each k start.0 x start.1 (slice_get-get_or a.threads k d lt) in
@@ -136,8 +136,8 @@ one_log starts threads s a b count first second =
     item k d lt =
         let in_starts : k < length starts = (let logs = first.count in omega (arith, lt, logs)) in
         let in_threads : k < length threads = omega (arith, in_starts, count) in
-        let start = get_some starts k in_starts in
-        let thread = get_some threads k in_threads in
+        let start = item_there starts k in_starts in
+        let thread = item_there threads k in_threads in
         get_or_from_slice_get a.log k (thread_log s k start.0 thread.0) d (first.each k start.0 thread.0 start.1 thread.1)
         ∙ sym (get_or_from_slice_get b.log k (thread_log s k start.0 thread.0) d (second.each k start.0 thread.0 start.1 thread.1))
 

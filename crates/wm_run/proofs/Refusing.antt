@@ -7,6 +7,7 @@ use Rattle.std.proofs.lemmas.Option.{slice_get-get_or, slice_get_within}
 use Rattle.wm_ast.specs.declared.module.Module.{Module}
 use Rattle.wm_event.specs.declared.log.Start.{Start}
 use Rattle.wm_recorder.specs.Recorder.{Recording, initial_of, threads_of}
+use Rattle.wm_replay.proofs.Comparisons.{item_there}
 use Rattle.wm_run.specs.declared.ended.ThreadEnd.{ThreadEnd}
 use Rattle.wm_run.specs.declared.fault.RunFault.{RunFault}
 use Rattle.wm_run.specs.declared.fault.RunFault.TheVariants as run
@@ -17,7 +18,6 @@ use Rattle.wm_run.specs.Gathered.{IsGatherFault}
 use Rattle.wm_run.specs.Launch.{AreLaunched, IsLaunchFault}
 use Rattle.wm_run.specs.Refusal.{AllStart}
 use Rattle.wm_run.specs.Rounds.{AreEndsOf, IsReady, IsRoundFault, IsRoundPlan}
-use Rattle.wm_run.proofs.Logging.{get_some}
 use Rattle.wm_run.proofs.OneEach.{counted, uncounted, one_later}
 use Rattle.wm_run.proofs.Rounds.{own_place}
 use Rattle.wm_valid.specs.Valid.{IsInit}
@@ -87,7 +87,7 @@ no_ends_fault threads ends t one_each is = elim is.fault [
 pub all_start : (m : Module) (starts : List Start) (runners : List Runner) → AreLaunched m starts runners → AllStart m starts
 all_start m starts runners are t start at =
     let within : t < length starts = slice_get_within starts t start at in
-    let runner = get_some runners t (omega (arith, within, are.count)) in
+    let runner = item_there runners t (omega (arith, within, are.count)) in
     (_, (are.each t start runner.0 at runner.1).begins.config)
 
 pub launch_fault : (m : Module) (plan : Plan) (fault : RunFault) → IsRoundPlan plan → IsLaunchFault m plan.starts fault → IsRoundFault m plan fault

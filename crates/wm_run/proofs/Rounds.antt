@@ -10,6 +10,7 @@ use Rattle.wm_event.specs.declared.log.Start.{Start}
 use Rattle.wm_event.specs.declared.log.ThreadLog.{ThreadLog}
 use Rattle.wm_logfile.specs.Document.{EndFits}
 use Rattle.wm_recorder.specs.Recorder.{Recording, threads_of}
+use Rattle.wm_replay.proofs.Comparisons.{item_there}
 use Rattle.wm_run.specs.declared.ended.Stop.{Stop}
 use Rattle.wm_run.specs.declared.ended.Stop.TheVariants.{Own, Gate, Memory}
 use Rattle.wm_run.specs.declared.ended.ThreadEnd.{ThreadEnd}
@@ -23,7 +24,6 @@ use Rattle.wm_run.specs.Rounds.{AreEndsOf, AreWorkOf, IsHeld, IsRound, IsRoundPl
 use Rattle.wm_run.specs.Run.{Record}
 use Rattle.wm_run.specs.Stops.{is_own}
 use Rattle.wm_run.specs.Worker.{IsEndOf, IsWorkOf}
-use Rattle.wm_run.proofs.Logging.{get_some}
 use Rattle.wm_run.proofs.OneEach.{some_end}
 use Rattle.wm_run.proofs.Together.{gathered_own}
 
@@ -60,7 +60,7 @@ record IsEndAt (is_open : Bool) (m : Module) (starts : List Start) (limit : ℕ)
 end_at : (is_open : Bool) (m : Module) (starts : List Start) (limit : ℕ) (ends : List ThreadEnd) (t : ℕ) → AreEndsOf is_open m starts limit ends → t < length starts → IsEndAt is_open m starts limit ends t
 end_at is_open m starts limit ends t are lt =
     let within : t < length ends = omega (arith, lt, are.0) in
-    let x : ThreadEnd = (get_some ends t within).0 in
+    let x : ThreadEnd = (item_there ends t within).0 in
     let is = are.1 t no_start x lt in
     record {
       end = slice_index_or ends t x;

@@ -24,12 +24,13 @@ use Rattle.wm_memory.proofs.Chunks.{slice_get-set_other, slice_get-set_same}
 use Rattle.wm_memory.proofs.Listed.{length-events_of}
 use Rattle.wm_recorder.specs.Transcript.{access_items}
 use Rattle.wm_recorder.proofs.Updates.{events_made, others_events}
+use Rattle.wm_recorder.proofs.Recording.{reads_made}
 use Rattle.wm_replay.specs.Replay.{IsRun, reads_of}
 use Rattle.wm_run.specs.declared.turn.Turn.{Turn}
 use Rattle.wm_run.specs.declared.turn.Turn.TheVariants as turn
 use Rattle.wm_run.specs.Script.{TurnsLead, ScriptState, Setting, ThreadState, StepsTo, TurnLeads, access, done, drain_of, drains, keeps, local, rests, steps_on}
 use Rattle.wm_run.specs.Scripted.{Begins, IsFirstState, thread_log}
-use Rattle.wm_run.proofs.Accesses.{added, finds, fits_after, made_again, no_read, one_added, ready_events}
+use Rattle.wm_run.proofs.Accesses.{added, fits_after, made_again, no_read, one_added, ready_events}
 
 -- ---- one thread
 
@@ -172,7 +173,7 @@ stepped_run g h u start thread _ _ bytes (access {op = op} {next = next} lt few 
     let is : event_made (record { thread = u; number = length (events_of (done g h) u) }) op e.read ≡ e =
     ap (λ n. event_made (record { thread = u; number = n }) op e.read) count ∙ made_again (record { thread = u; number = accesses s u }) op _ in
     subst (HasRun g.program u start (record { config = next; made = suc thread.made })) (sym (own_events g h u op))
-    (ran_access g.program u start thread (events_of (done g h) u) op e next run (asks 0) leads (finds op.kind _) (fits_after g.initial s u op bytes) (no_read g.initial s u op) is)
+    (ran_access g.program u start thread (events_of (done g h) u) op e next run (asks 0) leads (reads_made op.kind _) (fits_after g.initial s u op bytes) (no_read g.initial s u op) is)
 
 others_run : (g : Setting) (h : List HistoryStep) (u t : ℕ) (start : Start) (thread next z : ThreadState) (items : List HistoryStep) → (t ≡ u → ⊥) → StepsTo g h u thread next items
     → HasRun g.program t start z (events_of (done g h) t) → HasRun g.program t start z (events_of (done g (h ++ items)) t)

@@ -18,6 +18,7 @@ use Rattle.wm_memory.specs.Recorded.{events_of}
 use Rattle.wm_memory.specs.Visibility.{Step, accesses, events}
 use Rattle.wm_memory.proofs.Listed.{get-end, get-front, length-events_of}
 use Rattle.wm_recorder.specs.Transcript.{access_items}
+use Rattle.wm_replay.proofs.Comparisons.{item_there}
 use Rattle.wm_run.specs.declared.traced.TracedTurn.{TracedTurn}
 use Rattle.wm_run.specs.declared.traced.TurnDone.{TurnDone}
 use Rattle.wm_run.specs.declared.traced.TurnDone.TheVariants.{Accessed}
@@ -30,7 +31,6 @@ use Rattle.wm_run.specs.Traced.{Asks, Does, DrainDoes, StepDoes, TracesTurns, ev
 use Rattle.wm_run.specs.Traced as traced
 use Rattle.wm_run.specs.TracedEvents.{TracedAccessesAreLogged}
 use Rattle.wm_run.proofs.Accesses.{ready_events}
-use Rattle.wm_run.proofs.Logging.{get_some}
 use Rattle.wm_run.proofs.Once.{no_access}
 use Rattle.wm_run.proofs.OneEach.{among_others, first_is}
 use Rattle.wm_run.proofs.Runs.{drain_events, event_after, own_events, same_events, turn_count, turns_count}
@@ -156,8 +156,8 @@ named_in g first last (t ∷ turns) (x ∷ entries) (suc k) entry key store trac
 pub is_logged : (starts : List Start) (g : Setting) (last : ScriptState) (run : Record) (key : EventKey) (e : Event) → length last.threads ≡ length starts → IsLogOf starts last.threads (done g last.history) run
     → IsMade g last key e → event_in run.log key ≡ Some e
 is_logged starts g last run key e count logged made =
-    let thread = get_some last.threads key.thread made.there in
-    let start = get_some starts key.thread (let there = made.there in omega (arith, there, count)) in
+    let thread = item_there last.threads key.thread made.there in
+    let start = item_there starts key.thread (let there = made.there in omega (arith, there, count)) in
     ap (option_and_then (λ (log : ThreadLog). slice_get log.events key.number)) (logged.each key.thread start.0 thread.0 start.1 thread.1) ∙ made.made
 
 pub accesses_are_logged : TracedAccessesAreLogged

@@ -2,7 +2,6 @@
 use Rattle.std.proofs.Common.{◌≡◌, ℕ, zero, suc, ◌<◌, ◌==◌, inl, inr, Bool, true, false, List, [], ◌∷◌, ◌++◌, Option, Some, None, refl, sym, ap, subst, ◌∙◌, arith, length, map, reverse, slice_get}
 use Rattle.std.specs.Prelude.{if◌then◌else◌}
 use Rattle.std.proofs.lemmas.Bool.{cases_eq}
-use Rattle.std.proofs.lemmas.List.{reverse-append}
 use Rattle.std.proofs.lemmas.Option.{none-some, slice_get_within}
 use Rattle.wm_event.specs.declared.event.Event.{Event}
 use Rattle.wm_event.specs.declared.event.EventKey.{EventKey}
@@ -14,7 +13,7 @@ use Rattle.wm_memory.specs.Memory.{drains_first}
 use Rattle.wm_memory.specs.Recorded.{events_of}
 use Rattle.wm_memory.specs.Visibility.{In, Made, Step, accesses, made_after, own_write, steps, waiting, writers_after}
 use Rattle.wm_memory.proofs.Listed.{get-end, get-front, length-events_of}
-use Rattle.wm_memory.proofs.Lists.{in-append}
+use Rattle.wm_memory.proofs.Leaving.{in_reverse}
 use Rattle.wm_memory.proofs.Members.{own_is, waits_drained, waits_made}
 use Rattle.wm_recorder.proofs.Updates.{events_made, others_events}
 use Rattle.wm_run.specs.declared.traced.TracedTurn.{TracedTurn}
@@ -85,16 +84,6 @@ waiting_is_write initial (item.Access u op ∷ h) t x waits =
       | inr older ↦ older_store initial s u t op x (waiting_is_write initial h t x older)
     ]
 
-in_reversed : (x : Event) (xs : List Event) → In x (reverse xs) → In x xs
-in_reversed x [] at = at
-in_reversed x (y ∷ ys) at = elim (in-append x (reverse ys) (y ∷ []) (subst (In x) (reverse-append (y ∷ []) ys) at)) [
-  | inl older ↦ inr (in_reversed x ys older)
-  | inr here ↦ elim here [
-    | inl is ↦ inl is
-    | inr none ↦ absurd none
-  ]
-]
-
 named_by : (xs : List Event) (k : ℕ) (key : EventKey) → slice_get (map key_of xs) k ≡ Some key → (x : Event) × In x xs × (key_of x ≡ key)
 named_by [] k key at = absurd (let within : k < 0 = slice_get_within (map key_of []) k key at in omega (arith, within))
 named_by (y ∷ ys) zero key at = (y, inl refl, first_is (key_of y) (map key_of ys) key at)
@@ -136,7 +125,7 @@ turn_names : (g : Setting) (old new : ScriptState) (t : Turn) (entry : TracedTur
 turn_names g old new t entry store is names =
     let was = turn_pending g old t entry.done store is.does names in
     let x = named_by (reverse (waiting (done g old.history) (thread_of t))) was.0 store was.1 in
-    let w = waiting_is_write g.initial (reverse old.history) (thread_of t) x.0 (in_reversed x.0 (waiting (done g old.history) (thread_of t)) x.1) in
+    let w = waiting_is_write g.initial (reverse old.history) (thread_of t) x.0 (in_reverse x.0 (waiting (done g old.history) (thread_of t)) x.1) in
     let thread : store.thread ≡ thread_of t = ap (λ (key : EventKey). key.thread) (sym x.2) ∙ w.thread in (
       x.0,
       record {

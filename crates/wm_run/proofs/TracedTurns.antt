@@ -21,6 +21,7 @@ use Rattle.wm_machine.specs.Term.{Term, Vars}
 use Rattle.wm_memory.specs.Memory.{Buffered, CannotLeave, DrainsFirst, MayLeave, drains_first}
 use Rattle.wm_memory.specs.Visibility.{Drained, Passes, Step, accesses, steps, waiting}
 use Rattle.wm_recorder.specs.Recorder.{IsRecording, Recording, initial_of, steps_of, threads_of}
+use Rattle.wm_replay.proofs.Comparisons.{item_there}
 use Rattle.wm_run.specs.declared.plan.Plan.{Plan}
 use Rattle.wm_run.specs.declared.runner.Runner.{Runner}
 use Rattle.wm_run.specs.declared.traced.TracedTurn.{TracedTurn}
@@ -35,7 +36,6 @@ use Rattle.wm_run.specs.Script.{ScriptState, Setting, ThreadState, TurnsLead}
 use Rattle.wm_run.specs.Traced.{DrainDoes, Does, IsAt, IsTraced, IsTracedTurn, StepDoes, TracesTurns, absent, drained, event_of, held, pending, store_before}
 use Rattle.wm_run.specs.Tracing.{TakesTraced, TurnDoes}
 use Rattle.wm_run.proofs.Driving.{Drives, first_scene, logged}
-use Rattle.wm_run.proofs.Logging.{get_some}
 use Rattle.wm_run.proofs.Recordings.{buffered, may_not}
 use Rattle.wm_run.proofs.Turns.{program_at, standing_at}
 use Rattle.wm_valid.specs.Valid.{IsInit}
@@ -84,7 +84,7 @@ some_store_before r t op b k first is =
 past_none : {X : Type 0} (xs : List X) (k : ℕ) → slice_get xs k ≡ None → length xs ≤ k
 past_none xs k is = elim (cases_lt k (length xs)) [
   | inr past ↦ past
-  | inl below ↦ let some = get_some xs k below in absurd (none-some some.0 (sym is ∙ some.1))
+  | inl below ↦ let some = item_there xs k below in absurd (none-some some.0 (sym is ∙ some.1))
 ]
 
 -- as many stores are pending as wait

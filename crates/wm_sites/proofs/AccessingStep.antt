@@ -16,7 +16,7 @@ use Rattle.wm_machine.specs.Functions.{continuation, from_place}
 use Rattle.wm_machine.specs.Inside.{made_of}
 use Rattle.wm_machine.specs.Nest.{Position}
 use Rattle.wm_machine.specs.State.{State, config_from, config_of}
-use Rattle.wm_machine.specs.Step.{access_of, branch_to, ended, gives, out_of_call, out_of_label, out_of_thread, reduce, returned, step}
+use Rattle.wm_machine.specs.Step.{access_of, branch_to, ended, out_of_call, out_of_label, out_of_thread, reduce, returned, step}
 use Rattle.wm_machine.specs.Term.{Vars, Term, Here, Label, Frame, Reduced, Next, Ends, Leaves, Returns, Traps, Stuck}
 
 -- ---- no access without an instruction
@@ -25,15 +25,11 @@ use Rattle.wm_machine.specs.Term.{Vars, Term, Here, Label, Frame, Reduced, Next,
 abbrev IsSilent : Module → Term → Type 0
 IsSilent m t = (read depth func : ℕ) (vars : Vars) → made_of (reduce m read depth func vars t) ≡ None
 
-gives_none : (vars : Vars) (operands : List TypedValue) (rest : List Instr) (values : Option (List TypedValue)) → made_of (gives vars operands rest values) ≡ None
-gives_none vars operands rest None = refl
-gives_none vars operands rest (Some values) = refl
-
 branch_none : (vars : Vars) (operands : List TypedValue) (instrs : List Instr) (values : List TypedValue) → made_of (branch_to vars operands instrs values) ≡ None
 branch_none vars operands [] values = refl
 branch_none vars operands (Loop ty n ∷ rest) values = refl
-branch_none vars operands (Block ty n ∷ rest) values = gives_none vars operands rest _
-branch_none vars operands (If ty first other part ∷ rest) values = gives_none vars operands rest _
+branch_none vars operands (Block ty n ∷ rest) values = made_gives vars operands rest _
+branch_none vars operands (If ty first other part ∷ rest) values = made_gives vars operands rest _
 branch_none vars operands (_ ∷ rest) values = refl
 
 label_none : (vars : Vars) (operands : List TypedValue) (instrs : List Instr) (r : Reduced) → made_of r ≡ None → made_of (out_of_label vars operands instrs r) ≡ None
@@ -47,23 +43,19 @@ label_none vars operands instrs Stuck none = refl
 
 call_none : (m : Module) (callee : ℕ) (vars : Vars) (operands : List TypedValue) (rest : List Instr) (r : Reduced) → made_of r ≡ None → made_of (out_of_call m callee vars operands rest r) ≡ None
 call_none m callee vars operands rest (Next made mine inner) none = none
-call_none m callee vars operands rest (Ends values) none = gives_none vars operands rest (returned m callee values)
-call_none m callee vars operands rest (Leaves zero values) none = gives_none vars operands rest (returned m callee values)
+call_none m callee vars operands rest (Ends values) none = made_gives vars operands rest (returned m callee values)
+call_none m callee vars operands rest (Leaves zero values) none = made_gives vars operands rest (returned m callee values)
 call_none m callee vars operands rest (Leaves (suc l) values) none = refl
-call_none m callee vars operands rest (Returns values) none = gives_none vars operands rest (returned m callee values)
+call_none m callee vars operands rest (Returns values) none = made_gives vars operands rest (returned m callee values)
 call_none m callee vars operands rest (Traps kind) none = refl
 call_none m callee vars operands rest Stuck none = refl
 
-ended_none : (values : Option (List TypedValue)) → access_of (ended values) ≡ None
-ended_none None = refl
-ended_none (Some values) = refl
-
 thread_none : (m : Module) (func : ℕ) (r : Reduced) → made_of r ≡ None → access_of (out_of_thread m func r) ≡ None
 thread_none m func (Next made vars body) none = none
-thread_none m func (Ends values) none = ended_none (returned m func values)
-thread_none m func (Leaves zero values) none = ended_none (returned m func values)
+thread_none m func (Ends values) none = made_ended (returned m func values)
+thread_none m func (Leaves zero values) none = made_ended (returned m func values)
 thread_none m func (Leaves (suc l) values) none = refl
-thread_none m func (Returns values) none = ended_none (returned m func values)
+thread_none m func (Returns values) none = made_ended (returned m func values)
 thread_none m func (Traps kind) none = refl
 thread_none m func Stuck none = refl
 

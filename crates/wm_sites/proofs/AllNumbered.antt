@@ -8,7 +8,7 @@ use Rattle.wm_decode.specs.Bounds.{max_module_bytes}
 use Rattle.wm_valid.specs.Locations.{Part, parts, Opcodes, none, instr, part}
 use Rattle.wm_sites.specs.declared.opcode_numbers.BlockPosition.{BlockPosition}
 use Rattle.wm_sites.specs.Numbering.{AreBelow, number_in, begin_of, next_of, IsNumberedFrom, here, behind, in_part, past_part, IsNoted, IsNumbered, HasPlace, HasPlaces, Notes, begins_of, behind_of, followers}
-use Rattle.wm_sites.proofs.Unnumbered.{IsLeft, in_top, below_top, drop_at, no_part}
+use Rattle.wm_sites.proofs.Unnumbered.{IsLeft, in_top, below_top, drop_at, no_part, regroup}
 
 abbrev Table : Type 0
 Table = List (Vec (Option ℕ) Global)
@@ -30,9 +30,6 @@ count_end : {blocks : List (List Instr)} {j : ℕ} → Opcodes blocks [] [] j �
 count_end none = refl
 
 -- ---- the stack after the blocks of an instruction were put on it
-
-regroup : (j c m : ℕ) → j + 1 + (c + 1 + m) ≡ j + 1 + c + 1 + m
-regroup j c m = omega arith
 
 numbered_left : {blocks : List (List Instr)} {q : BlockPosition} (stack : List BlockPosition) (ps : List Part) {k : ℕ} (p : BlockPosition) (body : List Instr) → slice_get blocks p.block ≡ Some body
     → IsNumberedFrom blocks p ps (drop p.at body) q k → IsLeft blocks (map (λ (x : Part). begin_of x.block) ps ++ p ∷ stack) q k

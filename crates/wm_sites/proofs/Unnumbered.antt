@@ -24,7 +24,7 @@ record Behind (blocks : List (List Instr)) (ps : List Part) (rest : List Instr) 
   pub left : IsLeft blocks stack q more
   pub sum : k ≡ count + 1 + more
 
-regroup : (j c m : ℕ) → j + 1 + (c + 1 + m) ≡ j + 1 + c + 1 + m
+pub regroup : (j c m : ℕ) → j + 1 + (c + 1 + m) ≡ j + 1 + c + 1 + m
 regroup j c m = omega arith
 
 same_body : (blocks : List (List Instr)) (b : ℕ) (body other : List Instr) → slice_get blocks b ≡ Some body → slice_get blocks b ≡ Some other → other ≡ body

@@ -7,13 +7,14 @@ use Rattle.wm_event.specs.declared.event.Event.{Event}
 use Rattle.wm_event.specs.declared.event.EventId.{EventId}
 use Rattle.wm_event.specs.Log.{HasKeys}
 use Rattle.wm_event.specs.LoggedRun.{LoggedRun}
+use Rattle.wm_hb.proofs.FilterLemmas.{passes}
 use Rattle.wm_writers.specs.Answer.{IsByteOf, IsSource}
 use Rattle.wm_writers.specs.Fits.{fits, fitting, ids}
 use Rattle.wm_writers.specs.Forced.{FitsOnly, IsForced}
 use Rattle.wm_writers.specs.Found.{AreOnly, HasForcedByte}
 use Rattle.wm_writers.specs.declared.source.Source.{Source}
 use Rattle.wm_writers.proofs.AllLemmas.{all-head, all-none, all-tail}
-use Rattle.wm_writers.proofs.FittingLemmas.{fit-listed, listed-fits}
+use Rattle.wm_writers.proofs.FittingLemmas.{fit-listed}
 
 pub all-at : {X : Type 0} (P : X → Type 0) (xs : List X) (n : ℕ) (x : X) → All P xs → slice_get xs n ≡ Some x → P x
 all-at P xs n x all at =
@@ -30,7 +31,7 @@ module _ (run : LoggedRun) (keys : HasKeys run.log) where
   listed_only : (e : Event) (k : ℕ) (w : EventId) → FitsOnly run e k w → AreOnly w (fitting run.log run.initial e k)
   listed_only e k w only i d l =
       let fit = fitting run.log run.initial e k in
-      only (get_or fit i d) (listed-fits (fits run.log run.initial e k) (ids run.log) i (get_or fit i d) (slice_get-get_or fit i d l))
+      only (get_or fit i d) (passes (fits run.log run.initial e k) (ids run.log) i (get_or fit i d) (slice_get-get_or fit i d l))
 
   is_forced : (s : Source) → IsSource run s → HasForcedByte s → IsForced run s.need
   is_forced s is (n, b, at, only) =

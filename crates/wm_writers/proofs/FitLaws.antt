@@ -1,5 +1,5 @@
 -- In a valid execution each byte's writer fits it.
-use Rattle.std.proofs.Common.{◌≡◌, ◌≢◌, ℕ, ◌+◌, ◌<◌, ◌≤◌, ◌==◌, ◌&&◌, not, leb, Bool, true, false, List, Option, None, Some, IsSome, is_some, IsTrue, [], refl, sym, ap, ◌∙◌, arith, inl, ⊎_elim}
+use Rattle.std.proofs.Common.{◌≡◌, ◌≢◌, ℕ, ◌+◌, ◌<◌, ◌≤◌, ◌==◌, ◌&&◌, not, leb, Bool, true, false, Option, None, Some, IsSome, IsTrue, [], refl, sym, ap, ◌∙◌, arith, inl, ⊎_elim}
 use Rattle.std.specs.Prelude.{option_and_then}
 use Rattle.std.specs.Option.{option_map_or}
 use Rattle.std.proofs.lemmas.Bool.{cases_lt, and_parts, and_from}
@@ -8,15 +8,16 @@ use Rattle.wm_event.specs.declared.event.Event.{Event}
 use Rattle.wm_event.specs.declared.event.EventKey.{EventKey}
 use Rattle.wm_event.specs.declared.event.EventId.{EventId}
 use Rattle.wm_event.specs.declared.event.EventId.TheVariants.{Init, At}
-use Rattle.wm_event.specs.declared.log.ThreadLog.{ThreadLog}
 use Rattle.wm_event.specs.Byte.{byte_of}
 use Rattle.wm_event.specs.Event.{byte_written, key_of}
 use Rattle.wm_event.specs.Execution.{ReadsFrom, byte_by}
 use Rattle.wm_event.specs.HappensBefore.{HappensBefore}
-use Rattle.wm_event.specs.Log.{HasKeys, event_in}
+use Rattle.wm_event.specs.Log.{event_in}
 use Rattle.wm_event.specs.LoggedRun.{LoggedRun, execution}
 use Rattle.wm_event.specs.Rules.{IsValid}
 use Rattle.wm_event.specs.Shape.{IsWellShaped}
+use Rattle.wm_hb.proofs.FaultLemmas.{same_key_parts, some_of}
+use Rattle.wm_hb.proofs.ThreadLemmas.{named_so}
 use Rattle.wm_writers.specs.Fits.{byte_left, fits, is_from, leaves}
 
 -- what an id leaves, by the log and the initial memory
@@ -32,20 +33,10 @@ leaves_it run w a b h =
     let left : byte_left run.log run.initial w a ≡ Some b = sym (left_by run w a) ∙ h in
     ap (λ o. option_map_or (λ c. c == b) o false) left ∙ same-number b
 
--- an event has the name under which it is found
-pub named_so : (log : List ThreadLog) → HasKeys log → (key : EventKey) (e : Event) → event_in log key ≡ Some e → key_of e ≡ key
-named_so log keys key e there = let s = (keys key e there).0 in let t = (keys key e there).1 in λ i. record { thread = s i; number = t i }
-
-same_key_parts : (a b : EventKey) → a.thread ≡ b.thread → a.number ≡ b.number → a ≡ b
-same_key_parts a b s t = λ i. record { thread = s i; number = t i }
-
 from-thread : (t s m n : ℕ) → (s == t && leb m n) ≡ true → (s ≡ t) × (m ≤ n)
 from-thread t s m n h =
     let p = and_parts (s == t) (leb m n) h in
     (grind (arith, nat_tests), grind (arith, nat_tests))
-
-some_there : {X : Type 0} (o : Option X) (x : X) → o ≡ Some x → IsSome o
-some_there o x e = ap is_some e
 
 wrote : (o : Option Event) (a b : ℕ) → option_and_then (λ e. byte_written e a) o ≡ Some b → IsSome o
 wrote None a b h = absurd (cc)
@@ -73,6 +64,6 @@ writer_fits run shape valid r e k w at reads =
     let values = valid.keeps_written_values r e k w at reads in
     let before = (valid.keeps_coherence r e k w at reads).0 in
     let left = leaves_it run w (e.address + k) (byte_of e.read k) values.1 in
-    let free : is_from r w ≡ false = not_from run r w (e.address + k) (byte_of e.read k) (some_there (event_in run.log r) e at) values.0 values.1 before in
+    let free : is_from r w ≡ false = not_from run r w (e.address + k) (byte_of e.read k) (some_of (event_in run.log r) e at) values.0 values.1 before in
     let named : is_from (key_of e) w ≡ false = ap (λ q. is_from q w) (named_so run.log shape.keys r e at) ∙ free in
     and_from (leaves run.log run.initial w (e.address + k) (byte_of e.read k)) (not (is_from (key_of e) w)) left (ap not named)

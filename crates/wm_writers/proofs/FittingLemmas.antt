@@ -17,8 +17,8 @@ use Rattle.wm_event.specs.Event.{byte_written, key_of}
 use Rattle.wm_event.specs.Log.{HasKeys, event_in}
 use Rattle.wm_event.specs.Writes.{thread_keys, writes_byte}
 use Rattle.wm_event.proofs.WritesLemmas.{in_filter}
+use Rattle.wm_hb.proofs.ThreadLemmas.{named_so}
 use Rattle.wm_writers.specs.Fits.{fits, fitting, ids, is_from, leaves}
-use Rattle.wm_writers.proofs.FitLaws.{named_so}
 use Rattle.wm_writers.proofs.ListLemmas.{flat_map-more}
 
 -- the ids of a thread's events
@@ -119,13 +119,3 @@ module _ (log : List ThreadLog) (keys : HasKeys log) where
   -- each id that fits is among them
   pub fit-listed : (initial : List ℕ) (e : Event) (k : ℕ) (v : EventId) → fits log initial e k v ≡ true → (m : ℕ) × (slice_get (fitting log initial e k) m ≡ Some v)
   fit-listed initial e k v h = let r = id_listed v initial e k h in in_filter (fits log initial e k) (ids log) r.0 v r.1 h
-
--- what passes a test passes it
-pub listed-fits : {X : Type 0} (p : X → Bool) (xs : List X) (j : ℕ) (x : X) → slice_get (filter p xs) j ≡ Some x → p x ≡ true
-listed-fits p [] j x at = absurd (cc)
-listed-fits {X} p (y ∷ ys) j x at = one (p y) refl j at (λ j at. listed-fits p ys j x at)
-  where
-    one : (b : Bool) → p y ≡ b → (j : ℕ) → slice_get (if b then y ∷ filter p ys else filter p ys) j ≡ Some x → ((j : ℕ) → slice_get (filter p ys) j ≡ Some x → p x ≡ true) → p x ≡ true
-    one true is zero at h = ap p (sym (same_Some y x at)) ∙ is
-    one true is (suc j) at h = h j at
-    one false is j at h = h j at

@@ -1,11 +1,11 @@
 use Rattle.std.proofs.Common.{◌≡◌, ◌+◌, ◌<◌, ◌≤◌, ap, ◌∙◌, arith, length, reverse, slice_get, Some, subst, sym}
 use Rattle.std.proofs.lemmas.List.{length-reverse}
-use Rattle.std.proofs.lemmas.Option.{slice_get-get_or}
+use Rattle.std.proofs.lemmas.Option.{slice_get-get_or, slice_get_within}
 use Rattle.wm_event.specs.declared.event.EventId.TheVariants.{At}
 use Rattle.wm_event.specs.LoggedRun.{execution}
 use Rattle.wm_hb.specs.Chain.{Leads}
 use Rattle.wm_hb.specs.Table.{IsHop, IsTable, StandsAt, links_at, links_of}
-use Rattle.wm_hb.proofs.ChainLaws.{absent, hop_at, key_inside, none_shorter, reached_links, unreached}
+use Rattle.wm_hb.proofs.ChainLaws.{absent, hop_at, none_shorter, reached_links, unreached}
 use Rattle.wm_hb.proofs.chain.chain_between.Goals as goal
 
 pub returns-in_default : goal.returns-in_default
@@ -13,7 +13,7 @@ returns-in_default c = absent c.args.candidate.now (At c.args.from) c.args.to c.
 
 pub index-requires : goal.index-requires
 index-requires c =
-    let inside = key_inside c.args.candidate.now.witness.order c.in-Some.end c.args.to c.in-Some.ensures.listed in
+    let inside = slice_get_within c.args.candidate.now.witness.order c.in-Some.end c.args.to c.in-Some.ensures.listed in
     let all = c.in_ok-table.ensures.all in
     let whole = c.in_ok-table.table.ok.0 in
     omega (arith, inside, all, whole)
@@ -21,7 +21,7 @@ index-requires c =
 pub returns-in-Never : goal.returns-in-Never
 returns-in-Never c =
     let x = c.args.candidate.now in
-    let inside = key_inside x.witness.order c.in-Some.end c.args.to c.in-Some.ensures.listed in
+    let inside = slice_get_within x.witness.order c.in-Some.end c.args.to c.in-Some.ensures.listed in
     let all = c.in_ok-table.ensures.all in
     let l : c.in-Some.end < length c.in_ok-table.table.items = omega (arith, inside, all) in
     let get : slice_get c.in_ok-table.table.items c.in-Some.end ≡ Some c.index.result.now = slice_get-get_or c.in_ok-table.table.items c.in-Some.end c.index.result.now l ∙ ap Some (sym c.index.ensures) in
@@ -33,7 +33,7 @@ links_back-requires-clause-table c = (c.args.from, subst (IsTable c.args.candida
 pub links_back-requires-clause-reached : goal.links_back-requires-clause-reached
 links_back-requires-clause-reached c =
     let x = c.args.candidate.now in
-    let inside = key_inside x.witness.order c.in-Some.end c.args.to c.in-Some.ensures.listed in
+    let inside = slice_get_within x.witness.order c.in-Some.end c.args.to c.in-Some.ensures.listed in
     let all = c.in_ok-table.ensures.all in
     let l : c.in-Some.end < length c.in_ok-table.table.items = omega (arith, inside, all) in
     let get : slice_get c.in_ok-table.table.items c.in-Some.end ≡ Some c.index.result.now = slice_get-get_or c.in_ok-table.table.items c.in-Some.end c.index.result.now l ∙ ap Some (sym c.index.ensures) in
@@ -43,7 +43,7 @@ pub returns : goal.returns
 returns c =
     let x = c.args.candidate.now in
     let rows = c.in_ok-table.table.items in
-    let inside = key_inside x.witness.order c.in-Some.end c.args.to c.in-Some.ensures.listed in
+    let inside = slice_get_within x.witness.order c.in-Some.end c.args.to c.in-Some.ensures.listed in
     let all = c.in_ok-table.ensures.all in
     let l : c.in-Some.end < length rows = omega (arith, inside, all) in
     let get : slice_get rows c.in-Some.end ≡ Some c.index.result.now = slice_get-get_or rows c.in-Some.end c.index.result.now l ∙ ap Some (sym c.index.ensures) in

@@ -1,10 +1,9 @@
 use Rattle.std.proofs.Common.{◌≡◌, ◌<◌, ◌≤◌, ◌+◌, ⊎_elim, inl, inr, IfSome, Some, arith, get_or, length, slice_get, subst, sym, ◌∙◌}
 use Rattle.std.proofs.lemmas.Bool.{cases_lt}
-use Rattle.std.proofs.lemmas.Option.{slice_get-get_or, same_Some}
+use Rattle.std.proofs.lemmas.Option.{same_Some, slice_get-get_or, slice_get_within}
 use Rattle.wm_event.specs.declared.event.EventId.TheVariants.{Init, At}
 use Rattle.wm_event.specs.Witness.{writers_in}
 use Rattle.wm_hb.specs.Table.{IsHop}
-use Rattle.wm_hb.proofs.TableLaws.{writer_inside}
 use Rattle.wm_hb.proofs.table.best.Goals as goal
 
 pub loop-writer-preserved : goal.loop-writer-preserved
@@ -35,5 +34,5 @@ returns-clause-writers c a p is s =
     let items = c.writers-writer-items.result.now in
     let e : items ≡ writers_in c.args.candidate.now.witness c.args.key = c.loop-writer.invariant.items in
     let at : slice_get items s.reads.0 ≡ Some (At p) = subst (λ w. slice_get w s.reads.0 ≡ Some (At p)) (sym e) s.reads.1 in
-    let inside : s.reads.0 < length items = writer_inside items s.reads.0 (At p) at in
+    let inside : s.reads.0 < length items = slice_get_within items s.reads.0 (At p) at in
     c.loop-writer.invariant.writers a p s.reads.0 (omega (arith, inside)) at is s

@@ -1,6 +1,7 @@
 use Rattle.std.proofs.Common.{◌≡◌, subst}
 use Rattle.wm_litmus.specs.Stream.{IsJudgeOf}
-use Rattle.wm_litmus.proofs.Streaming.{on_err, streams_all, streams_front}
+use Rattle.wm_stream.proofs.Answering.{on_err}
+use Rattle.wm_litmus.proofs.Streaming.{streams_all, streams_front}
 use Rattle.wm_litmus.proofs.program.stream_lines.Goals as goal
 
 pub returns-in_err-status-clause-stopped : goal.returns-in_err-status-clause-stopped

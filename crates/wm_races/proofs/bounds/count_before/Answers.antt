@@ -5,7 +5,7 @@ use Rattle.wm_event.specs.declared.event.EventId.{EventId}
 use Rattle.wm_event.specs.declared.event.EventId.TheVariants.{Init}
 use Rattle.wm_event.specs.HappensBefore.{HappensBefore}
 use Rattle.wm_event.specs.LoggedRun.{execution}
-use Rattle.wm_races.proofs.ThreadLemmas.{before_join}
+use Rattle.wm_hb.proofs.SequenceLemmas.{before_join}
 use Rattle.wm_races.proofs.bounds.count_before.Goals as goal
 
 pub loop-low-preserved-then-before : goal.loop-low-preserved-then-before

@@ -7,11 +7,12 @@ use Rattle.wm_event.specs.HappensBefore.{HappensBefore}
 use Rattle.wm_event.specs.Limits.{max_events}
 use Rattle.wm_event.specs.Log.{HasKeys}
 use Rattle.wm_event.specs.LoggedRun.{LoggedRun, execution}
+use Rattle.wm_event.specs.Writes.{writes_byte}
 use Rattle.wm_event.specs.Shape.{IsWellShaped, ListsEachOnce}
-use Rattle.wm_races.specs.Bounds.{AreInSequence}
+use Rattle.wm_hb.specs.Sequence.{AreInSequence}
 use Rattle.wm_races.proofs.BoundLemmas.{end_none, end_at}
 use Rattle.wm_races.proofs.CountLemmas.{order-few}
-use Rattle.wm_races.proofs.ThreadLemmas.{in_sequence, thread_ids}
+use Rattle.wm_hb.proofs.ThreadLemmas.{in_sequence, thread_ids}
 use Rattle.wm_races.proofs.bounds.end_in_thread.Goals as goal
 use Rattle.wm_races.proofs.bounds.end_in_thread.Goals.{After-thread_writes_to-writes, After-count_not_after-count}
 
@@ -25,20 +26,20 @@ keys : (c : After-thread_writes_to-writes) → HasKeys c.args.before.now.log
 keys c = (shape c).keys
 
 abbrev ids : After-thread_writes_to-writes → List EventId
-ids c = thread_ids c.args.before.now (keys c) c.args.thread c.args.address
+ids c = thread_ids c.args.before.now (keys c) c.args.thread (writes_byte c.args.before.now.log c.args.address)
 
 same : (c : After-thread_writes_to-writes) → c.thread_writes_to-writes.result.now ≡ ids c
 same c = cc (c.thread_writes_to-writes.ensures, c.candidate-candidate.ensures.value)
 
 sequence : (c : After-thread_writes_to-writes) → AreInSequence (execution c.args.before.now) c.thread_writes_to-writes.result.now
-sequence c = subst (λ (vs : List EventId). AreInSequence (execution c.args.before.now) vs) (sym (same c)) (in_sequence c.args.before.now (keys c) c.args.thread c.args.address)
+sequence c = subst (λ (vs : List EventId). AreInSequence (execution c.args.before.now) vs) (sym (same c)) (in_sequence c.args.before.now (keys c) c.args.thread (writes_byte c.args.before.now.log c.args.address))
 
 pub count_not_after-count-requires : goal.count_not_after-count-requires
 count_not_after-count-requires c = sequence c
 
 later : (c : After-count_not_after-count) (i : ℕ) (v : EventId) → c.count_not_after-count.result ≤ i → slice_get (ids (goal.at.After-count_not_after-count c).After-thread_writes_to-writes) i ≡ Some v
     → HappensBefore (execution c.args.before.now) c.args.event v
-later c i v l at = c.count_not_after-count.ensures.after i v l (ap (λ (vs : List EventId). slice_get vs i) (same (goal.at.After-count_not_after-count c).After-thread_writes_to-writes) ∙ at)
+later c i v l at = c.count_not_after-count.ensures.turn.holds i v l (ap (λ (vs : List EventId). slice_get vs i) (same (goal.at.After-count_not_after-count c).After-thread_writes_to-writes) ∙ at)
 
 pub returns-then-count-eq0 : goal.returns-then-count-eq0
 returns-then-count-eq0 c =

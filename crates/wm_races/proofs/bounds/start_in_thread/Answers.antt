@@ -5,10 +5,11 @@ use Rattle.wm_event.specs.Execution.{place}
 use Rattle.wm_event.specs.HappensBefore.{HappensBefore}
 use Rattle.wm_event.specs.Log.{HasKeys}
 use Rattle.wm_event.specs.LoggedRun.{LoggedRun, execution}
+use Rattle.wm_event.specs.Writes.{writes_byte}
 use Rattle.wm_event.specs.Shape.{IsWellShaped, ListsEachOnce}
-use Rattle.wm_races.specs.Bounds.{AreInSequence}
+use Rattle.wm_hb.specs.Sequence.{AreInSequence}
 use Rattle.wm_races.proofs.BoundLemmas.{start_all, start_at}
-use Rattle.wm_races.proofs.ThreadLemmas.{in_sequence, thread_ids}
+use Rattle.wm_hb.proofs.ThreadLemmas.{in_sequence, thread_ids}
 use Rattle.wm_races.proofs.bounds.start_in_thread.Goals as goal
 use Rattle.wm_races.proofs.bounds.start_in_thread.Goals.{After-thread_writes_to-writes, After-count_before}
 
@@ -22,13 +23,13 @@ keys : (c : After-thread_writes_to-writes) → HasKeys c.args.before.now.log
 keys c = (shape c).keys
 
 abbrev ids : After-thread_writes_to-writes → List EventId
-ids c = thread_ids c.args.before.now (keys c) c.args.thread c.args.address
+ids c = thread_ids c.args.before.now (keys c) c.args.thread (writes_byte c.args.before.now.log c.args.address)
 
 same : (c : After-thread_writes_to-writes) → c.thread_writes_to-writes.result.now ≡ ids c
 same c = cc (c.thread_writes_to-writes.ensures, c.candidate-candidate.ensures.value)
 
 sequence : (c : After-thread_writes_to-writes) → AreInSequence (execution c.args.before.now) c.thread_writes_to-writes.result.now
-sequence c = subst (λ (vs : List EventId). AreInSequence (execution c.args.before.now) vs) (sym (same c)) (in_sequence c.args.before.now (keys c) c.args.thread c.args.address)
+sequence c = subst (λ (vs : List EventId). AreInSequence (execution c.args.before.now) vs) (sym (same c)) (in_sequence c.args.before.now (keys c) c.args.thread (writes_byte c.args.before.now.log c.args.address))
 
 pub count_before-requires : goal.count_before-requires
 count_before-requires c = sequence c

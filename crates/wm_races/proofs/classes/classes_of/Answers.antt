@@ -4,7 +4,7 @@ use Rattle.std.proofs.lemmas.Option.{slice_get-get_or}
 use Rattle.wm_event.specs.declared.writes.ByteWrite.{ByteWrite}
 use Rattle.wm_event.specs.Writes.{writes_byte, writes_from}
 use Rattle.wm_event.proofs.WritesLemmas.{rises_from}
-use Rattle.wm_races.specs.Bounds.{Rises}
+use Rattle.wm_hb.specs.Between.{Rises}
 use Rattle.wm_races.specs.Classes.{AreKinds}
 use Rattle.wm_races.specs.declared.classes.Kind.{Kind}
 use Rattle.wm_races.proofs.KindLemmas.{AreFirstClasses, are_classes, first_more, first_none, of_sites}

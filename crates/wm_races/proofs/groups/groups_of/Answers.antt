@@ -8,10 +8,10 @@ use Rattle.wm_event.specs.Event.{key_of}
 use Rattle.wm_event.specs.Log.{HasKeys, event_in}
 use Rattle.wm_event.specs.LoggedRun.{LoggedRun}
 use Rattle.wm_event.specs.Shape.{IsWellShaped, ListsEachOnce}
+use Rattle.wm_hb.proofs.ThreadLemmas.{named_so}
 use Rattle.wm_races.specs.Groups.{AreGroupsOf, IsAtByte, size_of}
 use Rattle.wm_races.specs.declared.group.Group.{Group}
 use Rattle.wm_races.proofs.GroupLemmas.{few_groups}
-use Rattle.wm_races.proofs.RaceLemmas.{named_so}
 use Rattle.wm_races.proofs.ScanLemmas.{IsBelowByte, byte_done, byte_init, byte_more, few_bytes}
 use Rattle.wm_races.proofs.groups.groups_of.Goals as goal
 use Rattle.wm_races.proofs.groups.groups_of.Goals.{After-bytes-byte-end, in-Some-at+in_ok-found-in-Some-at, in-None+in_ok-found-in-None}

@@ -1,4 +1,4 @@
-use Rattle.std.proofs.Common.{◌≡◌, ◌↔◌, true, false, Bool, Some, None, Option, max, slice_get, IsTrue, sym, ap, subst, ◌∙◌, rules}
+use Rattle.std.proofs.Common.{◌≡◌, ◌↔◌, true, false, Bool, Some, None, max, slice_get, IsTrue, sym, ap, subst, ◌∙◌, rules}
 use Rattle.std.proofs.lemmas.Bool.{false≢true}
 use Rattle.std.proofs.lemmas.Option.{same_Some}
 use Rattle.wm_event.specs.declared.event.Event.{Event}
@@ -10,6 +10,7 @@ use Rattle.wm_event.specs.Shape.{ListsEachOnce}
 use Rattle.wm_event.specs.Writes.{writes_byte}
 use Rattle.wm_races.specs.Listing.{IsNamed, IsPairAt}
 use Rattle.wm_races.specs.Races.{IsUnordered, IsWeak}
+use Rattle.wm_races.proofs.ListLemmas.{none_some}
 use Rattle.wm_races.proofs.RaceLemmas.{Meets, met-pair, pair-met}
 use Rattle.wm_races.proofs.pair.pair_at.Goals as goal
 use Rattle.wm_races.proofs.pair.pair_at.Goals.{else-address-first-via-then-address-first+then-is_weak+else-is_unordered, else-address-first-via-then-address-first+else-is_weak, else-address-first-via-else-address-first}
@@ -17,9 +18,6 @@ use Rattle.wm_races.proofs.pair.pair_at.Goals.{else-address-first-via-then-addre
 -- a test that failed, of what holds
 failed : (b : Bool) (P : Type 0) → (IsTrue b ↔ P) → b ≡ false → P → ⊥
 failed b P test is p = false≢true (sym is ∙ test.1 p)
-
-none_some : {X : Type 0} (o : Option X) (x : X) → o ≡ None → o ≡ Some x → ⊥
-none_some o x a b = cc
 
 pub returns-then-not-is_named : goal.returns-then-not-is_named
 returns-then-not-is_named c p at =

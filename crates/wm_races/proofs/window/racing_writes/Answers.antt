@@ -6,7 +6,8 @@ use Rattle.wm_event.specs.declared.event.EventId.TheVariants.{At}
 use Rattle.wm_event.specs.LoggedRun.{LoggedRun}
 use Rattle.wm_event.specs.Writes.{writes_from}
 use Rattle.wm_event.specs.Shape.{ListsEachOnce}
-use Rattle.wm_races.specs.Bounds.{IsStart, Rises, stands_between}
+use Rattle.wm_hb.specs.Between.{Rises, stands_between}
+use Rattle.wm_races.specs.Bounds.{IsStart}
 use Rattle.wm_races.specs.Window.{AreRacingWrites}
 use Rattle.wm_races.proofs.BoundLemmas.{racing_between}
 use Rattle.wm_races.proofs.WindowLemmas.{racing_all, racing_none}

@@ -10,9 +10,10 @@ use Rattle.wm_event.specs.Log.{HasKeys}
 use Rattle.wm_event.specs.HappensBefore.{HappensBefore}
 use Rattle.wm_event.specs.LoggedRun.{LoggedRun, execution}
 use Rattle.wm_event.specs.Rules.{KeepsOrder}
-use Rattle.wm_rules.specs.Earliest.{AreInSequence, HoldsFrom}
+use Rattle.wm_hb.specs.Sequence.{AreInSequence, HoldsFrom}
 use Rattle.wm_rules.specs.Others.{WritesBetween}
-use Rattle.wm_rules.proofs.ThreadLemmas.{fails_in_thread, in_sequence, no_init, none_in_thread, some_in_thread, thread_ids, written_sooner}
+use Rattle.wm_hb.proofs.ThreadLemmas.{in_sequence, thread_ids}
+use Rattle.wm_rules.proofs.ThreadLemmas.{fails_in_thread, no_init, none_in_thread, some_in_thread, written_sooner}
 use Rattle.wm_rules.proofs.by_thread.first_in_thread.Goals as goal
 use Rattle.wm_rules.proofs.by_thread.first_in_thread.Goals.{After-thread_writes_to-writes, After-count_not_after, In-Some-At}
 

@@ -9,7 +9,8 @@ use Rattle.wm_event.specs.LoggedRun.{execution}
 use Rattle.wm_event.specs.Rules.{KeepsOrder}
 use Rattle.wm_event.specs.Shape.{ListsEachOnce}
 use Rattle.wm_event.specs.Writes.{writes_byte, writes_from}
-use Rattle.wm_rules.specs.Between.{IsPlaceOf, Rises, stands_between}
+use Rattle.wm_hb.specs.Between.{Rises, stands_between}
+use Rattle.wm_rules.specs.Between.{IsPlaceOf}
 use Rattle.wm_rules.specs.Others.{IsWrittenBetween, WritesBetween}
 use Rattle.wm_rules.proofs.Before.{before_from}
 use Rattle.wm_rules.proofs.BetweenLemmas.{found_none, found_some, none_written, writes_rise}

@@ -7,7 +7,7 @@ use Rattle.wm_event.specs.Rules.{KeepsOrder}
 use Rattle.wm_event.specs.Shape.{IsWellShaped, ListsEachOnce}
 use Rattle.wm_rules.specs.Between.{IsPlaceOf}
 use Rattle.wm_rules.proofs.NearLemmas.{byte_inside, incoherent_says, no_future, stands_after, stands_earlier}
-use Rattle.wm_rules.proofs.ThreadLemmas.{before_join}
+use Rattle.wm_hb.proofs.SequenceLemmas.{before_join}
 use Rattle.wm_rules.proofs.coherence.may_be_incoherent.Goals as goal
 
 pub returns-then-not-is_after : goal.returns-then-not-is_after

@@ -1,19 +1,16 @@
-use Rattle.std.proofs.Common.{◌≡◌, ◌+◌, ◌-◌, ◌/◌, ◌∙◌, ℕ, List, ap, sym, subst, Some, get_or, length, map, slice_get, arith}
+use Rattle.std.proofs.Common.{◌≡◌, ◌+◌, ◌-◌, ◌/◌, ◌∙◌, ℕ, ap, sym, subst, Some, get_or, length, map, slice_get, arith}
 use Rattle.std.specs.Option.{option_map}
 use Rattle.std.proofs.lemmas.Bool.{both_ways}
-use Rattle.std.proofs.lemmas.Grind.{common_steps}
+use Rattle.std.proofs.lemmas.List.{length-map}
 use Rattle.std.proofs.lemmas.Option.{slice_get-get_or, slice_get-map}
 use Rattle.wm_event.specs.declared.writes.ByteWrite.{ByteWrite}
 use Rattle.wm_event.specs.LoggedRun.{LoggedRun, execution}
 use Rattle.wm_event.specs.Writes.{id_in, thread_keys}
 use Rattle.wm_rules.specs.Overtaking.{IsPast, ids_in_thread}
-use Rattle.wm_rules.proofs.ThreadLemmas.{parted_high, parted_low}
+use Rattle.wm_hb.proofs.SequenceLemmas.{parted_high, parted_low}
 use Rattle.wm_rules.proofs.SequentialConsistencyLemmas.{past_onward}
 use Rattle.wm_rules.proofs.overtaking.count_not_past.Goals as goal
 use Rattle.wm_rules.proofs.overtaking.count_not_past.Goals.{After-id_in_thread-other}
-
-mapped : {X Y : Type 0} (f : X → Y) (xs : List X) → length (map f xs) ≡ length xs
-mapped f xs = grind (arith, common_steps)
 
 abbrev middle : (c : After-id_in_thread-other) → ℕ
 middle c = c.loop-low.low + (c.loop-low.high - c.loop-low.low) / 2
@@ -25,7 +22,7 @@ listed c =
     let bound = c.loop-low.invariant.bound in
     let less = c.loop-low-test.true in
     let f = id_in (thread_keys c.args.relation.now.log c.args.thread) in
-    let long = mapped f xs in
+    let long = length-map xs f in
     let d : ByteWrite = record { address = 0; place = 0 } in
     let is : c.id_in_thread-other.result ≡ f (get_or xs (middle c) d) =
     subst (λ (run : LoggedRun). c.id_in_thread-other.result ≡ id_in (thread_keys run.log c.args.thread) (get_or xs (middle c) d)) c.candidate-candidate.ensures.value c.id_in_thread-other.ensures.value in

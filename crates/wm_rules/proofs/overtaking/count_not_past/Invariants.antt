@@ -1,7 +1,7 @@
 use Rattle.std.proofs.Common.{◌-◌}
 use Rattle.wm_event.specs.LoggedRun.{execution}
 use Rattle.wm_rules.specs.Overtaking.{IsPast, ids_in_thread}
-use Rattle.wm_rules.proofs.ThreadLemmas.{IsParted}
+use Rattle.wm_hb.proofs.SequenceLemmas.{IsParted}
 use Rattle.wm_rules.proofs.overtaking.count_not_past.Given as goal
 
 abbrev pub invariant-loop-low : goal.invariant-loop-low

@@ -12,11 +12,12 @@ use Rattle.wm_event.specs.Log.{HasKeys}
 use Rattle.wm_event.specs.LoggedRun.{LoggedRun, execution}
 use Rattle.wm_event.specs.Writes.{id_in, listed_from, thread_keys}
 use Rattle.wm_event.proofs.WritesLemmas.{names_from}
-use Rattle.wm_rules.specs.Earliest.{AreInSequence, HoldsFrom}
+use Rattle.wm_hb.specs.Sequence.{AreInSequence, HoldsFrom}
 use Rattle.wm_rules.specs.Others.{IsOutOfOrder}
 use Rattle.wm_rules.specs.Overtaking.{IsPast, ids_in_thread}
 use Rattle.wm_rules.proofs.SequentialConsistencyLemmas.{overtaking_sooner}
-use Rattle.wm_rules.proofs.ThreadLemmas.{HoldsSooner, fails_in_thread, in_sequence, no_init, none_in_thread, some_in_thread, thread_ids}
+use Rattle.wm_hb.proofs.ThreadLemmas.{in_sequence, thread_ids}
+use Rattle.wm_rules.proofs.ThreadLemmas.{HoldsSooner, fails_in_thread, no_init, none_in_thread, some_in_thread}
 use Rattle.wm_rules.proofs.overtaking.first_in_thread.Goals as goal
 use Rattle.wm_rules.proofs.overtaking.first_in_thread.Goals.{After-thread_atomic_writes-writes, After-count_not_past, After-id_in_thread}
 

@@ -10,7 +10,8 @@ use Rattle.wm_event.specs.LoggedRun.{LoggedRun, execution}
 use Rattle.wm_event.specs.Rules.{Overtakes}
 use Rattle.wm_event.specs.Shape.{ListsEachOnce}
 use Rattle.wm_event.specs.Writes.{listed_from}
-use Rattle.wm_rules.specs.Between.{IsPlaceOf, Rises, stands_between}
+use Rattle.wm_hb.specs.Between.{Rises, stands_between}
+use Rattle.wm_rules.specs.Between.{IsPlaceOf}
 use Rattle.wm_rules.proofs.BetweenLemmas.{writes_rise}
 use Rattle.wm_rules.proofs.NearLemmas.{atomic_write_between, not_empty}
 use Rattle.wm_rules.proofs.sequential_consistency.may_be_inconsistent.Goals as goal

@@ -1,7 +1,7 @@
 use Rattle.std.proofs.Common.{ltb, rules}
 use Rattle.std.proofs.lemmas.List.Sorted.{IsPartitionPoint-from_clause, IsPartitionedBy-ltb}
 use Rattle.wm_event.specs.declared.writes.ByteWrite.{ByteWrite}
-use Rattle.wm_races.proofs.window.count_below.Goals as goal
+use Rattle.wm_hb.proofs.between.count_below.Goals as goal
 
 pub returns-clause-parted : goal.returns-clause-parted
 returns-clause-parted c =

@@ -3,9 +3,9 @@ use Rattle.std.specs.List.Sorted.{IsNonDecreasingBy, IsPartitionPoint}
 use Rattle.wm_event.specs.declared.writes.ByteWrite.{ByteWrite}
 use Rattle.wm_event.proofs.WritesLemmas.{block_between, whole_rest}
 use Rattle.std.specs.List.{filter}
-use Rattle.wm_races.specs.Bounds.{stands_between}
-use Rattle.wm_races.proofs.ThreadLemmas.{rises_places, rises_drop}
-use Rattle.wm_races.proofs.window.part_between.Goals as goal
+use Rattle.wm_hb.specs.Between.{stands_between}
+use Rattle.wm_hb.proofs.BetweenLemmas.{rises_places, rises_drop}
+use Rattle.wm_hb.proofs.between.part_between.Goals as goal
 
 pub count_below-skipped-requires : goal.count_below-skipped-requires
 count_below-skipped-requires c = rises_places c.args.writes.now c.requires

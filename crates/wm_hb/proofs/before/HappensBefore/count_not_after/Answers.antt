@@ -4,14 +4,14 @@ use Rattle.std.proofs.lemmas.Option.{slice_get-get_or}
 use Rattle.wm_event.specs.declared.event.EventId.TheVariants.{Init}
 use Rattle.wm_event.specs.HappensBefore.{HappensBefore}
 use Rattle.wm_event.specs.LoggedRun.{execution}
-use Rattle.wm_rules.proofs.ThreadLemmas.{before_join, parted_high, parted_low}
-use Rattle.wm_rules.proofs.by_thread.count_not_after.Goals as goal
+use Rattle.wm_hb.proofs.SequenceLemmas.{before_join, parted_high, parted_low}
+use Rattle.wm_hb.proofs.before.HappensBefore.count_not_after.Goals as goal
 
 pub loop-low-preserved-then-before : goal.loop-low-preserved-then-before
 loop-low-preserved-then-before c =
-    let x = execution c.args.relation.now in
-    let xs = c.args.writes.now in
-    let w = c.args.writer in
+    let x = execution c.args.self.now in
+    let xs = c.args.events.now in
+    let w = c.args.id in
     let m = c.loop-low.low + (c.loop-low.high - c.loop-low.low) / 2 in
     let bound = c.loop-low.invariant.bound in
     let less = c.loop-low-test.true in
@@ -20,9 +20,9 @@ loop-low-preserved-then-before c =
 
 pub loop-low-preserved : goal.loop-low-preserved
 loop-low-preserved c =
-    let x = execution c.args.relation.now in
-    let xs = c.args.writes.now in
-    let w = c.args.writer in
+    let x = execution c.args.self.now in
+    let xs = c.args.events.now in
+    let w = c.args.id in
     let m = c.loop-low.low + (c.loop-low.high - c.loop-low.low) / 2 in
     let bound = c.loop-low.invariant.bound in
     let less = c.loop-low-test.true in

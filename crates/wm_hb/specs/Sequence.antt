@@ -1,0 +1,14 @@
+-- Events each of which happens before the next ones.
+use Rattle.std.specs.Prelude.{◌≡◌, ℕ, ◌<◌, ◌≤◌, List, Some, slice_get}
+use Rattle.wm_event.specs.declared.event.EventId.{EventId}
+use Rattle.wm_event.specs.Execution.{Execution}
+use Rattle.wm_event.specs.HappensBefore.{HappensBefore}
+
+-- each happens before those after it
+abbrev pub AreInSequence : Execution → List EventId → Type 0
+AreInSequence x ids = (i j : ℕ) (a b : EventId) → i < j → slice_get ids i ≡ Some a → slice_get ids j ≡ Some b → HappensBefore x a b
+
+-- among the ids, T holds from the n-th on, and of none before it
+pub record HoldsFrom (T : EventId → Type 0) (ids : List EventId) (n : ℕ) : Type 0 where
+  pub fails : (i : ℕ) (v : EventId) → i < n → slice_get ids i ≡ Some v → T v → ⊥
+  pub holds : (i : ℕ) (v : EventId) → n ≤ i → slice_get ids i ≡ Some v → T v
