@@ -17,6 +17,7 @@ use Rattle.wm_machine.specs.Inside.{made_of}
 use Rattle.wm_machine.specs.Nest.{Position}
 use Rattle.wm_machine.specs.State.{State, config_from, config_of}
 use Rattle.wm_machine.specs.Step.{access_of, branch_to, ended, out_of_call, out_of_label, out_of_thread, reduce, returned, step}
+use Rattle.wm_machine.proofs.Made.{made_ended, made_gives}
 use Rattle.wm_machine.specs.Term.{Vars, Term, Here, Label, Frame, Reduced, Next, Ends, Leaves, Returns, Traps, Stuck}
 
 -- ---- no access without an instruction
