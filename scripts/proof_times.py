@@ -1,0 +1,119 @@
+#!/usr/bin/env python3
+"""Runs a command that calls the prover, and prints how much processor time the proof of each crate took.
+
+    scripts/proof_times.py .ci/run               the gate, at the top of a clean clone
+    RT_JOBS=1 scripts/proof_times.py rt ci       one proof at a time
+
+It looks at the prover's processes five times a second, so each may have run 0.2 seconds longer. Tests, edits of single
+functions and the compiler have lines of their own. What `rt ci` kept is not proved again and has none. The last line
+counts all processes of the command. Interrupt it, and it prints what there was until then.
+"""
+import argparse
+import collections
+import os
+import resource
+import subprocess
+import sys
+import time
+
+from wmlabtools import prover
+
+# The options of the prover's command that tell another part of its work than the proof of a whole crate.
+PARTS = {"--test": "tests", "--only": "single functions", "--backend": "compiler"}
+PAUSE = 0.2
+
+
+def contents(number, name):
+    """A file of the system about a process; None if the process has ended."""
+    try:
+        with open(f"/proc/{number}/{name}", encoding="utf-8", errors="replace") as file:
+            return file.read()
+    except (FileNotFoundError, ProcessLookupError):
+        return None
+
+
+class Process:
+    """A process of the prover: its crate, the part of the work, and its seconds of the processor so far."""
+
+    def __init__(self, words):
+        self.crate = words[words.index("--crate-name") + 1] if "--crate-name" in words else "no crate"
+        self.part = next((part for option, part in PARTS.items() if option in words), "proof")
+        self.seconds = 0.0
+
+
+def fields_of(number):
+    """What the system counts of a process, from its state on; None if it has ended."""
+    stat = contents(number, "stat")
+    return stat.rsplit(")", 1)[1].split() if stat else None
+
+
+def is_below(number, command):
+    """Whether this process was started by the command, or by a process that was."""
+    while number not in ("0", command):
+        fields = fields_of(number)
+        number = fields[1] if fields else "0"
+    return number == command
+
+
+def look(command, program, seen):
+    """Notes how long each process of this program has run that the command started. `seen` has them by their number and
+    the time of their start, since the system gives numbers again."""
+    for number in filter(str.isdigit, os.listdir("/proc")):
+        fields = fields_of(number)
+        if not fields:
+            continue
+        key = number, fields[19]
+        if key not in seen:
+            words = (contents(number, "cmdline") or "").split("\0")
+            if words[0] != program or not is_below(number, command):
+                continue
+            seen[key] = Process(words)
+        seen[key].seconds = (int(fields[11]) + int(fields[12])) / os.sysconf("SC_CLK_TCK")
+
+
+def run(command, program):
+    """Runs the command to its end, or until an interrupt ends it: its status, and the prover's processes."""
+    seen = {}
+    try:
+        with subprocess.Popen(command) as ran:
+            try:
+                while ran.poll() is None:
+                    look(str(ran.pid), program, seen)
+                    time.sleep(PAUSE)
+            except KeyboardInterrupt:
+                ran.wait()
+                return 130, list(seen.values())
+    except OSError as error:
+        sys.exit(f"{command[0]}: {error.strerror}")
+    return ran.returncode, list(seen.values())
+
+
+def report(processes):
+    """Prints a line for each crate and part, the longest first, and the sum of each part."""
+    crates, parts = collections.Counter(), collections.Counter()
+    for process in processes:
+        crates[process.crate, process.part] += process.seconds
+        parts[process.part] += process.seconds
+    for (crate, part), seconds in crates.most_common():
+        print(f"{seconds:8.1f} s  {crate}" + ("" if part == "proof" else f", {part}"))
+    for part, seconds in parts.most_common():
+        print(f"{seconds:8.1f} s  {part}, all crates")
+    used = resource.getrusage(resource.RUSAGE_CHILDREN)
+    print(f"{used.ru_utime + used.ru_stime:8.1f} s  all processes of the command")
+
+
+def main():
+    parser = argparse.ArgumentParser(description=__doc__, formatter_class=argparse.RawDescriptionHelpFormatter)
+    parser.add_argument("command", nargs=argparse.REMAINDER, metavar="COMMAND", help="the command and its words")
+    command = parser.parse_args().command
+    if not command:
+        parser.error("name the command to run")
+    status, processes = run(command, f"{prover.kit()}/bin/rattle")
+    report(processes)
+    if not processes:
+        sys.exit("the prover was not called: rt ci takes proofs that it kept; move /opt/rattle-kept away")
+    sys.exit(status)
+
+
+if __name__ == "__main__":
+    main()
