@@ -13,9 +13,11 @@ IMPORT = re.compile(
 )
 
 
-def is_named(name, text):
-    """Whether a text has a name, or the first part of an operator, as `◌≡◌`."""
+def is_named(name, text, words):
+    """Whether a text with these words has a name, or the first part of an operator, as `◌≡◌`."""
     word = name.strip("◌").split("◌")[0]
+    if re.fullmatch(r"\w+", word):
+        return word in words
     before = r"(?<!\w)" if re.match(r"\w", word) else ""
     after = r"(?!\w)" if re.search(r"\w$", word) else ""
     return re.search(before + re.escape(word) + after, text) is not None
@@ -31,8 +33,9 @@ def unused(crate):
         with open(f"{top}/{path}", encoding="utf-8") as file:
             text = file.read()
         rest = IMPORT.sub("", text)
+        words = set(re.findall(r"\w+", rest))
         for several in IMPORT.finditer(text):
             if several["names"] is not None and several["public"] is None:
                 names = [name.strip().split(" as ")[-1] for name in several["names"].split(",") if name.strip()]
-                found += [f"{path}: {name}" for name in names if name != "self" and not is_named(name, rest)]
+                found += [f"{path}: {name}" for name in names if name != "self" and not is_named(name, rest, words)]
     return found
