@@ -110,7 +110,7 @@ def main():
         parser.error("name the command to run")
     status, processes = run(command, f"{prover.kit()}/bin/rattle")
     report(processes)
-    if not processes:
+    if status == 0 and not processes:
         sys.exit("the prover was not called: rt ci takes proofs that it kept; move /opt/rattle-kept away")
     sys.exit(status)
 
