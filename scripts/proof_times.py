@@ -6,12 +6,14 @@
 
 It looks at the prover's processes five times a second, so each may have run 0.2 seconds longer. Tests, edits of single
 functions and the compiler have lines of their own. What `rt ci` kept is not proved again and has none. The last line
-counts all processes of the command. Interrupt it, and it prints what there was until then.
+counts all processes of the command. Interrupted, it ends the command and prints what there was until then; the last
+line then lacks what did not end by itself.
 """
 import argparse
 import collections
 import os
 import resource
+import signal
 import subprocess
 import sys
 import time
@@ -72,15 +74,17 @@ def look(command, program, seen):
 
 
 def run(command, program):
-    """Runs the command to its end, or until an interrupt ends it: its status, and the prover's processes."""
+    """Runs the command to its end, or until an interrupt ends it: its status, and the prover's processes. The command
+    has a session of its own, so that an interrupt of the script alone ends it too, and none reaches it twice."""
     seen = {}
     try:
-        with subprocess.Popen(command) as ran:
+        with subprocess.Popen(command, start_new_session=True) as ran:
             try:
                 while ran.poll() is None:
                     look(str(ran.pid), program, seen)
                     time.sleep(PAUSE)
             except KeyboardInterrupt:
+                os.killpg(ran.pid, signal.SIGINT)
                 ran.wait()
                 return 130, list(seen.values())
     except OSError as error:
