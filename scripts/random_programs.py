@@ -1,0 +1,155 @@
+#!/usr/bin/env python3
+"""Runs random programs in node and in the built program, and compares what they do.
+
+    scripts/random_programs.py [--wmlab PATH] [--count N] [--seed N]        500 programs, seed 1; it needs node
+
+Each function of a program is called by node, and runs as the only thread of a script by `wmlab drive`. Both have to
+end with the same result or trap, and to leave the same memory: for wmlab, what the writes of its log make of the
+initial one. Then instructions of the program are changed at random, and of the modules that come of it `wmlab check`
+has to refuse those that node refuses, and no other. The last line is `N passed, N failed`.
+"""
+import concurrent.futures
+import copy
+import hashlib
+import json
+import os
+import random
+import subprocess
+import tempfile
+
+from wmlabtools import generated, harness
+from wmlabtools.programs import BITS, Program, argument, change
+
+# The trap's name in a log by the message of V8, which has two for a divisor that is 0.
+TRAPS = {
+    "divide by zero": "divide-by-zero",
+    "remainder by zero": "divide-by-zero",
+    "divide result unrepresentable": "overflow",
+    "unreachable": "unreachable",
+    "memory access out of bounds": "out-of-bounds",
+    "operation does not support unaligned accesses": "unaligned",
+}
+# V8 reports the bounds of an atomic access that breaks both rules.
+SAME_TRAP = ("trap:out-of-bounds", "trap:unaligned")
+CHANGES = 5
+STEPS = 1_000_000
+IS_CUT = "cut"
+# How many programs one process of node is given.
+BATCH = 25
+
+
+class Case:
+    """A random program with a call of each of its functions, and changes of it."""
+
+    def __init__(self, seed, number):
+        chance = random.Random(seed * 1_000_003 + number)
+        self.number, self.program = number, Program(chance)
+        self.calls = [
+            [(BITS[kind], str(argument(chance, kind))) for kind in function.parameters]
+            for function in self.program.functions
+        ]
+        self.changed = []
+        for _ in range(CHANGES):
+            program = copy.deepcopy(self.program)
+            change(chance, program)
+            self.changed.append(program.module())
+
+    def requests(self):
+        """What node is asked: the calls, and whether the changed modules are valid."""
+        calls = [{"name": f"f{index}", "args": args} for index, args in enumerate(self.calls)]
+        yield {"module": self.program.module().hex(), "calls": calls}
+        for module in self.changed:
+            yield {"module": module.hex(), "calls": []}
+
+
+def node_answers(cases):
+    """What node answers to the requests of these cases, one after the other."""
+    lines = "".join(json.dumps(request) + "\n" for case in cases for request in case.requests())
+    script = os.path.join(os.path.dirname(os.path.abspath(__file__)), "wmlabtools", "calls.mjs")
+    ran = subprocess.run(["node", script], input=lines, capture_output=True, text=True, check=True)
+    return map(json.loads, ran.stdout.splitlines())
+
+
+def end_in_node(call):
+    """How a call ended in node, as an outcome prints it."""
+    if "trap" in call:
+        return "trap:" + TRAPS.get(call["trap"], call["trap"])
+    return "-" if call["result"] is None else call["result"]
+
+
+def memory_digest(program, events):
+    """The digest of the memory after these events of the only thread."""
+    memory = program.memory()
+    for event in events:
+        if event[0] != "r":
+            address, width = event[2:4]
+            value = event[4] if event[0] == "w" else event[5]
+            memory[address : address + width] = value.to_bytes(width, "little")
+    return hashlib.sha256(memory).hexdigest()
+
+
+def call_fault(wmlab, case, path, index, call):
+    """What differs between a call in node and the run of its thread; None if nothing does, IS_CUT if the run takes more
+    steps or events than a log may have."""
+    start = ":".join([f"f{index}", *(value for _, value in case.calls[index])])
+    out, err, status = harness.run(wmlab, ["drive", path, f"0*{STEPS}", start])
+    lines = out.splitlines()
+    if status or err or len(lines) != 3:
+        return start, out, err, status
+    end, wanted = lines[0].removeprefix("outcome "), end_in_node(call)
+    (thread,) = json.loads(lines[2])[2]
+    alike = end == wanted or (wanted, end) == SAME_TRAP
+    if end == "cut":
+        return IS_CUT
+    if not alike or memory_digest(case.program, thread[4]) != call["memory"]:
+        return start, "node", call, "wmlab", out
+    return None
+
+
+def is_refused(wmlab, module, path):
+    """Whether `check` refuses a module, and its line. An empty document is refused after the module."""
+    with open(path, "wb") as file:
+        file.write(module)
+    out, _, _ = harness.run(wmlab, ["check", path, os.devnull])
+    return not out.startswith("refused document "), out
+
+
+def batch(wmlab, seed, first, end):
+    """How many comparisons of these programs hold, and what came of those that do not."""
+    cases = [Case(seed, number) for number in range(first, end)]
+    answers = node_answers(cases)
+    held, wrong = 0, []
+    with tempfile.TemporaryDirectory() as folder:
+        path = os.path.join(folder, "program.wasm")
+        for case in cases:
+            whole = next(answers)
+            refused, line = is_refused(wmlab, case.program.module(), path)
+            faults = [("a program", line)] if refused or not whole["valid"] else [None]
+            faults += [call_fault(wmlab, case, path, index, call) for index, call in enumerate(whole["calls"])]
+            for module in case.changed:
+                refused, line = is_refused(wmlab, module, path)
+                faults.append(("a changed program", module.hex(), line) if refused == next(answers)["valid"] else None)
+            held += faults.count(None)
+            wrong += [(case.number, fault) for fault in faults if fault not in (None, IS_CUT)]
+    return held, wrong
+
+
+def main():
+    parser = harness.arguments(__doc__)
+    parser.add_argument("--count", type=int, default=500, help="programs")
+    parser.add_argument("--seed", type=int, default=1)
+    options = parser.parse_args()
+    generated.need("node")
+    program, tally = harness.program_of(options), harness.Tally()
+    starts = range(0, options.count, BATCH)
+    with concurrent.futures.ThreadPoolExecutor(harness.processors()) as pool:
+        ran = [pool.submit(batch, program, options.seed, at, min(at + BATCH, options.count)) for at in starts]
+        for held, wrong in (each.result() for each in ran):
+            tally.add(held, 0)
+            for number, fault in wrong:
+                tally.check(False, f"program {number}", fault)
+    tally.end()
+
+
+if __name__ == "__main__":
+    harness.run_script(main)
