@@ -141,10 +141,12 @@ def main():
     options = parser.parse_args()
     generated.need("node")
     program, tally = harness.program_of(options), harness.Tally()
-    starts = range(0, options.count, BATCH)
+
+    def batch_at(first):
+        return batch(program, options.seed, first, min(first + BATCH, options.count))
+
     with concurrent.futures.ThreadPoolExecutor(harness.processors()) as pool:
-        ran = [pool.submit(batch, program, options.seed, at, min(at + BATCH, options.count)) for at in starts]
-        for held, wrong in (each.result() for each in ran):
+        for held, wrong in pool.map(batch_at, range(0, options.count, BATCH)):
             tally.add(held, 0)
             for number, fault in wrong:
                 tally.check(False, f"program {number}", fault)
