@@ -66,7 +66,7 @@ def node_answers(cases):
     """What node answers to the requests of these cases, one after the other."""
     lines = "".join(json.dumps(request) + "\n" for case in cases for request in case.requests())
     script = os.path.join(os.path.dirname(os.path.abspath(__file__)), "wmlabtools", "calls.mjs")
-    ran = subprocess.run(["node", script], input=lines, capture_output=True, text=True, check=True)
+    ran = subprocess.run(["node", script], input=lines, capture_output=True, text=True, check=True, timeout=120)
     return map(json.loads, ran.stdout.splitlines())
 
 

@@ -381,7 +381,7 @@ class Coder:
         """A return or an `unreachable`, under a condition."""
         result = self.function.result
         ending = [b"\0"] if self.chance.random() < 0.3 else [RETURN]
-        value = [] if result is None else self.value(result, depth)
+        value = [] if result is None else self.inside(None, [lambda: self.value(result, depth)])
         return self.value(I32, depth) + [b"\x04" + EMPTY, *value, *ending, *self.unreached(), END]
 
 

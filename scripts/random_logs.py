@@ -1,0 +1,390 @@
+#!/usr/bin/env python3
+"""Asks the built program to explain random logs, and compares its text with what a plain program says of them.
+
+    scripts/random_logs.py [--wmlab PATH] [--count N] [--seed N]        2,000 logs, seed 1
+
+A log is that of a run in which one access is made after the other, with some writers, values and places changed. The
+plain program knows the memory model (`wmlabtools/model.py`). By it the rule that is named has to be the first that is
+broken, and the fault one of its faults; each link of a chain has to be an edge, and no shorter chain may be there. The
+sentences, the table of events and what the text says of other writers have to be as it would write them. The last line
+is `N passed, N failed`.
+"""
+import collections
+import concurrent.futures
+import itertools
+import random
+import re
+
+from wmlabtools import harness
+from wmlabtools.log import document
+from wmlabtools.model import INIT, Event, Execution
+
+RULES = {
+    "V1": "written values: each byte read has the value that its writer wrote there.",
+    "V2": "order: what happens before an event precedes it in the order.",
+    "V3": "coherence: a read doesn't happen before its writer, and no write of the byte happens between them.",
+    "V4": "no tearing: a read that may not tear takes bytes from at most one write of its range that may not tear.",
+    "V5": "sequential consistency: in three cases no atomic write may be between a read and its writer in the order.",
+}
+TAKES = "{r} takes its byte {byte}, at address {address}, from "
+BETWEEN = "is between {w} and {r} in the order"
+CANNOT = "with this order {r} can't read from {w}."
+SENTENCES = {
+    ("V1", 1): TAKES + "itself: an update can't read from its own write.",
+    ("V1", 2): TAKES + "{w}, which doesn't write that address.",
+    ("V1", 3): TAKES + "{w}: it reads {read} there, and {w} wrote {wrote}.",
+    ("V2", 1): "{w} comes before {r} in their thread, but the order lists {w} after {r}.",
+    ("V2", 2): (
+        "{r} reads from {w}, and both are atomic accesses of one range: so {w} synchronizes with {r} and happens "
+        "before it, but the order lists {w} after {r}."
+    ),
+    ("V3", 1): (
+        TAKES + "{w}, but {r} happens before {w}: a read can't take a byte from a write that it happens before."
+    ),
+    ("V3", 2): (
+        TAKES + "{w}, but {o} writes that address too, {w} happens before {o}, and {o} happens before {r}: so the byte "
+        "of {w} was overwritten before {r} reads."
+    ),
+    ("V4", 1): (
+        "{r} takes its byte {byte} from {w} and an earlier byte from {o}. All three are accesses of one range that may "
+        "not tear (atomic, or plain of at most 4 bytes at a multiple of their width): {r} may take bytes from only one "
+        "of the two writes."
+    ),
+    ("V5", 1): (
+        "{r} reads from {w}, which synchronizes with it, but {o}, an atomic write of the same range, "
+        + BETWEEN + ": " + CANNOT
+    ),
+    ("V5", 2): (
+        "{r} reads from {w}, but {o}, an atomic write of the range of {w}, "
+        + BETWEEN + ", and both writes are atomic and happen before {r}: " + CANNOT
+    ),
+    ("V5", 3): (
+        "{r} is atomic and reads from {w}, but {o}, an atomic write of the same range, "
+        + BETWEEN + ", and {w} happens before {o} and {r}: " + CANNOT
+    ),
+}
+# What happens before what in a fault: `r` is its read, `w` the writer and `o` the other write.
+PREMISES = {("V3", 1): ["rw"], ("V3", 2): ["wo", "or"], ("V5", 2): ["wr", "or"], ("V5", 3): ["wr", "wo"]}
+TABLE = [
+    "The events, with their places in the order:",
+    "  (T.N is event N of thread T, both from 0; init writes the initial memory)",
+    "  place  event",
+]
+ONLY = "No other writer fits: with these values, no witness makes this run allowed."
+ANY_ORDER = "This rule doesn't depend on the order of the events."
+CYCLE = "Happens-before has a cycle, so no order agrees with it."
+MAY_BE = "the same accesses may be allowed."
+LINKS = {
+    "sequenced": re.compile(r"  (\S+) is sequenced before (\S+): it comes earlier in thread (\d+)"),
+    "synchronized": re.compile(
+        r"  (\S+) synchronizes with (\S+): (\S+) reads from it, and both are atomic accesses of one range"
+    ),
+    "initial": re.compile(r"  (init) writes the initial memory, before (\S+) as before every event"),
+}
+
+
+class Difference(Exception):
+    """What the text should not have."""
+
+
+def expect(holds, shows):
+    if not holds:
+        raise Difference(shows)
+
+
+# ---- random logs
+
+
+def random_threads(chance):
+    """One to four threads of one to five accesses near one another, without values."""
+    start, mixed, atomic = chance.choice((0, 64, 1000)), chance.random() < 0.5, chance.choice((0.2, 0.5, 0.8, 1))
+    threads = []
+    for thread in range(chance.randint(1, 4)):
+        events = []
+        for number in range(chance.randint(1, 5)):
+            kind = chance.choice("rrrwwwx")
+            is_atomic = kind == "x" or chance.random() < atomic
+            width = chance.choice((1, 2, 4, 4, 4, 8)) if mixed else 4
+            address = chance.randint(0, 12) if mixed else chance.choice((0, 4, 8))
+            if is_atomic or chance.random() < 0.7:
+                address -= address % width
+            events.append(Event(thread, number, kind, is_atomic, start + address, width))
+        threads.append(events)
+    return threads
+
+
+def run(chance, threads):
+    """Makes the accesses one after the other, in an order of chance, and answers the order."""
+    memory, order, left = collections.defaultdict(lambda: (0, INIT)), [], [list(events) for events in threads]
+    while any(left):
+        event = chance.choice([events for events in left if events]).pop(0)
+        order.append(event)
+        cells = range(event.address, event.address + event.width)
+        if event.kind in "rx":
+            event.read = sum(memory[cell][0] << 8 * byte for byte, cell in enumerate(cells))
+            event.writers = [memory[cell][1] for cell in cells]
+        if event.is_write():
+            values = (0, 1, 1, 2, 3, 0x01010101, 0x11112222, chance.getrandbits(64))
+            event.written = chance.choice(values) % (1 << 8 * event.width)
+            memory.update({cell: (event.byte_written(cell), event) for cell in cells})
+    return order
+
+
+def set_byte(event, byte, value):
+    event.read = event.read & ~(255 << 8 * byte) | value << 8 * byte
+
+
+def change_writer(chance, event, writes):
+    """Has some bytes of a read come from another write, mostly one that writes them, with its values."""
+    cells = range(event.address, event.address + event.width)
+    if chance.random() < 0.85:
+        writes = [write for write in writes if write is not event and all(map(write.writes, cells))]
+    writer = chance.choice([INIT, *writes])
+    for byte in range(event.width) if chance.random() < 0.6 else [chance.randrange(event.width)]:
+        event.writers[byte] = writer
+        if writer.writes(cells[byte]) and chance.random() < 0.85:
+            set_byte(event, byte, writer.byte_written(cells[byte]))
+
+
+def random_execution(chance):
+    threads = random_threads(chance)
+    order = run(chance, threads)
+    reads = [event for event in order if event.kind in "rx"]
+    writes = [event for event in order if event.is_write()]
+    for _ in range(chance.choice((0, 1, 1, 2, 3))):
+        way = chance.random()
+        if way > 0.75 or not reads:
+            order.insert(chance.randrange(len(order)), order.pop(chance.randrange(len(order))))
+        elif way < 0.7:
+            change_writer(chance, chance.choice(reads), writes)
+        else:
+            event = chance.choice(reads)
+            set_byte(event, chance.randrange(event.width), chance.choice((0, 1, 2, 255)))
+    return threads, Execution(threads, order), order
+
+
+def key(event):
+    return [] if event is INIT else [event.thread, event.number]
+
+
+def log_event(event):
+    values = {"r": [event.read], "w": [event.written], "x": [event.read, event.written]}[event.kind]
+    writers = [[key(writer) for writer in event.writers]] if event.kind != "w" else []
+    return [event.kind, "sc" if event.atomic else "un", event.address, event.width, *values, *writers]
+
+
+def log_of(threads, order):
+    """The log as a document, whose threads are `t`, cut after no step."""
+    parts = [["t", [], ["cut"], 0, [log_event(event) for event in thread]] for thread in threads]
+    return document(parts, [key(event) for event in order])
+
+
+# ---- the text of an explanation
+
+
+def value_text(value, width, is_hex):
+    return f"{value} (0x{value:0{2 * width}x})" if is_hex else str(value)
+
+
+def writers_text(event):
+    runs = [(writer, list(run)) for writer, run in itertools.groupby(range(event.width), event.writers.__getitem__)]
+    if len(runs) == 1:
+        return f"from {runs[0][0].name}"
+    spans = (f"byte {run[0]}" if len(run) == 1 else f"bytes {run[0]} to {run[-1]}" for _, run in runs)
+    return ", ".join(f"{span} from {writer.name}" for span, (writer, _) in zip(spans, runs))
+
+
+def row(execution, event, is_hex):
+    """The row of an event in the table."""
+    start = f"{execution.place[event]:7}  {event.name}  "
+    if event is INIT:
+        return start + "writes the initial memory"
+    kind = {"r": "read", "w": "write", "x": "update"}[event.kind]
+    count = "1 byte" if event.width == 1 else f"{event.width} bytes"
+    reads = f"reads {value_text(event.read, event.width, is_hex)}"
+    writes = f"writes {value_text(event.written, event.width, is_hex)}"
+    does = {"r": reads, "w": writes, "x": f"{reads} and {writes}"}[event.kind]
+    source = f"; read {writers_text(event)}" if event.kind != "w" else ""
+    order = "atomic" if event.atomic else "plain"
+    return f"{start}{order} {kind} of {count} at address {event.address}, which {does}{source}"
+
+
+def rows(execution, events):
+    """The rows of these events, in the order. Values are in hex too around a read with several writers."""
+    events = sorted(events, key=execution.place.get)
+    accesses = [event for event in events if event is not INIT]
+    mixed = [event for event in accesses if len(set(event.writers)) > 1]
+
+    def is_hex(event):
+        return any(
+            event.address < read.address + read.width and read.address < event.address + event.width for read in mixed
+        )
+
+    return [row(execution, event, event is not INIT and is_hex(event)) for event in events]
+
+
+class Explanation:
+    """The text that explains a broken run: its fault, the chains that it shows, and the lines around them."""
+
+    def __init__(self, execution, lines):
+        self.execution, self.lines = execution, lines
+        found = re.fullmatch(r"broken (V\d) case (\d) at (\S+) byte (\d) writer (\S+)(?: other (\S+))?", lines[0])
+        expect(found, "its first line is not a fault")
+        self.rule, self.case, self.byte = found[1], int(found[2]), int(found[4])
+        self.read, self.writer = self.named(found[3]), self.named(found[5])
+        self.other = self.named(found[6]) if found[6] else None
+        starts = [number for number, line in enumerate(lines) if line.startswith("Why ")]
+        self.chains = [self.chain(number) for number in starts]
+        self.table = lines[: starts[0]] if starts else None
+        self.last = lines[starts[-1] + 1 + len(self.chains[-1][2]) :] if starts else None
+
+    def named(self, name):
+        expect(name in self.execution.by_name, f"there is no event {name}")
+        return self.execution.by_name[name]
+
+    def chain(self, number):
+        """The chain whose heading is this line: the events that it leads from and to, and its links as edges."""
+        ends = re.fullmatch(r"Why (\S+) happens before (\S+):", self.lines[number])
+        expect(ends, "a heading is not that of a chain")
+        first = self.named(ends[1])
+        last = first if ends[2] == "itself" else self.named(ends[2])
+        links = itertools.takewhile(lambda line: line.startswith("  "), self.lines[number + 1 :])
+        return first, last, [self.link(line) for line in links]
+
+    def link(self, line):
+        for kind, form in LINKS.items():
+            found = form.fullmatch(line)
+            if found:
+                first, last = map(self.named, found.groups()[:2])
+                edges = {"sequenced": self.execution.sequenced, "synchronized": self.execution.synchronized}
+                expect(kind == "initial" or (first, last) in edges[kind], f"no edge: {line}")
+                expect(kind != "sequenced" or found[3] == str(first.thread), f"another thread: {line}")
+                expect(kind != "synchronized" or found[3] == last.name, f"another read: {line}")
+                return kind, first, last
+        raise Difference(f"not a link: {line}")
+
+    def event(self, letter):
+        return {"r": self.read, "w": self.writer, "o": self.other}[letter]
+
+    def check_fault(self):
+        """The rule is the first that is broken, and the fault one of its faults."""
+        rule, faults = self.execution.first_faults() or (None, set())
+        expect(rule == self.rule, f"the first rule that is broken is {rule}")
+        fault = self.case, self.read, self.byte, self.writer, self.other
+        expect(fault in faults, "there is no such fault")
+
+    def check_chains(self):
+        for first, last, links in self.chains:
+            ends = [first, *(end for _, _, end in links)]
+            expect(ends[-1] is last and [start for _, start, _ in links] == ends[:-1], "a chain has a gap")
+            shortest = self.execution.distance(first, last)
+            expect(self.rule == "V2" or len(links) == shortest, f"a chain of {shortest} links is there")
+        if self.rule == "V2":
+            expect(len(self.chains) == self.execution.has_cycle(), "a cycle is shown exactly if there is one")
+            return
+        premises = [(self.event(first), self.event(last)) for first, last in PREMISES.get((self.rule, self.case), [])]
+        expect([chain[:2] for chain in self.chains] == premises, "the chains are not those of the fault")
+
+    def sentence(self):
+        address = self.read.address + self.byte
+        return SENTENCES[self.rule, self.case].format(
+            r=self.read.name,
+            w=self.writer.name,
+            o=self.other and self.other.name,
+            byte=self.byte,
+            address=address,
+            read=self.read.byte_read(self.byte) if self.rule == "V1" else None,
+            wrote=self.writer.byte_written(address) if self.case == 3 and self.rule == "V1" else None,
+        )
+
+    def check_table(self):
+        events = {self.read, self.writer, *([self.other] if self.other else [])}
+        events |= {end for _, _, links in self.chains for _, *ends in links for end in ends}
+        expected = [self.lines[0], f"{self.rule}, {RULES[self.rule]}", self.sentence(), *TABLE]
+        expected += rows(self.execution, events)
+        found = self.lines[: len(expected)] if self.table is None else self.table
+        for line, wanted in itertools.zip_longest(found, expected):
+            expect(line == wanted, f"{line!r} in place of {wanted!r}")
+        return self.lines[len(expected) :] if self.last is None else self.last
+
+    def needs(self):
+        """The reads that the fault needs, each with the bytes that it takes from a writer."""
+        if self.rule in ("V1", "V3"):
+            yield self.read, [self.byte], self.writer
+        if self.rule == "V4":
+            for writer in self.writer, self.other:
+                yield self.read, [byte for byte, own in enumerate(self.read.writers) if own is writer], writer
+        for kind, writer, read in (link for _, _, links in self.chains for link in links):
+            if kind == "synchronized":
+                yield read, [byte for byte, own in enumerate(read.writers) if own is writer], writer
+
+    def check_last(self, lines):
+        """What the last lines say of other orders and other writers."""
+        expect(lines, "the last lines are missing")
+        if self.rule == "V5":
+            expect(lines == [f"With another order of the events, or other writers, {MAY_BE}"], lines)
+        elif self.rule == "V2" and not self.chains:
+            or_writers = "or with other writers, " if self.case == 2 else ""
+            start = "Happens-before has no cycle: with an order that agrees with it, "
+            expect(lines == [start + or_writers + MAY_BE], lines)
+        else:
+            start = CYCLE if self.rule == "V2" else ANY_ORDER
+            only = all(
+                any(not self.execution.others_that_fit(read, byte, writer) for byte in taken)
+                for read, taken, writer in self.needs()
+            )
+            expect((lines == [f"{start} {ONLY}"]) == only and lines[0].startswith(start), lines)
+            for line in [] if only else lines[1:]:
+                self.check_fits(line)
+
+    def check_fits(self, line):
+        """A line has all events that fit a byte, or at least eight of them."""
+        found = re.fullmatch(r"  byte (\d) of (\S+), at address (\d+): (.*)", line)
+        expect(found, f"not a byte: {line}")
+        read, byte = self.named(found[2]), int(found[1])
+        fitting = [event.name for event in [INIT, *self.execution.events] if self.execution.fits(event, read, byte)]
+        expect(int(found[3]) == read.address + byte, f"another address: {line}")
+        named = re.findall(r"init|\d+\.\d+", found[4])
+        expect(named == fitting or len(fitting) > 8 and named == fitting[:8], f"{line}, not {fitting}")
+
+
+def fault_of(execution, text, status):
+    """What is wrong with the text that explains an execution; None if nothing is."""
+    lines = text.splitlines()
+    try:
+        if status == 0:
+            expect(lines[0] == "allowed" and not execution.first_faults(), "a rule is broken")
+            return None
+        expect(status == 1, "neither allowed nor broken")
+        explanation = Explanation(execution, lines)
+        explanation.check_fault()
+        explanation.check_chains()
+        explanation.check_last(explanation.check_table())
+    except Difference as difference:
+        return str(difference)
+    return None
+
+
+def case(wmlab, seed, number):
+    """What is wrong with the explanation of one log, with the log and the text; None if nothing is."""
+    threads, execution, order = random_execution(random.Random(seed * 1_000_003 + number))
+    log = log_of(threads, order)
+    text, _, status = harness.run(wmlab, ["explain", "-"], input=log)
+    fault = fault_of(execution, text, status)
+    return fault and (number, fault, log.decode(), text)
+
+
+def main():
+    parser = harness.arguments(__doc__)
+    parser.add_argument("--count", type=int, default=2_000, help="logs")
+    parser.add_argument("--seed", type=int, default=1)
+    options = parser.parse_args()
+    program, tally = harness.program_of(options), harness.Tally()
+    with concurrent.futures.ThreadPoolExecutor(harness.processors()) as pool:
+        for wrong in pool.map(lambda number: case(program, options.seed, number), range(options.count)):
+            tally.check(wrong is None, "an explanation", wrong)
+    tally.end()
+
+
+if __name__ == "__main__":
+    harness.run_script(main)
