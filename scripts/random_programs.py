@@ -1,12 +1,17 @@
 #!/usr/bin/env python3
 """Runs random programs in node and in the built program, and compares what they do.
 
-    scripts/random_programs.py [--wmlab PATH] [--count N] [--seed N]        500 programs, seed 1; it needs node
+    scripts/random_programs.py [--wmlab PATH] [--count N] [--seed N] [--lowered]        500 programs, seed 1
+
+It needs node.
 
 Each function of a program is called by node, and runs as the only thread of a script by `wmlab drive`. Both have to
 end with the same result or trap, and to leave the same memory: for wmlab, what the writes of its log make of the
 initial one. Then instructions of the program are changed at random, and of the modules that come of it `wmlab check`
-has to refuse those that node refuses, and no other. The last line is `N passed, N failed`.
+has to refuse those that node refuses, and no other.
+
+With --lowered programs also have what `engines/lower` replaces. node runs them as they are, and wmlab as they are
+lowered; none is changed. The last line is `N passed, N failed`.
 """
 import concurrent.futures
 import copy
@@ -17,7 +22,8 @@ import random
 import subprocess
 import tempfile
 
-from wmlabtools import generated, harness
+from wmlabtools import TOP, generated, harness
+from wmlabtools.compiled import CompiledProgram
 from wmlabtools.programs import BITS, Program, argument, change
 
 # The trap's name in a log by the message of V8, which has two for a divisor that is 0.
@@ -28,6 +34,9 @@ TRAPS = {
     "unreachable": "unreachable",
     "memory access out of bounds": "out-of-bounds",
     "operation does not support unaligned accesses": "unaligned",
+    # What a lowered call through a table does.
+    "table index is out of bounds": "unreachable",
+    "null function or function signature mismatch": "unreachable",
 }
 # V8 reports the bounds of an atomic access that breaks both rules.
 SAME_TRAP = ("trap:out-of-bounds", "trap:unaligned")
@@ -41,15 +50,16 @@ BATCH = 25
 class Case:
     """A random program with a call of each of its functions, and changes of it."""
 
-    def __init__(self, seed, number):
+    def __init__(self, seed, number, is_lowered):
         chance = random.Random(seed * 1_000_003 + number)
-        self.number, self.program = number, Program(chance)
+        self.number, self.is_lowered = number, is_lowered
+        self.program = CompiledProgram(chance) if is_lowered else Program(chance)
         self.calls = [
             [(BITS[kind], str(argument(chance, kind))) for kind in function.parameters]
             for function in self.program.functions
         ]
         self.changed = []
-        for _ in range(CHANGES):
+        for _ in range(0 if is_lowered else CHANGES):
             program = copy.deepcopy(self.program)
             change(chance, program)
             self.changed.append(program.module())
@@ -101,9 +111,9 @@ def call_fault(wmlab, case, path, index, call):
     alike = end == wanted or (wanted, end) == SAME_TRAP
     if end == "cut":
         return IS_CUT
-    if not alike or memory_digest(case.program, thread[4]) != call["memory"]:
-        return start, "node", call, "wmlab", out
-    return None
+    # node has no memory if the start function traps.
+    memory = call["memory"] and memory_digest(case.program, thread[4])
+    return None if alike and memory == call["memory"] else (start, "node", call, "wmlab", out)
 
 
 def is_refused(wmlab, module, path):
@@ -114,17 +124,37 @@ def is_refused(wmlab, module, path):
     return not out.startswith("refused document "), out
 
 
-def batch(wmlab, seed, first, end):
+def lowered_module(module, folder):
+    """What `engines/lower` makes of a module, and what it says if it refuses it."""
+    source, path = os.path.join(folder, "source.wasm"), os.path.join(folder, "lowered.wasm")
+    with open(source, "wb") as file:
+        file.write(module)
+    words = [os.path.join(TOP, "engines", "lower"), source, "-o", path, "--quiet"]
+    ran = subprocess.run(words, capture_output=True, text=True, check=False)
+    if ran.returncode:
+        return None, ran.stderr
+    with open(path, "rb") as file:
+        return file.read(), ""
+
+
+def program_fault(wmlab, case, path, is_valid):
+    """Why a program cannot be run by both; None if it can. Leaves at the path the module for wmlab."""
+    module, said = case.program.module(), ""
+    if case.is_lowered:
+        module, said = lowered_module(module, os.path.dirname(path))
+    refused, line = is_refused(wmlab, module, path) if module else (True, said)
+    return ("a program", line) if refused or not is_valid else None
+
+
+def batch(wmlab, cases):
     """How many comparisons of these programs hold, and what came of those that do not."""
-    cases = [Case(seed, number) for number in range(first, end)]
     answers = node_answers(cases)
     held, wrong = 0, []
     with tempfile.TemporaryDirectory() as folder:
         path = os.path.join(folder, "program.wasm")
         for case in cases:
             whole = next(answers)
-            refused, line = is_refused(wmlab, case.program.module(), path)
-            faults = [("a program", line)] if refused or not whole["valid"] else [None]
+            faults = [program_fault(wmlab, case, path, whole["valid"])]
             faults += [call_fault(wmlab, case, path, index, call) for index, call in enumerate(whole["calls"])]
             for module in case.changed:
                 refused, line = is_refused(wmlab, module, path)
@@ -138,12 +168,14 @@ def main():
     parser = harness.arguments(__doc__)
     parser.add_argument("--count", type=int, default=500, help="programs")
     parser.add_argument("--seed", type=int, default=1)
+    parser.add_argument("--lowered", action="store_true", help="programs with what engines/lower replaces")
     options = parser.parse_args()
     generated.need("node")
     program, tally = harness.program_of(options), harness.Tally()
 
     def batch_at(first):
-        return batch(program, options.seed, first, min(first + BATCH, options.count))
+        numbers = range(first, min(first + BATCH, options.count))
+        return batch(program, [Case(options.seed, number, options.lowered) for number in numbers])
 
     with concurrent.futures.ThreadPoolExecutor(harness.processors()) as pool:
         for held, wrong in pool.map(batch_at, range(0, options.count, BATCH)):

@@ -13,16 +13,17 @@ function resultOf(value) {
   return typeof value === 'bigint' ? `${BigInt.asUintN(64, value)}` : `${value >>> 0}`;
 }
 
-/** How a call ended, and the digest of the memory that it left. */
+/** How a call ended, and the digest of the memory that it left: none if the start function traps. */
 function made(module, { name, args }) {
-  const { exports } = new WebAssembly.Instance(module, {});
   const end = {};
+  let instance = null;
   try {
-    end.result = resultOf(exports[name](...args.map(argument)));
+    instance = new WebAssembly.Instance(module, {});
+    end.result = resultOf(instance.exports[name](...args.map(argument)));
   } catch (error) {
     end.trap = error.message;
   }
-  const memory = createHash('sha256').update(new Uint8Array(exports.m.buffer)).digest('hex');
+  const memory = instance && createHash('sha256').update(new Uint8Array(instance.exports.m.buffer)).digest('hex');
   return { ...end, memory };
 }
 

@@ -77,7 +77,13 @@ class Function:
 
 class Program:
     """Functions over one shared memory of a page, each exported by its name `f0`, `f1` and so on, as the memory is by
-    `m`. A function calls only those before it."""
+    `m`. A function calls only those before it. The types of a module are the first ones and that of each function."""
+
+    first_types = ()
+
+    @staticmethod
+    def coder(*words):
+        return Coder(*words)
 
     def __init__(self, chance):
         kinds = (I32, I64)
@@ -87,9 +93,16 @@ class Program:
         self.functions = []
         for _ in range(chance.randint(1, 4)):
             parameters = [chance.choice(kinds) for _ in range(chance.randint(0, 3))]
-            function = Function(parameters, chance.choice((I32, I64, I32, I64, None)))
-            Coder(chance, self, function).write()
-            self.functions.append(function)
+            self.add(chance, parameters, chance.choice((I32, I64, I32, I64, None)))
+
+    def add(self, chance, parameters, result):
+        function = Function(parameters, result)
+        self.coder(chance, self, function).write()
+        self.functions.append(function)
+
+    def type_of(self, index):
+        """The index of the type of a function."""
+        return len(self.first_types) + index
 
     def memory(self):
         """The initial memory."""
@@ -98,20 +111,21 @@ class Program:
             memory[start : start + len(data)] = data
         return memory
 
-    def module(self):
-        """The bytes of the module."""
+    def module(self, **more):
+        """The bytes of the module, which has these other parts too."""
         entries = [
             bytes([kind, mutable]) + value + END for (kind, mutable), value in zip(self.globals, self.initial)
         ]
         exports = [wasm.export(b"f%d" % index, index) for index in range(len(self.functions))]
         return wasm.module_of(
             [function.body() for function in self.functions],
-            types=[function.type() for function in self.functions],
-            kinds=range(len(self.functions)),
+            types=[*self.first_types, *(function.type() for function in self.functions)],
+            kinds=[self.type_of(index) for index in range(len(self.functions))],
             memory=wasm.shared_memory(1),
             global_entries=entries,
             exports=[*exports, wasm.sized(b"m") + b"\2\0"],
             data=[b"\0" + constant(I32, start) + END + wasm.sized(data) for start, data in self.segments],
+            **more,
         )
 
 

@@ -53,20 +53,32 @@ def export(name, index):
 
 
 def module_of(
-    bodies, types=(NO_PARAMETERS,), kinds=None, memory=ONE_PAGE, global_entries=(), exports=(EXPORT_A,), data=()
+    bodies,
+    types=(NO_PARAMETERS,),
+    kinds=None,
+    memory=ONE_PAGE,
+    global_entries=(),
+    exports=(EXPORT_A,),
+    data=(),
+    tables=(),
+    start=None,
+    elements=(),
 ):
     """A module of these bodies, each of the type whose index `kinds` has for it (0 if there are no `kinds`)."""
     kinds = kinds or [0] * len(bodies)
-    parts = [
+    before = [
         (1, types),
         (3, [number(kind) for kind in kinds]),
+        (4, tables),
         (5, [memory]),
         (6, global_entries),
         (7, exports),
-        (10, bodies),
-        (11, data),
     ]
-    return HEADER + b"".join(section(which, vector(list(items))) for which, items in parts if items)
+    after = [(9, elements), (10, bodies), (11, data)]
+    first, last = (
+        b"".join(section(which, vector(list(items))) for which, items in parts if items) for parts in (before, after)
+    )
+    return HEADER + first + (section(8, number(start)) if start is not None else b"") + last
 
 
 def sections_of(module):
