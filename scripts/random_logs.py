@@ -71,6 +71,8 @@ TABLE = [
     "  place  event",
 ]
 ONLY = "No other writer fits: with these values, no witness makes this run allowed."
+SEVERAL = "With other writers, the same accesses may be allowed. Events whose value at the address is the value read:"
+MAX_NAMED = 8
 ANY_ORDER = "This rule doesn't depend on the order of the events."
 CYCLE = "Happens-before has a cycle, so no order agrees with it."
 MAY_BE = "the same accesses may be allowed."
@@ -228,6 +230,7 @@ class Explanation:
 
     def __init__(self, execution, lines):
         self.execution, self.lines = execution, lines
+        expect(lines, "there is no text")
         found = re.fullmatch(r"broken (V\d) case (\d) at (\S+) byte (\d) writer (\S+)(?: other (\S+))?", lines[0])
         expect(found, "its first line is not a fault")
         self.rule, self.case, self.byte = found[1], int(found[2]), int(found[4])
@@ -281,6 +284,7 @@ class Explanation:
             expect(self.rule == "V2" or len(links) == shortest, f"a chain of {shortest} links is there")
         if self.rule == "V2":
             expect(len(self.chains) == self.execution.has_cycle(), "a cycle is shown exactly if there is one")
+            expect(all(first is last for first, last, _ in self.chains), "the chain is no cycle")
             return
         premises = [(self.event(first), self.event(last)) for first, last in PREMISES.get((self.rule, self.case), [])]
         expect([chain[:2] for chain in self.chains] == premises, "the chains are not those of the fault")
@@ -333,19 +337,18 @@ class Explanation:
                 any(not self.execution.others_that_fit(read, byte, writer) for byte in taken)
                 for read, taken, writer in self.needs()
             )
-            expect((lines == [f"{start} {ONLY}"]) == only and lines[0].startswith(start), lines)
-            for line in [] if only else lines[1:]:
-                self.check_fits(line)
+            expected = [f"{start} {ONLY if only else SEVERAL}"]
+            if not only:
+                expected += [self.fits_text(read, byte) for read, taken, _ in self.needs() for byte in taken]
+            for line, wanted in itertools.zip_longest(lines, expected):
+                expect(line == wanted, f"{line!r} in place of {wanted!r}")
 
-    def check_fits(self, line):
-        """A line has all events that fit a byte, or at least eight of them."""
-        found = re.fullmatch(r"  byte (\d) of (\S+), at address (\d+): (.*)", line)
-        expect(found, f"not a byte: {line}")
-        read, byte = self.named(found[2]), int(found[1])
-        fitting = [event.name for event in [INIT, *self.execution.events] if self.execution.fits(event, read, byte)]
-        expect(int(found[3]) == read.address + byte, f"another address: {line}")
-        named = re.findall(r"init|\d+\.\d+", found[4])
-        expect(named == fitting or len(fitting) > 8 and named == fitting[:8], f"{line}, not {fitting}")
+    def fits_text(self, read, byte):
+        """The line of a byte of a read: all events that leave its value there, of which eight are named."""
+        names = [event.name for event in [INIT, *self.execution.events] if self.execution.fits(event, read, byte)]
+        more = f" and {len(names) - MAX_NAMED} more" if len(names) > MAX_NAMED else ""
+        named = ", ".join(names[:MAX_NAMED]) or "none"
+        return f"  byte {byte} of {read.name}, at address {read.address + byte}: {named}{more}"
 
 
 def fault_of(execution, text, status):
@@ -353,7 +356,7 @@ def fault_of(execution, text, status):
     lines = text.splitlines()
     try:
         if status == 0:
-            expect(lines[0] == "allowed" and not execution.first_faults(), "a rule is broken")
+            expect(lines[:1] == ["allowed"] and not execution.first_faults(), "a rule is broken")
             return None
         expect(status == 1, "neither allowed nor broken")
         explanation = Explanation(execution, lines)

@@ -24,6 +24,7 @@ import tempfile
 
 from wmlabtools import TOP, generated, harness
 from wmlabtools.compiled import CompiledProgram
+from wmlabtools.log import MAX_EVENTS
 from wmlabtools.programs import BITS, Program, argument, change
 
 # The trap's name in a log by the message of V8, which has two for a divisor that is 0.
@@ -76,7 +77,7 @@ def node_answers(cases):
     """What node answers to the requests of these cases, one after the other."""
     lines = "".join(json.dumps(request) + "\n" for case in cases for request in case.requests())
     script = os.path.join(os.path.dirname(os.path.abspath(__file__)), "wmlabtools", "calls.mjs")
-    ran = subprocess.run(["node", script], input=lines, capture_output=True, text=True, check=True, timeout=120)
+    ran = subprocess.run(["node", script], input=lines, stdout=subprocess.PIPE, text=True, check=True, timeout=120)
     return map(json.loads, ran.stdout.splitlines())
 
 
@@ -109,19 +110,21 @@ def call_fault(wmlab, case, path, index, call):
     end, wanted = lines[0].removeprefix("outcome "), end_in_node(call)
     (thread,) = json.loads(lines[2])[2]
     alike = end == wanted or (wanted, end) == SAME_TRAP
-    if end == "cut":
+    if end == "cut" and (thread[3] == STEPS or len(thread[4]) == MAX_EVENTS):
         return IS_CUT
     # node has no memory if the start function traps.
     memory = call["memory"] and memory_digest(case.program, thread[4])
     return None if alike and memory == call["memory"] else (start, "node", call, "wmlab", out)
 
 
-def is_refused(wmlab, module, path):
-    """Whether `check` refuses a module, and its line. An empty document is refused after the module."""
+def validity_fault(wmlab, module, is_valid, path):
+    """The line of `check` if it takes an invalid module or refuses a valid one; None if it does neither. An empty
+    document is refused after the module."""
     with open(path, "wb") as file:
         file.write(module)
-    out, _, _ = harness.run(wmlab, ["check", path, os.devnull])
-    return not out.startswith("refused document "), out
+    out, err, status = harness.run(wmlab, ["check", path, os.devnull])
+    expected = ("refused document ",) if is_valid else ("refused decode ", "refused valid ")
+    return None if out.startswith(expected) and status == 2 and not err else (module.hex(), out, err, status)
 
 
 def lowered_module(module, folder):
@@ -137,13 +140,14 @@ def lowered_module(module, folder):
         return file.read(), ""
 
 
-def program_fault(wmlab, case, path, is_valid):
+def program_fault(wmlab, case, is_valid, path):
     """Why a program cannot be run by both; None if it can. Leaves at the path the module for wmlab."""
     module, said = case.program.module(), ""
     if case.is_lowered:
         module, said = lowered_module(module, os.path.dirname(path))
-    refused, line = is_refused(wmlab, module, path) if module else (True, said)
-    return ("a program", line) if refused or not is_valid else None
+    if not is_valid or module is None:
+        return "a program", said
+    return validity_fault(wmlab, module, True, path)
 
 
 def batch(wmlab, cases):
@@ -154,11 +158,10 @@ def batch(wmlab, cases):
         path = os.path.join(folder, "program.wasm")
         for case in cases:
             whole = next(answers)
-            faults = [program_fault(wmlab, case, path, whole["valid"])]
-            faults += [call_fault(wmlab, case, path, index, call) for index, call in enumerate(whole["calls"])]
-            for module in case.changed:
-                refused, line = is_refused(wmlab, module, path)
-                faults.append(("a changed program", module.hex(), line) if refused == next(answers)["valid"] else None)
+            faults = [program_fault(wmlab, case, whole["valid"], path)]
+            if faults == [None]:
+                faults += [call_fault(wmlab, case, path, index, call) for index, call in enumerate(whole["calls"])]
+            faults += [validity_fault(wmlab, module, next(answers)["valid"], path) for module in case.changed]
             held += faults.count(None)
             wrong += [(case.number, fault) for fault in faults if fault not in (None, IS_CUT)]
     return held, wrong

@@ -6,7 +6,7 @@ import itertools
 class Initial:
     """The initial memory: it writes a 0 to each address, before all events."""
 
-    name, thread, atomic, width, address = "init", None, False, None, None
+    name, atomic = "init", False
 
     def writes(self, _address):
         return True
