@@ -8,10 +8,8 @@ wat2wasm. A text that is not valid begins with a comment that says so, with the 
 """
 import glob
 import os
-import subprocess
-import tempfile
 
-from wmlabtools import TOP, generated
+from wmlabtools import TOP, generated, wabt
 
 FOLDERS = ("examples", "engines/testing", "engines/lowering/programs")
 
@@ -19,12 +17,9 @@ FOLDERS = ("examples", "engines/testing", "engines/lowering/programs")
 def assembled(path):
     """The bytes of the module that a file has the text of."""
     with open(path, encoding="utf-8") as file:
-        is_valid = "--no-check" not in file.readline()
-    with tempfile.TemporaryDirectory() as folder:
-        words = ["wat2wasm", "--enable-threads", path, "-o", f"{folder}/it.wasm"]
-        subprocess.run(words if is_valid else [*words, "--no-check"], check=True)
-        with open(f"{folder}/it.wasm", "rb") as file:
-            return file.read()
+        text = file.read()
+    unchecked = ["--no-check"] if "--no-check" in text.partition("\n")[0] else []
+    return wabt.assembled(text, *unchecked)
 
 
 def main():

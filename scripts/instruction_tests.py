@@ -11,9 +11,8 @@ repository. The steps are counted here: one for each instruction, and one for le
 import json
 import re
 import subprocess
-import tempfile
 
-from wmlabtools import generated
+from wmlabtools import generated, v8, wabt
 
 # ---- the functions: what they take and give, their text, and the arguments of the call
 
@@ -368,15 +367,6 @@ def module_text(functions, data, has_global, exports_memory):
     return "(module\n" + "\n".join(f"  {line}" for line in lines) + ")"
 
 
-def assembled(text):
-    with tempfile.TemporaryDirectory() as folder:
-        with open(f"{folder}/text.wat", "w") as file:
-            file.write(text)
-        subprocess.run(["wat2wasm", "--enable-threads", f"{folder}/text.wat", "-o", f"{folder}/it.wasm"], check=True)
-        with open(f"{folder}/it.wasm", "rb") as file:
-            return file.read()
-
-
 # ---- runs
 
 RUN = """
@@ -398,16 +388,6 @@ const answers = calls.map((call) => {
 });
 console.log(JSON.stringify(answers));
 """
-
-TRAPS = {
-    "divide by zero": "divide-by-zero",
-    "remainder by zero": "divide-by-zero",
-    "divide result unrepresentable": "overflow",
-    "operation does not support unaligned accesses": "unaligned",
-    "memory access out of bounds": "out-of-bounds",
-    "unreachable": "unreachable",
-}
-
 
 def answers(calls):
     ran = subprocess.run(["node", "-e", RUN], input=json.dumps(calls), capture_output=True, text=True, check=True)
@@ -445,7 +425,7 @@ def instructions(text):
 
 def document_of(functions, data, has_global):
     started = [(n, each) for n, each in enumerate(functions) if each[2] is not None]
-    wasm = assembled(module_text(functions, data, has_global, True)).hex()
+    wasm = wabt.assembled(module_text(functions, data, has_global, True)).hex()
     calls = [
         {"wasm": wasm, "name": f"f{n}", "types": parts(signature)[0], "arguments": [str(a) for a in arguments]}
         for n, (signature, _, arguments, *_) in started
@@ -454,7 +434,7 @@ def document_of(functions, data, has_global):
     for number, ((n, (_, text, arguments, _, steps, trap)), answer) in enumerate(zip(started, answers(calls))):
         event, count = event_of(text, arguments, answer)
         if answer["trap"] is not None:
-            end = ["trap", trap or TRAPS[answer["trap"]]]
+            end = ["trap", trap or v8.TRAPS[answer["trap"]]]
             # The last instruction that is made is the access, the division or `unreachable`.
             made = instructions(text.removesuffix(" drop"))
         else:
@@ -482,7 +462,7 @@ def files_of_rows():
     for (title, functions), data, has_global in tables:
         name = "instructions-" + re.sub(r"\W+", "-", title)
         document, line = document_of(functions, data, has_global)
-        files[f"tests/files/{name}.wasm"] = assembled(module_text(functions, data, has_global, False))
+        files[f"tests/files/{name}.wasm"] = wabt.assembled(module_text(functions, data, has_global, False))
         text += f"\n{title}\n  log.json = {document}\n  $ wmlab check files/{name}.wasm log.json\n  {line}\n"
     return {"tests/rows/instructions.rows": text, **files}
 

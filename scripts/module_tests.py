@@ -6,22 +6,10 @@ that is cut or has a non-minimal number, is another one with some bytes changed;
 
     scripts/module_tests.py [--check]        it needs wat2wasm (Debian's wabt)
 """
-import subprocess
-import tempfile
 import textwrap
 
-from wmlabtools import generated
+from wmlabtools import generated, wabt
 from wmlabtools.wasm import number, section, sized, vector
-
-
-def assembled(text):
-    with tempfile.TemporaryDirectory() as folder:
-        with open(f"{folder}/text.wat", "w") as file:
-            file.write(text)
-        words = ["wat2wasm", "--enable-threads", "--no-check", f"{folder}/text.wat", "-o", f"{folder}/it.wasm"]
-        subprocess.run(words, check=True)
-        with open(f"{folder}/it.wasm", "rb") as file:
-            return file.read()
 
 
 def behind(digits):
@@ -255,7 +243,7 @@ CALLED = [
 
 
 def module_of(text, *changes):
-    wasm = assembled(text)
+    wasm = wabt.assembled(text, "--no-check")
     for change in changes:
         wasm = change(wasm)
     return wasm

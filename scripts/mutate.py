@@ -9,9 +9,7 @@ that its command has: one; or of `explain` the line of `check` and more after it
 table and how many rounds there were, or that line. What `drive` and `run` log is allowed, whatever the module. The
 last line is `N passed, N failed`.
 """
-import concurrent.futures
 import glob
-import random
 import subprocess
 import tempfile
 
@@ -91,9 +89,8 @@ def words_of(command, module):
     return [command, "-"] if command in ("rules", "migrate") else [command, module, "-"]
 
 
-def case(program, seed, number):
-    """Whether one mutation is answered as it must be, and what was given and got where it isn't."""
-    chance = random.Random(seed * 1_000_003 + number)
+def fault_of(program, number, chance):
+    """What was given and got where a mutation is not answered as it must be; None where it is."""
     module, document = chance.choice(MODULES), chance.choice(DOCUMENTS)
     command = chance.choice(COMMANDS)
     if command in ("drive", "run") or command not in ("rules", "migrate") and chance.randrange(2):
@@ -115,15 +112,8 @@ def case(program, seed, number):
 
 
 def main():
-    parser = harness.arguments(__doc__)
-    parser.add_argument("--count", type=int, default=20_000, help="mutations")
-    parser.add_argument("--seed", type=int, default=1)
-    options = parser.parse_args()
-    program, tally = harness.program_of(options), harness.Tally()
-    with concurrent.futures.ThreadPoolExecutor(harness.processors()) as pool:
-        for wrong in pool.map(lambda number: case(program, options.seed, number), range(options.count)):
-            tally.check(wrong is None, "a mutation", wrong)
-    tally.end()
+    options = harness.random_arguments(__doc__, 20_000, "mutations").parse_args()
+    harness.try_cases(options, "a mutation", fault_of)
 
 
 if __name__ == "__main__":

@@ -10,11 +10,9 @@ shows the instruction's name with its immediates, the operands that it takes, an
 """
 import os
 import re
-import subprocess
-import tempfile
 
 import instruction_tests
-from wmlabtools import generated
+from wmlabtools import generated, wabt
 
 # What each instruction is in: a local, a global, and a function to call.
 AROUND = (
@@ -77,16 +75,8 @@ def assembled(code):
     """The module of this code, whose open blocks are ended, and what wasm-validate says of it."""
     opened = len(re.findall(r"\b(?:block|loop|if)\b", code)) - len(re.findall(r"\bend\b", code))
     code += " end" * opened
-    with tempfile.TemporaryDirectory() as folder:
-        text, module = f"{folder}/text.wat", f"{folder}/it.wasm"
-        with open(text, "w", encoding="utf-8") as file:
-            file.write(AROUND.format(code=code))
-        subprocess.run(["wat2wasm", "--enable-threads", "--no-check", text, "-o", module], check=True)
-        ran = subprocess.run(
-            ["wasm-validate", "--enable-threads", module], stderr=subprocess.PIPE, text=True, check=False
-        )
-        with open(module, "rb") as file:
-            return file.read(), ran.stderr
+    module = wabt.assembled(AROUND.format(code=code), "--no-check")
+    return module, wabt.said("wasm-validate", module, "--enable-threads")[1]
 
 
 def mismatch(said):

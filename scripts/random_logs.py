@@ -6,13 +6,11 @@
 A log is that of a run in which one access is made after the other, with some writers, values and places changed. The
 plain program knows the memory model (`wmlabtools/model.py`). By it the rule that is named has to be the first that is
 broken, and the fault one of its faults; each link of a chain has to be an edge, and no shorter chain may be there. The
-sentences, the table of events and what the text says of other writers have to be as it would write them. The last line
-is `N passed, N failed`.
+sentences, the table of events and what the text says of other writers have to be as it would write them, and so the
+whole text on a log that is allowed. The last line is `N passed, N failed`.
 """
 import collections
-import concurrent.futures
 import itertools
-import random
 import re
 
 from wmlabtools import harness
@@ -26,49 +24,54 @@ RULES = {
     "V4": "no tearing: a read that may not tear takes bytes from at most one write of its range that may not tear.",
     "V5": "sequential consistency: in three cases no atomic write may be between a read and its writer in the order.",
 }
-TAKES = "{r} takes its byte {byte}, at address {address}, from "
-BETWEEN = "is between {w} and {r} in the order"
-CANNOT = "with this order {r} can't read from {w}."
+TAKES = "{read} takes its byte {byte}, at address {address}, from "
+BETWEEN = "is between {writer} and {read} in the order"
+CANNOT = "with this order {read} can't read from {writer}."
 SENTENCES = {
     ("V1", 1): TAKES + "itself: an update can't read from its own write.",
-    ("V1", 2): TAKES + "{w}, which doesn't write that address.",
-    ("V1", 3): TAKES + "{w}: it reads {read} there, and {w} wrote {wrote}.",
-    ("V2", 1): "{w} comes before {r} in their thread, but the order lists {w} after {r}.",
+    ("V1", 2): TAKES + "{writer}, which doesn't write that address.",
+    ("V1", 3): TAKES + "{writer}: it reads {value_read} there, and {writer} wrote {value_written}.",
+    ("V2", 1): "{writer} comes before {read} in their thread, but the order lists {writer} after {read}.",
     ("V2", 2): (
-        "{r} reads from {w}, and both are atomic accesses of one range: so {w} synchronizes with {r} and happens "
-        "before it, but the order lists {w} after {r}."
+        "{read} reads from {writer}, and both are atomic accesses of one range: so {writer} synchronizes with {read} "
+        "and happens before it, but the order lists {writer} after {read}."
     ),
     ("V3", 1): (
-        TAKES + "{w}, but {r} happens before {w}: a read can't take a byte from a write that it happens before."
+        TAKES + "{writer}, but {read} happens before {writer}: a read can't take a byte from a write that it happens "
+        "before."
     ),
     ("V3", 2): (
-        TAKES + "{w}, but {o} writes that address too, {w} happens before {o}, and {o} happens before {r}: so the byte "
-        "of {w} was overwritten before {r} reads."
+        TAKES + "{writer}, but {other} writes that address too, {writer} happens before {other}, and {other} happens "
+        "before {read}: so the byte of {writer} was overwritten before {read} reads."
     ),
     ("V4", 1): (
-        "{r} takes its byte {byte} from {w} and an earlier byte from {o}. All three are accesses of one range that may "
-        "not tear (atomic, or plain of at most 4 bytes at a multiple of their width): {r} may take bytes from only one "
-        "of the two writes."
+        "{read} takes its byte {byte} from {writer} and an earlier byte from {other}. All three are accesses of one "
+        "range that may not tear (atomic, or plain of at most 4 bytes at a multiple of their width): {read} may take "
+        "bytes from only one of the two writes."
     ),
     ("V5", 1): (
-        "{r} reads from {w}, which synchronizes with it, but {o}, an atomic write of the same range, "
+        "{read} reads from {writer}, which synchronizes with it, but {other}, an atomic write of the same range, "
         + BETWEEN + ": " + CANNOT
     ),
     ("V5", 2): (
-        "{r} reads from {w}, but {o}, an atomic write of the range of {w}, "
-        + BETWEEN + ", and both writes are atomic and happen before {r}: " + CANNOT
+        "{read} reads from {writer}, but {other}, an atomic write of the range of {writer}, "
+        + BETWEEN + ", and both writes are atomic and happen before {read}: " + CANNOT
     ),
     ("V5", 3): (
-        "{r} is atomic and reads from {w}, but {o}, an atomic write of the same range, "
-        + BETWEEN + ", and {w} happens before {o} and {r}: " + CANNOT
+        "{read} is atomic and reads from {writer}, but {other}, an atomic write of the same range, "
+        + BETWEEN + ", and {writer} happens before {other} and {read}: " + CANNOT
     ),
 }
 # What happens before what in a fault: `r` is its read, `w` the writer and `o` the other write.
 PREMISES = {("V3", 1): ["rw"], ("V3", 2): ["wo", "or"], ("V5", 2): ["wr", "or"], ("V5", 3): ["wr", "wo"]}
-TABLE = [
-    "The events, with their places in the order:",
-    "  (T.N is event N of thread T, both from 0; init writes the initial memory)",
-    "  place  event",
+LEGEND = ["  (T.N is event N of thread T, both from 0; init writes the initial memory)", "  place  event"]
+TABLE = ["The events, with their places in the order:", *LEGEND]
+ALLOWED = [
+    "allowed",
+    "The memory rules allow the events with these writers in this order. No module was given, so the threads' runs were "
+    "not checked: `explain MODULE DOC` checks them.",
+    "The events in their order, with who wrote what was read:",
+    *LEGEND,
 ]
 ONLY = "No other writer fits: with these values, no witness makes this run allowed."
 SEVERAL = "With other writers, the same accesses may be allowed. Events whose value at the address is the value read:"
@@ -92,6 +95,11 @@ class Difference(Exception):
 def expect(holds, shows):
     if not holds:
         raise Difference(shows)
+
+
+def expect_lines(found, wanted):
+    for line, expected in itertools.zip_longest(found, wanted):
+        expect(line == expected, f"{line!r} in place of {expected!r}")
 
 
 # ---- random logs
@@ -292,13 +300,13 @@ class Explanation:
     def sentence(self):
         address = self.read.address + self.byte
         return SENTENCES[self.rule, self.case].format(
-            r=self.read.name,
-            w=self.writer.name,
-            o=self.other and self.other.name,
+            read=self.read.name,
+            writer=self.writer.name,
+            other=self.other and self.other.name,
             byte=self.byte,
             address=address,
-            read=self.read.byte_read(self.byte) if self.rule == "V1" else None,
-            wrote=self.writer.byte_written(address) if self.case == 3 and self.rule == "V1" else None,
+            value_read=self.read.byte_read(self.byte) if self.rule == "V1" else None,
+            value_written=self.writer.byte_written(address) if self.case == 3 and self.rule == "V1" else None,
         )
 
     def check_table(self):
@@ -307,8 +315,7 @@ class Explanation:
         expected = [self.lines[0], f"{self.rule}, {RULES[self.rule]}", self.sentence(), *TABLE]
         expected += rows(self.execution, events)
         found = self.lines[: len(expected)] if self.table is None else self.table
-        for line, wanted in itertools.zip_longest(found, expected):
-            expect(line == wanted, f"{line!r} in place of {wanted!r}")
+        expect_lines(found, expected)
         return self.lines[len(expected) :] if self.last is None else self.last
 
     def needs(self):
@@ -340,8 +347,7 @@ class Explanation:
             expected = [f"{start} {ONLY if only else SEVERAL}"]
             if not only:
                 expected += [self.fits_text(read, byte) for read, taken, _ in self.needs() for byte in taken]
-            for line, wanted in itertools.zip_longest(lines, expected):
-                expect(line == wanted, f"{line!r} in place of {wanted!r}")
+            expect_lines(lines, expected)
 
     def fits_text(self, read, byte):
         """The line of a byte of a read: all events that leave its value there, of which eight are named."""
@@ -356,7 +362,8 @@ def fault_of(execution, text, status):
     lines = text.splitlines()
     try:
         if status == 0:
-            expect(lines[:1] == ["allowed"] and not execution.first_faults(), "a rule is broken")
+            expect(not execution.first_faults(), "a rule is broken")
+            expect_lines(lines, [*ALLOWED, *rows(execution, execution.events)])
             return None
         expect(status == 1, "neither allowed nor broken")
         explanation = Explanation(execution, lines)
@@ -368,9 +375,9 @@ def fault_of(execution, text, status):
     return None
 
 
-def case(wmlab, seed, number):
-    """What is wrong with the explanation of one log, with the log and the text; None if nothing is."""
-    threads, execution, order = random_execution(random.Random(seed * 1_000_003 + number))
+def case_fault(wmlab, number, chance):
+    """What is wrong with the explanation of a random log, with the log and the text; None if nothing is."""
+    threads, execution, order = random_execution(chance)
     log = log_of(threads, order)
     text, _, status = harness.run(wmlab, ["explain", "-"], input=log)
     fault = fault_of(execution, text, status)
@@ -378,15 +385,8 @@ def case(wmlab, seed, number):
 
 
 def main():
-    parser = harness.arguments(__doc__)
-    parser.add_argument("--count", type=int, default=2_000, help="logs")
-    parser.add_argument("--seed", type=int, default=1)
-    options = parser.parse_args()
-    program, tally = harness.program_of(options), harness.Tally()
-    with concurrent.futures.ThreadPoolExecutor(harness.processors()) as pool:
-        for wrong in pool.map(lambda number: case(program, options.seed, number), range(options.count)):
-            tally.check(wrong is None, "an explanation", wrong)
-    tally.end()
+    options = harness.random_arguments(__doc__, 2_000, "logs").parse_args()
+    harness.try_cases(options, "an explanation", case_fault)
 
 
 if __name__ == "__main__":

@@ -13,28 +13,20 @@ has to refuse those that node refuses, and no other.
 With --lowered programs also have what `engines/lower` replaces. node runs them as they are, and wmlab as they are
 lowered; none is changed. The last line is `N passed, N failed`.
 """
-import concurrent.futures
 import copy
 import hashlib
 import json
 import os
-import random
 import subprocess
 import tempfile
 
-from wmlabtools import TOP, generated, harness
+from wmlabtools import TOP, generated, harness, v8
 from wmlabtools.compiled import CompiledProgram
 from wmlabtools.log import MAX_EVENTS
 from wmlabtools.programs import BITS, Program, argument, change
 
-# The trap's name in a log by the message of V8, which has two for a divisor that is 0.
 TRAPS = {
-    "divide by zero": "divide-by-zero",
-    "remainder by zero": "divide-by-zero",
-    "divide result unrepresentable": "overflow",
-    "unreachable": "unreachable",
-    "memory access out of bounds": "out-of-bounds",
-    "operation does not support unaligned accesses": "unaligned",
+    **v8.TRAPS,
     # What a lowered call through a table does.
     "table index is out of bounds": "unreachable",
     "null function or function signature mismatch": "unreachable",
@@ -51,8 +43,7 @@ BATCH = 25
 class Case:
     """A random program with a call of each of its functions, and changes of it."""
 
-    def __init__(self, seed, number, is_lowered):
-        chance = random.Random(seed * 1_000_003 + number)
+    def __init__(self, number, chance, is_lowered):
         self.number, self.is_lowered = number, is_lowered
         self.program = CompiledProgram(chance) if is_lowered else Program(chance)
         self.calls = [
@@ -168,9 +159,7 @@ def batch(wmlab, cases):
 
 
 def main():
-    parser = harness.arguments(__doc__)
-    parser.add_argument("--count", type=int, default=500, help="programs")
-    parser.add_argument("--seed", type=int, default=1)
+    parser = harness.random_arguments(__doc__, 500, "programs")
     parser.add_argument("--lowered", action="store_true", help="programs with what engines/lower replaces")
     options = parser.parse_args()
     generated.need("node")
@@ -178,13 +167,12 @@ def main():
 
     def batch_at(first):
         numbers = range(first, min(first + BATCH, options.count))
-        return batch(program, [Case(options.seed, number, options.lowered) for number in numbers])
+        return batch(program, [Case(number, harness.chance_of(options, number), options.lowered) for number in numbers])
 
-    with concurrent.futures.ThreadPoolExecutor(harness.processors()) as pool:
-        for held, wrong in pool.map(batch_at, range(0, options.count, BATCH)):
-            tally.add(held, 0)
-            for number, fault in wrong:
-                tally.check(False, f"program {number}", fault)
+    for held, wrong in harness.at_once(batch_at, range(0, options.count, BATCH)):
+        tally.add(held, 0)
+        for number, fault in wrong:
+            tally.check(False, f"program {number}", fault)
     tally.end()
 
 

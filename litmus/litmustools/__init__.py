@@ -1,11 +1,11 @@
 """Litmus tests from cycles: cycles and accesses (`cycles`, `accesses`), the tests that they give (`tests`, `modules`,
-`names`, `suite`), candidate executions (`candidates`, `bytewise`, `judges`), store buffers (`buffers`), engines
-(`engines`) and the pages (`gallery`, `page`)."""
+`names`, `suite`), candidate executions (`candidates`, `bytewise`, `judges`, `model`), store buffers (`buffers`) and the
+pages (`gallery`, `page`)."""
 import os
 import sys
 
 sys.path.insert(0, os.path.join(os.path.dirname(os.path.abspath(__file__)), "../../scripts"))
 
-from wmlabtools import TOP, harness, log, wasm  # noqa: E402
+from wmlabtools import TOP, harness, log, wabt, wasm  # noqa: E402
 
-__all__ = ["TOP", "harness", "log", "wasm"]
+__all__ = ["TOP", "harness", "log", "wabt", "wasm"]

@@ -73,9 +73,8 @@ class CompiledProgram(Program):
         if self.start is not None:
             self.add(chance, [], None)
 
-    @staticmethod
-    def coder(*words):
-        return CompiledCoder(*words)
+    def write(self, chance, function):
+        CompiledCoder(chance, self, function).write()
 
     def module(self):
         elements = [

@@ -1,7 +1,9 @@
 """Finding the program, running it, and counting what holds."""
 import argparse
+import concurrent.futures
 import hashlib
 import os
+import random
 import subprocess
 import sys
 
@@ -52,6 +54,19 @@ def arguments(description):
     return parser
 
 
+def random_arguments(description, count, cases):
+    """A parser of the words of a script that tries random cases, so many if it is not told how many."""
+    parser = arguments(description)
+    parser.add_argument("--count", type=int, default=count, help=cases)
+    parser.add_argument("--seed", type=int, default=1)
+    return parser
+
+
+def chance_of(options, number):
+    """The random choices of a case. Cases differ with the seed and with their numbers."""
+    return random.Random(options.seed * 1_000_003 + number)
+
+
 def program_of(options):
     """The path of the program that the options name, or of the one that is found."""
     path = os.path.abspath(options.wmlab) if options.wmlab else find_program()
@@ -71,6 +86,12 @@ def run(program, words, **streams):
     streams.setdefault("timeout", 120)
     ran = subprocess.run([program, *words], check=False, **streams)
     return (ran.stdout or b"").decode(errors="replace"), (ran.stderr or b"").decode(errors="replace"), ran.returncode
+
+
+def at_once(task, items):
+    """What a task gives for each of some items, in their order; as many are done at once as there are processors."""
+    with concurrent.futures.ThreadPoolExecutor(processors()) as pool:
+        yield from pool.map(task, items)
 
 
 def run_script(main):
@@ -100,3 +121,16 @@ class Tally:
         """Prints the last line, and ends with status 1 if something failed or nothing was tried."""
         print(f"{self.passed} passed, {self.failed} failed")
         sys.exit(1 if self.failed or not self.passed else 0)
+
+
+def try_cases(options, shows, fault_of):
+    """Tries random cases on the program, and ends the script. `fault_of` is given the program, a case's number and its
+    random choices; it answers what is wrong with the case, None if nothing is."""
+    program, tally = program_of(options), Tally()
+
+    def fault_at(number):
+        return fault_of(program, number, chance_of(options, number))
+
+    for fault in at_once(fault_at, range(options.count)):
+        tally.check(fault is None, shows, fault)
+    tally.end()

@@ -1,6 +1,7 @@
 """The memory model of docs/MODEL.md over all events of a small execution, written separately from the crates."""
 import collections
 import itertools
+import json
 
 
 class Initial:
@@ -142,17 +143,20 @@ class Execution:
         if reads_before and self.before(writer, other) and read.atomic and same_range(other, read):
             yield 3
 
+    def faults(self):
+        """The faults of each rule, the rules in the order in which they are tried."""
+        return {
+            "V1": self.value_faults(),
+            "V2": self.order_faults(),
+            "V3": self.coherence_faults(),
+            "V4": self.tearing_faults(),
+            "V5": self.consistency_faults(),
+        }
+
     def first_faults(self):
         """The first rule that is broken, with all its faults; None if none is."""
-        rules = {
-            "V1": self.value_faults,
-            "V2": self.order_faults,
-            "V3": self.coherence_faults,
-            "V4": self.tearing_faults,
-            "V5": self.consistency_faults,
-        }
-        for rule, faults in rules.items():
-            found = set(faults())
+        for rule, faults in self.faults().items():
+            found = set(faults)
             if found:
                 return rule, found
         return None
@@ -168,3 +172,28 @@ class Execution:
 
     def others_that_fit(self, read, byte, writer):
         return [event for event in [INIT, *self.events] if event is not writer and self.fits(event, read, byte)]
+
+
+def execution_of(log):
+    """The execution of a log of version 2."""
+    _, _, logged, order = json.loads(log)
+    threads = [
+        [event_of(thread, number, fields) for number, fields in enumerate(events)]
+        for thread, (*_, events) in enumerate(logged)
+    ]
+    for event in itertools.chain(*threads):
+        event.writers = [threads[key[0]][key[1]] if key else INIT for key in event.writers]
+    return Execution(threads, [threads[thread][number] for thread, number in order])
+
+
+def event_of(thread, number, fields):
+    """The event of these fields. Its writers are their keys yet."""
+    kind, order, address, width, *values = fields
+    event = Event(thread, number, kind, order == "sc", address, width)
+    if kind == "w":
+        (event.written,) = values
+    elif kind == "r":
+        event.read, event.writers = values
+    else:
+        event.read, event.written, event.writers = values
+    return event

@@ -81,10 +81,6 @@ class Program:
 
     first_types = ()
 
-    @staticmethod
-    def coder(*words):
-        return Coder(*words)
-
     def __init__(self, chance):
         kinds = (I32, I64)
         self.globals = [(chance.choice(kinds), chance.random() < 0.7) for _ in range(chance.randint(0, 4))]
@@ -97,8 +93,12 @@ class Program:
 
     def add(self, chance, parameters, result):
         function = Function(parameters, result)
-        self.coder(chance, self, function).write()
+        self.write(chance, function)
         self.functions.append(function)
+
+    def write(self, chance, function):
+        """Gives a function random code."""
+        Coder(chance, self, function).write()
 
     def type_of(self, index):
         """The index of the type of a function."""

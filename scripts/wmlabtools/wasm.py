@@ -65,20 +65,21 @@ def module_of(
     elements=(),
 ):
     """A module of these bodies, each of the type whose index `kinds` has for it (0 if there are no `kinds`)."""
-    kinds = kinds or [0] * len(bodies)
-    before = [
-        (1, types),
-        (3, [number(kind) for kind in kinds]),
-        (4, tables),
-        (5, [memory]),
-        (6, global_entries),
-        (7, exports),
-    ]
-    after = [(9, elements), (10, bodies), (11, data)]
-    first, last = (
-        b"".join(section(which, vector(list(items))) for which, items in parts if items) for parts in (before, after)
-    )
-    return HEADER + first + (section(8, number(start)) if start is not None else b"") + last
+    lists = {
+        1: types,
+        3: [number(kind) for kind in kinds or [0] * len(bodies)],
+        4: tables,
+        5: [memory],
+        6: global_entries,
+        7: exports,
+        9: elements,
+        10: bodies,
+        11: data,
+    }
+    contents = {which: vector(list(items)) for which, items in lists.items() if items}
+    if start is not None:
+        contents[8] = number(start)
+    return HEADER + b"".join(section(which, content) for which, content in sorted(contents.items()))
 
 
 def sections_of(module):
