@@ -68,8 +68,8 @@ LEGEND = ["  (T.N is event N of thread T, both from 0; init writes the initial m
 TABLE = ["The events, with their places in the order:", *LEGEND]
 ALLOWED = [
     "allowed",
-    "The memory rules allow the events with these writers in this order. No module was given, so the threads' runs were "
-    "not checked: `explain MODULE DOC` checks them.",
+    "The memory rules allow the events with these writers in this order. No module was given, so the threads' runs "
+    "were not checked: `explain MODULE DOC` checks them.",
     "The events in their order, with who wrote what was read:",
     *LEGEND,
 ]

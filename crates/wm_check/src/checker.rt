@@ -24,6 +24,7 @@ use wm_valid::{ValidFault, ValidModule, validate};
 /// Why there is no run to compare.
 #[derive(Drop)]
 pub enum Unread {
+    /// The bytes are refused.
     Refused(Refusal),
     /// An allocation failed.
     OutOfMemory,

@@ -83,7 +83,9 @@ pub enum Command<'a> {
 /// Why the words are not a command.
 #[derive(Clone, Copy)]
 pub enum CommandFault {
+    /// The words are those of no command.
     Words,
+    /// An allocation failed.
     OutOfMemory,
 }
 
@@ -388,6 +390,10 @@ fn named<'a>(matches: &ArgMatches<'a>) -> Option<Command<'a>>
 
 /// The command that `words`, those after the program's name, are by clap's model of the parse. No command has a word
 /// other than `-` that begins with `-`.
+///
+/// # Errors
+///
+/// `Words` if they are those of no command, `OutOfMemory` if an allocation fails.
 pub fn read_command<'a>(alloc: Global, words: &'a [&'a str]) -> Result<Command<'a>, CommandFault>
     ensures read { IfOk result (IsCommand (map (λ word. word.now) words.now)) }
     ensures refused { result ≡ Err Words → IsNoCommand (map (λ word. word.now) words.now) }

@@ -112,7 +112,7 @@ impl Buffer {
         number
     }
 
-    /// Adds a store, which is an access, if the buffer isn't full. It doesn't allocate.
+    /// Adds a store, which is an access, to a buffer that isn't full. It doesn't allocate.
     pub fn add(&mut self, e: Event)
         requires few { self.old.accesses + 1 < 2 ^ 32 }
         requires room { length self.old.stores < max_pending }

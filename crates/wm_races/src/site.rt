@@ -5,7 +5,7 @@ ghost use Rattle.wm_races.specs.Report.{site_at, site_in};
 use wm_event::EventKey;
 use wm_list::List;
 
-/// An instruction of a module; for a log without a module the event itself, by its thread and its number.
+/// An instruction of a module. Where races are listed by their events, all events have the same one.
 #[derive(Clone, Copy, PartialEq, Eq, Hash)]
 pub struct Site {
     /// The function, by its index.

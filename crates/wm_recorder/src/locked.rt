@@ -1,5 +1,5 @@
 //! A recorder that threads share under a lock.
-ghost use Rattle.std.specs.Prelude.{IfOk};
+ghost use Rattle.std.specs.Prelude.{Err, IfErr, IfOk, Ok};
 ghost use Rattle.wm_event.specs.Op.{kind_finds};
 ghost use Rattle.wm_event.specs.Reply.{ReadAnswers};
 ghost use Rattle.wm_recorder.specs.Locked.{DrainedOnce, DrainedAtOnce, IsOver, MadeOnce};
@@ -61,9 +61,12 @@ impl<'a, R: Wait, N: Over> LockedMemory<'a, R, N> {
 }
 
 impl<'a, R: Wait, N: Over> Shared for LockedMemory<'a, R, N> {
+    ghost refuses = { λ t op fault. MadeOnce N.initial N.threads t op (Err fault) };
+
     fn access(&self, thread: u32, op: Op) -> Result<Reply, AccessFault>
         ensures answers { IfOk result (λ reply. ReadAnswers (kind_finds op.kind) op.width reply.read) }
-        ensures made { MadeOnce N.initial N.threads thread op result }
+        ensures made { IfOk result (λ reply. MadeOnce N.initial N.threads thread op (Ok reply)) }
+        ensures refused { IfErr result (λ fault. MadeOnce N.initial N.threads thread op (Err fault)) }
     {
         let mut guard = self.held.lock(self.rt);
         let held = &mut *guard;

@@ -1,7 +1,9 @@
 //! Memory that threads share.
-ghost use Rattle.std.specs.Prelude.{IfOk};
+ghost use Rattle.std.specs.Prelude.{ℕ, IfErr, IfOk};
 ghost use Rattle.wm_event.specs.Op.{kind_finds};
 ghost use Rattle.wm_event.specs.Reply.{ReadAnswers};
+ghost use Rattle.wm_event.specs.declared.op.OpFields.{OpFields};
+ghost use Rattle.wm_recorder.specs.declared.access_fault.AccessFault.{AccessFault as Fault};
 
 use crate::AccessFault;
 use std::alloc::AllocError;
@@ -9,6 +11,9 @@ use wm_event::{Op, Reply};
 
 /// A memory that threads share by reference.
 pub trait Shared {
+    /// What is known of an access of a thread that the memory refused for a fault.
+    ghost refuses: { ℕ → OpFields → Fault → Type 0 };
+
     /// Makes one access of a thread. The reply has a value read exactly if the access reads, and the value fits the
     /// width.
     ///
@@ -16,7 +21,8 @@ pub trait Shared {
     ///
     /// [`AccessFault::OutOfMemory`] if an allocation fails; any other fault is true of this thread and this access.
     fn access(&self, thread: u32, op: Op) -> Result<Reply, AccessFault>
-        ensures answers { IfOk result (λ reply. ReadAnswers (kind_finds op.kind) op.width reply.read) };
+        ensures answers { IfOk result (λ reply. ReadAnswers (kind_finds op.kind) op.width reply.read) }
+        ensures refused { IfErr result (refuses thread op) };
 
     /// Publishes the oldest waiting store of a thread; false if none waits.
     ///

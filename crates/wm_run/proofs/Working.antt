@@ -3,6 +3,7 @@ use Rattle.std.proofs.Common.{◌≡◌, ℕ, ◌≤◌, ◌⊎◌, inl, inr, Bo
 use Rattle.wm_ast.specs.declared.module.Module.{Module}
 use Rattle.wm_event.specs.declared.event.Event.{Event}
 use Rattle.wm_event.specs.declared.log.Start.{Start}
+use Rattle.wm_event.specs.declared.op.OpFields.{OpFields}
 use Rattle.wm_logfile.specs.Document.{EndFits}
 use Rattle.wm_machine.specs.Reach.{HasEnded}
 use Rattle.wm_machine.specs.Run.{end_of}
@@ -10,11 +11,12 @@ use Rattle.wm_machine.specs.Start.{started}
 use Rattle.wm_machine.specs.State.{State, config_of}
 use Rattle.wm_machine.specs.Stepping.{IsIn}
 use Rattle.wm_machine.specs.Term.{Config}
+use Rattle.wm_recorder.specs.declared.access_fault.AccessFault.{AccessFault}
 use Rattle.wm_run.specs.declared.ended.Stop.{Stop}
 use Rattle.wm_run.specs.declared.ended.Stop.TheVariants.{Own, Gate, Memory}
 use Rattle.wm_run.specs.declared.ended.ThreadEnd.{ThreadEnd}
 use Rattle.wm_run.specs.Reached.{HasRun, LeadsTo, is_before_access}
-use Rattle.wm_run.specs.Stops.{HasStopped, StopsFor, is_own}
+use Rattle.wm_run.specs.Stops.{HasStopped, IsRefused, IsRefusedAfter, StopsFor, is_own}
 use Rattle.wm_run.specs.Worker.{IsEndOf}
 use Rattle.wm_run.proofs.Uncut.{ran_uncut}
 
@@ -89,3 +91,13 @@ pub end_of_stopped : (is_open : Bool) (m : Module) (k : ℕ) (start own : Start)
 end_of_stopped is_open m k start own old new es limit n stop e is_in same has given ends fits =
     end_by is_open m k start own n limit stop (config_of new) es e (subst (λ x. ((stop ≡ Own) × (n ≡ limit)) ⊎ StopsFor is_open x (config_of new) stop) is_in.1 has.stops)
     (run_of_stopped is_open m k start own old new es limit n stop is_in same has) given ends fits has.within same
+
+-- a thread that the memory stopped was refused its next access
+pub refused_after : (refuses : ℕ → OpFields → AccessFault → Type 0) (is_open : Bool) (m : Module) (k : ℕ) (start own : Start) (old new : State) (es : List Event) (limit n : ℕ) (stop : Stop) (e : ThreadEnd)
+    → IsIn m (started m start.name start.args) old → own ≡ start → HasStopped is_open k old new es limit n stop
+    → (e.program.value ≡ m) × (e.thread ≡ k) × (e.start ≡ own) × (e.steps ≡ n) × (e.stop ≡ stop) → e.events ≡ es → (stop ≡ Memory → IsRefused refuses old.module k (config_of new))
+    → e.stop ≡ Memory → IsRefusedAfter refuses m k start e.events e.steps
+refused_after refuses is_open m k start own old new es limit n stop e is_in same has given events refused memory =
+    let run : HasRun m k start es n (config_of new) = subst (λ x. HasRun m k x es n (config_of new)) same (run_of_stopped is_open m k start own old new es limit n stop is_in same has) in
+    let by : IsRefused refuses m k (config_of new) = subst (λ x. IsRefused refuses x k (config_of new)) is_in.1 (refused (sym given.4 ∙ memory)) in
+    rw (events, given.3) (config_of new, run, by)

@@ -1,13 +1,17 @@
 -- Why a worker stopped.
-use Rattle.std.specs.Prelude.{◌≡◌, ℕ, ◌≤◌, ◌⊎◌, Bool, List, true, false}
+use Rattle.std.specs.Prelude.{◌≡◌, ℕ, ◌≤◌, ◌⊎◌, Bool, List, Some, true, false}
 use Rattle.wm_ast.specs.declared.module.Module.{Module}
 use Rattle.wm_event.specs.declared.event.Event.{Event}
+use Rattle.wm_event.specs.declared.log.Start.{Start}
+use Rattle.wm_event.specs.declared.op.OpFields.{OpFields}
 use Rattle.wm_machine.specs.Reach.{HasEnded}
 use Rattle.wm_machine.specs.State.{State, config_of}
+use Rattle.wm_machine.specs.Step.{access_of, step}
 use Rattle.wm_machine.specs.Term.{Config}
+use Rattle.wm_recorder.specs.declared.access_fault.AccessFault.{AccessFault}
 use Rattle.wm_run.specs.declared.ended.Stop.{Stop}
 use Rattle.wm_run.specs.declared.ended.Stop.TheVariants.{Own, Gate, Memory}
-use Rattle.wm_run.specs.Reached.{LeadsTo, is_before_access}
+use Rattle.wm_run.specs.Reached.{HasRun, LeadsTo, is_before_access}
 
 abbrev pub is_own : Stop → Bool
 is_own Own = true
@@ -30,3 +34,11 @@ pub record HasStopped (is_open : Bool) (k : ℕ) (old new : State) (events : Lis
   pub leads : LeadsTo old.module k (config_of old) events made (config_of new)
   pub within : made ≤ limit
   pub stops : ((stop ≡ Own) × (made ≡ limit)) ⊎ StopsFor is_open old.module (config_of new) stop
+
+-- a memory of which this is known when it refuses an access refused the next access of thread k
+abbrev pub IsRefused : (ℕ → OpFields → AccessFault → Type 0) → Module → ℕ → Config → Type 0
+IsRefused refuses m k c = (op : OpFields) × (fault : AccessFault) × (access_of (step m 0 c) ≡ Some op) × refuses k op fault
+
+-- the same after n steps from its start, which made these events
+abbrev pub IsRefusedAfter : (ℕ → OpFields → AccessFault → Type 0) → Module → ℕ → Start → List Event → ℕ → Type 0
+IsRefusedAfter refuses m k start events n = (c : Config) × HasRun m k start events n c × IsRefused refuses m k c

@@ -3,20 +3,28 @@ ghost use Rattle.std.specs.Prelude.{◌≡◌, ◌≤◌};
 ghost use Rattle.wm_run.specs.Drains.{drainer_turn};
 
 use crate::gate::Gate;
-use crate::turn::Turn;
 use std::alloc::AllocError;
 use wm_recorder::Shared;
 
+/// A turn of the drainer: which store of a thread leaves its buffer.
+#[derive(Clone, Copy)]
+enum DrainerTurn {
+    /// The oldest one.
+    Oldest(u32),
+    /// The one after the oldest.
+    Second(u32),
+}
+
 /// The drainer's turn of this number, among this number of threads.
-fn drainer_turn(threads: u32, number: u32) -> Turn
+fn drainer_turn(threads: u32, number: u32) -> DrainerTurn
     requires { 1 ≤ threads }
     ensures { result ≡ drainer_turn threads number }
 {
     let thread = number % threads;
     if number / threads % 2 == 1 {
-        Turn::DrainAt(thread, 1)
+        DrainerTurn::Second(thread)
     } else {
-        Turn::Drain(thread)
+        DrainerTurn::Oldest(thread)
     }
 }
 
@@ -40,9 +48,8 @@ pub fn drainer<S: Shared, G: Gate>(
             return Ok(());
         }
         match drainer_turn(threads, number) {
-            Turn::Drain(thread) => shared.drain(thread)?,
-            Turn::DrainAt(thread, index) => shared.drain_at(thread, index)?,
-            Turn::Step(_) => unreachable!(),
+            DrainerTurn::Oldest(thread) => shared.drain(thread)?,
+            DrainerTurn::Second(thread) => shared.drain_at(thread, 1)?,
         };
     }
     Ok(())

@@ -1,5 +1,5 @@
 //! The worker of one thread.
-ghost use Rattle.std.specs.Prelude.{◌≡◌, ◌+◌, ◌<◌, ◌≤◌, ◌^◌, ◌||◌, ℕ, Ok, None, [], true, length, IfErr, IfOk, IfSome};
+ghost use Rattle.std.specs.Prelude.{◌≡◌, ◌+◌, ◌<◌, ◌≤◌, ◌^◌, ◌||◌, ℕ, Ok, None, Some, [], true, length, IfErr, IfOk, IfSome};
 ghost use Rattle.wm_event.specs.Limits.{max_steps};
 ghost use Rattle.wm_logfile.specs.Document.{EndFits};
 ghost use Rattle.wm_machine.specs.Run.{end_of as config_end};
@@ -8,8 +8,9 @@ ghost use Rattle.wm_machine.specs.State.{config_of, need_of};
 ghost use Rattle.wm_machine.specs.Stepping.{IsIn};
 ghost use Rattle.wm_machine.specs.declared.thread.Need.TheVariants as Need;
 ghost use Rattle.wm_run.specs.Reached.{HasRun, LeadsOn, is_before_access};
-ghost use Rattle.wm_run.specs.Stops.{HasStopped, StopsAs, is_own};
+ghost use Rattle.wm_run.specs.Stops.{HasStopped, IsRefused, IsRefusedAfter, StopsAs, is_own};
 ghost use Rattle.wm_run.specs.Worker.{IsGiven, IsWorkFault, IsWorkOf};
+ghost use Rattle.wm_run.specs.declared.ended.Stop.TheVariants as Stop;
 
 use crate::ended::{Stop, ThreadEnd};
 use crate::fault::RunFault;
@@ -40,6 +41,7 @@ fn access<S: Shared, G: Gate>(
     ensures made { result ≡ Ok None → LeadsOn thread running.old events.old.items running.new events.new.items }
     ensures stopped { IfOk result (λ r.
         IfSome r (StopsAs (G.is_open gate.now) running.old events.old.items running.new events.new.items)) }
+    ensures refused { result ≡ Ok (Some Stop.Memory) → IsRefused S.refuses running.old.module thread (config_of running.old) }
 {
     events.reserve(1)?;
     if !gate.before(thread, events.len()) {
@@ -76,6 +78,7 @@ fn step<S: Shared, G: Gate>(
     ensures made { result ≡ Ok None → LeadsOn thread running.old events.old.items running.new events.new.items }
     ensures stopped { IfOk result (λ r.
         IfSome r (StopsAs (G.is_open gate.now) running.old events.old.items running.new events.new.items)) }
+    ensures refused { result ≡ Ok (Some Stop.Memory) → IsRefused S.refuses running.old.module thread (config_of running.old) }
 {
     let stepped = match running.step() {
         Ok(stepped) => stepped,
@@ -119,6 +122,8 @@ fn run_until_stop<S: Shared, G: Gate>(
     ensures same { running.new.module ≡ running.old.module }
     ensures stopped { IfOk result (λ r.
         HasStopped (G.is_open gate.now) thread running.old running.new events.new.items steps r.0 r.1) }
+    ensures refused { IfOk result (λ r.
+        r.1 ≡ Stop.Memory → IsRefused S.refuses running.old.module thread (config_of running.new)) }
 {
     let mut made = 0u32;
     loop {
@@ -157,6 +162,8 @@ fn make_steps<S: Shared, G: Gate>(
     ensures same { running.new.module ≡ running.old.module }
     ensures stopped { IfOk result (λ r.
         HasStopped (G.is_open gate.now) thread running.old running.new r.events.items steps r.count r.stop) }
+    ensures refused { IfOk result (λ r.
+        r.stop ≡ Stop.Memory → IsRefused S.refuses running.old.module thread (config_of running.new)) }
 {
     let mut events = Growing::new(alloc);
     let (count, stop) = run_until_stop(running, &mut events, thread, steps, shared, gate)?;
@@ -179,6 +186,7 @@ fn finished(
     requires run { HasRun «module».now thread start made.events.items made.count (config_of running) }
     requires stopped { (is_own made.stop || is_before_access «module».now (config_of running)) ≡ true }
     ensures given { IsGiven «module».now thread start made.count made.stop result }
+    ensures events { result.events ≡ made.events.items }
     ensures end { result.end ≡ config_end (config_of running.entry) }
     ensures fits { EndFits result.end }
 {
@@ -196,7 +204,7 @@ fn finished(
 }
 
 /// Runs one thread of a module over a shared memory, until it ends, has made its steps, or is cut because the gate
-/// answers false or the memory refuses its access. The gate is asked before each access, while no lock is held.
+/// answers false or the memory refuses its next access. The gate is asked before each access, while no lock is held.
 ///
 /// # Errors
 ///
@@ -211,7 +219,9 @@ pub fn work<S: Shared, G: Gate>(
     gate: &G,
 ) -> Result<ThreadEnd, RunFault>
     requires { steps ≤ max_steps }
-    ensures { IsWorkOf (G.is_open gate.now) «module».now thread start.now steps result }
+    ensures end { IsWorkOf (G.is_open gate.now) «module».now thread start.now steps result }
+    ensures refused { IfOk result (λ e.
+        e.stop ≡ Stop.Memory → IsRefusedAfter S.refuses «module».now thread start.now e.events e.steps) }
 {
     let own = copy_start(alloc, start)?;
     let mut running = start_thread(alloc, module, thread, start)?;

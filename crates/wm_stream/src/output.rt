@@ -16,6 +16,7 @@ pub fn write_text<W: Write>(out: &mut W, text: &str) -> io::Result<()>
     ensures stopped { OnErr result (AppendsFront (W.contents out.old) (W.contents out.new) text.now) }
 {
     let mut left = text.as_bytes();
+    // A loop with a last turn, since a writer may be interrupted any number of times.
     for _ in 0..u64::MAX {
         if left.is_empty() {
             return out.flush();

@@ -46,6 +46,7 @@ fn read_part<I: Read>(input: &mut I, buffer: &mut [u8]) -> Result<usize, StreamF
     ensures size { length buffer.new ≡ length buffer.old }
     ensures failed { OnErr result (Keeps (I.remaining input.old) (I.remaining input.new)) }
 {
+    // A loop with a last turn, since a reader may be interrupted any number of times.
     for _ in 0..u64::MAX {
         match input.read(buffer) {
             Ok(count) => return Ok(count),
@@ -118,6 +119,7 @@ pub fn answer_lines<R: AllocGlobal + Threads + Sync, I: Read, O: Write, J: Answe
     let mut buffer = vec![in rt.alloc(); 0u8; FIRST_PART]?;
     let mut begun = Vec::new(rt.alloc());
     let mut status = LineStatus::Allowed;
+    // The same, since an input may have no end.
     for _ in 0..u64::MAX {
         let count = read_part(input, buffer.as_mut_slice())?;
         if count == 0 {

@@ -14,6 +14,7 @@ pub struct Disk<'a, R> {
 }
 
 impl<'a, R: FileSystem + AllocGlobal> Disk<'a, R> {
+    /// The files, before any is read.
     pub fn new(rt: &'a R) -> Disk<'a, R>
         ensures { result.failures ≡ 0 }
     {

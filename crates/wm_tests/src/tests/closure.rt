@@ -1,4 +1,4 @@
-//! Happens-before in bit columns beside the plain closure of its edges.
+//! Happens-before beside the plain closure of its edges.
 use super::calls::{candidate, read};
 use super::documents::{ALLOWED, BROKEN};
 use super::{same, same_in};

@@ -1,6 +1,7 @@
 //! What workers over a memory that is full make with a recorder, and what a drainer does with a locked memory.
 ghost use Rattle.std.specs.Prelude.{◌≡◌, All, IfOk};
 ghost use Rattle.wm_recorder.specs.Locked.{IsOver};
+ghost use Rattle.wm_recorder.specs.declared.access_fault.AccessFault.TheVariants.{Full};
 
 use super::calls::{module_of, two_threads};
 use super::modules::STORE_BUFFERING;
@@ -21,6 +22,8 @@ use wm_valid::ValidModule;
 struct FullMemory;
 
 impl Shared for FullMemory {
+    ghost refuses = { λ _ _ fault. fault ≡ Full };
+
     fn access(&self, _thread: u32, _op: Op) -> Result<Reply, AccessFault> {
         Err(AccessFault::Full)
     }

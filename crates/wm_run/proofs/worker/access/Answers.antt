@@ -1,5 +1,6 @@
 use Rattle.std.proofs.Common.{refl, rules}
 use Rattle.wm_machine.specs.State.{config_of}
+use Rattle.wm_replay.proofs.Needs.{access_of_need}
 use Rattle.wm_run.proofs.Leading.{before_access, leads_by_reply}
 use Rattle.wm_run.proofs.worker.access.Goals as goal
 
@@ -17,4 +18,5 @@ returns-in-Err g c = record {
   more = search rules;
   made = λ other. absurd (cc other);
   stopped = (search rules, refl, before_access c.args.running.now c.args.op c.requires.asks);
+  refused = λ _. (c.args.op, c.in-Err.field-0, access_of_need c.args.running.now 0 c.args.op (c.requires.asks 0), c.in-Err.ensures.refused);
 }
