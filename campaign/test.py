@@ -28,6 +28,7 @@ from wmlabtools import TOP, harness, log  # noqa: E402
 
 MODULE = "examples/store-buffering.wasm"
 ATOMIC = "examples/store-buffering-atomic.wasm"
+FLOATS = "examples/floats.wasm"
 SECONDS = 300
 
 
@@ -390,10 +391,10 @@ def recordings(tally, room, cluster):
     )
     text = next((room.folder / "wrong/kept").glob("*-shrunk.txt")).read_text(encoding="utf-8")
     tally.check("--seed=" in text and "turns " in text, "a smaller run is kept, and how to record it", text)
-    out, err, status = room.run("no-export", *words, MODULE, "a", "nothing")
+    out, err, status = room.run("unknown", *words, "--wrong", "nothing", MODULE, "a", "b")
     tally.check(
-        status == 3 and "no function is exported under this name" in err and "not counted: 3" in out,
-        "a start that is no export fails each batch",
+        status == 3 and "record.mjs" in err and "not counted: 3" in out,
+        "a recorder that refuses its words fails each batch",
         (status, out, err),
     )
 
@@ -474,6 +475,9 @@ def mistakes(tally, room):
         ("a quote that is open", ["plan", str(room.folder / "quote.txt")], {}, 2, "quote.txt line 1: No closing"),
         ("a missing plan", ["plan", "/nothing"], {}, 3, "cannot read /nothing"),
         ("a missing module", ["logs", "/nothing.wasm", one], {}, 3, "cannot read /nothing.wasm"),
+        ("a missing place", ["logs", MODULE, one, "/nothing.jsonl"], {}, 3, "cannot read /nothing.jsonl"),
+        ("no such export", ["record", MODULE, "a", "zz"], {}, 2, "refused start NoExport thread 1"),
+        ("an unsupported module", ["record", FLOATS, "a"], {}, 2, "refused decode Unsupported Floats"),
         ("a missing program", ["logs", MODULE, one], {"wmlab": "/nothing"}, 3, "/nothing is not a program"),
         ("another program", ["logs", MODULE, one], {"wmlab": "/bin/true"}, 3, "has no command stream"),
         ("nothing to resume", ["--resume", "logs", MODULE, one], {}, 2, "has no campaign to resume"),
@@ -483,6 +487,7 @@ def mistakes(tally, room):
         out, err, got = room.run(f"mistake-{name.replace(' ', '-')}", *words, **more, env=impatient)
         is_right = got == status and reason in err and out == "" and is_quiet(err)
         tally.check(is_right, f"{name}: refused with status {status}", (got, out, err))
+        tally.check(not (room.folder / f"mistake-{name.replace(' ', '-')}").exists(), f"{name}: nothing is written")
 
 
 def without_dask(tally, room):
@@ -504,19 +509,16 @@ def no_logs(tally, room, cluster):
     whole = gzip.compress(f"{ALLOWED}\n".encode() * 500)
     (room.folder / "torn.jsonl.gz").write_bytes(whole[:-20])
     words = ["--scheduler", cluster.address]
-    none, half, gone, torn = room.run_all(
+    none, half, torn = room.run_all(
         [
             ["none", *words, "logs", MODULE, str(room.folder / "empty")],
             ["half", *words, "plan", str(room.folder / "half.txt")],
-            ["gone", *words, "logs", MODULE, str(room.folder / "one.jsonl"), "/nothing.jsonl"],
             ["torn", *words, "logs", MODULE, str(room.folder / "torn.jsonl.gz")],
         ]
     )
     tally.check(none[2] == 2 and "no logs" in none[1], "a campaign without logs does not succeed", none)
     tally.check(half[2] == 2 and "no logs" in half[1], "a part without logs is reported", half)
-    is_right = gone[2] == 3 and "cannot read /nothing.jsonl" in gone[1] and "and there are more" in gone[0]
-    tally.check(is_right, "a missing file ends the campaign", gone)
-    is_right = torn[2] == 3 and "cannot read " in torn[1] and is_quiet(torn[1])
+    is_right = torn[2] == 3 and "cannot read " in torn[1] and "and there are more" in torn[0] and is_quiet(torn[1])
     tally.check(is_right, "a compressed file that is cut ends the campaign", torn)
 
 
@@ -527,13 +529,13 @@ def other_folders(tally, room, cluster):
     tally.check(first[2] == 0, "a campaign of one log", first)
     for name, more, changed, reason in (
         ("again", [], words, "has a campaign already; --resume"),
-        ("logs", ["--resume"], [*words, str(room.folder / "allowed.jsonl")], "has another campaign: parts was"),
-        ("batch", ["--resume", "--batch", "7"], words, "has another campaign: batch was 1000 and is 7"),
+        ("logs", ["--resume"], [*words, str(room.folder / "allowed.jsonl")], "has another campaign: it is over other logs or rounds: ["),
+        ("batch", ["--resume", "--batch", "7"], words, "has another campaign: its --batch was 1000\n"),
     ):
         out, err, status = room.run("mine", *more, *changed)
         tally.check(status == 2 and reason in err and out == "", f"a campaign of other {name}", (status, out, err))
     same = room.run("mine", "--resume", *words, wmlab=room.stand_in("newer", 'exec "$wmlab" "$@"'))
-    tally.check(same[2] == 2 and "has another campaign: program" in same[1], "a campaign of another program", same)
+    tally.check(same[2] == 2 and "has another campaign: it was judged by another program" in same[1], "a campaign of another program", same)
     (room.folder / "full").mkdir()
     (room.folder / "full/letter.txt").write_text("dear\n", encoding="utf-8")
     out, err, status = room.run("full", *words)

@@ -9,12 +9,13 @@ line is `N passed, N failed`.
 """
 import glob
 import os
+import signal
 import subprocess
 import sys
 import tempfile
 
 sys.path.insert(0, os.path.join(os.path.dirname(os.path.abspath(__file__)), "..", "scripts"))
-from wmlabtools import TOP, harness
+from wmlabtools import TOP, harness, wasm
 
 OPTIONS = harness.arguments(__doc__).parse_args()
 WMLAB = harness.program_of(OPTIONS)
@@ -58,7 +59,8 @@ def check_answers(room):
         from_python = run(
             sys.executable, f"{TOP}/examples/c-library/verify.py", f"{room}/libwmlab.so", module, *LOGS
         )
-        TALLY.check(from_python == (answers, "", 0), f"answers over {module} from Python", from_python)
+        status = 1 if any(answer.startswith("1") for answer in answers) else max(int(answer[0]) for answer in answers)
+        TALLY.check(from_python == (answers, "", status), f"answers over {module} from Python", from_python)
 
 
 def check_harness(room):
@@ -80,8 +82,23 @@ def check_harness(room):
         with open(f"{TOP}/examples/{log}.json") as file:
             ran = run(program, env=environment, stdin=file)
         TALLY.check((ran[2] == 0) == passes, f"the harness on {log}", ran)
-    environment.pop("MODULE")
-    TALLY.check(run(program, env=environment, stdin=subprocess.DEVNULL)[2] == 2, "the harness without a module")
+    check_modules_of_harness(room, program)
+
+
+def check_modules_of_harness(room, program):
+    """A harness without a module, or over one that is refused, ends with status 2; of a long one it reads all bytes."""
+    with open(f"{TOP}/examples/store-buffering.wasm", "rb") as file:
+        module = file.read() + wasm.section(0, wasm.sized(b"padding") + bytes(100_000))
+    for name, data in (("long", module), ("cut", module[:-1]), ("past-limit", module + bytes(wasm.MODULE_BYTES))):
+        with open(f"{room}/{name}.wasm", "wb") as file:
+            file.write(data)
+    modules = {"long.wasm": -signal.SIGABRT, "cut.wasm": 2, "past-limit.wasm": 2, "no-such-file": 2}
+    for name, status in modules.items():
+        with open(f"{TOP}/examples/value-of-another-module.json") as file:
+            ran = run(program, env={**os.environ, "MODULE": f"{room}/{name}"}, stdin=file)
+        TALLY.check(ran[2] == status, f"the harness over {name}", ran)
+    without = {name: value for name, value in os.environ.items() if name != "MODULE"}
+    TALLY.check(run(program, env=without, stdin=subprocess.DEVNULL)[2] == 2, "the harness without a module")
 
 
 with tempfile.TemporaryDirectory() as folder:

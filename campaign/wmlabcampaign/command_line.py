@@ -19,8 +19,8 @@ import sys
 from .campaign import Campaign
 from .faults import FAILED, STOPPED, Fault
 from .folder import Folder
-from .plan import add_parts, parts_of, positive
-from .program import find_program, materials
+from .plan import Recording, add_parts, parts_of, positive
+from .program import find_program, materials, require_starts
 
 STATUSES = """
 exit status: 0 all logs are allowed; 1 one is broken; 2 one is refused, nothing was judged, or the words are wrong;
@@ -65,14 +65,18 @@ def manifest_of(options, parts, found):
 
 
 def run_campaign(options, parts):
-    found = materials(find_program(options.wmlab), parts)
+    program = find_program(options.wmlab)
+    found = materials(program, parts)
+    for part in parts:
+        if isinstance(part, Recording):
+            require_starts(program, part)
     folder, manifest = Folder(options.out), manifest_of(options, parts, found)
     folder.examine(manifest, options.resume)
     from . import cluster  # takes most of a second, and is a fault without Dask
 
-    folder.make(manifest)
     campaign = Campaign(parts, folder, options.batch)
     with cluster.connected(options) as client:
+        folder.make(manifest)
         try:
             sender = cluster.Cluster(client, found, options.keep)
             campaign.run(sender)

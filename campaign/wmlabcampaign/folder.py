@@ -38,11 +38,20 @@ def manifest_in(path):
         return None
 
 
+# What another campaign had, by the key of its manifest.
+DIFFERENCES = {
+    "program": "it was judged by another program",
+    "batch": "its --batch was {}",
+    "keep": "its --keep was {}",
+    "parts": "it is over other logs or rounds: {}",
+}
+
+
 def first_difference(ours, theirs):
     """What differs between the campaign that is asked for and the one of the folder, in words."""
-    for key in ours:
+    for key, sentence in DIFFERENCES.items():
         if ours[key] != theirs.get(key):
-            return f"{key} was {json.dumps(theirs.get(key))} and is {json.dumps(ours[key])}"
+            return sentence.format(json.dumps(theirs.get(key)))
     return "it was made by another version"
 
 
@@ -61,7 +70,7 @@ class Folder:
         if is_resumed and there is None:
             raise WrongWords(f"{self.path} has no campaign to resume")
         if is_resumed and there != manifest:
-            raise WrongWords(f"{self.path} has another campaign: {first_difference(manifest, there)}"[:500])
+            raise WrongWords(f"{self.path} has another campaign: {first_difference(manifest, there)[:400]}")
         if there and not is_resumed:
             raise WrongWords(f"{self.path} has a campaign already; --resume goes on with it")
         if not there and os.path.isdir(self.path) and os.listdir(self.path):

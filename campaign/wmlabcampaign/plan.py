@@ -1,5 +1,6 @@
 """What a campaign is asked for: its parts, each of which is logs of a module, or rounds of a module to record."""
 import argparse
+import errno
 import hashlib
 import os
 import re
@@ -103,6 +104,9 @@ def part_of(options):
     """The part that the words of a command name."""
     module = Module(options.module)
     if options.command == "logs":
+        for place in options.places:
+            if not os.path.exists(place):
+                raise Fault(f"cannot read {place}: {os.strerror(errno.ENOENT)}")
         return Logs(module, tuple(options.places))
     words = [f"--{name}={getattr(options, name)}" for name in ("mode", "events", "turn", "seconds")]
     if options.wrong:

@@ -10,7 +10,7 @@ from dataclasses import dataclass
 from pathlib import Path
 
 from . import worker
-from .faults import Fault
+from .faults import REFUSED, Fault, WrongWords
 from .plan import Recording, read_file
 
 TOP = Path(__file__).resolve().parents[2]
@@ -40,6 +40,14 @@ def require_stream(path):
         raise Fault(f"cannot run {path}: {error.strerror}") from error
     if not re.search(rb"^ *stream MODULE ", helped.stdout, re.MULTILINE):
         raise Fault(f"{path} has no command stream: it is not wmlab, or an older one")
+
+
+def require_starts(program, part):
+    """Refuses rounds of a module that the program refuses, or whose threads do not start."""
+    words = [program, "drive", part.module.path, "d0", *part.starts]
+    ran = subprocess.run(words, capture_output=True, text=True, stdin=subprocess.DEVNULL, check=False)
+    if ran.returncode == REFUSED:
+        raise WrongWords(f"no rounds of {part.module.path} {' '.join(part.starts)}: {ran.stdout.strip()}")
 
 
 @dataclass(frozen=True)
