@@ -35,24 +35,40 @@ refuse_words() {
     refuse words "./wmlab help lists the commands and their words"
 }
 
+refuse_command() {
+    case $1 in
+    -?*) refuse_hyphen "$1" ;;
+    *) refuse words "there is no command ${1@Q}; ./wmlab help lists them" ;;
+    esac
+}
+
+# Refuses words too few or too many for a command, whose words are these.
+refuse_count() {
+    refuse words "expected: ./wmlab $1"
+}
+
+refuse_hyphen() {
+    refuse words "the word ${1@Q} begins with a hyphen, as none of a command does; a file named -x is written ./-x"
+}
+
 # Refuses what no program takes as a command line: an unknown command, a word too few or too many, a hyphen before a
 # word, turns, rounds or starts that spell none, a file that cannot be read. The program looks in this order too.
 look_at_words() {
     [ -f "$help" ] || return 0
     # The shell takes many times longer over letters that may have several bytes.
     local LC_ALL=C usage word least=0
-    [[ ${1-} =~ ^[a-z]+$ ]] || refuse_words
+    [[ ${1-} =~ ^[a-z]+$ ]] || refuse_command "${1-}"
     usage=$(usage_for "$1" $#)
-    [ -n "$usage" ] || refuse_words
+    [ -n "$usage" ] || refuse_command "$1"
     for word in $usage; do
         case $word in *..) ;; *) least=$((least + 1)) ;; esac
     done
-    [ $# -ge "$least" ] || refuse_words
-    case $usage in *..) ;; *) [ $# -eq "$least" ] || refuse_words ;; esac
+    [ $# -ge "$least" ] || refuse_count "$(usage_of "$1")"
+    case $usage in *..) ;; *) [ $# -eq "$least" ] || refuse_count "$(usage_of "$1")" ;; esac
     for word in "${@:2}"; do
         case $word in
         -) ;;
-        -*) refuse words "a word begins with a hyphen: ./wmlab has no options; a file named -x is ./-x" ;;
+        -*) refuse_hyphen "$word" ;;
         esac
     done
     is_utf8 "${@:2}" || refuse words "a word is not UTF-8, as all words have to be, also the names of files"
