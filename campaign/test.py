@@ -529,13 +529,14 @@ def other_folders(tally, room, cluster):
     tally.check(first[2] == 0, "a campaign of one log", first)
     for name, more, changed, reason in (
         ("again", [], words, "has a campaign already; --resume"),
-        ("logs", ["--resume"], [*words, str(room.folder / "allowed.jsonl")], "has another campaign: it is over other logs or rounds: ["),
+        ("logs", ["--resume"], [*words, str(room.folder / "allowed.jsonl")], "it is over other logs or rounds: ["),
         ("batch", ["--resume", "--batch", "7"], words, "has another campaign: its --batch was 1000\n"),
     ):
         out, err, status = room.run("mine", *more, *changed)
         tally.check(status == 2 and reason in err and out == "", f"a campaign of other {name}", (status, out, err))
     same = room.run("mine", "--resume", *words, wmlab=room.stand_in("newer", 'exec "$wmlab" "$@"'))
-    tally.check(same[2] == 2 and "has another campaign: it was judged by another program" in same[1], "a campaign of another program", same)
+    is_right = same[2] == 2 and "has another campaign: it was judged by another program" in same[1]
+    tally.check(is_right, "a campaign of another program", same)
     (room.folder / "full").mkdir()
     (room.folder / "full/letter.txt").write_text("dear\n", encoding="utf-8")
     out, err, status = room.run("full", *words)

@@ -2,7 +2,7 @@
 """Writes the rows of the machine's instructions, tests/rows/instructions.rows, with their modules in tests/files: a
 function for each instruction, and a log of one call of each.
 
-The functions stand below as WebAssembly text. wabt's wat2wasm assembles them, and node's WebAssembly runs each call
+The functions are below as WebAssembly text. wabt's wat2wasm assembles them, and node's WebAssembly runs each call
 in an instance of its own: results, traps, and the bytes read and written come from there, and nothing from this
 repository. The steps are counted here: one for each instruction, and one for leaving the function.
 

@@ -6,7 +6,7 @@ page has at most 60 words and a table cell 40. The last line is `N passed, N fai
 
     scripts/lint.py        it needs Debian's python3-pyflakes and shellcheck; what is missing is named and not counted
 """
-import concurrent.futures
+import argparse
 import os
 import shutil
 import subprocess
@@ -52,9 +52,8 @@ def lint_files(tally, tool, names):
             words, cwd=TOP, stdout=subprocess.PIPE, stderr=subprocess.STDOUT, text=True, check=False
         )
 
-    with concurrent.futures.ThreadPoolExecutor(harness.processors()) as pool:
-        for name, ran in zip(names, pool.map(linted, names)):
-            tally.check(ran.returncode == 0, f"{tool[0]} {name}", ran.stdout)
+    for name, ran in zip(names, harness.at_once(linted, names)):
+        tally.check(ran.returncode == 0, f"{tool[0]} {name}", ran.stdout)
 
 
 def lint_crates(tally):
@@ -78,6 +77,8 @@ def lint_pages(tally, names):
 
 
 def main():
+    layout = argparse.RawDescriptionHelpFormatter
+    argparse.ArgumentParser(description=__doc__, formatter_class=layout).parse_args()
     tally = harness.Tally()
     lint_crates(tally)
     lint_pages(tally, [name for name in tracked() if name.endswith(".md")])

@@ -106,7 +106,7 @@ function testRunUntil({ note, wmlab, folder }) {
     return outcome.split(' ').every(isEnd) && existsSync(join(folder, path.replace('.json', '.txt')));
   };
   const ran = until(wmlab, '--want', '* *');
-  const isRight = ran.status === 0 && /^ok --want "\* \*": came: \d+ of 200 rounds$/m.test(ran.out);
+  const isRight = ran.status === 0 && /^ok --want "\* \*": seen in \d+ of 200 rounds$/m.test(ran.out);
   note(isRight && rowsOf(ran).length >= 1 && rowsOf(ran).every(hasLog), 'run-until runs the module', ran);
 
   const program = programOf(folder, wmlab, ['     120  0 0', '      40  0 1', '      39  1 0', '       1  1 1', 'allowed rounds=200']);
@@ -114,11 +114,11 @@ function testRunUntil({ note, wmlab, folder }) {
   note(kept.status === 0 && rowsOf(kept).length === 4, 'run-until keeps a log of each outcome', kept);
   note(rowsOf(kept).every(hasLog), 'with its explanation', kept);
   const forbidden = until(program, '--forbid', '0 0', '--want', '* *');
-  const saysSo = forbidden.out.includes('FAILED --forbid "0 0": came: 120 of 200 rounds\n');
+  const saysSo = forbidden.out.includes('FAILED --forbid "0 0": seen in 120 of 200 rounds\n');
   note(forbidden.status === 1 && saysSo, 'a forbidden outcome that came is status 1', forbidden);
   const never = until(program, '--want', '7 7');
   note(
-    never.status === 1 && /^FAILED --want "7 7": never came$/m.test(never.out),
+    never.status === 1 && /^FAILED --want "7 7": never seen$/m.test(never.out),
     'a wanted outcome that never came is status 1',
     never,
   );
@@ -187,7 +187,7 @@ const DRAWING = [
     0, /^a smaller run is kept in \S+\/round-0-shrunk\.json: /],
   ['engines/node/record.mjs', ['--mode', 'buffered', '--wrong', 'plain-atomics', module('store-buffering-atomic'), 'a', 'b'],
     1, /^a smaller run is kept in \S+\/bad-shrunk\.json: /],
-  ['engines/run-until', ['--want', '1 0', module('store-buffering'), '20', 'a', 'b'], 0, /^ok --want "1 0": came: 12 of 20 rounds$/],
+  ['engines/run-until', ['--want', '1 0', module('store-buffering'), '20', 'a', 'b'], 0, /^ok --want "1 0": seen in 12 of 20 rounds$/],
 ];
 
 /** A picture that dot does not make costs the picture alone: logs, tables and status are as ever, and one line says so. */

@@ -42,7 +42,7 @@ function testForbid({ note, wmlab, folder }) {
   }
   const ran = record(folder, wmlab, [...args, ...BUFFERS]);
   const { status, out } = ran;
-  const isReported = /FAILED --forbid "0 0": came: round \d+\n/.test(out) && /ok --want "\* 1": came: round \d+/.test(out);
+  const isReported = /FAILED --forbid "0 0": seen in round \d+\n/.test(out) && /ok --want "\* 1": seen in round \d+/.test(out);
   note(status === 1 && isReported, 'a forbidden outcome is reported, with status 1', ran);
   const names = [...out.matchAll(/^ +\d+ {2}\d \d {2}(kept\/round-\d+\.json)$/gm)].map(([, name]) => name);
   note(names.length >= 2 && names.every((name) => existsSync(join(folder, name))), 'each row of the table names a kept log', ran);
@@ -61,12 +61,12 @@ function testForbid({ note, wmlab, folder }) {
 function testWant({ note, wmlab, folder }) {
   const never = record(folder, wmlab, ['--rounds', '5', '--want', '7 7', ...BUFFERS]);
   note(
-    never.status === 1 && /FAILED --want "7 7": never came/.test(never.out),
+    never.status === 1 && /FAILED --want "7 7": never seen/.test(never.out),
     'a wanted outcome that never came is status 1',
     never,
   );
   const fine = record(folder, wmlab, ['--rounds', '5', '--forbid', '0 0', ...BUFFERS]);
-  note(fine.status === 0 && /ok --forbid "0 0": never came/.test(fine.out), 'conditions that hold are status 0', fine);
+  note(fine.status === 0 && /ok --forbid "0 0": never seen/.test(fine.out), 'conditions that hold are status 0', fine);
 }
 
 function testShrunkFault({ note, wmlab, folder }) {

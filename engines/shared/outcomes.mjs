@@ -42,7 +42,7 @@ export function judgeConditions(conditions, list) {
   return conditions.map((condition) => {
     const found = list.find(({ outcome }) => satisfies(outcome, condition)) ?? null;
     const fails = condition.option === 'forbid' ? found !== null : found === null;
-    const where = found ? `came: ${found.place}` : 'never came';
+    const where = found ? `seen in ${found.place}` : 'never seen';
     return { condition, found, fails, line: `${fails ? 'FAILED' : 'ok'} --${condition.option} "${condition.text}": ${where}` };
   });
 }

@@ -90,7 +90,7 @@ prove() {
     command -v rt >/dev/null || { say "proving needs $toolchain, which is not in PATH"; exit 3; }
     mkdir -p "$built"
     say "proving every crate; this takes most of an hour, and can be interrupted and resumed; the log is $log"
-    say "it may be minutes until the first crate is done, since some kits look at all sources before"
+    say "the first crate can take minutes: some kits read all sources first"
     rm -f "$made"
     prove_crates "$log"
     say "building the program"
