@@ -37,7 +37,7 @@ function optionsOf(args) {
   const { values, positionals } = wordsOf({ args, allowPositionals: true, options });
   if (values.help) return null;
   if (positionals.length !== 2) {
-    throw new UserError(`${positionals.length} words: expected MODULE and DOC; --help prints the usage`);
+    throw new UserError('expected MODULE and DOC; --help prints the usage');
   }
   const [module, path] = positionals.map(fileOf);
   const [steps, seconds] = [countOf('steps', values.steps ?? '2000000'), countOf('seconds', values.seconds ?? '20')];

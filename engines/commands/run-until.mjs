@@ -41,7 +41,7 @@ function optionsOf(args) {
   if (values.help) return null;
   const [word, rounds, ...starts] = positionals;
   if (!starts.length) {
-    throw new UserError(`${positionals.length} words: expected MODULE, ROUNDS and at least one START; --help prints the usage`);
+    throw new UserError('expected MODULE, ROUNDS and at least one START; --help prints the usage');
   }
   const [tries, seed] = [countOf('tries', values.tries ?? '400'), countOf('seed', values.seed ?? '1')];
   const { kept = 'recorded', wmlab } = values;

@@ -59,12 +59,12 @@ const EVENTS_OF_WRITES = '["wasm-litmus-log",2,[["a",[],["cut"],0,[["w","un",0,4
   + '["b",[],["cut"],0,[["w","un",4,4,1],["w","un",0,4,2]]],["c",[],["cut"],0,[["r","un",0,4,2,[]],["r","un",0,4,1,[]]]]],[]]';
 
 const MISTAKES = [
-  ['engines/reorder', [], /0 words: expected MODULE and DOC/],
+  ['engines/reorder', [], /: expected MODULE and DOC/],
   ['engines/reorder', [module('store-buffering'), 'nothing.json'], /cannot read nothing\.json: no such file/],
   ['engines/reorder', [module('store-buffering'), 'text.json'], /the log is not read: refused /],
   ['engines/reorder', ['nothing.wasm', '-'], /^reorder: cannot read nothing\.wasm$/m],
   ['engines/reorder', ['--seconds', '0', module('store-buffering'), '-'], /--seconds 0: expected/],
-  ['engines/run-until', [], /0 words: expected MODULE, ROUNDS and at least one START/],
+  ['engines/run-until', [], /: expected MODULE, ROUNDS and at least one START/],
   ['engines/run-until', [module('store-buffering'), '0', 'a', 'b'], /wmlab run: refused command rounds/],
   ['engines/run-until', ['--want', '1', module('store-buffering'), '5', 'a', 'b'], /--want "1": 1 ends for 2 threads/],
   ['engines/run-until', ['nothing.wasm', '5', 'a', 'b'], /^run-until: cannot read nothing\.wasm$/m],

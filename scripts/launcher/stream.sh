@@ -6,8 +6,8 @@
 count_answers() {
     awk -v shows="$1" '
         function counts() {
-            return sprintf("wmlab: %d answers: %d allowed, %d broken, %d refused", \
-                NR, of["allowed"], of["broken"], of["refused"])
+            return sprintf("wmlab: %d answer%s: %d allowed, %d broken, %d refused", \
+                NR, NR == 1 ? "" : "s", of["allowed"], of["broken"], of["refused"])
         }
         BEGIN { srand(); shown = srand() }
         {
