@@ -33,6 +33,24 @@ const NAMES = new Map([
   [0xfe4e, 'i64.atomic.rmw32.cmpxchg_u'],
 ]);
 
+/** Names of instructions over floats, each list from the code on that is before it. */
+const FLOAT_COMPARISONS = ['eq', 'ne', 'lt', 'gt', 'le', 'ge'];
+const FLOAT_OPERATORS = [
+  'abs', 'neg', 'ceil', 'floor', 'trunc', 'nearest', 'sqrt', 'add', 'sub', 'mul', 'div', 'min', 'max', 'copysign',
+];
+const TRUNCATIONS = ['f32_s', 'f32_u', 'f64_s', 'f64_u'];
+for (const [first, names] of [
+  [0x2a, ['f32.load', 'f64.load']], [0x38, ['f32.store', 'f64.store']], [0x43, ['f32.const', 'f64.const']],
+  [0x5b, FLOAT_COMPARISONS.map((name) => `f32.${name}`)], [0x61, FLOAT_COMPARISONS.map((name) => `f64.${name}`)],
+  [0x8b, FLOAT_OPERATORS.map((name) => `f32.${name}`)], [0x99, FLOAT_OPERATORS.map((name) => `f64.${name}`)],
+  [0xa8, TRUNCATIONS.map((name) => `i32.trunc_${name}`)], [0xae, TRUNCATIONS.map((name) => `i64.trunc_${name}`)],
+  [0xb2, ['f32.convert_i32_s', 'f32.convert_i32_u', 'f32.convert_i64_s', 'f32.convert_i64_u', 'f32.demote_f64']],
+  [0xb7, ['f64.convert_i32_s', 'f64.convert_i32_u', 'f64.convert_i64_s', 'f64.convert_i64_u', 'f64.promote_f32']],
+  [0xbc, ['i32.reinterpret_f32', 'i64.reinterpret_f64', 'f32.reinterpret_i32', 'f64.reinterpret_i64']],
+  [0xfc00, TRUNCATIONS.map((name) => `i32.trunc_sat_${name}`)],
+  [0xfc04, TRUNCATIONS.map((name) => `i64.trunc_sat_${name}`)],
+]) names.forEach((name, place) => NAMES.set(first + place, name));
+
 /** The name of an instruction, or its opcode in hexadecimal digits. */
 export const nameOf = (code) => NAMES.get(code) ?? `opcode ${code.toString(16).padStart(2, '0')}`;
 

@@ -3,7 +3,7 @@
 import { readFileSync } from 'node:fs';
 import { fileURLToPath } from 'node:url';
 import { Reader } from '../shared/binary.mjs';
-import { featureOf, readExpression } from './instructions.mjs';
+import { featureOf, nameOf, readExpression } from './instructions.mjs';
 import { linkerMemory } from './linker_memory.mjs';
 import { constantOf, readModule } from './module.mjs';
 
@@ -120,8 +120,23 @@ function testInitialization({ note }) {
   note(!wrong.length && found(module, 0, (same) => same) === WHOLE, 'with other constants it is another function', `${wrong}`);
 }
 
+/** The first and the last name of each list of float instructions, as wabt has them. */
+const FLOAT_NAMES = {
+  0x2a: 'f32.load', 0x2b: 'f64.load', 0x38: 'f32.store', 0x39: 'f64.store', 0x43: 'f32.const', 0x44: 'f64.const', 0x5b: 'f32.eq',
+  0x60: 'f32.ge', 0x61: 'f64.eq', 0x66: 'f64.ge', 0x8b: 'f32.abs', 0x98: 'f32.copysign', 0x99: 'f64.abs', 0xa6: 'f64.copysign',
+  0xa8: 'i32.trunc_f32_s', 0xab: 'i32.trunc_f64_u', 0xae: 'i64.trunc_f32_s', 0xb1: 'i64.trunc_f64_u', 0xb2: 'f32.convert_i32_s',
+  0xb6: 'f32.demote_f64', 0xb7: 'f64.convert_i32_s', 0xbb: 'f64.promote_f32', 0xbc: 'i32.reinterpret_f32',
+  0xbf: 'f64.reinterpret_i64', 0xfc00: 'i32.trunc_sat_f32_s', 0xfc07: 'i64.trunc_sat_f64_u',
+};
+
+function testNames({ note }) {
+  const wrong = Object.entries(FLOAT_NAMES).filter(([code, name]) => nameOf(Number(code)) !== name);
+  note(!wrong.length, 'instructions over floats have their names', `${wrong}`);
+}
+
 export function testReading(context) {
   testInstructions(context);
+  testNames(context);
   testValues(context);
   testInitialization(context);
 }
