@@ -2,6 +2,7 @@ pub mod Invalid
 pub mod Alone
 pub mod FirstFaults
 pub mod SameRefusal
+pub mod OnePlace
 pub mod SameVerdict
 pub mod CompletedFits
 pub mod Candidates

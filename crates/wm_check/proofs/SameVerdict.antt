@@ -1,5 +1,5 @@
 -- What two verdicts on the same bytes have in common.
-use Rattle.std.proofs.Common.{◌≡◌, ℕ, ◌<◌, ◌≤◌, ◌⊎◌, inl, inr, List, Some, Result, Ok, Err, refl, sym, ap, subst, ◌∙◌, arith}
+use Rattle.std.proofs.Common.{◌≡◌, ℕ, ◌<◌, ◌≤◌, ◌⊎◌, inl, inr, List, Result, Ok, Err, refl, sym, ap, subst, ◌∙◌, arith}
 use Rattle.std.specs.Prelude.{◌≢◌, slice_get}
 use Rattle.std.proofs.lemmas.Bool.{cases_lt}
 use Rattle.std.proofs.lemmas.Option.{same_Some}
@@ -30,10 +30,11 @@ use Rattle.wm_check.specs.declared.verdict.Verdict.{Verdict}
 use Rattle.wm_check.specs.declared.verdict.Verdict.TheVariants.{Allowed, Refused, Broken}
 use Rattle.wm_check.specs.Alone.{IsPermitted}
 use Rattle.wm_check.specs.Run.{IsCandidateOf, IsModuleOf}
-use Rattle.wm_check.specs.SameVerdict.{IsExact, part_of, status_of, thread_of}
+use Rattle.wm_check.specs.SameVerdict.{IsExact, part_of, status_of}
 use Rattle.wm_check.specs.Verdicts.{IsAllowed, IsBrokenBy, IsForbidden, IsInvalid, IsMisshapen, IsNoModule, IsNoRun, IsRefusedFor, Says}
 use Rattle.wm_check.proofs.Alone.{AreSpelledOnce, counted, no_replay_fault, none_broken, none_refused, one_module, one_run}
 use Rattle.wm_check.proofs.FirstFaults.{one_rule_fault, one_shape_fault}
+use Rattle.wm_check.proofs.OnePlace.{one_place}
 use Rattle.wm_check.proofs.SameRefusal.{same_decode, same_document}
 
 -- ---- what a verdict rests on
@@ -101,7 +102,7 @@ module _ (once : AreSpelledOnce) (mb db : List ℕ) where
   one_part (refusal.Shape f) (refusal.Document g) first second = absurd (second.1.no_document first.run.log first.run.witness first.is_run.document)
   one_part (refusal.Shape f) (refusal.Shape g) first second = refl
 
-  -- ---- one thread
+  -- ---- a replay or a rule
 
   not_replay_and_rule : (answer : ReplayAnswer) (fault : RuleFault) → IsNoRun mb db answer → IsForbidden mb db fault → ⊥
   not_replay_and_rule answer fault first second =
@@ -119,16 +120,6 @@ same_first m log k l a b first second (inr late) (inr early) = omega (arith, lat
 
 one_first : (m : Module) (log : List ThreadLog) (k l : ℕ) (a b : ReplayAnswer) → IsFirstOther m log k a → IsFirstOther m log l b → k ≡ l
 one_first m log k l a b first second = same_first m log k l a b first second (cases_lt k l) (cases_lt l k)
-
-thread_in : (m : Module) (log : List ThreadLog) (a b : ReplayAnswer) → a ≢ replay.Same → b ≢ replay.Same → Replays m log a → Replays m log b
-    → thread_of (breach.Replay a) ≡ thread_of (breach.Replay b)
-thread_in m log replay.Same b not also first second = absurd (not refl)
-thread_in m log (replay.StartRefused k f) replay.Same not also first second = absurd (also refl)
-thread_in m log (replay.Differs k p) replay.Same not also first second = absurd (also refl)
-thread_in m log (replay.StartRefused k f) (replay.StartRefused l g) not also first second = ap (λ n. Some n) (one_first m log k l _ _ first second)
-thread_in m log (replay.StartRefused k f) (replay.Differs l q) not also first second = ap (λ n. Some n) (one_first m log k l _ _ first second)
-thread_in m log (replay.Differs k p) (replay.StartRefused l g) not also first second = ap (λ n. Some n) (one_first m log k l _ _ first second)
-thread_in m log (replay.Differs k p) (replay.Differs l q) not also first second = ap (λ n. Some n) (one_first m log k l _ _ first second)
 
 -- a thread that differs somewhere has started
 started_so : (m : Module) (k : ℕ) (t : ThreadLog) (p : Place) → DiffersAt m k t p → (c : Config) × (start_of m t ≡ Ok c)
@@ -156,18 +147,25 @@ same_start m log k f (replay.Differs l q) also first second =
     let start = started_so m l second.thread q second.other.1 in
     absurd (no_start f start.0 (sym first.other.1 ∙ ap (start_of m) thread ∙ start.1))
 
+-- and a thread differs at one place
+same_place : (m : Module) (log : List ThreadLog) (k : ℕ) (p : Place) (b : ReplayAnswer) → b ≢ replay.Same → Replays m log (replay.Differs k p) → Replays m log b → replay.Differs k p ≡ b
+same_place m log k p replay.Same also first second = absurd (also refl)
+same_place m log k p (replay.StartRefused l g) also first second = sym (same_start m log l g (replay.Differs k p) not_same second first)
+  where
+    not_same : replay.Differs k p ≢ replay.Same
+    not_same is = cc
+same_place m log k p (replay.Differs l q) also first second =
+    let same = one_first m log k l _ _ first second in
+    let thread = same_Some first.thread second.thread (sym first.is_thread ∙ ap (slice_get log) same ∙ second.is_thread) in
+    let differs : DiffersAt m l second.thread p = subst (λ t. DiffersAt m l t p) thread (subst (λ n. DiffersAt m n first.thread p) same first.other.1) in
+    ap (λ n. replay.Differs n p) same ∙ ap (λ x. replay.Differs l x) (one_place m l second.thread p q differs second.other.1)
+
 module _ (once : AreSpelledOnce) (mb db : List ℕ) where
   -- both answers are about one log
   replays_both : (a b : ReplayAnswer) → (first : IsNoRun mb db a) → (second : IsNoRun mb db b) → Replays second.«module» second.run.log a
   replays_both a b first second =
       let same = one_run once mb db first.«module» second.«module» first.run second.run first.candidate.is_run second.candidate.is_run in
       subst (λ m. Replays m second.run.log a) same.0 (subst (λ (r : LoggedRun). Replays first.«module» r.log a) same.1 first.first)
-
-  pub one_thread : (reason other : Breach) → IsBrokenBy mb db reason → IsBrokenBy mb db other → thread_of reason ≡ thread_of other
-  one_thread (breach.Replay a) (breach.Replay b) first second = thread_in second.«module» second.run.log a b first.differs second.differs (replays_both a b first second) second.first
-  one_thread (breach.Replay a) (breach.Rule g) first second = absurd (not_replay_and_rule once mb db a g first second)
-  one_thread (breach.Rule f) (breach.Replay b) first second = absurd (not_replay_and_rule once mb db b f second first)
-  one_thread (breach.Rule f) (breach.Rule g) first second = refl
 
   -- ---- one exact verdict
 
@@ -204,14 +202,16 @@ module _ (once : AreSpelledOnce) (mb db : List ℕ) where
   exact_shape f (refusal.Document g) first second = absurd (second.1.no_document first.run.log first.run.witness first.is_run.document)
   exact_shape f (refusal.Shape g) first second = ap (λ h. refusal.Shape h) (same_shape f g first second)
 
-  exact_breach : (reason other : Breach) → IsExact (Broken reason) → IsBrokenBy mb db reason → IsBrokenBy mb db other → reason ≡ other
-  exact_breach (breach.Replay replay.Same) other exact first second = absurd exact
-  exact_breach (breach.Replay (replay.StartRefused k f)) (breach.Replay b) exact first second =
+  same_breach : (reason other : Breach) → IsBrokenBy mb db reason → IsBrokenBy mb db other → reason ≡ other
+  same_breach (breach.Replay replay.Same) other first second = absurd (first.differs refl)
+  same_breach (breach.Replay (replay.StartRefused k f)) (breach.Replay b) first second =
       ap (λ a. breach.Replay a) (same_start second.«module» second.run.log k f b second.differs (replays_both (replay.StartRefused k f) b first second) second.first)
-  exact_breach (breach.Replay (replay.StartRefused k f)) (breach.Rule g) exact first second = absurd (not_replay_and_rule once mb db (replay.StartRefused k f) g first second)
-  exact_breach (breach.Replay (replay.Differs k p)) other exact first second = absurd exact
-  exact_breach (breach.Rule f) (breach.Replay b) exact first second = absurd (not_replay_and_rule once mb db b f second first)
-  exact_breach (breach.Rule f) (breach.Rule g) exact first second = ap (λ h. breach.Rule h) (same_rule f g first second)
+  same_breach (breach.Replay (replay.StartRefused k f)) (breach.Rule g) first second = absurd (not_replay_and_rule once mb db (replay.StartRefused k f) g first second)
+  same_breach (breach.Replay (replay.Differs k p)) (breach.Replay b) first second =
+      ap (λ a. breach.Replay a) (same_place second.«module» second.run.log k p b second.differs (replays_both (replay.Differs k p) b first second) second.first)
+  same_breach (breach.Replay (replay.Differs k p)) (breach.Rule g) first second = absurd (not_replay_and_rule once mb db (replay.Differs k p) g first second)
+  same_breach (breach.Rule f) (breach.Replay b) first second = absurd (not_replay_and_rule once mb db b f second first)
+  same_breach (breach.Rule f) (breach.Rule g) first second = ap (λ h. breach.Rule h) (same_rule f g first second)
 
   pub one_exact : (verdict other : Verdict) → IsExact verdict → Says mb db verdict → Says mb db other → verdict ≡ other
   one_exact (Allowed a) (Allowed b) exact first second = ap (λ c. Allowed c) (same_certificate a b first second)
@@ -229,4 +229,4 @@ module _ (once : AreSpelledOnce) (mb db : List ℕ) where
   one_exact (Refused (refusal.Shape f)) (Broken s) exact first second = absurd (not_broken_and_refused once mb db s (refusal.Shape f) second first)
   one_exact (Broken r) (Allowed a) exact first second = absurd (not_allowed_and_broken once mb db a r second first)
   one_exact (Broken r) (Refused s) exact first second = absurd (not_broken_and_refused once mb db r s first second)
-  one_exact (Broken r) (Broken s) exact first second = ap (λ b. Broken b) (exact_breach r s exact first second)
+  one_exact (Broken r) (Broken s) exact first second = ap (λ b. Broken b) (same_breach r s first second)

@@ -1,13 +1,10 @@
 -- What two verdicts on the same bytes have in common.
-use Rattle.std.specs.Prelude.{◌≡◌, ℕ, List, Option, None, Some}
-use Rattle.wm_replay.specs.declared.answer.ReplayAnswer.TheVariants.{Same, StartRefused, Differs}
-use Rattle.wm_check.specs.declared.verdict.Breach.{Breach}
-use Rattle.wm_check.specs.declared.verdict.Breach.TheVariants.{Replay, Rule}
+use Rattle.std.specs.Prelude.{◌≡◌, ℕ, List}
 use Rattle.wm_check.specs.declared.verdict.Refusal.{Refusal}
 use Rattle.wm_check.specs.declared.verdict.Refusal.TheVariants.{Decode, Valid, Document, Shape}
 use Rattle.wm_check.specs.declared.verdict.Verdict.{Verdict}
 use Rattle.wm_check.specs.declared.verdict.Verdict.TheVariants.{Allowed, Refused, Broken}
-use Rattle.wm_check.specs.Verdicts.{IsBrokenBy, IsRefusedFor, Says}
+use Rattle.wm_check.specs.Verdicts.{IsRefusedFor, Says}
 
 -- whether a run is allowed, refused or broken
 pub data Status : Type 0 where
@@ -33,13 +30,6 @@ part_of (Valid fault) = module_rules
 part_of (Document fault) = document_bytes
 part_of (Shape fault) = document_shape
 
--- the thread whose log isn't its run; None if a memory rule is broken
-abbrev pub thread_of : Breach → Option ℕ
-thread_of (Replay Same) = None
-thread_of (Replay (StartRefused thread fault)) = Some thread
-thread_of (Replay (Differs thread place)) = Some thread
-thread_of (Rule fault) = None
-
 -- the verdict leaves no kind of fault and no place open
 abbrev pub IsExact : Verdict → Type 0
 IsExact (Allowed certificate) = Unit {0}
@@ -47,10 +37,7 @@ IsExact (Refused (Decode fault)) = Unit {0}
 IsExact (Refused (Valid fault)) = ⊥
 IsExact (Refused (Document fault)) = Unit {0}
 IsExact (Refused (Shape fault)) = Unit {0}
-IsExact (Broken (Replay Same)) = ⊥
-IsExact (Broken (Replay (StartRefused thread fault))) = Unit {0}
-IsExact (Broken (Replay (Differs thread place))) = ⊥
-IsExact (Broken (Rule fault)) = Unit {0}
+IsExact (Broken reason) = Unit {0}
 
 -- ---- the laws
 
@@ -62,6 +49,3 @@ OneExactVerdict = (mb db : List ℕ) (verdict other : Verdict) → IsExact verdi
 
 abbrev pub OnePart : Type 0
 OnePart = (mb db : List ℕ) (reason other : Refusal) → IsRefusedFor mb db reason → IsRefusedFor mb db other → part_of reason ≡ part_of other
-
-abbrev pub OneThread : Type 0
-OneThread = (mb db : List ℕ) (reason other : Breach) → IsBrokenBy mb db reason → IsBrokenBy mb db other → thread_of reason ≡ thread_of other

@@ -1,6 +1,6 @@
 //! Laws about a run that is allowed, a document that is too large, and a completed document.
 ghost use Rattle.wm_check.specs.Alone.{AllowedAlone, TooLargeAlone};
-ghost use Rattle.wm_check.specs.SameVerdict.{OneExactVerdict, OnePart, OneStatus, OneThread};
+ghost use Rattle.wm_check.specs.SameVerdict.{OneExactVerdict, OnePart, OneStatus};
 ghost use Rattle.wm_check.specs.Verified.{VerifiesAsCheck};
 
 use wm_decode::spelled_once;
@@ -18,19 +18,17 @@ pub fn one_verdict()
     one_pair();
 }
 
-/// A verdict is a function of the bytes, except for which rule an invalid module breaks first and where, and for the
-/// place where a thread differs from its log. For any two verdicts on the same bytes:
+/// A verdict is a function of the bytes, except for which rule an invalid module breaks first and where. For any two
+/// verdicts on the same bytes:
 ///
 /// - both are `Allowed`, or both `Refused`, or both `Broken`;
-/// - if one is `Allowed`, or refuses the module's bytes, the document's bytes or a shape, or names a refused start or a rule,
-///   the other is equal to it;
-/// - if both are refusals, both are of the same part: the module's bytes, its rules, the document's bytes, or the shape;
-/// - if both are breaches, both name the same thread, or both name a rule.
+/// - if one is `Allowed` or `Broken`, or refuses the module's bytes, the document's bytes or a shape, the other is equal to
+///   it;
+/// - if both are refusals, both are of the same part: the module's bytes, its rules, the document's bytes, or the shape.
 pub fn same_verdict()
     ensures status { OneStatus }
     ensures exact { OneExactVerdict }
     ensures part { OnePart }
-    ensures thread { OneThread }
 {
     spelled_once();
     one_pair();

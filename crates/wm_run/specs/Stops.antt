@@ -35,7 +35,7 @@ pub record HasStopped (is_open : Bool) (k : ℕ) (old new : State) (events : Lis
   pub within : made ≤ limit
   pub stops : ((stop ≡ Own) × (made ≡ limit)) ⊎ StopsFor is_open old.module (config_of new) stop
 
--- a memory of which this is known when it refuses an access refused the next access of thread k
+-- the memory refused the next access of thread k for a fault: what it says of a refusal holds of these
 abbrev pub IsRefused : (ℕ → OpFields → AccessFault → Type 0) → Module → ℕ → Config → Type 0
 IsRefused refuses m k c = (op : OpFields) × (fault : AccessFault) × (access_of (step m 0 c) ≡ Some op) × refuses k op fault
 

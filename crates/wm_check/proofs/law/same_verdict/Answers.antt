@@ -1,4 +1,4 @@
-use Rattle.wm_check.proofs.SameVerdict.{one_exact, one_part, one_status, one_thread}
+use Rattle.wm_check.proofs.SameVerdict.{one_exact, one_part, one_status}
 use Rattle.wm_check.proofs.law.same_verdict.Goals as goal
 
 pub returns-clause-status : goal.returns-clause-status
@@ -9,6 +9,3 @@ returns-clause-exact c = one_exact (record { modules = c.spelled_once.ensures; p
 
 pub returns-clause-part : goal.returns-clause-part
 returns-clause-part c = one_part (record { modules = c.spelled_once.ensures; pairs = c.one_pair.ensures })
-
-pub returns-clause-thread : goal.returns-clause-thread
-returns-clause-thread c = one_thread (record { modules = c.spelled_once.ensures; pairs = c.one_pair.ensures })
