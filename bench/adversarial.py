@@ -22,7 +22,7 @@ from bench_path import log
 
 
 def old(n):
-    run = log.Execution(2)
+    run = log.LogBuilder(2)
     first = run.write(0, "un", 0, 8, 1)
     for value in range(n // 2 - 1):
         run.write(0, "un", 0, 8, value)
@@ -32,7 +32,7 @@ def old(n):
 
 
 def bytes_of_eight(n):
-    run = log.Execution(10)
+    run = log.LogBuilder(10)
     firsts = [run.write(byte, "sc", byte, 1, byte) for byte in range(8)]
     for value in range(n // 2 - 8):
         run.write(8, "un", 0, 8, value)
@@ -42,7 +42,7 @@ def bytes_of_eight(n):
 
 
 def own(n):
-    run = log.Execution(9)
+    run = log.LogBuilder(9)
     others = [run.write(byte, "un", byte, 1, byte) for byte in range(8)]
     for value in range(n // 2 - 8):
         run.write(8, "un", 0, 8, value)
@@ -52,7 +52,7 @@ def own(n):
 
 
 def widths(n):
-    run, r = log.Execution(16), random.Random(2)
+    run, r = log.LogBuilder(16), random.Random(2)
     firsts = [run.write(byte, "un", byte, 1, byte) for byte in range(8)]
     for index in range(n // 2 - 8):
         width = r.choice([1, 2, 4, 8])
@@ -63,7 +63,7 @@ def widths(n):
 
 
 def plain_past(n):
-    run = log.Execution(9)
+    run = log.LogBuilder(9)
     firsts = [run.write(byte, "sc", byte, 1, byte) for byte in range(8)]
     for value in range(n // 2 - 16):
         run.write(8, "un", 0, 8, value)
@@ -75,7 +75,7 @@ def plain_past(n):
 
 
 def late(n):
-    run = log.Execution(3)
+    run = log.LogBuilder(3)
     first = run.write(0, "sc", 0, 8, 7)
     for value in range(n // 2 - 1):
         run.write(1, "un", 0, 8, value)
@@ -85,7 +85,7 @@ def late(n):
 
 
 def atomic_past(n):
-    run = log.Execution(10)
+    run = log.LogBuilder(10)
     firsts = [run.write(byte, "sc", byte, 1, byte) for byte in range(8)]
     for value in range(n // 2 - 16):
         run.write(8, "sc", 0, 8, value)
@@ -97,7 +97,7 @@ def atomic_past(n):
 
 
 def mixed(n, threads, order):
-    run, r, memory = log.Execution(threads), random.Random(3), [[]] * 8
+    run, r, memory = log.LogBuilder(threads), random.Random(3), [[]] * 8
     for index in range(n):
         thread = r.randrange(threads)
         if r.random() < 0.5:

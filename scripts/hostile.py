@@ -1,14 +1,12 @@
 #!/usr/bin/env python3
 """Hostile input through the built program, each with its exact line and status: modules and logs cut at each length,
 each limit at its value and one past it, values and addresses changed, inputs that never end or come byte by byte, and
-devices, streams and files that fail. The answers are written here from README.md and docs/,
-and not from the program.
+devices, streams and files that fail. The answers are written here from README.md and docs/, and not from the program.
 
     scripts/hostile.py [--wmlab PATH]
 
 The last line is `N passed, N failed`.
 """
-import concurrent.futures
 import glob
 import json
 import os
@@ -57,9 +55,8 @@ def answers(shows, words, line, data=b"", error="", status=None, **streams):
 
 def all_answer(cases):
     """Many short runs side by side: what each shows, its words, its input and its line."""
-    with concurrent.futures.ThreadPoolExecutor(harness.processors()) as pool:
-        for (shows, words, _, line), got in zip(cases, pool.map(lambda case: run(case[1], case[2]), cases)):
-            check(told(words, got) == wanted(line), shows, got)
+    for (shows, words, _, line), got in zip(cases, harness.at_once(lambda case: run(case[1], case[2]), cases)):
+        check(told(words, got) == wanted(line), shows, got)
 
 
 def file_of(data, name):
@@ -150,131 +147,99 @@ def cut_modules():
 # ---- limits
 
 
+STORING = file_of(module_of([(0, b"\x03\x40" + b"\x41\0\x41\1\x36\x02\0" + b"\x0c\0\x0b")]), "storing.wasm")
+LOOPING = file_of(module_of([(0, b"\x03\x40\x0c\0\x0b")]), "looping.wasm")
+# What is checked of a run, by its line and by the text that explains it.
+CHECKS = ("check", "explain")
+
+
+def event_limits(version):
+    """16,384 events and one more."""
+    says = f"version {version}"
+    most, more = (one_thread(stores(count), version=version) for count in (16_384, 16_385))
+    answers(f"16,384 events, {says}", ["rules", "-"], "allowed", most)
+    over_module = ([command, STORING, "-"] for command in ("check", "complete", "explain", "graph"))
+    for words in (["rules", "-"], *over_module):
+        answers(f"16,385 events, {words[0]}, {says}", words, "refused shape TooManyEvents", more)
+    # The loop, two constants and the store for the first event; then the branch before each of the four again. The
+    # thread is cut after the branch, the loop and the two constants.
+    steps = 4 + 5 * 16_383 + 4
+    completed = one_thread(stores(16_384), steps=steps)
+    answers(f"16,384 events, complete, {says}", ["complete", STORING, "-"], completed.decode(), most)
+    whole = one_thread(stores(16_384), steps=steps, version=version)
+    for command in CHECKS:
+        shows = f"16,384 events, {command}, {says}"
+        answers(shows, [command, STORING, "-"], "allowed threads=1 events=16384", whole)
+
+
+def thread_and_step_limits(version):
+    """16 threads, 1,000,000 steps, and one more."""
+    says, cut = f"version {version}", ["a", [], ["cut"], 0, []]
+    threads = {count: document([cut] * count, [], version) for count in (16, 17)}
+    steps = {count: one_thread([], steps=count, version=version) for count in (1_000_000, 1_000_001)}
+    for command in CHECKS:
+        shows = f"16 threads, {command}, {says}"
+        answers(shows, [command, MODULE, "-"], "allowed threads=16 events=0", threads[16])
+        shows = f"1,000,000 steps, {command}, {says}"
+        answers(shows, [command, LOOPING, "-"], "allowed threads=1 events=0", steps[1_000_000])
+    for words in OVER_DOCUMENTS:
+        answers(f"17 threads, {words[0]}, {says}", words, "refused document TooLarge", threads[17])
+        shows = f"1,000,001 steps, {words[0]}, {says}"
+        answers(shows, words, "refused document NumberRange at /2/0/3", steps[1_000_001])
+    completed, given = one_thread([], steps=1_000_000).decode(), one_thread([], version=version)
+    answers(f"a loop is completed to the limit, {says}", ["complete", LOOPING, "-"], completed, given)
+
+
+def byte_limits(version):
+    """8,388,608 bytes and one more, from standard input and from a file."""
+    text = document(STORE_BUFFERING[2], STORE_BUFFERING[3], version)
+    printed = document(STORE_BUFFERING[2], STORE_BUFFERING[3]).decode()
+    lines = (
+        (["rules"], "allowed"),
+        (["check", MODULE], ALLOWED),
+        (["explain", MODULE], ALLOWED),
+        (["migrate"], printed),
+        (["complete", MODULE], printed),
+    )
+    for size in (8_388_608, 8_388_609):
+        path = file_of(text.ljust(size), "document.json")
+        for words, within in lines:
+            line = within if size == 8_388_608 else "refused document TooLarge"
+            shows = f"{size} bytes, {words[0]}, version {version}"
+            answers(shows, [*words, "-"], line, text.ljust(size))
+            answers(f"a file of {shows}", [*words, path], line)
+
+
 def document_limits():
     """Events, threads, steps and bytes, in both versions."""
-    storing = file_of(module_of([(0, b"\x03\x40" + b"\x41\0\x41\1\x36\x02\0" + b"\x0c\0\x0b")]), "storing.wasm")
-    looping = file_of(module_of([(0, b"\x03\x40\x0c\0\x0b")]), "looping.wasm")
     for version in (1, 2):
-        says = f"version {version}"
-        most = one_thread(stores(16_384), version=version)
-        answers(f"16,384 events, {says}", ["rules", "-"], "allowed", most)
-        more = one_thread(stores(16_385), version=version)
-        for words in (
-            ["rules", "-"],
-            *([command, storing, "-"] for command in ("check", "complete", "explain", "graph")),
-        ):
-            answers(f"16,385 events, {words[0]}, {says}", words, "refused shape TooManyEvents", more)
-        # The loop, two constants and the store for the first event; then the branch before each of the four again. The
-        # thread is cut after the branch, the loop and the two constants.
-        steps = 4 + 5 * 16_383 + 4
-        completed = one_thread(stores(16_384), steps=steps)
-        answers(f"16,384 events, complete, {says}", ["complete", storing, "-"], completed.decode(), most)
-        for command in ("check", "explain"):
-            answers(
-                f"16,384 events, {command}, {says}",
-                [command, storing, "-"],
-                "allowed threads=1 events=16384",
-                one_thread(stores(16_384), steps=steps, version=version),
-            )
-        cut = ["a", [], ["cut"], 0, []]
-        for command in ("check", "explain"):
-            answers(
-                f"16 threads, {command}, {says}",
-                [command, MODULE, "-"],
-                "allowed threads=16 events=0",
-                document([cut] * 16, [], version),
-            )
-            answers(
-                f"1,000,000 steps, {command}, {says}",
-                [command, looping, "-"],
-                "allowed threads=1 events=0",
-                one_thread([], steps=1_000_000, version=version),
-            )
-        for words in OVER_DOCUMENTS:
-            answers(
-                f"17 threads, {words[0]}, {says}", words, "refused document TooLarge", document([cut] * 17, [], version)
-            )
-            answers(
-                f"1,000,001 steps, {words[0]}, {says}",
-                words,
-                "refused document NumberRange at /2/0/3",
-                one_thread([], steps=1_000_001, version=version),
-            )
-        answers(
-            f"a loop is completed to the limit, {says}",
-            ["complete", looping, "-"],
-            one_thread([], steps=1_000_000).decode(),
-            one_thread([], version=version),
-        )
-        text = document(STORE_BUFFERING[2], STORE_BUFFERING[3], version)
-        printed = document(STORE_BUFFERING[2], STORE_BUFFERING[3]).decode()
-        for size in (8_388_608, 8_388_609):
-            for words, line in (
-                (["rules", "-"], "allowed"),
-                (["check", MODULE, "-"], ALLOWED),
-                (["explain", MODULE, "-"], ALLOWED),
-                (["migrate", "-"], printed),
-                (["complete", MODULE, "-"], printed),
-            ):
-                line = line if size == 8_388_608 else "refused document TooLarge"
-                answers(f"{size} bytes, {words[0]}, {says}", words, line, text.ljust(size))
-                words = [*words[:-1], file_of(text.ljust(size), "document.json")]
-                answers(f"a file of {size} bytes, {words[0]}, {says}", words, line)
+        event_limits(version)
+        thread_and_step_limits(version)
+        byte_limits(version)
+
+
+LAST_BYTE = 16 * 65_536 - 1
+# Events with a number at its limit or past it, and the line of `rules`.
+NUMBERS = (
+    ("an address past 2^32", ["w", "un", 2**32, 1, 0], "refused document NumberRange at /2/0/4/0/2"),
+    ("a value past 2^64", ["w", "un", 0, 8, 2**64], "refused document NumberRange at /2/0/4/0/4"),
+    ("a width of 3", ["w", "un", 0, 3, 0], "refused document NumberRange at /2/0/4/0/3"),
+    ("the largest value", ["w", "un", 0, 8, 2**64 - 1], "allowed"),
+    ("the largest address", ["w", "un", 2**32 - 1, 1, 0], "refused shape RangeOutOfMemory at 0.0"),
+    ("the last byte", ["w", "un", LAST_BYTE, 1, 0], "allowed"),
+    ("past the last byte", ["w", "un", LAST_BYTE + 1, 1, 0], "refused shape RangeOutOfMemory at 0.0"),
+    ("a value that is too wide", ["w", "un", 0, 4, 2**32], "refused shape ValueTooWide at 0.0"),
+)
 
 
 def numbers_at_their_limits():
     """Addresses, names of events, values and arguments at the largest number and one past it."""
     for version in (1, 2):
-        for value, event, place in (
-            (2**32, ["w", "un", 2**32, 1, 0], "/2/0/4/0/2"),
-            (2**64, ["w", "un", 0, 8, 2**64], "/2/0/4/0/4"),
-            (3, ["w", "un", 0, 3, 0], "/2/0/4/0/3"),
-        ):
-            answers(
-                f"the number {value}, version {version}",
-                ["rules", "-"],
-                f"refused document NumberRange at {place}",
-                one_thread([event], version=version),
-            )
-        answers(
-            "the largest value",
-            ["rules", "-"],
-            "allowed",
-            one_thread([["w", "un", 0, 8, 2**64 - 1]], version=version),
-        )
-        answers(
-            "the largest address",
-            ["rules", "-"],
-            "refused shape RangeOutOfMemory at 0.0",
-            one_thread([["w", "un", 2**32 - 1, 1, 0]], version=version),
-        )
-        answers(
-            "the last byte",
-            ["rules", "-"],
-            "allowed",
-            one_thread([["w", "un", 16 * 65_536 - 1, 1, 0]], version=version),
-        )
-        answers(
-            "past the last byte",
-            ["rules", "-"],
-            "refused shape RangeOutOfMemory at 0.0",
-            one_thread([["w", "un", 16 * 65_536, 1, 0]], version=version),
-        )
-        answers(
-            "the largest argument", ["rules", "-"], "allowed", one_thread([], arguments=[2**64 - 1], version=version)
-        )
-        answers(
-            "a larger argument",
-            ["rules", "-"],
-            "refused document NumberRange at /2/0/1/0",
-            one_thread([], arguments=[2**64], version=version),
-        )
-        answers(
-            "a value that is too wide",
-            ["rules", "-"],
-            "refused shape ValueTooWide at 0.0",
-            one_thread([["w", "un", 0, 4, 2**32]], version=version),
-        )
+        for shows, event, line in NUMBERS:
+            answers(f"{shows}, version {version}", ["rules", "-"], line, one_thread([event], version=version))
+        for argument, line in ((2**64 - 1, "allowed"), (2**64, "refused document NumberRange at /2/0/1/0")):
+            log = one_thread([], arguments=[argument], version=version)
+            answers(f"the argument {argument}, version {version}", ["rules", "-"], line, log)
     order = document([["a", [], ["cut"], 0, stores(1)]], [[0, 2**32]])
     answers("an event's number past 2^32", ["rules", "-"], "refused document NumberRange at /3/0/1", order)
 
@@ -432,8 +397,8 @@ COMMANDS = [
 ]
 
 
-def devices_and_streams():
-    """A full device, streams that are closed or that nobody reads, files that aren't there, and folders."""
+def full_devices():
+    """A full device, and an output that nobody reads."""
     for words in COMMANDS:
         shows = " ".join(words)
         with open("/dev/full", "wb") as full:
@@ -446,25 +411,37 @@ def devices_and_streams():
         with open("/dev/full", "wb") as full:
             got = run(words, stdout=full, stderr=full)
             check(got == ("", "", 3), f"both devices are full, {shows}", got)
-    for words in (
-        ["rules", "NAME"],
-        ["migrate", "NAME"],
-        *([command, "NAME", LOG] for command in ("check", "complete", "explain", "graph")),
-        *([command, MODULE, "NAME"] for command in ("check", "complete", "explain", "graph")),
-        ["drive", "NAME", "0", "a"],
-        ["run", "NAME", "1", "a"],
-    ):
-        for name, shows in (
-            ("examples/nothing", "a missing file"),
-            ("examples", "a folder"),
-            (f"{LOG}/below", "a file below a file"),
-            ("", "no name"),
-        ):
+
+
+# Commands, with NAME in place of a file.
+OVER_FILES = (
+    ["rules", "NAME"],
+    ["migrate", "NAME"],
+    *([command, "NAME", LOG] for command in ("check", "complete", "explain", "graph")),
+    *([command, MODULE, "NAME"] for command in ("check", "complete", "explain", "graph")),
+    ["drive", "NAME", "0", "a"],
+    ["run", "NAME", "1", "a"],
+)
+NO_FILES = {
+    "examples/nothing": "a missing file",
+    "examples": "a folder",
+    f"{LOG}/below": "a file below a file",
+    "": "no name",
+}
+
+
+def missing_files():
+    """Files that aren't there, and folders."""
+    for words in OVER_FILES:
+        for name, shows in NO_FILES.items():
             given = [name if word == "NAME" else word for word in words]
             answers(f"{shows}, {words[0]}", given, "", error=f"cannot read {name}", status=3)
     folder = os.open(f"{TOP}/examples", os.O_RDONLY)
     answers("an input that is a folder", ["rules", "-"], "", error="cannot read -", status=3, stdin=folder)
     os.close(folder)
+
+
+def closed_streams():
     for given, tail, text, error, status in (
         *((words, "<&-", "", "cannot read -\n", 3) for words in OVER_DOCUMENTS),
         (["rules", LOG], "<&-", "allowed\n", "", 0),
@@ -473,14 +450,7 @@ def devices_and_streams():
         *((words, ">&-", "", "cannot write\n", 3) for words in COMMANDS),
         *((words, ">&- 2>&-", "", "", 3) for words in COMMANDS),
     ):
-        ran = subprocess.run(
-            ["sh", "-c", f'exec "$0" "$@" {tail}', WMLAB, *given],
-            cwd=TOP,
-            stdin=subprocess.DEVNULL,
-            capture_output=True,
-            timeout=60,
-        )
-        got = ran.stdout.decode(), ran.stderr.decode(), ran.returncode
+        got = harness.run("sh", ["-c", f'exec "$0" "$@" {tail}', WMLAB, *given])
         check(got == (text, error, status), f"closed streams, {given} {tail}", got)
 
 
@@ -494,7 +464,9 @@ PARTS = (
     changed_logs,
     endless_inputs,
     one_byte_a_read,
-    devices_and_streams,
+    full_devices,
+    missing_files,
+    closed_streams,
 )
 
 

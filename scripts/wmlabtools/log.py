@@ -39,7 +39,7 @@ def thread_text(events, steps=0):
     return f'["a",[],["cut"],{steps},[{events}]]'
 
 
-class Execution:
+class LogBuilder:
     """A log that is put together in the order of its events. Its threads are `t`, cut after no step."""
 
     def __init__(self, threads):
