@@ -133,6 +133,26 @@ an_option_is_no_name : IsNoCommand (codes "rules" ∷ codes "-x" ∷ [])
 unfolding clap_on_literals
 an_option_is_no_name command is = let none = is.taken in cc
 
+a_module_is_no_option : IsNoCommand (codes "check" ∷ codes "-m" ∷ codes "-" ∷ [])
+unfolding clap_on_literals
+a_module_is_no_option command is = let none = is.taken in cc
+
+a_document_is_no_option : IsNoCommand (codes "check" ∷ codes "a.wasm" ∷ codes "--x" ∷ [])
+unfolding clap_on_literals
+a_document_is_no_option command is = let none = is.taken in cc
+
+turns_are_no_option : IsNoCommand (codes "drive" ∷ codes "a.wasm" ∷ codes "-1" ∷ codes "f" ∷ [])
+unfolding clap_on_literals
+turns_are_no_option command is = let none = is.taken in cc
+
+a_start_is_no_option : IsNoCommand (codes "trace" ∷ codes "a.wasm" ∷ codes "0" ∷ codes "f" ∷ codes "-g" ∷ [])
+unfolding clap_on_literals
+a_start_is_no_option command is = let none = is.taken in cc
+
+rounds_are_no_option : IsNoCommand (codes "run" ∷ codes "a.wasm" ∷ codes "-1" ∷ codes "f" ∷ [])
+unfolding clap_on_literals
+rounds_are_no_option command is = let none = is.taken in cc
+
 there_is_no_help_of_a_command : IsNoCommand (codes "rules" ∷ codes "--help" ∷ [])
 unfolding clap_on_literals
 there_is_no_help_of_a_command command is = let none = is.taken in cc
