@@ -14,6 +14,7 @@ import itertools
 import re
 
 from wmlabtools import harness
+from wmlabtools.explained import LEGEND, Difference, expect, expect_lines, rows
 from wmlabtools.log import document
 from wmlabtools.model import INIT, Event, Execution
 
@@ -64,7 +65,6 @@ SENTENCES = {
 }
 # What happens before what in a fault: `r` is its read, `w` the writer and `o` the other write.
 PREMISES = {("V3", 1): ["rw"], ("V3", 2): ["wo", "or"], ("V5", 2): ["wr", "or"], ("V5", 3): ["wr", "wo"]}
-LEGEND = ["  (T.N is event N of thread T, both from 0; init writes the initial memory)", "  place  event"]
 TABLE = ["The events, with their places in the order:", *LEGEND]
 ALLOWED = [
     "allowed",
@@ -86,20 +86,6 @@ LINKS = {
     ),
     "initial": re.compile(r"  (init) writes the initial memory, before (\S+) as before every event"),
 }
-
-
-class Difference(Exception):
-    """What the text should not have."""
-
-
-def expect(holds, shows):
-    if not holds:
-        raise Difference(shows)
-
-
-def expect_lines(found, wanted):
-    for line, expected in itertools.zip_longest(found, wanted):
-        expect(line == expected, f"{line!r} in place of {expected!r}")
 
 
 # ---- random logs
@@ -190,47 +176,6 @@ def log_of(threads, order):
 
 
 # ---- the text of an explanation
-
-
-def value_text(value, width, is_hex):
-    return f"{value} (0x{value:0{2 * width}x})" if is_hex else str(value)
-
-
-def writers_text(event):
-    runs = [(writer, list(run)) for writer, run in itertools.groupby(range(event.width), event.writers.__getitem__)]
-    if len(runs) == 1:
-        return f"from {runs[0][0].name}"
-    spans = (f"byte {run[0]}" if len(run) == 1 else f"bytes {run[0]} to {run[-1]}" for _, run in runs)
-    return ", ".join(f"{span} from {writer.name}" for span, (writer, _) in zip(spans, runs))
-
-
-def row(execution, event, is_hex):
-    """The row of an event in the table."""
-    start = f"{execution.place[event]:7}  {event.name}  "
-    if event is INIT:
-        return start + "writes the initial memory"
-    kind = {"r": "read", "w": "write", "x": "update"}[event.kind]
-    count = "1 byte" if event.width == 1 else f"{event.width} bytes"
-    reads = f"reads {value_text(event.read, event.width, is_hex)}"
-    writes = f"writes {value_text(event.written, event.width, is_hex)}"
-    does = {"r": reads, "w": writes, "x": f"{reads} and {writes}"}[event.kind]
-    source = f"; read {writers_text(event)}" if event.kind != "w" else ""
-    order = "atomic" if event.atomic else "plain"
-    return f"{start}{order} {kind} of {count} at address {event.address}, which {does}{source}"
-
-
-def rows(execution, events):
-    """The rows of these events, in the order. Values are in hex too around a read with several writers."""
-    events = sorted(events, key=execution.place.get)
-    accesses = [event for event in events if event is not INIT]
-    mixed = [event for event in accesses if len(set(event.writers)) > 1]
-
-    def is_hex(event):
-        return any(
-            event.address < read.address + read.width and read.address < event.address + event.width for read in mixed
-        )
-
-    return [row(execution, event, event is not INIT and is_hex(event)) for event in events]
 
 
 class Explanation:

@@ -7,8 +7,11 @@ It needs node.
 
 Each function of a program is called by node, and runs as the only thread of a script by `wmlab drive`. Both have to
 end with the same result or trap, and to leave the same memory: for wmlab, what the writes of its log make of the
-initial one. Then instructions of the program are changed at random, and of the modules that come of it `wmlab check`
-has to refuse those that node refuses, and no other.
+initial one. The text of `explain` on the log has to be as a plain program writes it, and to name for each event an
+instruction that makes such an access.
+
+Then instructions of the program are changed at random, and of the modules that come of it `wmlab check` has to refuse
+those that node refuses, and no other.
 
 With --lowered programs also have what `engines/lower` replaces. node runs them as they are, and wmlab as they are
 lowered; none is changed. The last line is `N passed, N failed`.
@@ -22,8 +25,9 @@ import tempfile
 
 from wmlabtools import TOP, generated, harness, v8
 from wmlabtools.compiled import CompiledProgram
+from wmlabtools.explained import Difference, expect, expect_run
 from wmlabtools.log import MAX_EVENTS
-from wmlabtools.programs import BITS, Program, argument, change
+from wmlabtools.programs import ACCESSES, BITS, PREFIX, Program, argument, change
 
 TRAPS = {
     **v8.TRAPS,
@@ -105,7 +109,31 @@ def call_fault(wmlab, case, path, index, call):
         return IS_CUT
     # node has no memory if the start function traps.
     memory = call["memory"] and memory_digest(case.program, thread[4])
-    return None if alike and memory == call["memory"] else (start, "node", call, "wmlab", out)
+    if not alike or memory != call["memory"]:
+        return start, "node", call, "wmlab", out
+    # A module that was lowered has other instructions.
+    return None if case.is_lowered else explanation_fault(wmlab, case, path, lines[2])
+
+
+def explanation_fault(wmlab, case, path, log):
+    """What is wrong with the text that explains the log of a call; None if nothing is. Each event has to have an
+    instruction that makes such an access."""
+    text, err, status = harness.run(wmlab, ["explain", path, "-"], input=log.encode())
+    instructions = case.program.instructions()
+
+    def site_fault(event, offset, number, function):
+        index, own_number, instruction = instructions.get(offset, (None, None, b""))
+        kinds, is_atomic, width = ACCESSES.get(instruction[: 1 + (instruction[:1] == PREFIX)], ("", None, None))
+        makes_it = event.kind in kinds and (event.atomic, event.width) == (is_atomic, width)
+        is_named = (own_number, f"f{index}") == (number, function)
+        return None if makes_it and is_named else "another instruction"
+
+    try:
+        expect((err, status) == ("", 0), "it is not allowed")
+        expect_run(text.splitlines(), log, site_fault)
+    except Difference as difference:
+        return str(difference), log, text
+    return None
 
 
 def validity_fault(wmlab, module, is_valid, path):

@@ -32,6 +32,22 @@ ATOMIC_WIDTHS = {I32: ((0, 4), (2, 1), (3, 2)), I64: ((1, 8), (4, 1), (5, 2), (6
 ATOMIC_LOAD, ATOMIC_STORE, UPDATES = 0x10, 0x17, range(0x1E, 0x48, 7)
 COMPARE_EXCHANGE = {I32: (0x48, 4), I64: (0x49, 8)}
 
+
+def access_table():
+    """What each access makes, by its opcode: the kinds of its events, whether they are atomic, and their width."""
+    found = {}
+    for kind in (I32, I64):
+        found.update({bytes([opcode]): ("r", False, width) for opcode, width in LOADS[kind]})
+        found.update({bytes([opcode]): ("w", False, width) for opcode, width in STORES[kind]})
+        for kinds, first in (("r", ATOMIC_LOAD), ("w", ATOMIC_STORE), *(("x", update) for update in UPDATES)):
+            found.update({PREFIX + bytes([first + by]): (kinds, True, width) for by, width in ATOMIC_WIDTHS[kind]})
+        opcode, width = COMPARE_EXCHANGE[kind]
+        found[PREFIX + bytes([opcode])] = ("rx", True, width)
+    return found
+
+
+ACCESSES = access_table()
+
 # Values near which operators behave differently.
 EDGES = [0, 1, 2, 7, 8, 31, 32, 33, 63, 64, 127, 128, 255, 256]
 EDGES += [edge + by for bits in (15, 16, 31, 32, 63, 64) for edge in (1 << bits,) for by in (-1, 0, 1)]
@@ -110,6 +126,21 @@ class Program:
         for start, data in self.segments:
             memory[start : start + len(data)] = data
         return memory
+
+    def instructions(self):
+        """The instructions by where they begin in the module: each with its function, its number there and its
+        bytes."""
+        module, found = self.module(), {}
+        _, at = wasm.number_at(module, wasm.start_of(module, 10) + 1)
+        _, at = wasm.number_at(module, at)
+        for index, function in enumerate(self.functions):
+            size, at = wasm.number_at(module, at)
+            at += size
+            place = at - len(b"".join(function.code))
+            for number, instruction in enumerate(function.code):
+                found[place] = index, number, instruction
+                place += len(instruction)
+        return found
 
     def module(self, **more):
         """The bytes of the module, which has these other parts too."""

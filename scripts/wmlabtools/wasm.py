@@ -82,18 +82,22 @@ def module_of(
     return HEADER + b"".join(section(which, content) for which, content in sorted(contents.items()))
 
 
+def number_at(module, at):
+    """The unsigned integer in LEB128 that begins here, and where it ends."""
+    value = shift = 0
+    while True:
+        byte, at = module[at], at + 1
+        value, shift = value + ((byte & 127) << shift), shift + 7
+        if byte < 128:
+            return value, at
+
+
 def sections_of(module):
     """Where each section begins, with its id, and the length of the whole."""
     at, found = len(HEADER), []
     while at < len(module):
-        which, start, size, shift = module[at], at, 0, 0
-        at += 1
-        while True:
-            byte = module[at]
-            size, shift, at = size + ((byte & 127) << shift), shift + 7, at + 1
-            if byte < 128:
-                break
-        found.append((start, which))
+        found.append((at, module[at]))
+        size, at = number_at(module, at + 1)
         at += size
     return found, at
 
