@@ -140,7 +140,7 @@ function testReport({ note, leftOut, wmlab, folder }) {
     wrong,
   );
   note(has(`node ${process.versions.node}`) && has('wmlab '), 'it has the versions');
-  note(has('FAILED --want &quot;9 9&quot;: never came') && has('1 condition failed'), 'it has the conditions');
+  note(has('FAILED --want &quot;9 9&quot;: never seen') && has('1 condition failed'), 'it has the conditions');
   note(has('on purpose: stale-load'), 'it names a wrong engine');
   const isAlone = !/<(script|link)|src=|https?:\/\/(?!www\.w3\.org)/.test(page);
   const hasFaults = has('broken V3') && has('smaller run') && has('The threads:');

@@ -52,7 +52,7 @@ const REFUSED = [
   [one([0x41, 0, 0xc0, 0x1a]), /^function 0 instruction 1: i32\.extend8_s: lower/],
   [one([0x41, 0, 0x40, 0, 0x1a]), /^function 0 instruction 1: memory\.grow: lower/],
   [one([0x41, 0, 0x41, 0, 0x41, 0, 0xfc, 11, 0]), /^function 0 instruction 3: memory\.fill: lower/],
-  [one([0x43, 0, 0, 0, 0, 0x1a]), /^function 0 instruction 0: opcode 43: lower/],
+  [one([0x43, 0, 0, 0, 0, 0x1a]), /^function 0 instruction 0: f32\.const: lower/],
   [one([], { types: parameters(15) }), /^export a: 15 arguments; expected at most 14$/],
 ];
 
