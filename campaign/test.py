@@ -391,6 +391,8 @@ def recordings(tally, room, cluster):
     )
     text = next((room.folder / "wrong/kept").glob("*-shrunk.txt")).read_text(encoding="utf-8")
     tally.check("--seed=" in text and "turns " in text, "a smaller run is kept, and how to record it", text)
+    out, err, status = room.run("negative", *words, "examples/spin-lock.wasm", "work:1", "work:-1")
+    tally.check(status == 0 and is_table_of(out, {"allowed": 20}), "an argument may be negative", (status, out, err))
     out, err, status = room.run("unknown", *words, "--wrong", "nothing", MODULE, "a", "b")
     tally.check(
         status == 3 and "record.mjs" in err and "not counted: 3" in out,

@@ -63,6 +63,14 @@ def check_answers(room):
         TALLY.check(from_python == (answers, "", status), f"answers over {module} from Python", from_python)
 
 
+def check_usage(room):
+    """Too few words are no verdict."""
+    script = f"{TOP}/examples/c-library/verify.py"
+    for words in ([], [f"{room}/libwmlab.so", MODULES[0]]):
+        got = run(sys.executable, script, *words)
+        TALLY.check((got[0], got[2]) == ([], 2) and "LOG.." in got[1], f"verify.py with {len(words)} words", got)
+
+
 def check_harness(room):
     """The harness of a fuzzer passes what is allowed or refused, and aborts at a log that is broken."""
     driver = f"{room}/driver.c"
@@ -107,5 +115,6 @@ with tempfile.TemporaryDirectory() as folder:
     TALLY.check(built[2] == 0 and os.path.getsize(f"{folder}/libwmlab.a") > 0, "library/build", built)
     if built[2] == 0:
         check_answers(folder)
+        check_usage(folder)
         check_harness(folder)
 TALLY.end()

@@ -43,10 +43,11 @@ def require_stream(path):
 
 
 def require_starts(program, part):
-    """Refuses rounds of a module that the program refuses, or whose threads do not start."""
+    """Refuses rounds of a module that the program refuses, or whose threads do not start. Words that only the recorder
+    takes, such as a negative argument, are left to it."""
     words = [program, "drive", part.module.path, "d0", *part.starts]
     ran = subprocess.run(words, capture_output=True, text=True, stdin=subprocess.DEVNULL, check=False)
-    if ran.returncode == REFUSED:
+    if ran.returncode == REFUSED and not ran.stdout.startswith("refused command "):
         raise WrongWords(f"no rounds of {part.module.path} {' '.join(part.starts)}: {ran.stdout.strip()}")
 
 

@@ -12,6 +12,12 @@
 /* No module is longer. */
 enum { MODULE_BYTES = 1048576 };
 
+static void end_without_memory(void)
+{
+    fprintf(stderr, "out of memory\n");
+    exit(3);
+}
+
 static wmlab_module *read_module(const char *name)
 {
     /* One byte more than a module has, so that a longer file is refused. */
@@ -33,7 +39,7 @@ static void check_module(const wmlab_module *module)
 {
     char line[WMLAB_LINE_MAX];
     if (module == NULL || wmlab_verify(module, NULL, 0, line, sizeof line) == WMLAB_NO_ANSWER)
-        exit(3);
+        end_without_memory();
     if (strncmp(line, "refused document", strlen("refused document")) != 0) {
         fprintf(stderr, "%s\n", line);
         exit(2);
@@ -51,7 +57,7 @@ int LLVMFuzzerTestOneInput(const uint8_t *data, size_t size)
     }
     status = wmlab_verify(module, data, size, line, sizeof line);
     if (status == WMLAB_NO_ANSWER)
-        exit(3);
+        end_without_memory();
     if (status == WMLAB_BROKEN) {
         fprintf(stderr, "%s\n", line);
         abort();

@@ -5,7 +5,8 @@ import ctypes
 import sys
 
 if len(sys.argv) < 4:
-    sys.exit(__doc__)
+    print(__doc__, file=sys.stderr)
+    sys.exit(2)
 wmlab = ctypes.CDLL(sys.argv[1])
 wmlab.wmlab_module_new.restype = ctypes.c_void_p
 wmlab.wmlab_module_new.argtypes = [ctypes.c_char_p, ctypes.c_size_t]
