@@ -1,0 +1,7 @@
+pub mod SharedEvents
+pub mod CandidateExecution
+pub mod Value
+pub mod Relations
+pub mod ValidExecution
+pub mod Transcribed
+pub mod Agreement
