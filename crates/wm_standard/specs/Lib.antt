@@ -5,3 +5,4 @@ pub mod Relations
 pub mod ValidExecution
 pub mod Transcribed
 pub mod Agreement
+pub mod Needed

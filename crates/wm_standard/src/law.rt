@@ -1,5 +1,6 @@
 //! That the rules V1 to V5 agree with ECMA-262.
 ghost use Rattle.wm_standard.specs.Agreement.{AgreesInSomeOrder, AgreesLookingBack, AgreesWithTheStandard};
+ghost use Rattle.wm_standard.specs.Needed.{OrderIsNeeded, ValuesOutOfThinAir};
 
 /// A log with its witness is valid by V1 to V5, and its values end, exactly if it is a valid execution of ECMA-262 with the
 /// order of the witness as memory-order.
@@ -24,4 +25,15 @@ pub fn agrees_in_some_order()
 /// Otherwise the premises are those of [`agrees_with_the_standard`].
 pub fn agrees_looking_back()
     ensures { AgreesLookingBack }
+{}
+
+/// The premise that values end is needed: two updates that each take the value 42 from the other are valid by V1 to V5, and
+/// ECMA-262 has no such valid execution, whatever the operations and the memory-order.
+pub fn values_out_of_thin_air()
+    ensures { ValuesOutOfThinAir }
+{}
+
+/// The order is part of the agreement: a run may be valid in some order and not in that of its witness.
+pub fn order_is_needed()
+    ensures { OrderIsNeeded }
 {}

@@ -4,4 +4,7 @@
 
 mod law;
 
-pub use law::{agrees_in_some_order, agrees_looking_back, agrees_with_the_standard};
+pub use law::{
+    agrees_in_some_order, agrees_looking_back, agrees_with_the_standard, order_is_needed,
+    values_out_of_thin_air,
+};
