@@ -5,6 +5,6 @@
 mod law;
 
 pub use law::{
-    agrees_in_some_order, agrees_looking_back, agrees_with_the_standard, order_is_needed,
-    values_out_of_thin_air,
+    agrees_by_bytes, agrees_in_some_order, agrees_looking_back, agrees_with_the_standard,
+    is_allowed_by_bytes, order_is_needed, values_out_of_thin_air,
 };
