@@ -7,3 +7,4 @@ pub mod Transcribed
 pub mod Agreement
 pub mod Needed
 pub mod InitialBytes
+pub mod Recorded

@@ -2,6 +2,7 @@
 ghost use Rattle.wm_standard.specs.Agreement.{AgreesInSomeOrder, AgreesLookingBack, AgreesWithTheStandard};
 ghost use Rattle.wm_standard.specs.InitialBytes.{AgreesByBytes, IsAllowedByBytes};
 ghost use Rattle.wm_standard.specs.Needed.{OrderIsNeeded, ValuesOutOfThinAir};
+ghost use Rattle.wm_standard.specs.Recorded.{HasOperations, RecordedIsStandard, RecordedIsStandardByBytes};
 
 /// A log with its witness is valid by V1 to V5, and its values end, exactly if it is a valid execution of ECMA-262 with the
 /// order of the witness as memory-order.
@@ -43,6 +44,24 @@ pub fn agrees_by_bytes()
 /// The premises are those of [`agrees_with_the_standard`].
 pub fn is_allowed_by_bytes()
     ensures { IsAllowedByBytes }
+{}
+
+/// What a legal history of store buffers records is a valid execution of ECMA-262, with the order in which it was recorded as
+/// memory-order. So is each run that `drive` and `run` make: there no update takes a byte from a later one, so values end.
+///
+/// Premises: the memory has more than 8 bytes, and the updates are operations ([`has_operations`]).
+pub fn recorded_is_standard()
+    ensures { RecordedIsStandard }
+{}
+
+/// The same with an Init event for each byte, if "overlapping" ranges include equal ones.
+pub fn recorded_is_standard_by_bytes()
+    ensures { RecordedIsStandardByBytes }
+{}
+
+/// Each log has operations that fit its updates, since a log has no operands: each update may store its operand.
+pub fn has_operations()
+    ensures { HasOperations }
 {}
 
 /// The premise that values end is needed: two updates that each take the value 42 from the other are valid by V1 to V5, and
