@@ -1,24 +1,21 @@
 -- Weaker premises are not enough.
-use Rattle.std.proofs.Common.{◌≡◌, ◌≢◌, ℕ, ◌+◌, ◌<◌, ◌≤◌, ◌⊎◌, [], ◌∷◌, length, Some, IsSome, refl, sym, ap, ◌∙◌, arith, inl, inr, ⊎_elim}
+use Rattle.std.proofs.Common.{◌≡◌, ◌≢◌, ℕ, ◌<◌, ◌≤◌, [], IsSome, refl, sym, ap, ◌∙◌, arith, inl, inr, ⊎_elim}
 use Rattle.std.proofs.lemmas.Bool.{cases_lt}
-use Rattle.wm_access.specs.declared.MemoryOrder.TheVariants.{SeqCst, Unordered}
-use Rattle.wm_event.specs.declared.event.Event.{Event}
+use Rattle.wm_access.specs.declared.MemoryOrder.TheVariants.{Unordered}
 use Rattle.wm_event.specs.declared.event.EventKey.{EventKey}
-use Rattle.wm_event.specs.declared.event.EventId.TheVariants.{Init, At}
+use Rattle.wm_event.specs.declared.event.EventId.TheVariants.{At}
 use Rattle.wm_event.specs.Execution.{Execution}
 use Rattle.wm_event.specs.HappensBefore.{HappensBefore}
 use Rattle.wm_event.specs.LoggedRun.{execution}
-use Rattle.wm_races.specs.Races.{Race}
 use Rattle.wm_standard.specs.Agreement.{ValuesEnd}
 use Rattle.wm_standard.specs.Agreement.Ends.{ends}
-use Rattle.wm_standard.specs.Transcribed.{AreOperations, Operation}
 use Rattle.wm_standard.proofs.Agreement.{to-standard}
 use Rattle.wm_standard.proofs.OrderMatters as order
 use Rattle.wm_standard.proofs.RecordedLaw.{has-operations}
 use Rattle.wm_standard.proofs.Unsynchronized.{before-earlier}
 use Rattle.wm_sequential.specs.Programs.{StandardRace}
 use Rattle.wm_sequential.specs.Sequential.{HasNoRace, IsEnough}
-use Rattle.wm_sequential.specs.Weaker.{AreEnoughCases, AreSequentialInAnyOrder, IsCaseNeeded, IsNotEnough, PlainRace, RacesShowAtOnce, StandardExecutionsAreSequential}
+use Rattle.wm_sequential.specs.Weaker.{AreEnoughCases, AreSequentialInAnyOrder, IsNotEnough, PlainRace, RacesShowAtOnce, StandardExecutionsAreSequential}
 use Rattle.wm_sequential.proofs.Steps.{some_of}
 use Rattle.wm_sequential.proofs.OverlappingUpdates.{plain-races-are-not-enough}
 use Rattle.wm_sequential.proofs.StoreBuffering.{key, no-standard-race, not-event, not-sequential, plain-is-valid, read, run, shaped, standard-races-are-not-enough, third-case-is-needed, unsynchronized, write}
