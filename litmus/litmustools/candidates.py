@@ -155,6 +155,28 @@ class Candidates:
                 values[key[0]].append(choice.value)
         return tuple(tuple(values[thread]) for thread in sorted(values))
 
+    def groups(self):
+        """The candidates in groups that differ in their order alone: the outcome, and the logs. Orders that break V2
+        are left out, unless all do: then one is there."""
+        lengths, flags = tuple(map(len, self.test.threads)), flag_pairs(self.test, self.wanted)
+        for chosen in product(*self.choices):
+            pairs = tuple(sorted({*flags, *self.synchronized(chosen)}))
+            yield self.outcome_of(chosen), self.ordered(chosen, lengths, pairs)
+
+    def ordered(self, chosen, lengths, pairs):
+        threads = self.threads_text(chosen)
+        for order in order_texts(lengths, pairs) or self.orders[:1]:
+            yield f'["wasm-litmus-log",2,[{threads}],{order}]'
+
+    def synchronized(self, chosen):
+        """Each atomic write with each atomic read of its whole range that reads from it."""
+        for key, choice in zip(self.reads, chosen):
+            read = self.test.events[key]
+            for writer in {writer for writer in choice.writers if writer}:
+                event = self.test.events[writer]
+                if read.access.is_atomic and event.access.is_atomic and event.bytes == read.bytes:
+                    yield writer, key
+
     def __iter__(self):
         """Each candidate: its outcome and its log."""
         for chosen in product(*self.choices):

@@ -5,7 +5,7 @@ import json
 import os
 import tempfile
 from collections import Counter
-from collections.abc import Iterable, Iterator
+from collections.abc import Iterator
 from dataclasses import asdict, dataclass, field
 from functools import cache, cached_property
 from itertools import islice
@@ -18,8 +18,10 @@ from .modules import bytes_of
 from .specimens import Outcome, Specimen, is_flag
 
 PERMITTED, FORBIDDEN, UNDECIDED = "permitted", "not permitted", "not decided"
-MOST_CANDIDATES = 1_000_000
-FORMAT = 1
+MOST_CANDIDATES = 400_000
+FORMAT = 2
+# The rules whose answer depends on the order of a candidate.
+ORDER_RULES = ("broken V2", "broken V5")
 
 
 @dataclass(frozen=True)
@@ -101,35 +103,88 @@ class Question:
         assert self.specimen.logged
         return self.specimen.logged.judged
 
+    @cached_property
+    def is_whole(self) -> bool:
+        """Whether accesses that overlap have one range, and none may tear."""
+        if self.specimen.cycle:
+            events = self.specimen.cycle.events.values()
+            ranges = {(event.address, event.access.width, event.access.is_atomic) for event in events}
+        else:
+            assert isinstance(self.source, Executions)
+            ranges = self.source.ranges()
+        tears = [not is_atomic and (width == 8 or address % width > 0) for address, width, is_atomic in ranges]
+        spans = sorted({(address, address + width) for address, width, _ in ranges})
+        overlaps = [one[1] > other[0] for one, other in zip(spans, spans[1:])]
+        return not any(tears) and not any(overlaps)
+
     @property
     def is_cut(self) -> bool:
         return isinstance(self.source, Executions) and self.source.is_cut
 
-    def __iter__(self) -> Iterator[tuple[Outcome, str]]:
-        for outcome, line in self.source:
+    def __iter__(self) -> Iterator["Group"]:
+        source = self.source
+        for outcome, lines in source.groups():
             if self.specimen.cycle:
                 outcome = outcome_of_cycle(self.specimen, outcome)
             if self.outcome is None or outcome == self.outcome:
-                yield outcome, line
+                yield Group(outcome, lines)
 
 
-def ask_all(items: Iterable[tuple[Outcome, str]], stream: Stream, most: int) -> tuple[dict[Outcome, Asked], bool]:
-    """Asks about candidates, of each outcome until one is allowed. Answers too whether there were more than `most`."""
-    found: dict[Outcome, Asked] = {}
-    wanted = ((outcome, line) for outcome, line in items if not found.setdefault(outcome, Asked()).is_permitted)
-    for _ in range(0, most, CHUNK):
-        chunk = list(islice(wanted, CHUNK))
-        if not chunk:
-            return found, False
-        for (outcome, line), answer in zip(chunk, stream.answers([line for _, line in chunk]), strict=True):
+@dataclass
+class Group:
+    """Candidates that differ in their order alone."""
+
+    outcome: Outcome
+    lines: Iterator[str]
+    width: int = 1
+
+    def next(self) -> list[str]:
+        """The next lines to ask: one at first, and more if the order matters."""
+        lines = list(islice(self.lines, self.width))
+        self.width = min(4 * self.width, CHUNK)
+        return lines
+
+
+class Asking:
+    """Asks about the groups of a question, of each outcome until a candidate is allowed."""
+
+    def __init__(self, question: Question, stream: Stream) -> None:
+        self.groups, self.stream = iter(question), stream
+        self.found: dict[Outcome, Asked] = {}
+        self.count = 0
+
+    def is_open(self, group: Group) -> bool:
+        return not self.found.setdefault(group.outcome, Asked()).is_permitted
+
+    def fill(self, active: list[Group]) -> list[Group]:
+        active = [group for group in active if self.is_open(group)]
+        wanted = (group for group in self.groups if self.is_open(group))
+        return active + list(islice(wanted, CHUNK - len(active))) if len(active) < CHUNK else active
+
+    def ask(self, active: list[Group]) -> list[Group]:
+        """Asks the next lines of each group. Answers the groups that go on: those of which an order was refused, and
+        another may be allowed. V1, V3 and V4 do not look at the order."""
+        rows = [(group, line) for group in active for line in group.next()]
+        going: dict[int, Group] = {}
+        self.count += len(rows)
+        for (group, line), answer in zip(rows, self.stream.answers([line for _, line in rows]), strict=True):
             kind = ANSWER.match(answer)
             if not kind:
                 raise Failed(f"a candidate is answered by {answer}: {line}")
-            each = found[outcome]
+            each = self.found[group.outcome]
             each.answers[kind[0]] += 1
             if not each.is_permitted:
                 each.log, each.is_permitted = line, kind[0] == "allowed"
-    return found, True
+            if kind[0].startswith(ORDER_RULES):
+                going[id(group)] = group
+        return list(going.values())
+
+    def all(self, most: int) -> bool:
+        """Asks until all is known, or `most` candidates were asked. Answers whether all is known."""
+        active = self.fill([])
+        while active and self.count < most:
+            active = self.fill(self.ask(active))
+        return not active
 
 
 def decide(program: str, question: Question) -> dict[Outcome, Verdict]:
@@ -138,10 +193,11 @@ def decide(program: str, question: Question) -> dict[Outcome, Verdict]:
         module = os.path.join(room, "test.wasm")
         commands.write(module, question.module)
         with Stream(program, module) as stream:
-            found, is_cut = ask_all(question, stream, MOST_CANDIDATES)
+            asking = Asking(question, stream)
+            is_cut = not asking.all(MOST_CANDIDATES) or question.is_cut
+        found = asking.found
         if question.outcome is not None:
             found.setdefault(question.outcome, Asked())
-        is_cut = is_cut or question.is_cut
         otherwise = UNDECIDED if is_cut else FORBIDDEN
         limit = "; there are more candidates than were asked" if is_cut else ""
         verdicts = {}
@@ -214,13 +270,15 @@ class Decisions:
 
     def __init__(self, specimen: Specimen, kept: Cache, limits: Limits = Limits()) -> None:
         self.specimen, self.kept, self.limits = specimen, kept, limits
-        self.all = kept.decided(Question(specimen, limits=limits))
+        self.question = Question(specimen, limits=limits)
+        self.all = kept.decided(self.question)
 
     def of(self, outcome: Outcome) -> Verdict:
-        """The verdict on an outcome. If no candidate has it in which the bytes that an access covers come from one
-        write, a writer is chosen for each byte."""
+        """The verdict on an outcome. If no candidate has it in which the bytes that accesses cover together come from
+        one write, a writer is chosen for each byte. If accesses that overlap have one range and none may tear, more
+        writers only add to what the rules demand, so that this is not needed for an outcome with candidates."""
         found = self.all.get(outcome)
-        if found and found.kind == PERMITTED:
+        if found and (found.kind != FORBIDDEN or self.question.is_whole):
             return found
         question = Question(self.specimen, by_byte=True, outcome=outcome, limits=self.limits)
         by_byte = self.kept.decided(question)[outcome]

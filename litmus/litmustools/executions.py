@@ -77,6 +77,11 @@ class Executions:
         self.initial: dict[int, int] = dict(answer["initial"])
         self.paths = [[path_of(row) for row in rows if row["end"] == "done"] for rows in answer["threads"]]
 
+    def ranges(self) -> set[tuple[int, int, bool]]:
+        """The address and the width of each access, and whether it is atomic."""
+        events = [event for paths in self.paths for path in paths for event in path.events]
+        return {(event[2], event[3], event[1] == "sc") for event in events}
+
     def combinations(self) -> list[tuple[Path, ...]]:
         """A path for each thread, those with the fewest events first."""
         return sorted(product(*self.paths), key=lambda paths: sum(len(path.events) for path in paths))
@@ -119,17 +124,33 @@ class Executions:
             found.append([[by] * (stop - start) for by in here])
         return [[by for piece in pieces for by in piece] for pieces in product(*found)]
 
-    def logs(self, paths: tuple[Path, ...]) -> Iterator[str]:
+    def synchronized(self, paths: tuple[Path, ...], writers: dict[Key, list[list[int]]]) -> set[tuple[Key, Key]]:
+        """Each atomic write with each atomic read of its whole range that reads from it."""
+        found = set()
+        for key, by in writers.items():
+            read = paths[key[0]].events[key[1]]
+            for thread, number in {(each[0], each[1]) for each in by if each}:
+                write = paths[thread].events[number]
+                if read[1] == write[1] == "sc" and read[2:4] == write[2:4]:
+                    found.add(((thread, number), key))
+        return found
+
+    def logs_of(self, paths: tuple[Path, ...]) -> Iterator[Iterator[str]]:
+        """The logs of paths, those that differ in their order alone together. Orders that break V2 are left out, unless
+        all do: then one is there."""
         keys = [(t, i) for t, path in enumerate(paths) for i, event in enumerate(path.events) if event[0] != "w"]
         choices = [self.options(paths, key) for key in keys]
-        if not all(choices):
-            return
-        lengths = tuple(len(path.events) for path in paths)
-        orders = order_texts(lengths, self.flag_pairs(paths))
+        lengths, flags = tuple(len(path.events) for path in paths), self.flag_pairs(paths)
         for chosen in product(*choices):
-            threads = self.threads_text(paths, dict(zip(keys, chosen)))
-            for order in orders:
-                yield f'["wasm-litmus-log",2,[{threads}],{order}]'
+            writers = dict(zip(keys, chosen))
+            pairs = tuple(sorted({*flags, *self.synchronized(paths, writers)}))
+            yield self.ordered(self.threads_text(paths, writers), lengths, pairs, flags)
+
+    def ordered(
+        self, threads: str, lengths: tuple[int, ...], pairs: tuple[tuple[Key, Key], ...], flags: tuple[tuple[Key, Key], ...]
+    ) -> Iterator[str]:
+        for order in order_texts(lengths, pairs) or order_texts(lengths, flags)[:1]:
+            yield f'["wasm-litmus-log",2,[{threads}],{order}]'
 
     def threads_text(self, paths: tuple[Path, ...], writers: dict[Key, list[list[int]]]) -> str:
         rows = []
@@ -139,9 +160,10 @@ class Executions:
             rows.append(f'["{thread.start}",{log.compact(args)},["cut"],0,{log.compact(events)}]')
         return ",".join(rows)
 
-    def __iter__(self) -> Iterator[tuple[Outcome, str]]:
+    def groups(self) -> Iterator[tuple[Outcome, Iterator[str]]]:
+        """The candidates in groups that differ in their order alone: the outcome, and the logs."""
         for paths in self.combinations():
             outcome = self.outcome_of(paths)
             if outcome is not None:
-                for line in self.logs(paths):
-                    yield outcome, line
+                for lines in self.logs_of(paths):
+                    yield outcome, lines
