@@ -1,6 +1,7 @@
 """Every candidate execution of a test: a writer for each byte that is read, and a total order of the events."""
 import re
 from collections import Counter
+from collections.abc import Iterator
 from dataclasses import dataclass, field
 from functools import cache
 from itertools import islice, permutations, product
@@ -8,7 +9,10 @@ from math import factorial, prod
 
 from . import log
 from .judges import Failed
+from .tests import LitmusTest
 
+# Two events by their keys, of which the first comes first.
+Pair = tuple[tuple[int, int], tuple[int, int]]
 # How many candidates are asked at once; after an allowed one no more are, if only one outcome is wanted.
 CHUNK = 500
 MOST_ORDERS = 1_000_000
@@ -87,7 +91,7 @@ def program_orders(lengths, pairs):
 
 
 @cache
-def order_texts(lengths, pairs):
+def order_texts(lengths: tuple[int, ...], pairs: tuple[Pair, ...]) -> list[str]:
     return [log.compact(order) for order in program_orders(lengths, pairs)]
 
 
@@ -107,7 +111,13 @@ class Found:
 class Candidates:
     """The candidates of a test, as texts of logs; with `outcome`, those in which the observed events read this."""
 
-    def __init__(self, test, by_byte=False, all_orders=False, outcome=None):
+    def __init__(
+        self,
+        test: LitmusTest,
+        by_byte: bool = False,
+        all_orders: bool = False,
+        outcome: tuple[tuple[int, ...], ...] | None = None,
+    ) -> None:
         self.test, self.reads = test, [key for key, event in test.events.items() if event.reads]
         self.wanted = self.wanted_values(outcome)
         self.choices = [self.kept_choices(key, by_byte) for key in self.reads]
@@ -155,7 +165,7 @@ class Candidates:
                 values[key[0]].append(choice.value)
         return tuple(tuple(values[thread]) for thread in sorted(values))
 
-    def groups(self):
+    def groups(self) -> Iterator[tuple[tuple[tuple[int, ...], ...], Iterator[str]]]:
         """The candidates in groups that differ in their order alone: the outcome, and the logs. Orders that break V2
         are left out, unless all do: then one is there."""
         lengths, flags = tuple(map(len, self.test.threads)), flag_pairs(self.test, self.wanted)

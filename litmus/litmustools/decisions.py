@@ -1,5 +1,5 @@
-"""Which outcomes of a specimen the memory rules permit. `decide` is the one place that knows how this is found: by every
-candidate execution, each judged by `wmlab stream`. Its answers are kept in a folder."""
+"""Which outcomes of a specimen the memory rules permit. `decide` is the one place that knows how this is found: by
+every candidate execution, each judged by `wmlab stream`. Its answers are kept in a folder."""
 import hashlib
 import json
 import os
@@ -67,7 +67,8 @@ def outcome_of_cycle(specimen: Specimen, values: tuple[tuple[int, ...], ...]) ->
     """The outcome of a specimen, of the values that the observed events of the cycle's test read: what the threads
     read, and then the final values."""
     assert specimen.cycle
-    own, finals = [], []
+    own: list[int] = []
+    finals: list[int] = []
     for thread, events in enumerate(specimen.cycle.threads):
         observed = specimen.cycle.observed(thread)
         reads = [event for event in events if is_flag(event) and event.reads]
@@ -98,8 +99,7 @@ class Question:
     def module(self) -> bytes:
         """The module of the logs."""
         if self.specimen.cycle:
-            made: bytes = bytes_of(self.specimen.cycle)
-            return made
+            return bytes_of(self.specimen.cycle)
         assert self.specimen.logged
         return self.specimen.logged.judged
 
@@ -121,11 +121,14 @@ class Question:
     def is_cut(self) -> bool:
         return isinstance(self.source, Executions) and self.source.is_cut
 
-    def __iter__(self) -> Iterator["Group"]:
+    def groups(self) -> Iterator[tuple[Outcome, Iterator[str]]]:
         source = self.source
-        for outcome, lines in source.groups():
-            if self.specimen.cycle:
-                outcome = outcome_of_cycle(self.specimen, outcome)
+        if isinstance(source, Executions):
+            return source.groups()
+        return ((outcome_of_cycle(self.specimen, values), lines) for values, lines in source.groups())
+
+    def __iter__(self) -> Iterator["Group"]:
+        for outcome, lines in self.groups():
             if self.outcome is None or outcome == self.outcome:
                 yield Group(outcome, lines)
 

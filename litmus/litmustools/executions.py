@@ -1,5 +1,5 @@
-"""Candidate executions of a specimen that is no cycle: a path for each thread (litmus/harness/paths.mjs), a writer for
-each byte that is read, and an order that agrees with program order."""
+"""Candidate executions of a specimen that is not a cycle: a path for each thread (litmus/harness/paths.mjs), a writer
+for each byte that is read, and an order that agrees with program order."""
 import base64
 import json
 import os
@@ -11,7 +11,7 @@ from itertools import product
 from typing import Any
 
 from . import TOP, log
-from .candidates import order_texts
+from .candidates import Pair, order_texts
 from .judges import Failed
 from .specimens import Outcome, Specimen
 
@@ -147,7 +147,7 @@ class Executions:
             yield self.ordered(self.threads_text(paths, writers), lengths, pairs, flags)
 
     def ordered(
-        self, threads: str, lengths: tuple[int, ...], pairs: tuple[tuple[Key, Key], ...], flags: tuple[tuple[Key, Key], ...]
+        self, threads: str, lengths: tuple[int, ...], pairs: tuple[Pair, ...], flags: tuple[Pair, ...]
     ) -> Iterator[str]:
         for order in order_texts(lengths, pairs) or order_texts(lengths, flags)[:1]:
             yield f'["wasm-litmus-log",2,[{threads}],{order}]'

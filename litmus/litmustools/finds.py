@@ -98,6 +98,6 @@ def keep(histogram: Histogram, state: State, folder: str, program: str, again: s
         except Failed as error:
             page += f"\nno picture: {error}\n"
     else:
-        page += "\nNo candidate execution has this outcome: no thread writes a value that was read, or not in these bytes.\n"
+        page += "\nNo candidate execution has this outcome: no thread writes a value that was read.\n"
     commands.write(f"{stem}.txt", page)
     return f"{stem}.txt"

@@ -1,10 +1,10 @@
 """What an engine runs: a module, its threads, and what of its results is the outcome."""
 from dataclasses import dataclass, field
 
-from .conditions import Condition, conjunction
-from .modules import EXPORTS, access_of, constant
-from .tests import Event, LitmusTest
 from . import wasm
+from .conditions import Condition, conjunction
+from .modules import access_of, constant
+from .tests import EXPORTS, Event, LitmusTest
 
 Outcome = tuple[int, ...]
 I32, I64 = b"\x7f", b"\x7e"
@@ -25,7 +25,7 @@ class Thread:
 
 @dataclass(frozen=True)
 class Column:
-    """A value that an instance gives: a result of a thread, or a final value. The outcome has those that are observed."""
+    """A value that an instance gives: a result of a thread, or a final value. The outcome has the observed ones."""
 
     name: str
     bits: int
@@ -43,9 +43,9 @@ class Final:
 
 @dataclass(frozen=True)
 class Logged:
-    """How logs of a specimen are made that is no cycle. `traced` gives the same results as the module that the engine
-    runs; `judged` makes the same events without several results, as the judge's profile wants. With final values both
-    have a last thread, which reads them after it has read the flag of each other thread."""
+    """How logs of a specimen are made that is not a cycle. `traced` gives the same results as the module that the
+    engine runs; `judged` makes the same events without several results, as the judge's profile demands. With final values
+    both have a last thread, which reads them after it has read the flag of each other thread."""
 
     traced: bytes
     judged: bytes
@@ -116,7 +116,7 @@ def code_of(events: list[Event]) -> bytes:
     for event in events:
         code += constant(event.address).code
         if event.writes:
-            code += constant(event.written, event.access.width).code
+            code += constant(event.written or 0, event.access.width).code
         code += access_of(event).code
     return code
 
@@ -135,7 +135,9 @@ def bare_module(threads: list[list[Event]]) -> bytes:
             types.append(kind)
         kinds.append(types.index(kind))
     exports = [wasm.export(name.encode(), index) for index, name in enumerate(EXPORTS[: len(threads)])]
-    return wasm.module_of([wasm.body(code_of(events)) for events in threads], types, kinds, exports=exports)
+    bodies = [wasm.body(code_of(events)) for events in threads]
+    made: bytes = wasm.module_of(bodies, types, kinds, exports=exports)
+    return made
 
 
 def registers_of(thread: int, events: list[Event]) -> list[tuple[Column, int | None]]:

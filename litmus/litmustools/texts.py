@@ -285,9 +285,8 @@ def specimen_of_table(path: str, text: str) -> Specimen:
     table, condition = Table(path), condition_of(match[5])
     table.read(match[4])
     data, finals = data_of(table, match[3]), table_finals(table, condition)
-    columns = [
-        Column(f"{t}:{register}", bits) for t, thread in enumerate(table.threads) for register, bits in thread.registers.items()
-    ]
+    threads_registers = [(t, row) for t, thread in enumerate(table.threads) for row in thread.registers.items()]
+    columns = [Column(f"{t}:{register}", bits) for t, (register, bits) in threads_registers]
     columns += [Column(final.name, 8 * final.width) for final in finals]
     threads = tuple(Thread(f"P{k}") for k, _ in enumerate(table.threads))
     reader = (Thread("final"),) if finals else ()
