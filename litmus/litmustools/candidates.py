@@ -3,7 +3,7 @@ import re
 from collections import Counter
 from collections.abc import Iterator
 from dataclasses import dataclass, field
-from functools import cache
+from functools import cache, cached_property
 from itertools import islice, permutations, product
 from math import factorial, prod
 
@@ -95,6 +95,38 @@ def order_texts(lengths: tuple[int, ...], pairs: tuple[Pair, ...]) -> list[str]:
     return [log.compact(order) for order in program_orders(lengths, pairs)]
 
 
+def each_order(lengths: tuple[int, ...], pairs: tuple[Pair, ...]) -> Iterator[str]:
+    """The texts of the same orders, one after the other."""
+    earlier: dict[tuple[int, int], list[tuple[int, int]]] = {}
+    for first, second in pairs:
+        earlier.setdefault(second, []).append(first)
+    total = sum(lengths)
+
+    def after(done: tuple[int, ...], texts: tuple[str, ...]) -> Iterator[str]:
+        if len(texts) == total:
+            yield f"[{','.join(texts)}]"
+            return
+        for thread, number in enumerate(done):
+            wanted = earlier.get((thread, number), ())
+            if number < lengths[thread] and all(done[other] > at for other, at in wanted):
+                going = (*done[:thread], number + 1, *done[thread + 1 :])
+                yield from after(going, (*texts, f"[{thread},{number}]"))
+
+    return after((0,) * len(lengths), ())
+
+
+def orders_or_one(
+    lengths: tuple[int, ...], pairs: tuple[Pair, ...], fewer: tuple[Pair, ...]
+) -> Iterator[str]:
+    """The orders with these pairs; if there is none, one with fewer pairs."""
+    is_empty = True
+    for order in each_order(lengths, pairs):
+        is_empty = False
+        yield order
+    if is_empty:
+        yield from islice(each_order(lengths, fewer), 1)
+
+
 @dataclass
 class Found:
     """What came of one outcome: how many candidates had each answer, and the first allowed log."""
@@ -125,10 +157,14 @@ class Candidates:
         count = factorial(len(test.events)) // (1 if all_orders else prod(map(factorial, lengths)))
         if count > MOST_ORDERS:
             raise Failed(f"{test.name}: {count} orders of {len(test.events)} events, more than {MOST_ORDERS}")
-        if all_orders:
-            self.orders = [log.compact(order) for order in permutations(test.events)]
-        else:
-            self.orders = order_texts(lengths, flag_pairs(test, self.wanted))
+        self.all_orders, self.lengths = all_orders, lengths
+
+    @cached_property
+    def orders(self):
+        """The texts of the orders."""
+        if self.all_orders:
+            return [log.compact(order) for order in permutations(self.test.events)]
+        return order_texts(self.lengths, flag_pairs(self.test, self.wanted))
 
     def wanted_values(self, outcome):
         """What each read of a flag has to give, and with an outcome each observed event."""
@@ -168,14 +204,14 @@ class Candidates:
     def groups(self) -> Iterator[tuple[tuple[tuple[int, ...], ...], Iterator[str]]]:
         """The candidates in groups that differ in their order alone: the outcome, and the logs. Orders that break V2
         are left out, unless all do: then one is there."""
-        lengths, flags = tuple(map(len, self.test.threads)), flag_pairs(self.test, self.wanted)
+        lengths, flags = self.lengths, flag_pairs(self.test, self.wanted)
         for chosen in product(*self.choices):
             pairs = tuple(sorted({*flags, *self.synchronized(chosen)}))
-            yield self.outcome_of(chosen), self.ordered(chosen, lengths, pairs)
+            yield self.outcome_of(chosen), self.ordered(chosen, lengths, pairs, flags)
 
-    def ordered(self, chosen, lengths, pairs):
+    def ordered(self, chosen, lengths, pairs, flags):
         threads = self.threads_text(chosen)
-        for order in order_texts(lengths, pairs) or self.orders[:1]:
+        for order in orders_or_one(lengths, pairs, flags):
             yield f'["wasm-litmus-log",2,[{threads}],{order}]'
 
     def synchronized(self, chosen):

@@ -9,6 +9,7 @@ from collections.abc import Iterator
 from dataclasses import asdict, dataclass, field
 from functools import cache, cached_property
 from itertools import islice
+from typing import Protocol
 
 from . import commands, judges
 from .candidates import ANSWER, CHUNK, Candidates
@@ -16,10 +17,11 @@ from .executions import Executions, Limits
 from .judges import Failed, Stream
 from .modules import bytes_of
 from .specimens import Outcome, Specimen, is_flag
+from .tests import Event
 
 PERMITTED, FORBIDDEN, UNDECIDED = "permitted", "not permitted", "not decided"
 MOST_CANDIDATES = 400_000
-FORMAT = 2
+FORMAT = 3
 # The rules whose answer depends on the order of a candidate.
 ORDER_RULES = ("broken V2", "broken V5")
 
@@ -47,15 +49,19 @@ class Asked:
         return f"{sum(self.answers.values())} candidates: {', '.join(parts)}"
 
 
+def last_flag(events: tuple[Event, ...]) -> int:
+    """The number of the last read of a flag, after which final values are read; a larger one if there is none."""
+    flags = [number for number, event in enumerate(events) if is_flag(event) and event.reads]
+    return flags[-1] if flags else len(events)
+
+
 def values_of_cycle(specimen: Specimen, outcome: Outcome) -> tuple[tuple[int, ...], ...]:
     """What the observed events of each thread of the cycle's test read in an outcome; flags are read as 1."""
     assert specimen.cycle
     rest, finals = list(outcome), list(outcome[len(outcome) - len(specimen.finals) :])
     rows = []
     for events in specimen.cycle.threads:
-        reads = [event for event in events if is_flag(event) and event.reads]
-        after = events.index(reads[-1]) if reads else len(events)
-        row = []
+        after, row = last_flag(events), []
         for number, event in enumerate(events):
             if event.is_observed:
                 row.append(1 if is_flag(event) else (finals if number > after else rest).pop(0))
@@ -70,12 +76,12 @@ def outcome_of_cycle(specimen: Specimen, values: tuple[tuple[int, ...], ...]) ->
     own: list[int] = []
     finals: list[int] = []
     for thread, events in enumerate(specimen.cycle.threads):
-        observed = specimen.cycle.observed(thread)
-        reads = [event for event in events if is_flag(event) and event.reads]
-        after = events.index(reads[-1]) if reads else len(events)
-        for event, value in zip(observed, values[thread], strict=True):
-            if not is_flag(event):
-                (finals if events.index(event) > after else own).append(value)
+        after, rest = last_flag(events), iter(values[thread])
+        for number, event in enumerate(events):
+            if event.is_observed:
+                value = next(rest)
+                if not is_flag(event):
+                    (finals if number > after else own).append(value)
     return (*own, *finals)
 
 
@@ -133,6 +139,13 @@ class Question:
                 yield Group(outcome, lines)
 
 
+class Judge(Protocol):
+    """Who answers to candidates: `wmlab stream`, or for tests the rules as a plain program."""
+
+    def answers(self, lines: list[str]) -> list[str]:
+        """The answer to each log."""
+
+
 @dataclass
 class Group:
     """Candidates that differ in their order alone."""
@@ -151,8 +164,8 @@ class Group:
 class Asking:
     """Asks about the groups of a question, of each outcome until a candidate is allowed."""
 
-    def __init__(self, question: Question, stream: Stream) -> None:
-        self.groups, self.stream = iter(question), stream
+    def __init__(self, question: Question, judge: Judge) -> None:
+        self.groups, self.judge = iter(question), judge
         self.found: dict[Outcome, Asked] = {}
         self.count = 0
 
@@ -170,7 +183,7 @@ class Asking:
         rows = [(group, line) for group in active for line in group.next()]
         going: dict[int, Group] = {}
         self.count += len(rows)
-        for (group, line), answer in zip(rows, self.stream.answers([line for _, line in rows]), strict=True):
+        for (group, line), answer in zip(rows, self.judge.answers([line for _, line in rows]), strict=True):
             kind = ANSWER.match(answer)
             if not kind:
                 raise Failed(f"a candidate is answered by {answer}: {line}")

@@ -11,7 +11,7 @@ from itertools import product
 from typing import Any
 
 from . import TOP, log
-from .candidates import Pair, order_texts
+from .candidates import Pair, orders_or_one
 from .judges import Failed
 from .specimens import Outcome, Specimen
 
@@ -149,7 +149,7 @@ class Executions:
     def ordered(
         self, threads: str, lengths: tuple[int, ...], pairs: tuple[Pair, ...], flags: tuple[Pair, ...]
     ) -> Iterator[str]:
-        for order in order_texts(lengths, pairs) or order_texts(lengths, flags)[:1]:
+        for order in orders_or_one(lengths, pairs, flags):
             yield f'["wasm-litmus-log",2,[{threads}],{order}]'
 
     def threads_text(self, paths: tuple[Path, ...], writers: dict[Key, list[list[int]]]) -> str:
