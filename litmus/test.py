@@ -1,7 +1,7 @@
 #!/usr/bin/env python3
 """Tests of the litmus suite. The last line is `N passed, N failed`.
 
-    litmus/test.py             the tests of litmus/tests, seconds with the proved program
+    litmus/test.py             the tests of litmus/tests, and of litmus/run in node, minutes
     litmus/test.py --all       each test of the suite
     litmus/test.py --plain     what asks no program
 """
@@ -11,7 +11,7 @@ import subprocess
 import tempfile
 from collections import Counter
 
-from litmustools import TOP, bytewise, commands, cycle_check, harness, judges, wabt
+from litmustools import TOP, bytewise, commands, cycle_check, harness, judges, run_tests, wabt
 from litmustools.accesses import BadCycle
 from litmustools.buffers import WRONG, Machine, outcomes, script
 from litmustools.candidates import Candidates, ask
@@ -30,9 +30,6 @@ LEAST_TESTS = 400
 LEAST_COMMITTED = 60
 # Of larger tests the outcomes of wrong engines are too many.
 MOST_EVENTS_OF_ENGINES = 6
-
-# The rules that a wrong judge leaves out.
-JUDGES = ("V2", "V3", "V5 case 2", "V5 case 3")
 
 # A thread of a cycle; four of them have too many orders.
 LONG_THREAD = "PosRR PosRR PosRR PosRW Rfe"
@@ -147,13 +144,9 @@ def test_theorem(tally, tests, verdicts):
 
 
 def test_model(tally, tests, verdicts, names):
-    """The rules as a plain program give the verdicts of the suite; without a rule they do not."""
+    """The rules as a plain program give the verdicts of the suite. `run_tests` leaves cases of rules out."""
     wrong = [name for name in names if verdict_of(tests[name], Model())[0] != verdicts[name]]
     tally.check(not wrong, "the plain model has the suite's verdicts", wrong)
-    for rule in JUDGES:
-        caught = next((name for name in names if verdict_of(tests[name], Model([rule]))[0] != verdicts[name]), None)
-        tally.check(caught, f"a judge without {rule} is caught")
-        print(f"a judge without {rule} is caught by {caught}")
 
 
 def permits(test, values, judge):
@@ -364,6 +357,7 @@ def with_program(tally, tests, verdicts, program, is_all):
         test_each(tally, tests, verdicts, names, stream_on, program)
         test_second_enumeration(tally, tests, stream_on)
         test_same_answers(tally, tests, stream_on)
+        run_tests.test_run(tally, program, room)
 
 
 def without_program(tally, tests, verdicts, is_all):

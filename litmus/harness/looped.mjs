@@ -89,8 +89,10 @@ class Source {
   /** What is accessed, or the whole memory if an address is not a constant. */
   ranges() {
     const each = this.bodies.map(({ items }) => rangesOf(items));
-    if (each.some((ranges) => ranges === null)) return [{ address: 0, width: this.module.memories[0].minimum * PAGE }];
-    return [...each.flat(), ...this.finals];
+    const size = this.module.memories[0].minimum * PAGE;
+    const outside = each.flat().find((range) => range && range.address + range.width > size);
+    if (outside) throw new UserError(`an access at ${outside.address} is outside of the memory of ${size} bytes`);
+    return each.some((ranges) => ranges === null) ? [{ address: 0, width: size }] : [...each.flat(), ...this.finals];
   }
 
   get widest() {

@@ -95,36 +95,46 @@ def order_texts(lengths: tuple[int, ...], pairs: tuple[Pair, ...]) -> list[str]:
     return [log.compact(order) for order in program_orders(lengths, pairs)]
 
 
-def each_order(lengths: tuple[int, ...], pairs: tuple[Pair, ...]) -> Iterator[str]:
-    """The texts of the same orders, one after the other."""
+def each_order(atomics: tuple[tuple[bool, ...], ...], pairs: tuple[Pair, ...]) -> Iterator[str]:
+    """The texts of orders that agree with program order and with the pairs, of those which differ in the places of
+    plain accesses only one: where a plain access is placed, V2 apart, no rule depends on. V5 compares places of three
+    accesses. Of a plain read it asks that the other write happens before it, of a plain writer that it happens before
+    the other write, so that V2 orders these. `atomics` has for each thread which of its accesses are atomic."""
+    blocks = [[number for number, is_atomic in enumerate(row) if is_atomic] for row in atomics]
     earlier: dict[tuple[int, int], list[tuple[int, int]]] = {}
     for first, second in pairs:
         earlier.setdefault(second, []).append(first)
-    total = sum(lengths)
 
-    def after(done: tuple[int, ...], texts: tuple[str, ...]) -> Iterator[str]:
-        if len(texts) == total:
-            yield f"[{','.join(texts)}]"
+    def block(thread: int, start: int, end: int) -> list[str]:
+        return [f"[{thread},{number}]" for number in range(start, end)]
+
+    def after(done: tuple[int, ...], texts: list[str]) -> Iterator[str]:
+        ends = [([-1] + blocks[thread])[count] + 1 for thread, count in enumerate(done)]
+        if all(count == len(blocks[thread]) for thread, count in enumerate(done)):
+            rest = [text for thread, end in enumerate(ends) for text in block(thread, end, len(atomics[thread]))]
+            yield f"[{','.join([*texts, *rest])}]"
             return
-        for thread, number in enumerate(done):
-            wanted = earlier.get((thread, number), ())
-            if number < lengths[thread] and all(done[other] > at for other, at in wanted):
-                going = (*done[:thread], number + 1, *done[thread + 1 :])
-                yield from after(going, (*texts, f"[{thread},{number}]"))
+        for thread, count in enumerate(done):
+            if count == len(blocks[thread]):
+                continue
+            number = blocks[thread][count]
+            if all(ends[other] > at for other, at in earlier.get((thread, number), ())):
+                going = (*done[:thread], count + 1, *done[thread + 1 :])
+                yield from after(going, [*texts, *block(thread, ends[thread], number + 1)])
 
-    return after((0,) * len(lengths), ())
+    return after((0,) * len(atomics), [])
 
 
 def orders_or_one(
-    lengths: tuple[int, ...], pairs: tuple[Pair, ...], fewer: tuple[Pair, ...]
+    atomics: tuple[tuple[bool, ...], ...], pairs: tuple[Pair, ...], fewer: tuple[Pair, ...]
 ) -> Iterator[str]:
     """The orders with these pairs; if there is none, one with fewer pairs."""
     is_empty = True
-    for order in each_order(lengths, pairs):
+    for order in each_order(atomics, pairs):
         is_empty = False
         yield order
     if is_empty:
-        yield from islice(each_order(lengths, fewer), 1)
+        yield from islice(each_order(atomics, fewer), 1)
 
 
 @dataclass
@@ -203,15 +213,16 @@ class Candidates:
 
     def groups(self) -> Iterator[tuple[tuple[tuple[int, ...], ...], Iterator[str]]]:
         """The candidates in groups that differ in their order alone: the outcome, and the logs. Orders that break V2
-        are left out, unless all do: then one is there."""
-        lengths, flags = self.lengths, flag_pairs(self.test, self.wanted)
+        are left out, unless all do: then one is there. So are those that differ in places of plain accesses."""
+        flags = flag_pairs(self.test, self.wanted)
         for chosen in product(*self.choices):
             pairs = tuple(sorted({*flags, *self.synchronized(chosen)}))
-            yield self.outcome_of(chosen), self.ordered(chosen, lengths, pairs, flags)
+            yield self.outcome_of(chosen), self.ordered(chosen, pairs, flags)
 
-    def ordered(self, chosen, lengths, pairs, flags):
+    def ordered(self, chosen, pairs, flags):
         threads = self.threads_text(chosen)
-        for order in orders_or_one(lengths, pairs, flags):
+        atomics = tuple(tuple(event.access.is_atomic for event in events) for events in self.test.threads)
+        for order in orders_or_one(atomics, pairs, flags):
             yield f'["wasm-litmus-log",2,[{threads}],{order}]'
 
     def synchronized(self, chosen):

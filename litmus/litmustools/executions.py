@@ -66,6 +66,10 @@ def written_of(event: list[Any]) -> bytes | None:
     return None if event[0] == "r" else value.to_bytes(event[3], "little")
 
 
+def atomics_of(path: Path) -> tuple[bool, ...]:
+    return tuple(event[1] == "sc" for event in path.events)
+
+
 class Executions:
     """The candidates of a specimen, as texts of logs. `is_cut` if a limit was reached, so that there may be others."""
 
@@ -140,16 +144,16 @@ class Executions:
         all do: then one is there."""
         keys = [(t, i) for t, path in enumerate(paths) for i, event in enumerate(path.events) if event[0] != "w"]
         choices = [self.options(paths, key) for key in keys]
-        lengths, flags = tuple(len(path.events) for path in paths), self.flag_pairs(paths)
+        atomics, flags = tuple(atomics_of(path) for path in paths), self.flag_pairs(paths)
         for chosen in product(*choices):
             writers = dict(zip(keys, chosen))
             pairs = tuple(sorted({*flags, *self.synchronized(paths, writers)}))
-            yield self.ordered(self.threads_text(paths, writers), lengths, pairs, flags)
+            yield self.ordered(self.threads_text(paths, writers), atomics, pairs, flags)
 
     def ordered(
-        self, threads: str, lengths: tuple[int, ...], pairs: tuple[Pair, ...], flags: tuple[Pair, ...]
+        self, threads: str, atomics: tuple[tuple[bool, ...], ...], pairs: tuple[Pair, ...], flags: tuple[Pair, ...]
     ) -> Iterator[str]:
-        for order in orders_or_one(lengths, pairs, flags):
+        for order in orders_or_one(atomics, pairs, flags):
             yield f'["wasm-litmus-log",2,[{threads}],{order}]'
 
     def threads_text(self, paths: tuple[Path, ...], writers: dict[Key, list[list[int]]]) -> str:
