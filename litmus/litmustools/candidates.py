@@ -9,10 +9,9 @@ from math import factorial, prod
 
 from . import log
 from .judges import Failed
+from .orders import Access, Pair, orders_of
 from .tests import LitmusTest
 
-# Two events by their keys, of which the first comes first.
-Pair = tuple[tuple[int, int], tuple[int, int]]
 # How many candidates are asked at once; after an allowed one no more are, if only one outcome is wanted.
 CHUNK = 500
 MOST_ORDERS = 1_000_000
@@ -95,48 +94,6 @@ def order_texts(lengths: tuple[int, ...], pairs: tuple[Pair, ...]) -> list[str]:
     return [log.compact(order) for order in program_orders(lengths, pairs)]
 
 
-def each_order(atomics: tuple[tuple[bool, ...], ...], pairs: tuple[Pair, ...]) -> Iterator[str]:
-    """The texts of orders that agree with program order and with the pairs, of those which differ in the places of
-    plain accesses only one: where a plain access is placed, V2 apart, no rule depends on. V5 compares places of three
-    accesses. Of a plain read it asks that the other write happens before it, of a plain writer that it happens before
-    the other write, so that V2 orders these. `atomics` has for each thread which of its accesses are atomic."""
-    blocks = [[number for number, is_atomic in enumerate(row) if is_atomic] for row in atomics]
-    earlier: dict[tuple[int, int], list[tuple[int, int]]] = {}
-    for first, second in pairs:
-        earlier.setdefault(second, []).append(first)
-
-    def block(thread: int, start: int, end: int) -> list[str]:
-        return [f"[{thread},{number}]" for number in range(start, end)]
-
-    def after(done: tuple[int, ...], texts: list[str]) -> Iterator[str]:
-        ends = [([-1] + blocks[thread])[count] + 1 for thread, count in enumerate(done)]
-        if all(count == len(blocks[thread]) for thread, count in enumerate(done)):
-            rest = [text for thread, end in enumerate(ends) for text in block(thread, end, len(atomics[thread]))]
-            yield f"[{','.join([*texts, *rest])}]"
-            return
-        for thread, count in enumerate(done):
-            if count == len(blocks[thread]):
-                continue
-            number = blocks[thread][count]
-            if all(ends[other] > at for other, at in earlier.get((thread, number), ())):
-                going = (*done[:thread], count + 1, *done[thread + 1 :])
-                yield from after(going, [*texts, *block(thread, ends[thread], number + 1)])
-
-    return after((0,) * len(atomics), [])
-
-
-def orders_or_one(
-    atomics: tuple[tuple[bool, ...], ...], pairs: tuple[Pair, ...], fewer: tuple[Pair, ...]
-) -> Iterator[str]:
-    """The orders with these pairs; if there is none, one with fewer pairs."""
-    is_empty = True
-    for order in each_order(atomics, pairs):
-        is_empty = False
-        yield order
-    if is_empty:
-        yield from islice(each_order(atomics, fewer), 1)
-
-
 @dataclass
 class Found:
     """What came of one outcome: how many candidates had each answer, and the first allowed log."""
@@ -212,27 +169,21 @@ class Candidates:
         return tuple(tuple(values[thread]) for thread in sorted(values))
 
     def groups(self) -> Iterator[tuple[tuple[tuple[int, ...], ...], Iterator[str]]]:
-        """The candidates in groups that differ in their order alone: the outcome, and the logs. Orders that break V2
-        are left out, unless all do: then one is there. So are those that differ in places of plain accesses."""
+        """The candidates in groups that differ in their order alone: the outcome, and the logs. Of the orders those are
+        there that have to be tried (`orders`)."""
         flags = flag_pairs(self.test, self.wanted)
+        accesses = {
+            key: Access(event.address, event.access.width, event.access.is_atomic, event.writes)
+            for key, event in self.test.events.items()
+        }
         for chosen in product(*self.choices):
-            pairs = tuple(sorted({*flags, *self.synchronized(chosen)}))
-            yield self.outcome_of(chosen), self.ordered(chosen, pairs, flags)
+            by = {key: list(choice.writers) for key, choice in zip(self.reads, chosen)}
+            yield self.outcome_of(chosen), self.ordered(chosen, orders_of(self.lengths, accesses, by, flags))
 
-    def ordered(self, chosen, pairs, flags):
+    def ordered(self, chosen, orders):
         threads = self.threads_text(chosen)
-        atomics = tuple(tuple(event.access.is_atomic for event in events) for events in self.test.threads)
-        for order in orders_or_one(atomics, pairs, flags):
+        for order in orders:
             yield f'["wasm-litmus-log",2,[{threads}],{order}]'
-
-    def synchronized(self, chosen):
-        """Each atomic write with each atomic read of its whole range that reads from it."""
-        for key, choice in zip(self.reads, chosen):
-            read = self.test.events[key]
-            for writer in {writer for writer in choice.writers if writer}:
-                event = self.test.events[writer]
-                if read.access.is_atomic and event.access.is_atomic and event.bytes == read.bytes:
-                    yield writer, key
 
     def __iter__(self):
         """Each candidate: its outcome and its log."""

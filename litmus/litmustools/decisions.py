@@ -21,7 +21,7 @@ from .tests import Event
 
 PERMITTED, FORBIDDEN, UNDECIDED = "permitted", "not permitted", "not decided"
 MOST_CANDIDATES = 400_000
-FORMAT = 4
+FORMAT = 5
 # The rules whose answer depends on the order of a candidate.
 ORDER_RULES = ("broken V2", "broken V5")
 

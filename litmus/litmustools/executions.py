@@ -11,12 +11,11 @@ from itertools import product
 from typing import Any
 
 from . import TOP, log
-from .candidates import Pair, orders_or_one
 from .judges import Failed
+from .orders import Access, Key, Pair, orders_of
 from .specimens import Outcome, Specimen
 
 COMMAND = os.path.join(TOP, "litmus/harness/paths.mjs")
-Key = tuple[int, int]
 Events = list[list[Any]]
 
 
@@ -66,8 +65,12 @@ def written_of(event: list[Any]) -> bytes | None:
     return None if event[0] == "r" else value.to_bytes(event[3], "little")
 
 
-def atomics_of(path: Path) -> tuple[bool, ...]:
-    return tuple(event[1] == "sc" for event in path.events)
+def accesses_of(paths: tuple[Path, ...]) -> dict[Key, Access]:
+    return {
+        (t, i): Access(event[2], event[3], event[1] == "sc", event[0] != "r")
+        for t, path in enumerate(paths)
+        for i, event in enumerate(path.events)
+    }
 
 
 class Executions:
@@ -100,7 +103,7 @@ class Executions:
             rows[-1] = rows[-1][flags:]
         return self.specimen.outcome_of([str(value) for row in rows for value in row])
 
-    def flag_pairs(self, paths: tuple[Path, ...]) -> tuple[tuple[Key, Key], ...]:
+    def flag_pairs(self, paths: tuple[Path, ...]) -> tuple[Pair, ...]:
         """The last write of each thread, and the read of it by the reader of the final values."""
         if not self.logged.has_finals:
             return ()
@@ -128,32 +131,19 @@ class Executions:
             found.append([[by] * (stop - start) for by in here])
         return [[by for piece in pieces for by in piece] for pieces in product(*found)]
 
-    def synchronized(self, paths: tuple[Path, ...], writers: dict[Key, list[list[int]]]) -> set[tuple[Key, Key]]:
-        """Each atomic write with each atomic read of its whole range that reads from it."""
-        found = set()
-        for key, by in writers.items():
-            read = paths[key[0]].events[key[1]]
-            for thread, number in {(each[0], each[1]) for each in by if each}:
-                write = paths[thread].events[number]
-                if read[1] == write[1] == "sc" and read[2:4] == write[2:4]:
-                    found.add(((thread, number), key))
-        return found
-
     def logs_of(self, paths: tuple[Path, ...]) -> Iterator[Iterator[str]]:
-        """The logs of paths, those that differ in their order alone together. Orders that break V2 are left out, unless
-        all do: then one is there."""
+        """The logs of paths, those that differ in their order alone together. Of the orders those are there that have
+        to be tried (`orders`)."""
         keys = [(t, i) for t, path in enumerate(paths) for i, event in enumerate(path.events) if event[0] != "w"]
         choices = [self.options(paths, key) for key in keys]
-        atomics, flags = tuple(atomics_of(path) for path in paths), self.flag_pairs(paths)
+        lengths, flags, accesses = tuple(len(path.events) for path in paths), self.flag_pairs(paths), accesses_of(paths)
         for chosen in product(*choices):
             writers = dict(zip(keys, chosen))
-            pairs = tuple(sorted({*flags, *self.synchronized(paths, writers)}))
-            yield self.ordered(self.threads_text(paths, writers), atomics, pairs, flags)
+            by = {key: [(each[0], each[1]) if each else None for each in bytes_by] for key, bytes_by in writers.items()}
+            yield self.ordered(self.threads_text(paths, writers), orders_of(lengths, accesses, by, flags))
 
-    def ordered(
-        self, threads: str, atomics: tuple[tuple[bool, ...], ...], pairs: tuple[Pair, ...], flags: tuple[Pair, ...]
-    ) -> Iterator[str]:
-        for order in orders_or_one(atomics, pairs, flags):
+    def ordered(self, threads: str, orders: Iterator[str]) -> Iterator[str]:
+        for order in orders:
             yield f'["wasm-litmus-log",2,[{threads}],{order}]'
 
     def threads_text(self, paths: tuple[Path, ...], writers: dict[Key, list[list[int]]]) -> str:

@@ -6,6 +6,7 @@ import signal
 import subprocess
 import time
 from collections.abc import Iterator
+from typing import Protocol
 
 from . import TOP, commands, harness
 from .accesses import BadCycle
@@ -92,11 +93,17 @@ LOOPS = """(module (memory 1 1 shared) (data (i32.const 32) "\\05")
 ;; forall (a=6 /\\ (b=77 \\/ b=1 \\/ b=0))
 """
 
-Tally = harness.Tally
 Environment = dict[str, str] | None
 Process = subprocess.Popen[str]
 # What a command prints, what it writes to standard error, and its status.
 Ended = tuple[str, str, int]
+
+
+class Tally(Protocol):
+    """Counts what holds and what does not."""
+
+    def check(self, holds: object, shows: str, got: object = "") -> None:
+        """Counts one case; if it does not hold, prints what it shows and what came."""
 
 
 class Commands:

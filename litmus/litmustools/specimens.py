@@ -44,8 +44,8 @@ class Final:
 @dataclass(frozen=True)
 class Logged:
     """How logs of a specimen are made that is not a cycle. `traced` gives the same results as the module that the
-    engine runs; `judged` makes the same events without several results, as the judge's profile demands. With final values
-    both have a last thread, which reads them after it has read the flag of each other thread."""
+    engine runs; `judged` makes the same events without several results, as the judge's profile demands. With final
+    values both have a last thread, which reads them after it has read the flag of each other thread."""
 
     traced: bytes
     judged: bytes
