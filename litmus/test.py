@@ -280,7 +280,7 @@ def test_refusals(tally, room):
     for sentence, command, *words_of_command in (
         ("an empty name: no shape has this name", "candidates", ""),
         ("'SC': no shape has this name", "candidates", "SC"),
-        ("'nosuch': there is no such edit; they are edits/CRATE/NAME.edit", "wrong-judges", "nosuch"),
+        ("'nosuch': there is no such edit; they are litmus/left-out", "wrong-judges", "nosuch"),
         ("'edits': there is no such edit", "wrong-judges", "edits"),
         ("litmus/README.md: it changes nothing", "wrong-judges", "litmus/README.md"),
         ("/nowhere: this is not a program", "candidates", "--wmlab", "/nowhere", "SB"),
@@ -306,7 +306,7 @@ def test_commands(tally, program, room):
     asked, err, status = ran("candidates", "--wmlab", program, "SB+sc", "--all-orders", "--keep", kept)
     holds = status == 0 and "* not found  0 0" in asked and "96 candidates, 4 outcomes" in asked
     tally.check(holds and len(os.listdir(kept)) == 4, "candidates of SB+sc", asked + err)
-    words_of_gallery = ["--test", "SB", "--test", "SB+sc", "--rounds", "2", "--run-rounds", "5", "--wmlab", program]
+    words_of_gallery = ["--test", "SB", "--test", "SB+sc", "--iterations", "5000", "--run-rounds", "5", "--wmlab", program]
     page, err, status = ran("gallery", *words_of_gallery, "--out", "-")
     rows = [line for line in page.splitlines() if line.startswith("| `SB")]
     is_shown = any("| permitted by 6 of 6 | `0*" in line for line in rows)
@@ -319,7 +319,7 @@ def test_finds(tally, tests):
     allowed = {"allowed threads=2": 5}
     cases = [
         ("SB+sc", False, Seen({"0 0": 1, "0 1": 4}, allowed), "node gave the cycle's outcome"),
-        ("SB+sc", False, Seen({"0 1": 5}, {"broken V3 case 2": 5}), "answered by: broken V3 case 2"),
+        ("SB+sc", False, Seen({"0 1": 5}, {"not permitted": 5}), "an outcome of node is not permitted"),
         ("SB+sc", False, Seen({"0 1": 5}, allowed), None),
         ("SB", True, Seen({"0 0": 5}, allowed), None),
     ]
