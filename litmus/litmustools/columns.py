@@ -17,7 +17,7 @@ def cells_of(line):
 def replaced_row(line, rows, engines):
     cells = cells_of(line)[:FIXED]
     row: Row = rows[cells[0].strip("`")]
-    return f"| {' | '.join([*cells, *(str(row.times(engine)) for engine in engines])])} |"
+    return f"| {' | '.join([*cells, *(str(row.times(engine)) for engine in engines)])} |"
 
 
 HEAD = "| Test | Outcome | Rules | Store buffers"
