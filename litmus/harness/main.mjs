@@ -11,14 +11,22 @@ import { openNode } from './node.mjs';
 
 const print = (/** @type {object} */ value) => process.stdout.write(`${JSON.stringify(value)}\n`);
 
-/** @param {any} given */
+/**
+ * @param {any} given
+ */
 async function open(given) {
   if (given.engine === 'node') return openNode(given);
   const { openBrowserHarness } = await import('./browser.mjs');
   return openBrowserHarness(given);
 }
 
-/** Runs a test and prints what came. @param {any} engine @param {any} task @param {any} options */
+/**
+ * Runs a test and prints what came.
+ *
+ * @param {any} engine
+ * @param {any} task
+ * @param {any} options
+ */
 async function runTask(engine, task, options) {
   const tell = (/** @type {number} */ done) => print({ progress: { name: task.name, done } });
   try {

@@ -6,7 +6,9 @@ import { readFileSync, readdirSync } from 'node:fs';
 
 /** What came of the wish to pin threads: how many were, and why one was not. */
 export class Pins {
-  /** @param {number[]} processors the processor of each thread; none if they are not pinned */
+  /**
+   * @param {number[]} processors the processor of each thread; none if they are not pinned
+   */
   constructor(processors) {
     this.processors = processors;
     this.pinned = 0;
@@ -14,7 +16,12 @@ export class Pins {
     this.problem = processors.length ? null : 'not asked for';
   }
 
-  /** Pins a thread by its number for the system. @param {number | null} system @param {number} thread */
+  /**
+   * Pins a thread by its number for the system.
+   *
+   * @param {number | null} system
+   * @param {number} thread
+   */
   pin(system, thread) {
     if (!this.processors.length) return;
     if (system === null) {
@@ -46,7 +53,11 @@ const textOf = (/** @type {string} */ path) => {
   }
 };
 
-/** The processes of a browser: the one that was given an address with this token, and all that they started. @param {string} token */
+/**
+ * The processes of a browser: the one that was given an address with this token, and all that they started.
+ *
+ * @param {string} token
+ */
 function processesOf(token) {
   const parents = new Map(numbersIn('/proc').map((id) => [id, Number(textOf(`/proc/${id}/stat`).split(') ').at(-1)?.split(' ')[1])]));
   const found = new Set([...parents.keys()].filter((id) => textOf(`/proc/${id}/cmdline`).includes(token)));
@@ -61,6 +72,11 @@ function processesOf(token) {
   return [...found];
 }
 
-/** The workers of a browser's page, the oldest first. @param {string} token @returns {number[]} */
+/**
+ * The workers of a browser's page, the oldest first.
+ *
+ * @param {string} token
+ * @returns {number[]}
+ */
 export const workersOf = (token) => processesOf(token).flatMap((id) => numbersIn(`/proc/${id}/task`)
   .filter((task) => WORKER_NAME.test(textOf(`/proc/${id}/task/${task}/comm`)))).sort((one, other) => one - other);
