@@ -120,7 +120,7 @@ class Harness:
         self.process.send_signal(signal.SIGINT)
 
     def hand_out(self, specimens: list[Specimen]) -> None:
-        """Writes the tests, which a thread of its own does: the harness reads one after the other."""
+        """Writes the tests, which a thread of its own does: the harness may end before it has read all."""
         settings = self.settings
         lines = [json.dumps({"engine": settings.engine, "pin": list(settings.pin), "options": settings.options})]
         lines += map(task_of, specimens)
