@@ -78,12 +78,12 @@ class BrowserHarness {
    */
   async pin({ workers }) {
     const end = Date.now() + MILLISECONDS_TO_APPEAR;
-    let found = workersOf(this.token);
-    while (found.length < workers + 1 && Date.now() < end) {
+    let found = workersOf(this.token, workers + 1);
+    while (!found.length && Date.now() < end) {
       await new Promise((resolve) => { setTimeout(resolve, 50); });
-      found = workersOf(this.token);
+      found = workersOf(this.token, workers + 1);
     }
-    if (found.length < workers + 1) this.pins.problem = `the threads of ${this.kind} were not found`;
+    if (!found.length) this.pins.problem = `the threads of ${this.kind} were not found`;
     else found.slice(-workers).forEach((system, thread) => this.pins.pin(system, thread));
     return {};
   }

@@ -69,14 +69,19 @@ function processesOf(token) {
       isGrown = true;
     }
   }
-  return [...found];
+  // The pages are in processes that the browser started, which do not have the address.
+  return [...found].filter((id) => !textOf(`/proc/${id}/cmdline`).includes(token));
 }
 
 /**
- * The workers of a browser's page, the oldest first.
+ * The workers of a browser's page, the oldest first: those of the process that has at least so many.
  *
  * @param {string} token
+ * @param {number} least
  * @returns {number[]}
  */
-export const workersOf = (token) => processesOf(token).flatMap((id) => numbersIn(`/proc/${id}/task`)
-  .filter((task) => WORKER_NAME.test(textOf(`/proc/${id}/task/${task}/comm`)))).sort((one, other) => one - other);
+export function workersOf(token, least) {
+  const each = processesOf(token).map((id) => numbersIn(`/proc/${id}/task`)
+    .filter((task) => WORKER_NAME.test(textOf(`/proc/${id}/task/${task}/comm`))).sort((one, other) => one - other));
+  return each.find((workers) => workers.length >= least) ?? [];
+}

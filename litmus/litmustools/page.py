@@ -128,10 +128,12 @@ def theorem_line(rows):
 
 
 def engines_line(collected, date):
-    """Which engines ran, how often, and what was seen."""
-    names = ", ".join(collected.engines.values())
-    most = max((seen.iterations for row in collected.rows for seen in row.engines.values()), default=0)
-    return f"Engines ({date}): {names}; about {round(most, -4):,} iterations of each test by `litmus/run`."
+    """Which engines ran, and how often each test."""
+    names = []
+    for engine, version in collected.engines.items():
+        most = max((row.engines[engine].iterations for row in collected.rows if engine in row.engines), default=0)
+        names.append(f"{version}, about {round(most, -4):,} iterations of each test")
+    return f"Engines ({date}), by `litmus/run`: {'; '.join(names)}."
 
 
 def head(collected):
