@@ -113,7 +113,7 @@ Made on {date} with {version}: {run_rounds} rounds of `wmlab run`; {asked} candi
   - The buffers make loads in order, and all threads see a published store at once. So load buffering (`LB`), and what
     needs a store that only some threads see (`IRIW`, `WRC`), cannot come from them, although the rules permit the
     plain tests.
-- **{names}**: how often the engine gave the outcome, by [`litmus/run`](LITMUS.md). Each outcome that it gave was judged.
+- **{names}**: how often the engine gave the outcome, by [`litmus/run`](LITMUS.md). Each outcome was judged.
 """
 
 
