@@ -1,0 +1,7 @@
+pub mod Steps
+pub mod Cells
+pub mod Frames
+pub mod RelationLaw
+pub mod SplitLaw
+pub mod SearchLaw
+pub mod SearchKept

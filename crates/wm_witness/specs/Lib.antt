@@ -1,0 +1,6 @@
+pub mod Assumptions
+pub mod Always
+pub mod Search
+pub mod Answer
+pub mod Steps
+pub mod Relations

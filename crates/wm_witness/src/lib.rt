@@ -1,0 +1,16 @@
+//! Whether any writers and any order of the events make a log valid by the memory rules, and which.
+#![tactic(auto)]
+
+mod answer;
+mod assumption;
+mod copies;
+mod relation;
+mod row;
+mod search;
+mod stack;
+mod step;
+
+
+pub use answer::Answer;
+pub use search::find;
+

@@ -1,0 +1,126 @@
+//! What always happens before an event, or comes before it in the order.
+ghost use Rattle.std.specs.Prelude.{◌≡◌, ◌<◌, IfOk, IfSome, IsTrue, length, slice_index_or};
+ghost use Rattle.wm_witness.specs.Always.{IsClosed};
+ghost use Rattle.wm_witness.specs.Relations.{AlwaysRelates, AreRows, IsAt, IsPair};
+ghost use Rattle.wm_witness.specs.declared.row.Row.{Row};
+
+use crate::assumption::Assumption;
+use crate::row::Row;
+use std::alloc::{AllocError, Global};
+use wm_event::{Candidate, EventKey};
+
+/// Which relation of events.
+#[derive(Clone, Copy)]
+pub(crate) enum Kind {
+    /// The first event happens before the second.
+    Happens,
+    /// The first event stands before the second in the order.
+    Stands,
+}
+
+/// Two events, of which the first comes before the second.
+#[derive(Clone, Copy, PartialEq, Eq)]
+pub(crate) struct Pair {
+    pub first: EventKey,
+    pub second: EventKey,
+}
+
+/// A relation of the events of a log: for each event what comes before it in all valid runs that keep some assumptions,
+/// as far as it is known.
+#[derive(Drop)]
+pub(crate) struct Relation {
+    pub kind: Kind,
+    /// The events, thread after thread.
+    pub rows: Vec<Row>,
+    /// Where the events of each thread begin.
+    pub starts: Vec<usize>,
+}
+
+impl Relation {
+    /// The place of an event among the rows.
+    pub(crate) fn index(&self, key: EventKey) -> Option<usize>
+        ensures { IfSome result (λ i. IsAt self.now.rows.items i key) }
+    {
+        let start = *self.starts.get(key.thread as usize)?;
+        if start >= self.rows.len() {
+            return None;
+        }
+        if key.number as usize >= self.rows.len() - start {
+            return None;
+        }
+        let index = start + key.number as usize;
+        if self.rows[index].key == key {
+            Some(index)
+        } else {
+            None
+        }
+    }
+
+    /// Whether an event is known to come before another.
+    pub(crate) fn has(&self, start: &Candidate, assumed: &[Assumption], pair: Pair) -> bool
+        requires { AreRows start.now assumed.now self.now.kind self.now.rows.items }
+        ensures { IsTrue result → IsPair start.now assumed.now self.now.kind pair }
+    {
+        match self.index(pair.second) {
+            Some(index) => self.rows[index].covers(pair.first),
+            None => false,
+        }
+    }
+
+    /// Adds what comes before one event to what comes before another, and the event itself. Whether that is new.
+    fn join(
+        &mut self,
+        start: &Candidate,
+        assumed: &[Assumption],
+        from: usize,
+        into: usize,
+    ) -> bool
+        requires from { from < length self.old.rows.items }
+        requires into { into < length self.old.rows.items }
+        requires rows { AreRows start.now assumed.now self.old.kind self.old.rows.items }
+        requires before { (a b : Row) → a ≡ slice_index_or self.old.rows.items from a → b ≡ slice_index_or self.old.rows.items into b →
+            AlwaysRelates start.now assumed.now self.old.kind a.key b.key }
+        ensures kind { self.new.kind ≡ self.old.kind }
+        ensures rows { AreRows start.now assumed.now self.new.kind self.new.rows.items }
+        ensures size { length self.new.rows.items ≡ length self.old.rows.items }
+    {
+        let row = self.rows[into];
+        let joined = row.joined(&self.rows[from]);
+        if joined.before == row.before {
+            return false;
+        }
+        self.rows[into] = joined;
+        true
+    }
+
+    /// Adds a pair. Whether it is new.
+    pub(crate) fn add_pair(
+        &mut self,
+        start: &Candidate,
+        assumed: &[Assumption],
+        pair: Pair,
+    ) -> bool
+        requires rows { AreRows start.now assumed.now self.old.kind self.old.rows.items }
+        requires pair { IsPair start.now assumed.now self.old.kind pair }
+        ensures kind { self.new.kind ≡ self.old.kind }
+        ensures rows { AreRows start.now assumed.now self.new.kind self.new.rows.items }
+    {
+        match (self.index(pair.first), self.index(pair.second)) {
+            (Some(from), Some(into)) => self.join(start, assumed, from, into),
+            _ => false,
+        }
+    }
+
+    /// Whether an event is known to come before itself.
+    pub(crate) fn has_cycle(&self, start: &Candidate, assumed: &[Assumption]) -> bool
+        requires { AreRows start.now assumed.now self.now.kind self.now.rows.items }
+        ensures { IsTrue result → IsClosed start.now assumed.now }
+    {
+        for row in &self.rows {
+            if row.covers(row.key) {
+                return true;
+            }
+        }
+        false
+    }
+}
