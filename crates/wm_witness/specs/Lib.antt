@@ -4,3 +4,4 @@ pub mod Search
 pub mod Answer
 pub mod Steps
 pub mod Relations
+pub mod Choice

@@ -3,6 +3,7 @@
 
 mod answer;
 mod assumption;
+mod choice;
 mod copies;
 mod relation;
 mod row;

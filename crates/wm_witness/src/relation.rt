@@ -56,6 +56,17 @@ impl Relation {
         }
     }
 
+    /// How many events of a thread are known to come before the event of a row.
+    pub(crate) fn count(&self, index: usize, thread: usize) -> u32 {
+        match self.rows.get(index) {
+            None => 0,
+            Some(row) => match row.before.get(thread) {
+                None => 0,
+                Some(count) => *count,
+            },
+        }
+    }
+
     /// Whether an event is known to come before another.
     pub(crate) fn has(&self, start: &Candidate, assumed: &[Assumption], pair: Pair) -> bool
         requires { AreRows start.now assumed.now self.now.kind self.now.rows.items }
