@@ -3,6 +3,7 @@ pub mod Cells
 pub mod Frames
 pub mod RelationLaw
 pub mod ChoiceLaw
+pub mod RulesLaw
 pub mod SplitLaw
 pub mod SearchLaw
 pub mod SearchKept

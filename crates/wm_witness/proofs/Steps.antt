@@ -1,6 +1,8 @@
 -- Lemmas that the laws share.
 use Rattle.std.proofs.Common.{◌≡◌, ◌≢◌, ◌⊎◌, ℕ, ◌<◌, zero, suc, List, [], ◌∷◌, ◌++◌, slice_get, Option, None, Some, IsSome, refl, sym, ap, ◌∙◌, subst, arith, inl, inr, ⊎_elim}
-use Rattle.std.proofs.lemmas.Bool.{cases_eq, cases_lt, false≢true}
+use Rattle.std.specs.Prelude.{◌==◌, ◌&&◌, true, false}
+use Rattle.std.proofs.lemmas.Bool.{and_from, cases_eq, cases_lt, false≢true}
+use Rattle.std.proofs.lemmas.Bool.Decides.{nat_tests}
 use Rattle.std.proofs.lemmas.Option.{same_Some}
 use Rattle.wm_event.specs.declared.event.EventKey.{EventKey}
 use Rattle.wm_event.specs.declared.event.EventId.{EventId}
@@ -57,3 +59,10 @@ places-differ run once a b is_a is_b apart =
     (λ g. let e : m.0 ≡ n.0 = omega (arith, l, g) in absurd (apart (same_Some a b (sym m.1 ∙ ap (λ i. slice_get run.witness.order i) e ∙ n.1))))
     (cases_lt n.0 m.0))
     (cases_lt m.0 n.0)
+
+-- two names that a test tells apart
+pub apart : (a b : EventKey) → false ≡ (a.thread == b.thread && a.number == b.number) → a ≢ b
+apart a b t h =
+    let same : (b.thread == b.thread && b.number == b.number) ≡ true = and_from (b.thread == b.thread) (b.number == b.number) (grind (arith, nat_tests)) (grind (arith, nat_tests)) in
+    let here : false ≡ (b.thread == b.thread && b.number == b.number) = subst (λ (k : EventKey). false ≡ (k.thread == b.thread && k.number == b.number)) h t in
+    false≢true (here ∙ same)

@@ -5,3 +5,4 @@ pub mod Answer
 pub mod Steps
 pub mod Relations
 pub mod Choice
+pub mod Rules
