@@ -1,7 +1,8 @@
 -- Rows of a relation: each event that a row counts is always before that of the row.
-use Rattle.std.proofs.Common.{◌≡◌, ◌⊎◌, ℕ, ◌<◌, ◌≤◌, List, [], IsSome, Some, get_or, slice_get, length, set, refl, sym, ap, ◌∙◌, subst, arith, inl, inr, ⊎_elim}
+use Rattle.std.proofs.Common.{◌≡◌, ◌⊎◌, ℕ, ◌<◌, ◌≤◌, List, [], ◌∷◌, ◌++◌, IsSome, Some, get_or, slice_get, length, set, refl, sym, ap, ◌∙◌, subst, arith, inl, inr, ⊎_elim}
 use Rattle.std.specs.Prelude.{All}
 use Rattle.std.proofs.lemmas.Bool.{cases_lt}
+use Rattle.std.proofs.lemmas.List.Elements.{All-append, All-cons, All-nil}
 use Rattle.std.proofs.lemmas.Option.{same_Some, slice_get-get_or}
 use Rattle.wm_event.specs.declared.event.EventKey.{EventKey}
 use Rattle.wm_event.specs.declared.event.EventId.TheVariants.{At}
@@ -19,7 +20,7 @@ use Rattle.wm_witness.specs.declared.relation.Kind.{Kind}
 use Rattle.wm_witness.specs.declared.relation.Kind.TheVariants.{Happens, Stands}
 use Rattle.wm_witness.specs.declared.relation.Pair.{Pair}
 use Rattle.wm_witness.specs.Always.{IsClosed}
-use Rattle.wm_witness.specs.Relations.{AlwaysRelates, AreRows, Covers, IsPair, IsRow, IsSynchronized, Relates}
+use Rattle.wm_witness.specs.Relations.{AlwaysRelates, AreRows, Covers, IsEmptyRow, IsPair, IsRow, IsSynchronized, Relates}
 use Rattle.wm_witness.proofs.Steps.{before-join}
 
 relates-through : (kind : Kind) (x : LoggedRun) (a b c : EventKey) → Relates kind x a b → Relates kind x b c → Relates kind x a c
@@ -80,3 +81,16 @@ module _ (run : LoggedRun) (assumed : List Assumption) (kind : Kind) where
 
   pub row-cycle : (row : Row) → IsRow run assumed kind row → Covers row row.key → IsClosed run assumed
   row-cycle row is covers = λ witness shape valid keeps. never-itself kind (with_witness run witness) row.key valid (is.counted row.key covers witness shape valid keeps)
+
+  pub empty-pushed : (rows : List Row) (row : Row) → AreRows run assumed kind rows → IsEmptyRow run row → AreRows run assumed kind (rows ++ row ∷ [])
+  empty-pushed rows row all empty =
+      let is : IsRow run assumed kind row = record { there = empty.0; counted = λ a h. absurd (empty.1 a h) } in
+      All-append (IsRow run assumed kind) rows (row ∷ []) all (All-cons (IsRow run assumed kind) row [] is (All-nil (IsRow run assumed kind)))
+
+  -- the row before it in its thread
+  pub earlier-row : (rows : List Row) (i j : ℕ) (a b : Row) → AreRows run assumed kind rows → i < length rows → j < length rows → a ≡ get_or rows i a → b ≡ get_or rows j b
+      → a.key.thread ≡ b.key.thread → a.key.number < b.key.number → AlwaysRelates run assumed kind a.key b.key
+  earlier-row rows i j a b all in_i in_j is_a is_b thread less =
+      let row_a : IsRow run assumed kind a = subst (IsRow run assumed kind) (sym is_a) (all i a in_i) in
+      let row_b : IsRow run assumed kind b = subst (IsRow run assumed kind) (sym is_b) (all j b in_j) in
+      always-in-thread a.key b.key row_a.there row_b.there thread less

@@ -33,6 +33,10 @@ pub record IsRow (run : LoggedRun) (assumed : List Assumption) (kind : Kind) (ro
 abbrev pub AreRows : LoggedRun → List Assumption → Kind → List Row → Type 0
 AreRows run assumed kind rows = All (IsRow run assumed kind) rows
 
+-- a row that counts nothing
+abbrev pub IsEmptyRow : LoggedRun → Row → Type 0
+IsEmptyRow run row = IsSome (event_in run.log row.key) × ((a : EventKey) → Covers row a → ⊥)
+
 -- the row at a place is that of an event
 abbrev pub IsAt : List Row → ℕ → EventKey → Type 0
 IsAt rows i key = (i < length rows) × ((row : Row) → row ≡ slice_index_or rows i row → row.key ≡ key)

@@ -5,6 +5,7 @@ mod answer;
 mod assumption;
 mod choice;
 mod copies;
+mod links;
 mod node;
 mod relation;
 mod row;

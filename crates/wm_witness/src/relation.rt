@@ -1,13 +1,15 @@
 //! What always happens before an event, or comes before it in the order.
-ghost use Rattle.std.specs.Prelude.{◌≡◌, ◌<◌, IfOk, IfSome, IsTrue, length, slice_index_or};
+ghost use Rattle.std.specs.Prelude.{All, List, ◌≡◌, ◌<◌, IfOk, IfSome, IsTrue, length, slice_index_or};
 ghost use Rattle.wm_witness.specs.Always.{IsClosed};
-ghost use Rattle.wm_witness.specs.Relations.{AlwaysRelates, AreRows, IsAt, IsPair};
+ghost use Rattle.wm_witness.specs.Relations.{AlwaysRelates, AreRows, IsAt, IsEmptyRow, IsPair};
+ghost use Rattle.wm_witness.specs.declared.assumption.Assumption.{Assumption};
 ghost use Rattle.wm_witness.specs.declared.row.Row.{Row};
 
 use crate::assumption::Assumption;
+use crate::links::Links;
 use crate::row::Row;
 use std::alloc::{AllocError, Global};
-use wm_event::{Candidate, EventKey};
+use wm_event::{Candidate, EventId, EventKey};
 
 /// Which relation of events.
 #[derive(Clone, Copy)]
@@ -36,6 +38,16 @@ pub(crate) struct Relation {
     pub starts: Vec<usize>,
 }
 
+/// The row of an event before which nothing is known to come; None if there is no such event.
+fn empty_row(start: &Candidate, key: EventKey) -> Option<Row>
+    ensures { IfSome result (IsEmptyRow start.now) }
+{
+    match start.event(EventId::At(key)) {
+        Some(_) => Some(Row::new(key)),
+        None => None,
+    }
+}
+
 impl Relation {
     /// The place of an event among the rows.
     pub(crate) fn index(&self, key: EventKey) -> Option<usize>
@@ -54,6 +66,24 @@ impl Relation {
         } else {
             None
         }
+    }
+
+    /// The relation in which nothing comes before any event yet.
+    pub(crate) fn new(alloc: Global, start: &Candidate, kind: Kind) -> Result<Self, AllocError>
+        ensures kind { IfOk result (λ relation. relation.kind ≡ kind) }
+        ensures rows { IfOk result (λ relation. (assumed : List Assumption) → AreRows start.now assumed relation.kind relation.rows.items) }
+    {
+        let mut rows = Vec::new(alloc);
+        let mut starts = Vec::new(alloc);
+        for thread in start.log().threads() {
+            starts.push(rows.len())?;
+            for event in thread.events.as_slice() {
+                if let Some(row) = empty_row(start, event.key()) {
+                    rows.push(row)?;
+                }
+            }
+        }
+        Ok(Relation { kind, rows, starts })
     }
 
     /// How many events of a thread are known to come before the event of a row.
@@ -120,6 +150,102 @@ impl Relation {
             (Some(from), Some(into)) => self.join(start, assumed, from, into),
             _ => false,
         }
+    }
+
+    /// Joins the row at a place with that of the event before it in its thread. Whether that is new.
+    fn join_earlier(&mut self, start: &Candidate, assumed: &[Assumption], index: usize) -> bool
+        requires rows { AreRows start.now assumed.now self.old.kind self.old.rows.items }
+        ensures kind { self.new.kind ≡ self.old.kind }
+        ensures rows { AreRows start.now assumed.now self.new.kind self.new.rows.items }
+    {
+        if index == 0 || index >= self.rows.len() {
+            return false;
+        }
+        let earlier = self.rows[index - 1].key;
+        let key = self.rows[index].key;
+        if earlier.thread == key.thread && earlier.number < key.number {
+            self.join(start, assumed, index - 1, index)
+        } else {
+            false
+        }
+    }
+
+    /// Adds the pairs that lead to the event of a row, which are linked from `links.first`. Whether that is new.
+    fn join_linked(
+        &mut self,
+        start: &Candidate,
+        assumed: &[Assumption],
+        pairs: &[Pair],
+        links: &Links,
+        index: usize,
+    ) -> bool
+        requires rows { AreRows start.now assumed.now self.old.kind self.old.rows.items }
+        requires pairs { All (IsPair start.now assumed.now self.old.kind) pairs.now }
+        ensures kind { self.new.kind ≡ self.old.kind }
+        ensures rows { AreRows start.now assumed.now self.new.kind self.new.rows.items }
+    {
+        let mut is_new = false;
+        let mut next = links.first_to(index);
+        for _ in 0..pairs.len() {
+            let Some(place) = next else {
+                break;
+            };
+            let Some(pair) = pairs.get(place) else {
+                break;
+            };
+            if self.add_pair(start, assumed, *pair) {
+                is_new = true;
+            }
+            next = links.after(place);
+        }
+        is_new
+    }
+
+    /// Joins the rows once, in an order. Whether that is new.
+    fn join_all(
+        &mut self,
+        start: &Candidate,
+        assumed: &[Assumption],
+        pairs: &[Pair],
+        links: &Links,
+    ) -> bool
+        requires rows { AreRows start.now assumed.now self.old.kind self.old.rows.items }
+        requires pairs { All (IsPair start.now assumed.now self.old.kind) pairs.now }
+        ensures kind { self.new.kind ≡ self.old.kind }
+        ensures rows { AreRows start.now assumed.now self.new.kind self.new.rows.items }
+    {
+        let mut is_new = false;
+        for index in links.order.as_slice() {
+            if self.join_earlier(start, assumed, *index) {
+                is_new = true;
+            }
+            if self.join_linked(start, assumed, pairs, links, *index) {
+                is_new = true;
+            }
+        }
+        is_new
+    }
+
+    /// Adds pairs, and all that follows from them, unless a cycle is found before.
+    pub(crate) fn close(
+        &mut self,
+        alloc: Global,
+        start: &Candidate,
+        assumed: &[Assumption],
+        pairs: &[Pair],
+    ) -> Result<(), AllocError>
+        requires rows { AreRows start.now assumed.now self.old.kind self.old.rows.items }
+        requires pairs { All (IsPair start.now assumed.now self.old.kind) pairs.now }
+        ensures kind { self.new.kind ≡ self.old.kind }
+        ensures rows { AreRows start.now assumed.now self.new.kind self.new.rows.items }
+    {
+        let links = Links::of(alloc, self, pairs)?;
+        for _ in 0..self.rows.len() {
+            if !self.join_all(start, assumed, pairs, &links) || self.has_cycle(start, assumed) {
+                break;
+            }
+        }
+        Ok(())
     }
 
     /// Whether an event is known to come before itself.
