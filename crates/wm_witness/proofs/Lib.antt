@@ -4,6 +4,7 @@ pub mod Frames
 pub mod RelationLaw
 pub mod ChoiceLaw
 pub mod RulesLaw
+pub mod NodeLaw
 pub mod SplitLaw
 pub mod SearchLaw
 pub mod SearchKept

@@ -1,5 +1,5 @@
 -- What the rules ask of the events of a log.
-use Rattle.std.specs.Prelude.{◌≡◌, List, Some, IsTrue, All}
+use Rattle.std.specs.Prelude.{◌≡◌, List, Option, Some, IsTrue, All, MatchOption}
 use Rattle.wm_event.specs.declared.event.Event.{Event}
 use Rattle.wm_event.specs.declared.event.EventKey.{EventKey}
 use Rattle.wm_event.specs.declared.event.Range.{Range}
@@ -10,6 +10,7 @@ use Rattle.wm_event.specs.LoggedRun.{LoggedRun}
 use Rattle.wm_witness.specs.declared.assumption.Assumption.{Assumption}
 use Rattle.wm_witness.specs.declared.node.Node.{Node}
 use Rattle.wm_witness.specs.declared.relation.Kind.TheVariants.{Happens, Stands}
+use Rattle.wm_witness.specs.Always.{IsClosed}
 use Rattle.wm_witness.specs.Choice.{IsTaken}
 use Rattle.wm_witness.specs.Relations.{AreRows, IsPair, IsSynchronized}
 
@@ -40,3 +41,7 @@ pub record IsNode (run : LoggedRun) (assumed : List Assumption) (node : Node) : 
   pub synchronized : All (IsSynchronized run assumed) node.synchronized.items
   pub ordered : All (IsPair run assumed Stands) node.ordered.items
   pub taken : All (IsTaken run assumed) node.taken.items
+
+-- what is known; None if no valid run keeps the assumptions
+abbrev pub IsSettled : LoggedRun → List Assumption → Option Node → Type 0
+IsSettled run assumed result = MatchOption result (IsClosed run assumed) (IsNode run assumed)
