@@ -47,6 +47,58 @@ fn note(writers: &mut Vec<[Option<EventId>; 8]>, happens: &Relation, taken: &Tak
     }
 }
 
+/// The event of that name; None if there is no such event.
+fn event_of<'a>(start: &'a Candidate, key: EventKey) -> Option<&'a Event>
+    ensures { IfSome result (λ event. IsEventOf start.now event.now) }
+{
+    let _log = start.log();
+    start.event(EventId::At(key))
+}
+
+/// The last atomic write of a range by a thread that is known to stand before an event.
+fn last_before(
+    start: &Candidate,
+    relation: &Relation,
+    range: Range,
+    thread: usize,
+    event: EventKey,
+) -> Option<EventKey> {
+    if thread >= start.log().threads().len() {
+        return None;
+    }
+    let count = relation.count(relation.index(event)?, thread) as usize;
+    let writes = start.thread_atomic_writes(thread, range);
+    let place = writes.partition_point(|write| write.place < count);
+    if place == 0 {
+        return None;
+    }
+    key_at(thread, writes.get(place - 1)?.place)
+}
+
+/// The first atomic write of a range by a thread that is known to stand after an event.
+fn first_after(
+    start: &Candidate,
+    relation: &Relation,
+    range: Range,
+    thread: usize,
+    event: EventKey,
+) -> Option<EventKey> {
+    if thread >= start.log().threads().len() {
+        return None;
+    }
+    let writes = start.thread_atomic_writes(thread, range);
+    let place = writes.partition_point(|write| !relation.counts(thread, write.place, event));
+    key_at(thread, writes.get(place)?.place)
+}
+
+/// The name of an event, by its thread and its number there.
+fn key_at(thread: usize, number: usize) -> Option<EventKey> {
+    Some(EventKey {
+        thread: u32::try_from(thread).ok()?,
+        number: u32::try_from(number).ok()?,
+    })
+}
+
 impl Node {
     /// The node at which nothing is known.
     fn new(alloc: Global, start: &Candidate, assumed: &[Assumption]) -> Result<Self, AllocError>
@@ -148,5 +200,171 @@ impl Node {
             node.assume(start, assumed, index)?;
         }
         Ok(node)
+    }
+
+    /// Extends the relations by the pairs.
+    fn close(
+        &mut self,
+        alloc: Global,
+        start: &Candidate,
+        assumed: &[Assumption],
+    ) -> Result<(), AllocError>
+        requires node { IsNode start.now assumed.now self.old }
+        ensures { OnOk result (IsNode start.now assumed.now self.new) }
+    {
+        self.happens
+            .close(alloc, start, assumed, self.synchronized.as_slice())?;
+        self.stands
+            .close(alloc, start, assumed, self.ordered.as_slice())?;
+        Ok(())
+    }
+
+    /// Looks at the writers that a byte of a read can have, and adds the only one. Whether there is none.
+    fn choose_byte(
+        &mut self,
+        alloc: Global,
+        start: &Candidate,
+        assumed: &[Assumption],
+        event: &Event,
+        byte: u8,
+    ) -> Result<bool, AllocError>
+        requires node { IsNode start.now assumed.now self.old }
+        requires event { IsEventOf start.now event.now }
+        requires byte { byte < read_width event.now }
+        ensures node { OnOk result (IsNode start.now assumed.now self.new) }
+        ensures closed { IfOk result (λ is_closed. IsTrue is_closed → IsClosed start.now assumed.now) }
+    {
+        match choice_of(alloc, start, assumed, &self.happens, event, byte)? {
+            Choice::Nothing => Ok(true),
+            Choice::Several => Ok(false),
+            Choice::Only(writer) => {
+                let taken = Taken {
+                    reader: event.key(),
+                    byte,
+                    writer,
+                };
+                self.add_taken(start, assumed, taken)?;
+                Ok(false)
+            }
+        }
+    }
+
+    /// The writer of a byte of the event of a row, if it is known.
+    pub(crate) fn writer(&self, index: usize, byte: u8) -> Option<EventId> {
+        *self.writers.get(index)?.get(byte as usize)?
+    }
+
+    /// Looks at the bytes of the event of a row whose writers aren't known. Whether one has none.
+    fn choose_event(
+        &mut self,
+        alloc: Global,
+        start: &Candidate,
+        assumed: &[Assumption],
+        index: usize,
+    ) -> Result<bool, AllocError>
+        requires node { IsNode start.now assumed.now self.old }
+        ensures node { OnOk result (IsNode start.now assumed.now self.new) }
+        ensures closed { IfOk result (λ is_closed. IsTrue is_closed → IsClosed start.now assumed.now) }
+    {
+        if index >= self.happens.rows.len() {
+            return Ok(false);
+        }
+        let Some(event) = event_of(start, self.happens.rows[index].key) else {
+            return Ok(false);
+        };
+        if !event.reads() {
+            return Ok(false);
+        }
+        for byte in 0..event.width.bytes() {
+            if self.writer(index, byte).is_none()
+                && self.choose_byte(alloc, start, assumed, event, byte)?
+            {
+                return Ok(true);
+            }
+        }
+        Ok(false)
+    }
+
+    /// Looks at all bytes whose writers aren't known. Whether one has none.
+    fn choose(
+        &mut self,
+        alloc: Global,
+        start: &Candidate,
+        assumed: &[Assumption],
+    ) -> Result<bool, AllocError>
+        requires node { IsNode start.now assumed.now self.old }
+        ensures node { OnOk result (IsNode start.now assumed.now self.new) }
+        ensures closed { IfOk result (λ is_closed. IsTrue is_closed → IsClosed start.now assumed.now) }
+    {
+        for index in 0..self.happens.rows.len() {
+            if self.choose_event(alloc, start, assumed, index)? {
+                return Ok(true);
+            }
+        }
+        Ok(false)
+    }
+
+    /// Orders an atomic write beside a pair that synchronizes, if one exists and either end is known to be on one side.
+    fn order_beside(
+        &mut self,
+        start: &Candidate,
+        assumed: &[Assumption],
+        pair: Pair,
+        other: Option<EventKey>,
+    ) -> Result<(), AllocError>
+        requires node { IsNode start.now assumed.now self.old }
+        requires pair { IsSynchronized start.now assumed.now pair }
+        ensures { OnOk result (IsNode start.now assumed.now self.new) }
+    {
+        if let Some(other) = other
+            && let Some(found) = not_between(start, assumed, &self.stands, pair, other)
+        {
+            self.add_ordered(start, assumed, found)?;
+        }
+        Ok(())
+    }
+
+    /// Orders the atomic writes of a thread beside a pair that synchronizes.
+    fn order_thread_beside(
+        &mut self,
+        start: &Candidate,
+        assumed: &[Assumption],
+        pair: Pair,
+        range: Range,
+        thread: usize,
+    ) -> Result<(), AllocError>
+        requires node { IsNode start.now assumed.now self.old }
+        requires pair { IsSynchronized start.now assumed.now pair }
+        ensures { OnOk result (IsNode start.now assumed.now self.new) }
+    {
+        let before = last_before(start, &self.stands, range, thread, pair.second);
+        self.order_beside(start, assumed, pair, before)?;
+        let after = first_after(start, &self.stands, range, thread, pair.first);
+        self.order_beside(start, assumed, pair, after)?;
+        Ok(())
+    }
+
+    /// Orders the atomic writes beside the pair that synchronizes at a place.
+    fn order_pair(
+        &mut self,
+        start: &Candidate,
+        assumed: &[Assumption],
+        index: usize,
+    ) -> Result<(), AllocError>
+        requires node { IsNode start.now assumed.now self.old }
+        ensures { OnOk result (IsNode start.now assumed.now self.new) }
+    {
+        if index >= self.synchronized.len() {
+            return Ok(());
+        }
+        let pair = self.synchronized[index];
+        let Some(event) = start.event(EventId::At(pair.second)) else {
+            return Ok(());
+        };
+        let range = event.range();
+        for thread in 0..start.log().threads().len() {
+            self.order_thread_beside(start, assumed, pair, range, thread)?;
+        }
+        Ok(())
     }
 }

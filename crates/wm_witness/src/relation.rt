@@ -97,6 +97,17 @@ impl Relation {
         }
     }
 
+    /// Whether the row of an event of a thread counts another event.
+    pub(crate) fn counts(&self, thread: usize, number: usize, other: EventKey) -> bool {
+        let Some(start) = self.starts.get(thread) else {
+            return false;
+        };
+        match self.rows.get(start.saturating_add(number)) {
+            Some(row) => row.covers(other),
+            None => false,
+        }
+    }
+
     /// Whether an event is known to come before another.
     pub(crate) fn has(&self, start: &Candidate, assumed: &[Assumption], pair: Pair) -> bool
         requires { AreRows start.now assumed.now self.now.kind self.now.rows.items }
