@@ -91,6 +91,26 @@ fn first_after(
     key_at(thread, writes.get(place)?.place)
 }
 
+/// The first atomic write of a range by a thread that is known to happen after a writer.
+fn first_past(
+    start: &Candidate,
+    relation: &Relation,
+    range: Range,
+    thread: usize,
+    writer: EventId,
+) -> Option<EventKey> {
+    if thread >= start.log().threads().len() {
+        return None;
+    }
+    match writer {
+        EventId::At(key) => first_after(start, relation, range, thread, key),
+        EventId::Init => {
+            let writes = start.thread_atomic_writes(thread, range);
+            key_at(thread, writes.first()?.place)
+        }
+    }
+}
+
 /// The name of an event, by its thread and its number there.
 fn key_at(thread: usize, number: usize) -> Option<EventKey> {
     Some(EventKey {
@@ -367,4 +387,133 @@ impl Node {
         }
         Ok(())
     }
+
+    /// Orders an atomic write before the writer of a byte, if both happen before the read.
+    fn order_overwritten(
+        &mut self,
+        start: &Candidate,
+        assumed: &[Assumption],
+        taken: &Taken,
+        other: Option<EventKey>,
+    ) -> Result<(), AllocError>
+        requires node { IsNode start.now assumed.now self.old }
+        requires taken { IsTaken start.now assumed.now taken.now }
+        ensures { OnOk result (IsNode start.now assumed.now self.new) }
+    {
+        if let Some(other) = other
+            && let Some(found) = not_overwritten(start, assumed, &self.happens, taken, other)
+        {
+            self.add_ordered(start, assumed, found)?;
+        }
+        Ok(())
+    }
+
+    /// Orders an atomic write after a read, if the writer of a byte happens before both.
+    fn order_past(
+        &mut self,
+        start: &Candidate,
+        assumed: &[Assumption],
+        taken: &Taken,
+        other: Option<EventKey>,
+    ) -> Result<(), AllocError>
+        requires node { IsNode start.now assumed.now self.old }
+        requires taken { IsTaken start.now assumed.now taken.now }
+        ensures { OnOk result (IsNode start.now assumed.now self.new) }
+    {
+        if let Some(other) = other
+            && let Some(found) = not_past(start, assumed, &self.happens, taken, other)
+        {
+            self.add_ordered(start, assumed, found)?;
+        }
+        Ok(())
+    }
+
+    /// Orders the atomic writes of a thread by the writer of a byte.
+    fn order_thread_by_writer(
+        &mut self,
+        start: &Candidate,
+        assumed: &[Assumption],
+        taken: &Taken,
+        thread: usize,
+    ) -> Result<(), AllocError>
+        requires node { IsNode start.now assumed.now self.old }
+        requires taken { IsTaken start.now assumed.now taken.now }
+        ensures { OnOk result (IsNode start.now assumed.now self.new) }
+    {
+        let overwritten = match start.event(taken.writer) {
+            Some(event) if event.is_atomic() => {
+                last_before(start, &self.happens, event.range(), thread, taken.reader)
+            }
+            _ => None,
+        };
+        self.order_overwritten(start, assumed, taken, overwritten)?;
+        let past = match start.event(EventId::At(taken.reader)) {
+            Some(event) if event.is_atomic() => {
+                first_past(start, &self.happens, event.range(), thread, taken.writer)
+            }
+            _ => None,
+        };
+        self.order_past(start, assumed, taken, past)?;
+        Ok(())
+    }
+
+    /// Orders the atomic writes by the writer of a byte at a place.
+    fn order_by_writer(
+        &mut self,
+        start: &Candidate,
+        assumed: &[Assumption],
+        index: usize,
+    ) -> Result<(), AllocError>
+        requires node { IsNode start.now assumed.now self.old }
+        ensures { OnOk result (IsNode start.now assumed.now self.new) }
+    {
+        if index >= self.taken.len() {
+            return Ok(());
+        }
+        let taken = self.taken[index];
+        for thread in 0..start.log().threads().len() {
+            self.order_thread_by_writer(start, assumed, &taken, thread)?;
+        }
+        Ok(())
+    }
+
+    /// Adds what the fifth rule orders.
+    fn order(&mut self, start: &Candidate, assumed: &[Assumption]) -> Result<(), AllocError>
+        requires node { IsNode start.now assumed.now self.old }
+        ensures { OnOk result (IsNode start.now assumed.now self.new) }
+    {
+        for place in 0..self.synchronized.len() {
+            self.order_pair(start, assumed, place)?;
+        }
+        for index in 0..self.taken.len() {
+            self.order_by_writer(start, assumed, index)?;
+        }
+        Ok(())
+    }
+}
+
+/// What is known of the valid runs that keep the assumptions; None if there is none.
+pub(crate) fn settle(
+    alloc: Global,
+    start: &Candidate,
+    assumed: &[Assumption],
+) -> Result<Option<Node>, AllocError>
+    ensures { IfOk result (IsSettled start.now assumed.now) }
+{
+    let mut node = Node::of(alloc, start, assumed)?;
+    for _ in 0..MAX_ROUNDS {
+        node.close(alloc, start, assumed)?;
+        if node.stands.has_cycle(start, assumed) {
+            return Ok(None);
+        }
+        let (ordered, taken) = (node.ordered.len(), node.taken.len());
+        if node.choose(alloc, start, assumed)? {
+            return Ok(None);
+        }
+        node.order(start, assumed)?;
+        if node.ordered.len() == ordered && node.taken.len() == taken {
+            return Ok(Some(node));
+        }
+    }
+    Ok(Some(node))
 }
