@@ -1,6 +1,6 @@
 -- Lemmas that the laws share.
-use Rattle.std.proofs.Common.{◌≡◌, ◌≢◌, ◌⊎◌, ℕ, ◌<◌, zero, suc, List, [], ◌∷◌, ◌++◌, slice_get, Option, None, Some, IsSome, refl, sym, ap, ◌∙◌, subst, arith, inl, inr, ⊎_elim}
-use Rattle.std.specs.Prelude.{◌==◌, ◌&&◌, true, false}
+use Rattle.std.proofs.Common.{◌≡◌, ◌≢◌, ◌⊎◌, Bor, ℕ, ◌<◌, zero, suc, List, [], ◌∷◌, ◌++◌, slice_get, Option, None, Some, IsSome, refl, sym, ap, ◌∙◌, subst, arith, inl, inr, ⊎_elim}
+use Rattle.std.specs.Prelude.{◌==◌, ◌&&◌, true, false, is_some, option_copied}
 use Rattle.std.proofs.lemmas.Bool.{and_from, cases_eq, cases_lt, false≢true}
 use Rattle.std.proofs.lemmas.Bool.Decides.{nat_tests}
 use Rattle.std.proofs.lemmas.Option.{same_Some}
@@ -66,3 +66,8 @@ apart a b t h =
     let same : (b.thread == b.thread && b.number == b.number) ≡ true = and_from (b.thread == b.thread) (b.number == b.number) (grind (arith, nat_tests)) (grind (arith, nat_tests)) in
     let here : false ≡ (b.thread == b.thread && b.number == b.number) = subst (λ (k : EventKey). false ≡ (k.thread == b.thread && k.number == b.number)) h t in
     false≢true (here ∙ same)
+
+-- what a reference is to is there
+pub copied-there : {X : Type 0} (o : Option (Bor X)) (p : Option X) → option_copied o ≡ p → is_some o ≡ true → IsSome p
+copied-there None p is some = absurd (false≢true some)
+copied-there (Some b) p is some = subst (λ q. IsSome q) is refl

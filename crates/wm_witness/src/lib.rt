@@ -5,12 +5,16 @@ mod answer;
 mod assumption;
 mod choice;
 mod copies;
+mod grounds;
+mod leaf;
 mod links;
 mod node;
 mod relation;
 mod row;
 mod rules;
+mod schedule;
 mod search;
+mod split;
 mod stack;
 mod step;
 

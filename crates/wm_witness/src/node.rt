@@ -48,7 +48,7 @@ fn note(writers: &mut Vec<[Option<EventId>; 8]>, happens: &Relation, taken: &Tak
 }
 
 /// The event of that name; None if there is no such event.
-fn event_of<'a>(start: &'a Candidate, key: EventKey) -> Option<&'a Event>
+pub(crate) fn event_of<'a>(start: &'a Candidate, key: EventKey) -> Option<&'a Event>
     ensures { IfSome result (λ event. IsEventOf start.now event.now) }
 {
     let _log = start.log();
@@ -272,6 +272,13 @@ impl Node {
     /// The writer of a byte of the event of a row, if it is known.
     pub(crate) fn writer(&self, index: usize, byte: u8) -> Option<EventId> {
         *self.writers.get(index)?.get(byte as usize)?
+    }
+
+    /// Whether it isn't known that the first event of a pair stands before the second.
+    pub(crate) fn stands_open(&self, start: &Candidate, assumed: &[Assumption], pair: Pair) -> bool
+        requires { IsNode start.now assumed.now self.now }
+    {
+        !self.stands.has(start, assumed, pair)
     }
 
     /// Looks at the bytes of the event of a row whose writers aren't known. Whether one has none.
