@@ -5,6 +5,7 @@ pub mod RelationLaw
 pub mod ChoiceLaw
 pub mod RulesLaw
 pub mod NodeLaw
+pub mod UnknownLaw
 pub mod SplitLaw
 pub mod SearchLaw
 pub mod SearchKept

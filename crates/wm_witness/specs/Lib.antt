@@ -6,3 +6,4 @@ pub mod Steps
 pub mod Relations
 pub mod Choice
 pub mod Rules
+pub mod Unknown

@@ -17,8 +17,10 @@ mod search;
 mod split;
 mod stack;
 mod step;
+mod unknown;
 
 
 pub use answer::Answer;
 pub use search::find;
+pub use unknown::unknown_witness;
 
