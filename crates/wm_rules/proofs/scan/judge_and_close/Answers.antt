@@ -6,7 +6,7 @@ use Rattle.wm_event.specs.Faults.{Breaks, rule_number}
 use Rattle.wm_hb.specs.Scan.{Finds}
 use Rattle.wm_rules.proofs.CaseLemmas.{of_all}
 use Rattle.wm_rules.proofs.ValidLaws.{is_valid, later_rule}
-use Rattle.wm_rules.proofs.scan.judge.Goals as goal
+use Rattle.wm_rules.proofs.scan.judge_and_close.Goals as goal
 
 pub first_fault-requires-after_bounds : goal.first_fault-requires-after_bounds
 first_fault-requires-after_bounds g c κs within =
@@ -18,9 +18,9 @@ pub returns-in-Some-first_fault : goal.returns-in-Some-first_fault
 returns-in-Some-first_fault g c = record {
   judged = of_all (execution c.args.candidate.now) c.in-Some-first_fault.fault
       (subst (λ (run : LoggedRun). Finds (execution run) [] (Some c.in-Some-first_fault.fault)) (c.in_ok-relation-in-Ok.ensures ∙ c.in-Ok.ensures.value) c.in-Some-first_fault.ensures);
+  closed = tt;
 }
 
-pub returns : goal.returns
-returns g c = record {
-  judged = is_valid c.args.candidate.now (subst (λ (run : LoggedRun). Finds (execution run) [] None) (c.in_ok-relation-in-Ok.ensures ∙ c.in-Ok.ensures.value) c.in-None.ensures);
-}
+pub returns-in-None-clause-judged : goal.returns-in-None-clause-judged
+returns-in-None-clause-judged g c =
+    is_valid c.args.candidate.now (subst (λ (run : LoggedRun). Finds (execution run) [] None) (c.in_ok-relation-in-Ok.ensures ∙ c.in-Ok.ensures.value) c.in-None.ensures)
