@@ -11,8 +11,7 @@ use std::alloc::{AllocError, Global};
 use std::cmp::Ordering;
 use std::fmt;
 use std::thread::Threads;
-use wm_check::{Breach, Verdict};
-use wm_event::{Candidate, EventId, Judgement, Log, MAX_STEPS, OpKind, Rule, RuleFault, ThreadLog};
+use wm_event::{Candidate, EventId, Judgement, MAX_STEPS, OpKind, Rule, RuleFault, ThreadLog};
 use wm_list::List;
 use wm_machine::CodePosition;
 use wm_phrase::{AndEndPhrase, Count, EndPhrase, JsonText};
@@ -363,37 +362,40 @@ pub struct PictureNotes {
     pub module_does: String,
 }
 
+/// What a picture of a candidate that shows these events shows of the module, if the threads make the events at these
+/// positions.
+///
+/// # Errors
+///
+/// Only if an allocation fails.
+pub fn judged_notes(
+    alloc: Global,
+    code: ModuleCode,
+    candidate: &Candidate,
+    positions: Vec<List<CodePosition>>,
+    ids: &[EventId],
+) -> Result<PictureNotes, AllocError> {
+    let mut sites = NamedSites::at(alloc, code, candidate.log(), positions)?;
+    Ok(PictureNotes {
+        places: event_places(alloc, &mut sites, ids)?,
+        module_does: String::new(alloc),
+    })
+}
+
 /// The thread that differs from its log, compared with it; None if no thread that starts differs.
 fn compare_differing(
     alloc: Global,
     module: &ValidModule,
-    verdict: &Verdict,
     candidate: &Candidate,
+    answer: ReplayAnswer,
 ) -> Result<Option<(usize, Compared)>, AllocError> {
-    let Verdict::Broken(Breach::Replay(ReplayAnswer::Differs(number, _))) = verdict else {
+    let ReplayAnswer::Differs(number, _) = answer else {
         return Ok(None);
     };
-    match compare_thread(alloc, module, candidate, *number)? {
-        Some(compared) => Ok(Some((*number, compared))),
+    match compare_thread(alloc, module, candidate, number)? {
+        Some(compared) => Ok(Some((number, compared))),
         None => Ok(None),
     }
-}
-
-/// For each of these events, the instruction that makes it; empty if its thread doesn't make it. `run` is a thread that
-/// was followed before.
-fn places_of(
-    alloc: Global,
-    code: ModuleCode,
-    log: &Log,
-    positions: Option<Vec<List<CodePosition>>>,
-    ids: &[EventId],
-    run: Option<ComparedRun>,
-) -> Result<Vec<String>, AllocError> {
-    let mut sites = match positions {
-        Some(positions) => NamedSites::at(alloc, code, log, positions),
-        None => sites_of(alloc, code, log, ids, run),
-    }?;
-    event_places(alloc, &mut sites, ids)
 }
 
 /// What the module does next in the thread that differs from its log; empty if none does.
@@ -404,22 +406,20 @@ fn module_does(alloc: Global, run: Option<ComparedRun>) -> Result<String, AllocE
     }
 }
 
-/// What a picture of a candidate that shows these events shows of the module; `verdict` is a check's verdict on the
-/// candidate. `positions` are those at which the threads make the events, if they are known; otherwise the threads are
+/// What a picture of a candidate that shows these events shows of the module, if a thread isn't its run. The threads are
 /// followed up to the last of these events.
 ///
 /// # Errors
 ///
 /// Only if an allocation fails.
-pub fn picture_notes(
+pub fn difference_notes(
     alloc: Global,
     code: ModuleCode,
-    verdict: &Verdict,
     candidate: &Candidate,
-    positions: Option<Vec<List<CodePosition>>>,
+    answer: ReplayAnswer,
     ids: &[EventId],
 ) -> Result<PictureNotes, AllocError> {
-    let differing = compare_differing(alloc, code.module, verdict, candidate)?;
+    let differing = compare_differing(alloc, code.module, candidate, answer)?;
     let run = match &differing {
         Some((number, compared)) => Some(ComparedRun {
             number: *number,
@@ -427,9 +427,9 @@ pub fn picture_notes(
         }),
         None => None,
     };
-    let places = places_of(alloc, code, candidate.log(), positions, ids, run)?;
+    let mut sites = sites_of(alloc, code, candidate.log(), ids, run)?;
     Ok(PictureNotes {
-        places,
+        places: event_places(alloc, &mut sites, ids)?,
         module_does: module_does(alloc, run)?,
     })
 }
