@@ -11,7 +11,7 @@ import os
 import shutil
 import subprocess
 
-from wmlabtools import TOP, cited, clauses, harness, imports, paragraphs, prover
+from wmlabtools import TOP, changes, cited, clauses, harness, imports, paragraphs, prover
 
 COLUMNS = 120
 
@@ -68,6 +68,11 @@ def lint_crates(tally):
         tally.check(not unnamed, f"crates.txt lists for {crate} what it doesn't name", " ".join(unnamed))
         unused = imports.unused(crate)
         tally.check(not unused, f"{crate} imports what it doesn't name", "\n".join(unused))
+
+
+def lint_changes(tally):
+    lines = changes.faults()
+    tally.check(not lines, f"{changes.PAGE} has a table that is not complete", "\n".join(lines))
 
 
 def lint_pages(tally, names):

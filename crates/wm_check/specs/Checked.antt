@@ -34,7 +34,7 @@ verdict_of (checked.Judged run positions finding) = verdict_by run.log (judgemen
 
 -- what is kept of a candidate whose threads are runs: where they make their events, its judgement, and its closure
 pub record IsJudgedRun («module» : Module) (run : LoggedRun) (positions : List (List CodePosition)) (finding : Finding) : Type 0 where
-  pub positions : AreLogPositions «module» run.log positions
+  pub made_at : AreLogPositions «module» run.log positions
   pub judged : Judges (execution run) (judgement_of finding)
   pub closed : HasClosure run finding
 

@@ -10,6 +10,7 @@ use std::thread::Threads;
 use wm_check::Refusal;
 use wm_event::{Candidate, Judgement, Misshapen};
 use wm_list::List;
+use wm_logfile::DocFault;
 use wm_machine::CodePosition;
 use wm_refusal::{decode_reason, document_reason, shape_reason, valid_reason};
 use wm_replay::ReplayAnswer;
@@ -30,9 +31,18 @@ pub fn explain_refusal(
     match refusal {
         Refusal::Decode(fault) => decode_reason(alloc, fault, module_bytes),
         Refusal::Valid(fault) => valid_reason(alloc, fault, module_bytes),
-        Refusal::Document(fault) => document_reason(alloc, fault, document_bytes),
+        Refusal::Document(fault) => explain_document(alloc, fault, document_bytes),
         Refusal::Shape(_) => Ok(String::new(alloc)),
     }
+}
+
+/// Why the bytes of a document are refused, as in [`explain_refusal`].
+///
+/// # Errors
+///
+/// Only if an allocation fails.
+pub fn explain_document(alloc: Global, fault: &DocFault, bytes: &[u8]) -> Result<String, AllocError> {
+    document_reason(alloc, fault, bytes)
 }
 
 /// Why a log and its witness are not a candidate over an initial memory of `memory_bytes` bytes. Each line ends with a

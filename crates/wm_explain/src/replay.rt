@@ -11,6 +11,7 @@ use std::alloc::{AllocError, Global};
 use std::cmp::Ordering;
 use std::fmt;
 use std::thread::Threads;
+use wm_access::RmwOperator;
 use wm_event::{Candidate, EventId, Judgement, MAX_STEPS, OpKind, Rule, RuleFault, ThreadLog};
 use wm_list::List;
 use wm_machine::CodePosition;
@@ -19,6 +20,7 @@ use wm_replay::{Place, ReplayAnswer};
 use wm_rules::judge;
 use wm_sites::ModuleCode;
 use wm_valid::ValidModule;
+use wm_writers::{ByteFit, Writers, writers_that_fit};
 
 /// A thread of a log, by its number.
 #[derive(Clone, Copy)]
@@ -183,28 +185,77 @@ fn add_position(
     add_position_phrase(alloc, text, code, start, compared.position)
 }
 
+/// Whether what an access writes depends on the value that it reads: that of an update but an exchange, and that of a
+/// compare-exchange.
+fn writes_by_read(kind: OpKind) -> bool {
+    match kind {
+        OpKind::Rmw(operator, _) => operator != RmwOperator::Xchg,
+        OpKind::CmpXchg(_, _) => true,
+        _ => false,
+    }
+}
+
+/// Whether the read of a fault is the event at which the thread differs, and its value decides what the module writes there.
+fn decides_difference(compared: &Compared, fault: &RuleFault) -> bool {
+    match (compared.made, compared.logged) {
+        (Next::Access(op), Next::Event(event)) => event.key() == fault.event
+            && event.address == op.address
+            && event.width == op.width
+            && writes_by_read(op.kind),
+        _ => false,
+    }
+}
+
+/// Whether a byte at which a read breaks V1 has a value that no other event, and not the initial memory, left there.
+fn is_from_nowhere(
+    alloc: Global,
+    candidate: &Candidate,
+    fault: &RuleFault,
+) -> Result<bool, AllocError> {
+    match writers_that_fit(alloc, candidate, fault)? {
+        Writers::Only(writers) | Writers::Several(writers) => {
+            for source in writers.sources.as_slice() {
+                if source.bytes.as_slice().iter().any(|byte: &ByteFit| -> bool { byte.fit.is_empty() }) {
+                    return Ok(true);
+                }
+            }
+            Ok(false)
+        }
+        Writers::Other => Ok(false),
+    }
+}
+
 /// What a fault of V1 at a read of the thread suggests about the thread's run.
-fn hint(compared: &Compared, fault: &RuleFault) -> &'static str {
-    if fault.case != 3 {
-        return "That is about who wrote a byte, so it can't be the cause: a thread's run depends only on the values that it reads.";
+fn hint(
+    alloc: Global,
+    candidate: &Candidate,
+    compared: &Compared,
+    fault: &RuleFault,
+) -> Result<&'static str, AllocError> {
+    if fault.case != 3 && !is_from_nowhere(alloc, candidate, fault)? {
+        return Ok(
+            "That is about who wrote a byte, so it can't be the cause: a thread's run depends only on the values that it reads.",
+        );
     }
     if (fault.event.number as usize) < compared.events {
-        return "That read comes before the difference and may be the cause. Check how the read's value was recorded.";
+        return Ok(
+            "That read comes before the difference and may be the cause. Check how the read's value was recorded.",
+        );
     }
-    match compared.made {
-        Next::Access(op)
-            if fault.event.number as usize == compared.events
-                && matches!(op.kind, OpKind::Rmw(_, _) | OpKind::CmpXchg(_, _)) => {
-            "That read is at the difference and may be the cause: what an update or a compare-exchange writes depends on the value that it reads."
-        }
-        _ => "That read doesn't come before the difference, so it can't be the cause.",
+    if decides_difference(compared, fault) {
+        return Ok(
+            "That read is at the difference and may be the cause: what an update or a compare-exchange writes depends on the value that it reads.",
+        );
     }
+    Ok("That read doesn't come before the difference, so it can't be the cause.")
 }
 
 /// Adds that the memory rules don't allow the events either, since a wrong value that was read often shows up later as
 /// a different step.
 fn add_fault(
+    alloc: Global,
     text: &mut String,
+    candidate: &Candidate,
     thread: LoggedThread,
     compared: &Compared,
     fault: &RuleFault,
@@ -214,7 +265,7 @@ fn add_fault(
         "The memory rules are also violated; the first violation is {fault}."
     )?;
     if fault.rule == Rule::WrittenValues && fault.event.thread as usize == thread.number {
-        let hint = hint(compared, fault);
+        let hint = hint(alloc, candidate, compared, fault)?;
         writeln!(text, "{hint}")?;
     }
     Ok(())
@@ -281,7 +332,7 @@ fn add_judgement<R: AllocGlobal + Threads + Sync>(
     match judge(rt, candidate)? {
         Judgement::Valid => Ok(text.push_str("The memory rules allow the events as logged.\n")?),
         Judgement::Broken(fault) => {
-            add_fault(text, thread, compared, &fault)?;
+            add_fault(rt.alloc(), text, candidate, thread, compared, &fault)?;
             let run = ComparedRun {
                 number: thread.number,
                 compared,

@@ -1,5 +1,5 @@
 pub mod Answering
-pub mod EventExplaining
+pub mod JudgedDocuments
 pub mod Pieces
 pub mod OwnVerdicts
 pub mod Counting

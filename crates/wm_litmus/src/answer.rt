@@ -25,7 +25,7 @@ pub(crate) struct Answer {
 }
 
 /// The exit status of a judgement.
-fn status_of(judgement: &Judgement) -> u8
+pub(crate) fn status_of(judgement: &Judgement) -> u8
     ensures { result ≡ judgement_status judgement.now }
 {
     match judgement {

@@ -1,6 +1,8 @@
 use Rattle.std.proofs.Common.{◌≡◌, ℕ, List, Option, None, subst, sym}
 use Rattle.wm_ast.specs.declared.module.Module.{Module}
 use Rattle.wm_event.specs.declared.log.ThreadLog.{ThreadLog}
+use Rattle.wm_event.specs.declared.rule.Judgement.{Judgement}
+use Rattle.wm_event.specs.declared.rule.Judgement.TheVariants as judgement
 use Rattle.wm_event.specs.LoggedRun.{LoggedRun}
 use Rattle.wm_event.specs.Shape.{IsWellShaped}
 use Rattle.wm_logfile.specs.DocumentBytes.{IsDocumentOf}
@@ -9,7 +11,8 @@ use Rattle.wm_replay.specs.Complete.{HasCompletion, IsCompletion}
 use Rattle.wm_valid.specs.Valid.{IsInit}
 use Rattle.wm_check.specs.declared.verdict.Verdict.{Verdict}
 use Rattle.wm_check.specs.Run.{IsModuleOf}
-use Rattle.wm_check.specs.Verified.{IsJudgedCompleted, JudgesRun}
+use Rattle.wm_check.specs.Checked.{verdict_by}
+use Rattle.wm_check.specs.Verified.{IsJudgedCompleted, JudgesRun, Verifies}
 use Rattle.wm_check.proofs.JudgedRuns.{judges_run}
 use Rattle.wm_check.proofs.SameEvents.{judged_completed}
 use Rattle.wm_check.proofs.verified.verify_candidate.Goals as goal
@@ -33,8 +36,15 @@ judged m run log answer verdict same completes is judges mb db modules document 
       judged = judged_completed m run completed verdict completion judges;
     }
 
-pub returns-in-None : goal.returns-in-None
-returns-in-None c =
+-- what completes a candidate with the verdict by its judgement verifies it
+verifies : (mb db : List ℕ) (log : List ThreadLog) (j : Judgement) → IsJudgedCompleted mb db (verdict_by log j) → Verifies mb db (verdict_by log j)
+verifies mb db log judgement.Valid is = is
+verifies mb db log (judgement.Broken fault) is = is
+
+pub returns-in_ok-judgement-in-None : goal.returns-in_ok-judgement-in-None
+returns-in_ok-judgement-in-None c = λ mb db is_module is_document is_init shape.
     let run = c.args.candidate.now in
-    judged c.args.module.now run c.log.result.now c.in_ok-answer.field-0 _ c.log.ensures.value c.in_ok-answer.ensures
-    c.in-None.is (subst (JudgesRun run) (sym c.judged_verdict.ensures) (judges_run run c.in_ok-judgement.judgement c.in_ok-judgement.ensures.judged))
+    let j = c.in_ok-judgement-in-None.judgement in
+    subst (Verifies mb db) (sym c.judged_verdict.ensures) (verifies mb db run.log j
+    (judged c.args.module.now run c.log.result.now c.in_ok-answer.field-0 (verdict_by run.log j) c.log.ensures.value c.in_ok-answer.ensures
+    c.in-None.is (judges_run run j c.in_ok-judgement-in-None.ensures.judged) mb db is_module is_document is_init shape))

@@ -1,0 +1,19 @@
+-- The line of what a judgement of a document found answers the document.
+use Rattle.std.proofs.Common.{◌≡◌, ℕ, List, subst, sym}
+use Rattle.wm_check.specs.declared.judged.JudgedDocument.{JudgedDocument}
+use Rattle.wm_check.specs.declared.judged.JudgedDocument.TheVariants.{Refused, Misshapen, Judged}
+use Rattle.wm_check.specs.Judged.{IsJudgedDocument}
+use Rattle.wm_event.specs.LoggedRun.{LoggedRun}
+use Rattle.wm_rules.specs.Finding.{judgement_of}
+use Rattle.wm_litmus.specs.Prints.{ended}
+use Rattle.wm_litmus.specs.Rules.{AnswersRules, AnswersRun, judged_status, judged_text, zeros}
+use Rattle.wm_litmus.specs.Rules.AnswersRules.{read, refused}
+use Rattle.wm_litmus.specs.Rules.AnswersRun.{judged, misshapen}
+
+pub answers_rules : (bytes : List ℕ) (found : JudgedDocument) (status : ℕ) (text : List ℕ) → IsJudgedDocument bytes (zeros 16) found
+    → status ≡ judged_status found → text ≡ ended (judged_text found) → AnswersRules bytes status text
+answers_rules bytes (Refused fault) status text is status_is text_is = refused fault is status_is text_is
+answers_rules bytes (Misshapen m) status text is status_is text_is = read m.log m.witness is.0 (misshapen m.fault is.1.first status_is text_is)
+answers_rules bytes (Judged run finding) status text is status_is text_is =
+    read run.log run.witness is.0
+    (subst (λ (r : LoggedRun). AnswersRun r status text) is.1.run_is (judged (judgement_of finding) is.1.shape is.1.judged status_is text_is))
