@@ -1,0 +1,11 @@
+pub mod Steps
+pub mod Cells
+pub mod Frames
+pub mod RelationLaw
+pub mod ChoiceLaw
+pub mod RulesLaw
+pub mod NodeLaw
+pub mod UnknownLaw
+pub mod SplitLaw
+pub mod SearchLaw
+pub mod SearchKept

@@ -1,0 +1,276 @@
+//! The writers that a byte of a read can have.
+ghost use Rattle.std.specs.Prelude.{◌≡◌, ◌<◌, ◌++◌, IfOk, IsTrue, OnOk};
+ghost use Rattle.std.specs.List.{filter};
+ghost use Rattle.wm_event.specs.Event.{key_of};
+ghost use Rattle.wm_event.specs.Shape.{read_width};
+ghost use Rattle.wm_writers.specs.Fits.{fits as spec_fits, fitting, is_from as spec_is_from};
+ghost use Rattle.wm_witness.specs.Choice.{Denies, IsChoice, IsEventOf, IsExcluded};
+ghost use Rattle.wm_witness.specs.Relations.{AreRows};
+ghost use Rattle.wm_witness.specs.declared.relation.Kind.TheVariants.{Happens};
+
+use crate::assumption::Assumption;
+use crate::relation::{Pair, Relation};
+use std::alloc::{AllocError, Global};
+use wm_event::{Candidate, Event, EventId, EventKey, byte_of};
+use wm_list::List;
+
+/// That a byte of a read is from a writer.
+#[derive(Clone, Copy)]
+pub(crate) struct Taken {
+    pub reader: EventKey,
+    pub byte: u8,
+    pub writer: EventId,
+}
+
+/// Which writers a byte of a read can have.
+#[derive(Clone, Copy)]
+pub(crate) enum Choice {
+    Nothing,
+    Only(EventId),
+    Several,
+}
+
+/// Whether an id is this event or a later one of its thread.
+fn is_from(reader: EventKey, id: EventId) -> bool
+    ensures { result ≡ spec_is_from reader id }
+{
+    match id {
+        EventId::Init => false,
+        EventId::At(key) => key.thread == reader.thread && reader.number <= key.number,
+    }
+}
+
+/// Whether an id fits a byte of a read: it leaves there the value that was read, and is neither the read nor a later event
+/// of its thread.
+fn fits(start: &Candidate, event: &Event, byte: u8, id: EventId) -> bool
+    requires { byte < 8 }
+    ensures { result ≡ spec_fits start.now.log start.now.initial event.now byte id }
+{
+    let address = u64::from(event.address) + u64::from(byte);
+    match start.byte_by(id, address) {
+        None => false,
+        Some(left) => left == byte_of(event.read, byte) && !is_from(event.key(), id),
+    }
+}
+
+/// Appends the ids that fit a byte of a read.
+fn add_fitting(
+    fit: &mut List<EventId>,
+    start: &Candidate,
+    event: &Event,
+    byte: u8,
+    ids: &[EventId],
+) -> Result<(), AllocError>
+    requires { byte < 8 }
+    ensures { OnOk result (fit.new ≡ fit.old ++ filter (spec_fits start.now.log start.now.initial event.now byte) ids.now) }
+{
+    for id in ids {
+        if fits(start, event, byte, *id) {
+            fit.push(*id)?;
+        }
+    }
+    Ok(())
+}
+
+/// All ids that fit a byte of a read: Init first, then the events of each thread, one thread after the other.
+pub(crate) fn fitting_ids(
+    alloc: Global,
+    start: &Candidate,
+    event: &Event,
+    byte: u8,
+) -> Result<List<EventId>, AllocError>
+    requires { byte < 8 }
+    ensures { IfOk result (λ fit. fit ≡ fitting start.now.log start.now.initial event.now byte) }
+{
+    let mut fit = List::new(alloc);
+    add_fitting(&mut fit, start, event, byte, &[EventId::Init])?;
+    let address = u64::from(event.address) + u64::from(byte);
+    for thread in 0..start.log().threads().len() {
+        let writes = start.thread_writes_to(thread, address);
+        add_fitting(&mut fit, start, event, byte, writes)?;
+    }
+    Ok(fit)
+}
+
+/// Whether an assumption says that the byte of the read isn't from the writer.
+fn denies(assumption: &Assumption, reader: EventKey, byte: u8, id: EventId) -> bool
+    ensures { IsTrue result → Denies assumption.now reader byte id }
+{
+    match *assumption {
+        Assumption::Byte(other, place, writer) => {
+            other == reader && place == byte && writer != id
+        }
+        Assumption::NotByte(other, place, writer) => {
+            other == reader && place == byte && writer == id
+        }
+        Assumption::TakesNone(other, writer) => match id {
+            EventId::Init => false,
+            EventId::At(key) => other == reader && writer == key,
+        },
+        _ => false,
+    }
+}
+
+/// Whether one of the assumptions says that the byte of the read isn't from the writer.
+fn is_denied(
+    start: &Candidate,
+    assumed: &[Assumption],
+    reader: EventKey,
+    byte: u8,
+    id: EventId,
+) -> bool
+    ensures { IsTrue result → IsExcluded start.now assumed.now reader byte id }
+{
+    for assumption in assumed {
+        if denies(assumption, reader, byte, id) {
+            return true;
+        }
+    }
+    false
+}
+
+/// Whether a write is known to come between a writer and a read of the byte in happens-before.
+fn comes_between(
+    start: &Candidate,
+    assumed: &[Assumption],
+    happens: &Relation,
+    event: &Event,
+    byte: u8,
+    writer: EventId,
+    other: EventKey,
+) -> bool
+    requires rows { AreRows start.now assumed.now happens.now.kind happens.now.rows.items }
+    requires kind { happens.now.kind ≡ Happens }
+    requires event { IsEventOf start.now event.now }
+    ensures { IsTrue result → IsExcluded start.now assumed.now (key_of event.now) byte writer }
+{
+    let address = u64::from(event.address) + u64::from(byte);
+    if start.byte_by(EventId::At(other), address).is_none() {
+        return false;
+    }
+    let reads = Pair {
+        first: other,
+        second: event.key(),
+    };
+    if !happens.has(start, assumed, reads) {
+        return false;
+    }
+    match writer {
+        EventId::Init => true,
+        EventId::At(first) => happens.has(
+            start,
+            assumed,
+            Pair {
+                first,
+                second: other,
+            },
+        ),
+    }
+}
+
+/// The last of some events of a thread, in its order, that is among the first `count` of the thread.
+fn last_of(ids: &[EventId], count: u32) -> Option<EventKey> {
+    let place = ids.partition_point(|id| match id {
+        EventId::Init => true,
+        EventId::At(key) => key.number < count,
+    });
+    if place == 0 {
+        return None;
+    }
+    match ids.get(place - 1)? {
+        EventId::Init => None,
+        EventId::At(key) => Some(*key),
+    }
+}
+
+/// Whether some write is known to come between a writer and a read of the byte in happens-before.
+fn is_overwritten(
+    start: &Candidate,
+    assumed: &[Assumption],
+    happens: &Relation,
+    event: &Event,
+    byte: u8,
+    writer: EventId,
+) -> bool
+    requires rows { AreRows start.now assumed.now happens.now.kind happens.now.rows.items }
+    requires kind { happens.now.kind ≡ Happens }
+    requires event { IsEventOf start.now event.now }
+    ensures { IsTrue result → IsExcluded start.now assumed.now (key_of event.now) byte writer }
+{
+    let address = u64::from(event.address) + u64::from(byte);
+    let Some(index) = happens.index(event.key()) else {
+        return false;
+    };
+    for thread in 0..start.log().threads().len() {
+        let count = happens.count(index, thread);
+        if count > 0
+            && let Some(other) = last_of(start.thread_writes_to(thread, address), count)
+            && comes_between(start, assumed, happens, event, byte, writer, other)
+        {
+            return true;
+        }
+    }
+    false
+}
+
+/// Whether a writer is known not to be that of a byte of a read.
+pub(crate) fn is_excluded(
+    start: &Candidate,
+    assumed: &[Assumption],
+    happens: &Relation,
+    event: &Event,
+    byte: u8,
+    writer: EventId,
+) -> bool
+    requires rows { AreRows start.now assumed.now happens.now.kind happens.now.rows.items }
+    requires kind { happens.now.kind ≡ Happens }
+    requires event { IsEventOf start.now event.now }
+    ensures { IsTrue result → IsExcluded start.now assumed.now (key_of event.now) byte writer }
+{
+    if let EventId::At(key) = writer {
+        let after = Pair {
+            first: event.key(),
+            second: key,
+        };
+        if happens.has(start, assumed, after) {
+            return true;
+        }
+    }
+    if is_denied(start, assumed, event.key(), byte, writer) {
+        return true;
+    }
+    is_overwritten(start, assumed, happens, event, byte, writer)
+}
+
+/// Which writers a byte of a read can have.
+pub(crate) fn choice_of(
+    alloc: Global,
+    start: &Candidate,
+    assumed: &[Assumption],
+    happens: &Relation,
+    event: &Event,
+    byte: u8,
+) -> Result<Choice, AllocError>
+    requires rows { AreRows start.now assumed.now happens.now.kind happens.now.rows.items }
+    requires kind { happens.now.kind ≡ Happens }
+    requires event { IsEventOf start.now event.now }
+    requires byte { byte < read_width event.now }
+    ensures { IfOk result (IsChoice start.now assumed.now event.now byte) }
+{
+    let _log = start.log();
+    let fit = fitting_ids(alloc, start, event, byte)?;
+    let mut found = None;
+    for writer in fit.as_slice() {
+        if is_excluded(start, assumed, happens, event, byte, *writer) {
+            continue;
+        }
+        if found.is_some() {
+            return Ok(Choice::Several);
+        }
+        found = Some(*writer);
+    }
+    match found {
+        None => Ok(Choice::Nothing),
+        Some(writer) => Ok(Choice::Only(writer)),
+    }
+}

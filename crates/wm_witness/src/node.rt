@@ -1,0 +1,526 @@
+//! What is known of the valid runs that keep some assumptions.
+ghost use Rattle.std.specs.Prelude.{◌≡◌, ◌<◌, All, IfOk, IfSome, IsTrue, OnOk};
+ghost use Rattle.wm_event.specs.Shape.{read_width};
+ghost use Rattle.wm_witness.specs.Always.{IsClosed};
+ghost use Rattle.wm_witness.specs.Choice.{IsEventOf, IsTaken};
+ghost use Rattle.wm_witness.specs.Relations.{IsPair, IsSynchronized};
+ghost use Rattle.wm_witness.specs.Rules.{IsNode, IsSettled};
+ghost use Rattle.wm_witness.specs.declared.relation.Kind.TheVariants.{Stands};
+
+use crate::assumption::Assumption;
+use crate::choice::{Choice, Taken, choice_of};
+use crate::relation::{Kind, Pair, Relation};
+use crate::rules::{
+    byte_assumed, not_between, not_overwritten, not_past, order_assumed, pair_assumed,
+    pair_of_taken,
+};
+use std::alloc::{AllocError, Global};
+use wm_event::{Candidate, Event, EventId, EventKey, Range};
+
+/// The most rounds in which what is known is extended.
+const MAX_ROUNDS: u32 = 64;
+
+/// What is known of the valid runs that keep some assumptions.
+#[derive(Drop)]
+pub(crate) struct Node {
+    /// What happens before what.
+    pub happens: Relation,
+    /// What stands before what in the order.
+    pub stands: Relation,
+    /// The pairs that synchronize.
+    pub synchronized: Vec<Pair>,
+    /// Pairs of the order, the synchronizing ones among them.
+    pub ordered: Vec<Pair>,
+    /// The bytes whose writers are known.
+    pub taken: Vec<Taken>,
+    /// For each row the writers of its bytes, as far as they are known. Nothing rests on it.
+    pub writers: Vec<[Option<EventId>; 8]>,
+}
+
+/// Notes the writer of a byte.
+fn note(writers: &mut Vec<[Option<EventId>; 8]>, happens: &Relation, taken: &Taken) {
+    if let Some(index) = happens.index(taken.reader)
+        && index < writers.len()
+        && taken.byte < 8
+    {
+        writers[index][taken.byte as usize] = Some(taken.writer);
+    }
+}
+
+/// The event of that name; None if there is no such event.
+pub(crate) fn event_of<'a>(start: &'a Candidate, key: EventKey) -> Option<&'a Event>
+    ensures { IfSome result (λ event. IsEventOf start.now event.now) }
+{
+    let _log = start.log();
+    start.event(EventId::At(key))
+}
+
+/// The last atomic write of a range by a thread that is known to stand before an event.
+fn last_before(
+    start: &Candidate,
+    relation: &Relation,
+    range: Range,
+    thread: usize,
+    event: EventKey,
+) -> Option<EventKey> {
+    if thread >= start.log().threads().len() {
+        return None;
+    }
+    let count = relation.count(relation.index(event)?, thread) as usize;
+    let writes = start.thread_atomic_writes(thread, range);
+    let place = writes.partition_point(|write| write.place < count);
+    if place == 0 {
+        return None;
+    }
+    key_at(thread, writes.get(place - 1)?.place)
+}
+
+/// The first atomic write of a range by a thread that is known to stand after an event.
+fn first_after(
+    start: &Candidate,
+    relation: &Relation,
+    range: Range,
+    thread: usize,
+    event: EventKey,
+) -> Option<EventKey> {
+    if thread >= start.log().threads().len() {
+        return None;
+    }
+    let writes = start.thread_atomic_writes(thread, range);
+    let place = writes.partition_point(|write| !relation.counts(thread, write.place, event));
+    key_at(thread, writes.get(place)?.place)
+}
+
+/// The first atomic write of a range by a thread that is known to happen after a writer.
+fn first_past(
+    start: &Candidate,
+    relation: &Relation,
+    range: Range,
+    thread: usize,
+    writer: EventId,
+) -> Option<EventKey> {
+    if thread >= start.log().threads().len() {
+        return None;
+    }
+    match writer {
+        EventId::At(key) => first_after(start, relation, range, thread, key),
+        EventId::Init => {
+            let writes = start.thread_atomic_writes(thread, range);
+            key_at(thread, writes.first()?.place)
+        }
+    }
+}
+
+/// The name of an event, by its thread and its number there.
+fn key_at(thread: usize, number: usize) -> Option<EventKey> {
+    Some(EventKey {
+        thread: u32::try_from(thread).ok()?,
+        number: u32::try_from(number).ok()?,
+    })
+}
+
+impl Node {
+    /// The node at which nothing is known.
+    fn new(alloc: Global, start: &Candidate, assumed: &[Assumption]) -> Result<Self, AllocError>
+        ensures { IfOk result (IsNode start.now assumed.now) }
+    {
+        let happens = Relation::new(alloc, start, Kind::Happens)?;
+        let stands = Relation::new(alloc, start, Kind::Stands)?;
+        let writers = vec![in alloc; [None; 8]; happens.rows.len()]?;
+        Ok(Node {
+            happens,
+            stands,
+            synchronized: Vec::new(alloc),
+            ordered: Vec::new(alloc),
+            taken: Vec::new(alloc),
+            writers,
+        })
+    }
+
+    /// Adds a pair that synchronizes.
+    fn add_synchronized(
+        &mut self,
+        start: &Candidate,
+        assumed: &[Assumption],
+        pair: Pair,
+    ) -> Result<(), AllocError>
+        requires node { IsNode start.now assumed.now self.old }
+        requires pair { IsSynchronized start.now assumed.now pair }
+        ensures { OnOk result (IsNode start.now assumed.now self.new) }
+    {
+        self.synchronized.push(pair)?;
+        self.ordered.push(pair)?;
+        Ok(())
+    }
+
+    /// Adds a pair of the order, if it isn't known.
+    fn add_ordered(
+        &mut self,
+        start: &Candidate,
+        assumed: &[Assumption],
+        pair: Pair,
+    ) -> Result<(), AllocError>
+        requires node { IsNode start.now assumed.now self.old }
+        requires pair { IsPair start.now assumed.now Stands pair }
+        ensures { OnOk result (IsNode start.now assumed.now self.new) }
+    {
+        if !self.stands.has(start, assumed, pair) {
+            self.ordered.push(pair)?;
+        }
+        Ok(())
+    }
+
+    /// Adds the writer of a byte, and the pair that synchronizes by it.
+    fn add_taken(
+        &mut self,
+        start: &Candidate,
+        assumed: &[Assumption],
+        taken: Taken,
+    ) -> Result<(), AllocError>
+        requires node { IsNode start.now assumed.now self.old }
+        requires taken { IsTaken start.now assumed.now taken }
+        ensures { OnOk result (IsNode start.now assumed.now self.new) }
+    {
+        note(&mut self.writers, &self.happens, &taken);
+        self.taken.push(taken)?;
+        if let Some(pair) = pair_of_taken(start, assumed, &taken) {
+            self.add_synchronized(start, assumed, pair)?;
+        }
+        Ok(())
+    }
+
+    /// Adds what one assumption says.
+    fn assume(
+        &mut self,
+        start: &Candidate,
+        assumed: &[Assumption],
+        index: usize,
+    ) -> Result<(), AllocError>
+        requires node { IsNode start.now assumed.now self.old }
+        ensures { OnOk result (IsNode start.now assumed.now self.new) }
+    {
+        if let Some(pair) = pair_assumed(start, assumed, index) {
+            self.add_synchronized(start, assumed, pair)?;
+        }
+        if let Some(pair) = order_assumed(start, assumed, index) {
+            self.add_ordered(start, assumed, pair)?;
+        }
+        if let Some(taken) = byte_assumed(start, assumed, index) {
+            self.add_taken(start, assumed, taken)?;
+        }
+        Ok(())
+    }
+
+    /// The node with what the assumptions say.
+    fn of(alloc: Global, start: &Candidate, assumed: &[Assumption]) -> Result<Self, AllocError>
+        ensures { IfOk result (IsNode start.now assumed.now) }
+    {
+        let mut node = Node::new(alloc, start, assumed)?;
+        for index in 0..assumed.len() {
+            node.assume(start, assumed, index)?;
+        }
+        Ok(node)
+    }
+
+    /// Extends the relations by the pairs.
+    fn close(
+        &mut self,
+        alloc: Global,
+        start: &Candidate,
+        assumed: &[Assumption],
+    ) -> Result<(), AllocError>
+        requires node { IsNode start.now assumed.now self.old }
+        ensures { OnOk result (IsNode start.now assumed.now self.new) }
+    {
+        self.happens
+            .close(alloc, start, assumed, self.synchronized.as_slice())?;
+        self.stands
+            .close(alloc, start, assumed, self.ordered.as_slice())?;
+        Ok(())
+    }
+
+    /// Looks at the writers that a byte of a read can have, and adds the only one. Whether there is none.
+    fn choose_byte(
+        &mut self,
+        alloc: Global,
+        start: &Candidate,
+        assumed: &[Assumption],
+        event: &Event,
+        byte: u8,
+    ) -> Result<bool, AllocError>
+        requires node { IsNode start.now assumed.now self.old }
+        requires event { IsEventOf start.now event.now }
+        requires byte { byte < read_width event.now }
+        ensures node { OnOk result (IsNode start.now assumed.now self.new) }
+        ensures closed { IfOk result (λ is_closed. IsTrue is_closed → IsClosed start.now assumed.now) }
+    {
+        match choice_of(alloc, start, assumed, &self.happens, event, byte)? {
+            Choice::Nothing => Ok(true),
+            Choice::Several => Ok(false),
+            Choice::Only(writer) => {
+                let taken = Taken {
+                    reader: event.key(),
+                    byte,
+                    writer,
+                };
+                self.add_taken(start, assumed, taken)?;
+                Ok(false)
+            }
+        }
+    }
+
+    /// The writer of a byte of the event of a row, if it is known.
+    pub(crate) fn writer(&self, index: usize, byte: u8) -> Option<EventId> {
+        *self.writers.get(index)?.get(byte as usize)?
+    }
+
+    /// Whether it isn't known that the first event of a pair stands before the second.
+    pub(crate) fn stands_open(&self, start: &Candidate, assumed: &[Assumption], pair: Pair) -> bool
+        requires { IsNode start.now assumed.now self.now }
+    {
+        !self.stands.has(start, assumed, pair)
+    }
+
+    /// Looks at the bytes of the event of a row whose writers aren't known. Whether one has none.
+    fn choose_event(
+        &mut self,
+        alloc: Global,
+        start: &Candidate,
+        assumed: &[Assumption],
+        index: usize,
+    ) -> Result<bool, AllocError>
+        requires node { IsNode start.now assumed.now self.old }
+        ensures node { OnOk result (IsNode start.now assumed.now self.new) }
+        ensures closed { IfOk result (λ is_closed. IsTrue is_closed → IsClosed start.now assumed.now) }
+    {
+        if index >= self.happens.rows.len() {
+            return Ok(false);
+        }
+        let Some(event) = event_of(start, self.happens.rows[index].key) else {
+            return Ok(false);
+        };
+        if !event.reads() {
+            return Ok(false);
+        }
+        for byte in 0..event.width.bytes() {
+            if self.writer(index, byte).is_none()
+                && self.choose_byte(alloc, start, assumed, event, byte)?
+            {
+                return Ok(true);
+            }
+        }
+        Ok(false)
+    }
+
+    /// Looks at all bytes whose writers aren't known. Whether one has none.
+    fn choose(
+        &mut self,
+        alloc: Global,
+        start: &Candidate,
+        assumed: &[Assumption],
+    ) -> Result<bool, AllocError>
+        requires node { IsNode start.now assumed.now self.old }
+        ensures node { OnOk result (IsNode start.now assumed.now self.new) }
+        ensures closed { IfOk result (λ is_closed. IsTrue is_closed → IsClosed start.now assumed.now) }
+    {
+        for index in 0..self.happens.rows.len() {
+            if self.choose_event(alloc, start, assumed, index)? {
+                return Ok(true);
+            }
+        }
+        Ok(false)
+    }
+
+    /// Orders an atomic write beside a pair that synchronizes, if one exists and either end is known to be on one side.
+    fn order_beside(
+        &mut self,
+        start: &Candidate,
+        assumed: &[Assumption],
+        pair: Pair,
+        other: Option<EventKey>,
+    ) -> Result<(), AllocError>
+        requires node { IsNode start.now assumed.now self.old }
+        requires pair { IsSynchronized start.now assumed.now pair }
+        ensures { OnOk result (IsNode start.now assumed.now self.new) }
+    {
+        if let Some(other) = other
+            && let Some(found) = not_between(start, assumed, &self.stands, pair, other)
+        {
+            self.add_ordered(start, assumed, found)?;
+        }
+        Ok(())
+    }
+
+    /// Orders the atomic writes of a thread beside a pair that synchronizes.
+    fn order_thread_beside(
+        &mut self,
+        start: &Candidate,
+        assumed: &[Assumption],
+        pair: Pair,
+        range: Range,
+        thread: usize,
+    ) -> Result<(), AllocError>
+        requires node { IsNode start.now assumed.now self.old }
+        requires pair { IsSynchronized start.now assumed.now pair }
+        ensures { OnOk result (IsNode start.now assumed.now self.new) }
+    {
+        let before = last_before(start, &self.stands, range, thread, pair.second);
+        self.order_beside(start, assumed, pair, before)?;
+        let after = first_after(start, &self.stands, range, thread, pair.first);
+        self.order_beside(start, assumed, pair, after)?;
+        Ok(())
+    }
+
+    /// Orders the atomic writes beside the pair that synchronizes at a place.
+    fn order_pair(
+        &mut self,
+        start: &Candidate,
+        assumed: &[Assumption],
+        index: usize,
+    ) -> Result<(), AllocError>
+        requires node { IsNode start.now assumed.now self.old }
+        ensures { OnOk result (IsNode start.now assumed.now self.new) }
+    {
+        if index >= self.synchronized.len() {
+            return Ok(());
+        }
+        let pair = self.synchronized[index];
+        let Some(event) = start.event(EventId::At(pair.second)) else {
+            return Ok(());
+        };
+        let range = event.range();
+        for thread in 0..start.log().threads().len() {
+            self.order_thread_beside(start, assumed, pair, range, thread)?;
+        }
+        Ok(())
+    }
+
+    /// Orders an atomic write before the writer of a byte, if both happen before the read.
+    fn order_overwritten(
+        &mut self,
+        start: &Candidate,
+        assumed: &[Assumption],
+        taken: &Taken,
+        other: Option<EventKey>,
+    ) -> Result<(), AllocError>
+        requires node { IsNode start.now assumed.now self.old }
+        requires taken { IsTaken start.now assumed.now taken.now }
+        ensures { OnOk result (IsNode start.now assumed.now self.new) }
+    {
+        if let Some(other) = other
+            && let Some(found) = not_overwritten(start, assumed, &self.happens, taken, other)
+        {
+            self.add_ordered(start, assumed, found)?;
+        }
+        Ok(())
+    }
+
+    /// Orders an atomic write after a read, if the writer of a byte happens before both.
+    fn order_past(
+        &mut self,
+        start: &Candidate,
+        assumed: &[Assumption],
+        taken: &Taken,
+        other: Option<EventKey>,
+    ) -> Result<(), AllocError>
+        requires node { IsNode start.now assumed.now self.old }
+        requires taken { IsTaken start.now assumed.now taken.now }
+        ensures { OnOk result (IsNode start.now assumed.now self.new) }
+    {
+        if let Some(other) = other
+            && let Some(found) = not_past(start, assumed, &self.happens, taken, other)
+        {
+            self.add_ordered(start, assumed, found)?;
+        }
+        Ok(())
+    }
+
+    /// Orders the atomic writes of a thread by the writer of a byte.
+    fn order_thread_by_writer(
+        &mut self,
+        start: &Candidate,
+        assumed: &[Assumption],
+        taken: &Taken,
+        thread: usize,
+    ) -> Result<(), AllocError>
+        requires node { IsNode start.now assumed.now self.old }
+        requires taken { IsTaken start.now assumed.now taken.now }
+        ensures { OnOk result (IsNode start.now assumed.now self.new) }
+    {
+        let overwritten = match start.event(taken.writer) {
+            Some(event) if event.is_atomic() => {
+                last_before(start, &self.happens, event.range(), thread, taken.reader)
+            }
+            _ => None,
+        };
+        self.order_overwritten(start, assumed, taken, overwritten)?;
+        let past = match start.event(EventId::At(taken.reader)) {
+            Some(event) if event.is_atomic() => {
+                first_past(start, &self.happens, event.range(), thread, taken.writer)
+            }
+            _ => None,
+        };
+        self.order_past(start, assumed, taken, past)?;
+        Ok(())
+    }
+
+    /// Orders the atomic writes by the writer of a byte at a place.
+    fn order_by_writer(
+        &mut self,
+        start: &Candidate,
+        assumed: &[Assumption],
+        index: usize,
+    ) -> Result<(), AllocError>
+        requires node { IsNode start.now assumed.now self.old }
+        ensures { OnOk result (IsNode start.now assumed.now self.new) }
+    {
+        if index >= self.taken.len() {
+            return Ok(());
+        }
+        let taken = self.taken[index];
+        for thread in 0..start.log().threads().len() {
+            self.order_thread_by_writer(start, assumed, &taken, thread)?;
+        }
+        Ok(())
+    }
+
+    /// Adds what the fifth rule orders.
+    fn order(&mut self, start: &Candidate, assumed: &[Assumption]) -> Result<(), AllocError>
+        requires node { IsNode start.now assumed.now self.old }
+        ensures { OnOk result (IsNode start.now assumed.now self.new) }
+    {
+        for place in 0..self.synchronized.len() {
+            self.order_pair(start, assumed, place)?;
+        }
+        for index in 0..self.taken.len() {
+            self.order_by_writer(start, assumed, index)?;
+        }
+        Ok(())
+    }
+}
+
+/// What is known of the valid runs that keep the assumptions; None if there is none.
+pub(crate) fn settle(
+    alloc: Global,
+    start: &Candidate,
+    assumed: &[Assumption],
+) -> Result<Option<Node>, AllocError>
+    ensures { IfOk result (IsSettled start.now assumed.now) }
+{
+    let mut node = Node::of(alloc, start, assumed)?;
+    for _ in 0..MAX_ROUNDS {
+        node.close(alloc, start, assumed)?;
+        if node.stands.has_cycle(start, assumed) {
+            return Ok(None);
+        }
+        let (ordered, taken) = (node.ordered.len(), node.taken.len());
+        if node.choose(alloc, start, assumed)? {
+            return Ok(None);
+        }
+        node.order(start, assumed)?;
+        if node.ordered.len() == ordered && node.taken.len() == taken {
+            return Ok(Some(node));
+        }
+    }
+    Ok(Some(node))
+}
