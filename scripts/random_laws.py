@@ -4,9 +4,9 @@
     scripts/random_laws.py [--count N] [--seed N]        4,000 executions, seed 1
 
 An execution is an example or a run in which one access is made after the other, with some writers, values and places
-changed. It is judged by the rules V1 to V5 (`wmlabtools/model.py`) and by ECMA-262 (`wmlabtools/standard.py`), which share no code. The
-laws have to hold of each. So that they say something, each property of the standard has to be the only one that some
-execution lacks, each rule the only one that some execution breaks, and what is no law has to fail of some.
+changed. It is judged by the rules V1 to V5 (`wmlabtools/model.py`) and by ECMA-262 (`wmlabtools/standard.py`), which share no code.
+The laws have to hold of each. So that they say something, each property of the standard has to be the only one that
+some execution lacks, each rule the only one that some execution breaks, and what is no law has to fail of some.
 The last line is `N passed, N failed`.
 """
 from __future__ import annotations
@@ -32,8 +32,8 @@ PROPERTIES = (
 RULES = ("V1", "V2", "V3", "V4", "V5")
 # Examples of what random accesses rarely show.
 EXAMPLES = (
-    "atomic-write-after-the-writer", "atomic-write-in-between", "atomic-write-known-to-the-reader", "overlapping-updates",
-    "plain-store-buffering", "values-out-of-thin-air",
+    "atomic-write-after-the-writer", "atomic-write-in-between", "atomic-write-known-to-the-reader",
+    "overlapping-updates", "plain-store-buffering", "values-out-of-thin-air",
 )
 
 
@@ -224,7 +224,8 @@ def races(execution: Execution) -> Iterator[tuple[Event, Event]]:
     for one, other in itertools.combinations(execution.events, 2):
         weak = not (one.atomic and other.atomic and (one.address, one.width) == (other.address, other.width))
         writes = one.is_write() or other.is_write()
-        if writes and weak and common(one, other) and not execution.before(one, other) and not execution.before(other, one):
+        ordered = execution.before(one, other) or execution.before(other, one)
+        if writes and weak and common(one, other) and not ordered:
             yield one, other
 
 

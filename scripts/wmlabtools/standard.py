@@ -1,5 +1,5 @@
-"""ECMA-262's memory model over a small candidate execution, written from its text and not from docs/MODEL.md. The numbers
-of sections are those of the edition of 2025."""
+"""ECMA-262's memory model over a small candidate execution, written from its text and not from docs/MODEL.md. The
+numbers of sections are those of the edition of 2025."""
 from __future__ import annotations
 
 import dataclasses
@@ -184,12 +184,16 @@ class Candidate:
     def has_data_race(self) -> bool:
         taken = {(read, writer) for read, _, writer in self.reads_from()}
         return any(
-            not {(one, other), (other, one)} & self.before
-            and (one.writes() and other.writes() and have_common_bytes(one, other) or {(one, other), (other, one)} & taken)
-            and not (one.order == other.order == "SeqCst" and equal(one, other))
+            self.is_data_race(one, other, taken)
             for one, other in itertools.combinations(self.events, 2)
             if "Init" not in (one.order, other.order)
         )
+
+    def is_data_race(self, one: SharedEvent, other: SharedEvent, taken: Relation) -> bool:
+        pairs = {(one, other), (other, one)}
+        both_write = one.writes() and other.writes() and have_common_bytes(one, other)
+        strong = one.order == other.order == "SeqCst" and equal(one, other)
+        return not pairs & self.before and (both_write or bool(pairs & taken)) and not strong
 
 
 def closure(events: Iterable[SharedEvent], edges: Relation) -> Relation:

@@ -12,7 +12,7 @@ use Rattle.wm_event.specs.Rules.{IsValid}
 use Rattle.wm_event.specs.Shape.{IsWellShaped}
 use Rattle.wm_part.specs.Cut.{cut}
 use Rattle.wm_part.specs.Moved.{IsInside, moved}
-use Rattle.wm_part.specs.Part.{HasItsWriters, events_in, part}
+use Rattle.wm_part.specs.Part.{HasItsPast, HasItsWriters, events_in, part}
 use Rattle.wm_part.specs.Pick.{new_key, pick, with_number}
 
 -- any execution is valid if some execution is
@@ -22,6 +22,10 @@ AnyIsValid = (y x : Execution) → IsValid x → IsValid y
 -- a part is valid without the writers of its bytes
 abbrev pub PartsNeedNoWriters : Type 0
 PartsNeedNoWriters = (x : Execution) (D : EventKey → Bool) → IsValid x → IsValid (part x D)
+
+-- without the writers a part of a valid execution may not be valid
+abbrev pub WritersAreNeeded : Type 0
+WritersAreNeeded = (x : Execution) × (D : EventKey → Bool) × IsValid x × HasItsPast x D × (IsValid (part x D) → ⊥)
 
 -- a part keeps happens-before without its past
 abbrev pub PartsNeedNoPast : Type 0

@@ -29,7 +29,7 @@ use Rattle.wm_standard.specs.CandidateExecution.{CandidateExecution, IsEvent, Is
 use Rattle.wm_standard.specs.Relations.{HappensBefore, IsReadsBytesFrom, ReadsFrom, SynchronizesWith}
 use Rattle.wm_standard.specs.Value.{ValueOfReadEvent}
 use Rattle.wm_standard.specs.Value.ValueOfReadEvent.{composed}
-use Rattle.wm_standard.specs.ValidExecution.{IsMemoryOrder, IsValidExecution, Overtakes}
+use Rattle.wm_standard.specs.ValidExecution.{HasValidChosenReads, IsMemoryOrder, IsValidExecution, Overtakes}
 use Rattle.wm_standard.specs.ValidExecution.Overtakes.{read_past, synchronized, written_over}
 use Rattle.wm_standard.specs.Transcribed.{AreOperations, Operation, bytes_from, candidate_of, order_of, shared_of, type_of, value_read, writers_read}
 use Rattle.wm_standard.specs.Agreement.{AgreesWithTheStandard, Ends, ValuesEnd}
@@ -39,7 +39,7 @@ use Rattle.wm_standard.proofs.Events.Stands.{logged_at, made}
 use Rattle.wm_standard.proofs.Orders.{before-from, before-to, reads-from-logged, some-read, synchronizes-from, synchronizes-to}
 
 -- two ids are equal or not
-same-id : (v w : EventId) → (v ≡ w) ⊎ (v ≢ w)
+pub same-id : (v w : EventId) → (v ≡ w) ⊎ (v ≢ w)
 same-id Init Init = inl refl
 same-id Init (At b) = inr (λ h. cc)
 same-id (At a) Init = inr (λ h. cc)
@@ -384,16 +384,16 @@ module _ (run : LoggedRun) (ops : EventKey → Operation) (shape : IsWellShaped 
   ends-of {z} {bytes} (composed f value_of is size plain inner modified) r same =
       ends (λ k u g at there update. ends-of (inner k (At u) (shared_of (ops u) g) (subst (λ z. slice_get (writers_read run z) k ≡ Some (At u)) (sym same) at) (shared-at run ops shape u g there) (ap type_of update)) u refl)
 
-  module _ (std : IsValidExecution HaveOverlappingRanges c (order_of run)) where
-    written-values : KeepsWrittenValues x
+  module _ (bytes_from : IsReadsBytesFrom c) (chosen_reads : HasValidChosenReads HaveOverlappingRanges c) where
+    pub written-values : KeepsWrittenValues x
     written-values r e k w there at =
         let does = some-read run ops shape large r e k w there at in
         let is = shared-at run ops shape r e there in
         let reads_r = reads-from (ops r) e does.0 in
-        let q = std.reads_bytes_from.writers (At r) (shared_of (ops r) e) is reads_r k w at in
-        let v = std.chosen (At r) (shared_of (ops r) e) is reads_r in
+        let q = bytes_from.writers (At r) (shared_of (ops r) e) is reads_r k w at in
+        let v = chosen_reads (At r) (shared_of (ops r) e) is reads_r in
         let at_b : slice_get (value_read run (At r)) k ≡ Some (byte_of e.read k) = ap (λ bytes. slice_get bytes k) (value-there r e there) ∙ number-byte e.read (bytes_of e.width) k does.1 in (
-          std.reads_bytes_from.others (At r) (shared_of (ops r) e) is reads_r k w at,
+          bytes_from.others (At r) (shared_of (ops r) e) is reads_r k w at,
           left-by w q.0 (e.address + k) (byte_of e.read k) q.1 q.2 q.3 (leaves v at_b q.0 q.1),
         )
       where
@@ -403,10 +403,20 @@ module _ (run : LoggedRun) (ops : EventKey → Operation) (shape : IsWellShaped 
             record {
               plain = λ kind. p.plain k (byte_of e.read k) w g at is_w at_b kind;
               modified = λ kind.
-                  let same : p.value_of k ≡ value_read run w = one-value std.reads_bytes_from (p.inner k w g at is_w kind) g is_w (reads-of-update g kind) (value_read run w) (std.chosen w g is_w (reads-of-update g kind)) in
+                  let same : p.value_of k ≡ value_read run w = one-value bytes_from (p.inner k w g at is_w kind) g is_w (reads-of-update g kind) (value_read run w) (chosen_reads w g is_w (reads-of-update g kind)) in
                   subst (λ v. slice_get (g.modify_op v g.payload) (e.address + k - g.byte_index) ≡ Some (byte_of e.read k)) same (p.modified k (byte_of e.read k) w g at is_w at_b kind);
             }
 
+    pub values-end : ValuesEnd x
+    values-end r here = by (some-is (event_in run.log r) here)
+      where
+        by : (e : Event) × (event_in run.log r ≡ Some e) → Ends x r
+        by e = ⊎_elim
+            (λ (does : reads e.0 ≡ true). ends-of (chosen_reads (At r) (shared_of (ops r) e.0) (shared-at run ops shape r e.0 e.1) (reads-from (ops r) e.0 does)) r refl)
+            (λ (not : reads e.0 ≡ false). ends (λ k u g at there update. absurd (false≢true (sym not ∙ (some-read run ops shape large r e.0 k (At u) e.1 at).0))))
+            (cases_Bool (reads e.0))
+
+  module _ (std : IsValidExecution HaveOverlappingRanges c (order_of run)) where
     keeps-coherence : KeepsCoherence x
     keeps-coherence r e k w there at =
         let does = some-read run ops shape large r e k w there at in
@@ -460,25 +470,16 @@ module _ (run : LoggedRun) (ops : EventKey → Operation) (shape : IsWellShaped 
             which (past n atomic first second h) =
                 read_past (before-from run ops shape large w (At r) first) (before-from run ops shape large w (At u) second) (atomic-order (ops r) e atomic) (equal-from (ops u) (ops r) writing.0 e (ranged e h))
 
-    values-end : ValuesEnd x
-    values-end r here = by (some-is (event_in run.log r) here)
-      where
-        by : (e : Event) × (event_in run.log r ≡ Some e) → Ends x r
-        by e = ⊎_elim
-            (λ (does : reads e.0 ≡ true). ends-of (std.chosen (At r) (shared_of (ops r) e.0) (shared-at run ops shape r e.0 e.1) (reads-from (ops r) e.0 does)) r refl)
-            (λ (not : reads e.0 ≡ false). ends (λ k u g at there update. absurd (false≢true (sym not ∙ (some-read run ops shape large r e.0 k (At u) e.1 at).0))))
-            (cases_Bool (reads e.0))
-
     pub from-standard : IsValid x × ValuesEnd x
     from-standard = (
       record {
-        keeps_written_values = written-values;
+        keeps_written_values = written-values std.reads_bytes_from std.chosen;
         keeps_order = λ a b h. std.memory_order.keeps_happens_before a b (before-from run ops shape large a b h);
         keeps_coherence = keeps-coherence;
         keeps_no_tearing = keeps-no-tearing;
         keeps_sequential_consistency = keeps-atomics;
       },
-      values-end,
+      values-end std.reads_bytes_from std.chosen,
     )
 
 pub agrees-with-the-standard : AgreesWithTheStandard

@@ -6,3 +6,5 @@ pub mod ValidExecution
 pub mod Transcribed
 pub mod Agreement
 pub mod Needed
+pub mod InitialBytes
+pub mod Recorded

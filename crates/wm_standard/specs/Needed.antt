@@ -36,3 +36,7 @@ pub record OrderIsNeeded : Type 0 where
   pub values_end : ValuesEnd (execution run)
   pub in_some_order : IsValidInSomeOrder run
   pub not_valid : IsValid (execution run) → ⊥
+
+-- no law: any operations fit the updates of a log
+abbrev pub AnyOperationsFit : Type 0
+AnyOperationsFit = (run : LoggedRun) (ops : EventKey → Operation) → AreOperations run ops
