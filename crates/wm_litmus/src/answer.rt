@@ -116,6 +116,7 @@ impl Answer {
             WordFault::Turns => "turns",
             WordFault::Rounds => "rounds",
             WordFault::Start => "start",
+            WordFault::Nodes => "nodes",
             WordFault::OutOfMemory => return Err(AllocError),
         };
         let line = format!(in alloc; "refused command {word}")?;
