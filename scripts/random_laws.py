@@ -4,9 +4,10 @@
     scripts/random_laws.py [--count N] [--seed N]        4,000 executions, seed 1
 
 An execution is an example or a run in which one access is made after the other, with some writers, values and places
-changed. It is judged by the rules V1 to V5 (`wmlabtools/model.py`) and by ECMA-262 (`wmlabtools/standard.py`), which share no code.
-The laws have to hold of each. So that they say something, each property of the standard has to be the only one that
-some execution lacks, each rule the only one that some execution breaks, and what is no law has to fail of some.
+changed. It is judged by the rules V1 to V5 (`wmlabtools/model.py`) and by ECMA-262 (`wmlabtools/standard.py`), which
+share no code. The laws have to hold of each. So that they say something, each property of the standard has to be the
+only one that some execution lacks, each rule the only one that some execution breaks, and what is no law has to fail
+of some.
 The last line is `N passed, N failed`.
 """
 from __future__ import annotations

@@ -1,12 +1,12 @@
 -- Weaker premises, with which runs need not be sequential.
-use Rattle.std.specs.Prelude.{◌≡◌, ◌≢◌, ◌⊎◌, ℕ, suc, ◌+◌, ◌<◌, List, Some, IsTrue, false, length}
+use Rattle.std.specs.Prelude.{◌≡◌, ◌≢◌, ◌⊎◌, ℕ, suc, ◌+◌, ◌<◌, List, [], ◌∷◌, ◌++◌, Some, IsTrue, false, length, slice_get, take}
 use Rattle.wm_access.specs.AccessWidth.{bytes_of}
 use Rattle.wm_event.specs.declared.event.Event.{Event}
 use Rattle.wm_event.specs.declared.event.EventKey.{EventKey}
 use Rattle.wm_event.specs.declared.event.EventId.{EventId}
 use Rattle.wm_event.specs.declared.event.EventId.TheVariants.{At}
 use Rattle.wm_event.specs.Byte.{byte_of}
-use Rattle.wm_event.specs.Event.{is_atomic, reads}
+use Rattle.wm_event.specs.Event.{is_atomic, reads, writes}
 use Rattle.wm_event.specs.Execution.{Execution, place}
 use Rattle.wm_event.specs.LoggedRun.{LoggedRun, execution}
 use Rattle.wm_event.specs.Rules.{EachByteRead, IsAtomicWrite, IsValid, KeepsCoherence, KeepsNoTearing, KeepsOrder, KeepsWrittenValues, Overtakes}
@@ -16,6 +16,10 @@ use Rattle.wm_standard.specs.SharedEvents.{HaveOverlappingRanges}
 use Rattle.wm_standard.specs.ValidExecution.{IsValidExecution}
 use Rattle.wm_standard.specs.Transcribed.{AreOperations, Operation, candidate_of, order_of}
 use Rattle.wm_standard.specs.Agreement.{with_order}
+use Rattle.wm_ast.specs.declared.module.Module.{Module}
+use Rattle.wm_event.specs.declared.log.ThreadLog.{ThreadLog}
+use Rattle.wm_replay.specs.Replay.{IsRun}
+use Rattle.wm_sequential.specs.ModulePrograms.{IsCutRun, IsLogOf, MakesNoCompareExchange, Program, with_read}
 use Rattle.wm_sequential.specs.Programs.{StandardRace}
 use Rattle.wm_sequential.specs.Sequential.{HasNoRace, IsSequential, memory_after}
 
@@ -102,3 +106,13 @@ StandardExecutionsAreSequential = (run : LoggedRun) (ops : EventKey → Operatio
 -- each race of a valid execution is a data race of ECMA-262
 abbrev pub RacesShowAtOnce : Type 0
 RacesShowAtOnce = (x : Execution) (a b : EventKey) → IsValid x → Race x a b → StandardRace x a b
+
+-- each valid run of a program is sequential, with or without data races
+abbrev pub ProgramsAreSequential : Type 0
+ProgramsAreSequential = (p : Program) (run : LoggedRun) → MakesNoCompareExchange p.code → IsLogOf p run.log → run.initial ≡ p.initial → IsWellShaped run
+    → IsValid (execution run) → IsSequential (execution run)
+
+-- a load may read a value that doesn't fit its width
+abbrev pub AnyValueIsRead : Type 0
+AnyValueIsRead = (m : Module) (k : ℕ) (t : ThreadLog) (n : ℕ) (e : Event) (value : ℕ) → MakesNoCompareExchange m → IsRun m k t → slice_get t.events n ≡ Some e
+    → IsTrue (reads e) → writes e ≡ false → (cut : ThreadLog) × IsCutRun m k t cut (take n t.events ++ with_read e value ∷ [])

@@ -1,9 +1,8 @@
 -- The rules and ECMA-262 agree with an Init event for each byte.
-use Rattle.std.proofs.Common.{◌≡◌, ◌≢◌, ℕ, zero, suc, ◌+◌, ◌-◌, ◌<◌, ◌≤◌, ◌⊎◌, List, [], ◌∷◌, get_or, length, map, slice_get, Some, IsSome, IsTrue, refl, sym, ap, ◌∙◌, subst, arith, inl, inr, ⊎_elim}
+use Rattle.std.proofs.Common.{◌≡◌, ◌≢◌, ℕ, ◌+◌, ◌-◌, ◌<◌, ◌≤◌, ◌⊎◌, List, [], ◌∷◌, get_or, length, map, slice_get, Some, IsTrue, refl, sym, ap, ◌∙◌, subst, arith, inl, inr, ⊎_elim}
 use Rattle.std.specs.Option.{option_map}
 use Rattle.std.proofs.lemmas.Bool.{cases_lt}
 use Rattle.std.proofs.lemmas.Option.{same_Some, none-some, slice_get-map, slice_get_within, slice_get-get_or}
-use Rattle.wm_access.specs.AccessWidth.{bytes_of}
 use Rattle.wm_event.specs.declared.event.Event.{Event}
 use Rattle.wm_event.specs.declared.event.EventKey.{EventKey}
 use Rattle.wm_event.specs.declared.event.EventId.{EventId}
@@ -13,7 +12,7 @@ use Rattle.wm_event.specs.Execution.{Execution, event_at, place}
 use Rattle.wm_event.specs.HappensBefore.{HappensBefore as Before, SynchronizesWith as Synchronizes}
 use Rattle.wm_event.specs.Log.{event_in}
 use Rattle.wm_event.specs.LoggedRun.{LoggedRun, execution}
-use Rattle.wm_event.specs.Rules.{HasRange, IsAtomicWrite, IsTearFree, IsTearFreeWriter, IsValid, KeepsCoherence, KeepsNoTearing, KeepsOrder, KeepsSequentialConsistency, Writes as WritesByte}
+use Rattle.wm_event.specs.Rules.{HasRange, IsAtomicWrite, IsTearFreeWriter, IsValid, KeepsCoherence, KeepsNoTearing, KeepsOrder, KeepsSequentialConsistency, Writes as WritesByte}
 use Rattle.wm_event.specs.Rules.{Overtakes as Between}
 use Rattle.wm_event.specs.Rules.Overtakes.{read_past as past, synchronized as by_sync, written_over as over}
 use Rattle.wm_event.specs.Shape.{IsWellShaped}
@@ -27,11 +26,11 @@ use Rattle.wm_standard.specs.Value.{ValueOfReadEvent}
 use Rattle.wm_standard.specs.Value.ValueOfReadEvent.{composed}
 use Rattle.wm_standard.specs.ValidExecution.{HasValidChosenReads, IsMemoryOrder, IsValidExecution, Overtakes}
 use Rattle.wm_standard.specs.ValidExecution.Overtakes.{read_past, synchronized, written_over}
-use Rattle.wm_standard.specs.Transcribed.{AreOperations, Operation, candidate_of, initial_event, order_of, shared_of, value_read, writers_read}
+use Rattle.wm_standard.specs.Transcribed.{AreOperations, Operation, candidate_of, initial_event, order_of, shared_of, writers_read}
 use Rattle.wm_standard.specs.Agreement.{ValuesEnd}
-use Rattle.wm_standard.specs.InitialBytes.{AgreesByBytes, ByteEvent, byte_candidate_of, byte_order_of, byte_value, byte_writers, initial_byte, named_at, named_from}
+use Rattle.wm_standard.specs.InitialBytes.{AgreesByBytes, ByteEvent, byte_candidate_of, byte_order_of, byte_value, byte_writers, initial_byte, named_at}
 use Rattle.wm_standard.specs.InitialBytes.ByteEvent.{InitAt, At as Of}
-use Rattle.wm_standard.proofs.Events.{IsLogged, at-writes, atomic-order, equal-from, equal-turned, initial-is, initial-reads, initial-update, is-initial, log-writes, logged, logged-atomic, logged-equal, logged-reads, logged-writes, no-tear-from, no-tear-to, reads-from, shared-at, some-is, some_of, width-positive, writes-from}
+use Rattle.wm_standard.proofs.Events.{IsLogged, at-writes, atomic-order, equal-from, equal-turned, initial-is, initial-reads, initial-update, is-initial, log-writes, logged, logged-atomic, logged-equal, logged-writes, no-tear-from, reads-from, shared-at, some_of, writes-from}
 use Rattle.wm_standard.proofs.Orders.{some-read}
 use Rattle.wm_standard.proofs.Agreement.{same-id, to-standard, total, values-end, written-values}
 use Rattle.wm_standard.proofs.Agreement.Member.{is_at}

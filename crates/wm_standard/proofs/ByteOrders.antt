@@ -1,8 +1,7 @@
 -- Happens-before of a run and of its candidate execution with an Init event for each byte.
-use Rattle.std.proofs.Common.{◌≡◌, ℕ, zero, suc, ◌+◌, ◌<◌, List, [], ◌∷◌, ◌++◌, map, get_or, length, slice_get, Some, IsSome, IsTrue, refl, sym, ap, ◌∙◌, subst, subst₂, arith, inl, inr, ⊎_elim}
+use Rattle.std.proofs.Common.{◌≡◌, ℕ, zero, suc, ◌+◌, ◌<◌, List, [], ◌∷◌, ◌++◌, map, get_or, length, slice_get, Some, IsSome, refl, sym, ap, ◌∙◌, subst, subst₂, arith, inl, inr, ⊎_elim}
 use Rattle.std.specs.Option.{option_map}
 use Rattle.std.proofs.lemmas.Option.{same_Some, none-some, slice_get-get_or, slice_get-map, option_and_then_some}
-use Rattle.wm_access.specs.AccessWidth.{bytes_of}
 use Rattle.wm_event.specs.declared.event.Event.{Event}
 use Rattle.wm_event.specs.declared.event.EventKey.{EventKey}
 use Rattle.wm_event.specs.declared.event.EventId.{EventId}
@@ -16,7 +15,7 @@ use Rattle.wm_event.specs.Log.{event_in}
 use Rattle.wm_event.specs.LoggedRun.{LoggedRun, execution}
 use Rattle.wm_event.specs.Shape.{IsWellShaped}
 use Rattle.wm_event.proofs.LogLemmas.{event_in_thread}
-use Rattle.wm_standard.specs.SharedEvents.{HaveCommonBytes, HaveEqualRanges, InRange, Reading, SharedEvent}
+use Rattle.wm_standard.specs.SharedEvents.{HaveCommonBytes, HaveEqualRanges, InRange, SharedEvent}
 use Rattle.wm_standard.specs.SharedEvents.Order.{Init as InitOrder, SeqCst}
 use Rattle.wm_standard.specs.CandidateExecution.{AgentEvents, CandidateExecution, IsShared}
 use Rattle.wm_standard.specs.Relations.{AgentOrder, HappensBefore, ReadsFrom, SynchronizesWith}
@@ -27,7 +26,7 @@ use Rattle.wm_standard.specs.InitialBytes.{ByteEvent, byte_agent_of, byte_candid
 use Rattle.wm_standard.specs.InitialBytes.ByteEvent.{InitAt, At as Of}
 use Rattle.wm_standard.proofs.Events.{atomic-order, equal-from, key-is, map-at, logged-not-initial, reads-from, some-is, some_of}
 use Rattle.wm_standard.proofs.Orders.{memory-to, some-read}
-use Rattle.wm_standard.proofs.ByteEvents.{ByteStands, Writer, byte-atomic, byte-logged, byte-reads, byte-shared-at, byte-stands-at, from-whole, initial-byte, initial-shared, named-log, to-whole, writer-of}
+use Rattle.wm_standard.proofs.ByteEvents.{ByteStands, byte-atomic, byte-logged, byte-reads, byte-shared-at, byte-stands-at, from-whole, initial-byte, initial-shared, named-log, to-whole, writer-of}
 use Rattle.wm_standard.proofs.ByteEvents.ByteStands.{made, of_log}
 
 -- ---- chains of happens-before

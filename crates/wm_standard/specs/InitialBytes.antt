@@ -1,7 +1,6 @@
 -- The candidate execution of a log with an Init event for each byte, as ECMA-262's CreateSharedByteDataBlock makes it.
-use Rattle.std.specs.Prelude.{◌≡◌, ◌↔◌, ℕ, suc, ◌<◌, List, [], ◌∷◌, Option, Some, true, length, map, slice_get}
+use Rattle.std.specs.Prelude.{◌↔◌, ℕ, suc, ◌<◌, List, [], ◌∷◌, Option, true, length, map, slice_get}
 use Rattle.std.specs.Option.{option_map, option_map_or}
-use Rattle.wm_event.specs.declared.event.Event.{Event}
 use Rattle.wm_event.specs.declared.event.EventKey.{EventKey}
 use Rattle.wm_event.specs.declared.event.EventId.{EventId}
 use Rattle.wm_event.specs.declared.event.EventId.TheVariants as id
