@@ -1,7 +1,7 @@
 #!/usr/bin/env python3
 """Tests of the litmus suite. The last line is `N passed, N failed`.
 
-    litmus/test.py             the tests of litmus/tests, seconds with the proved program
+    litmus/test.py             the tests of litmus/tests, and of litmus/run in node, minutes
     litmus/test.py --all       each test of the suite
     litmus/test.py --plain     what asks no program
 """
@@ -11,7 +11,7 @@ import subprocess
 import tempfile
 from collections import Counter
 
-from litmustools import TOP, bytewise, commands, cycle_check, harness, judges, wabt
+from litmustools import TOP, bytewise, commands, cycle_check, harness, judges, run_tests, wabt
 from litmustools.accesses import BadCycle
 from litmustools.buffers import WRONG, Machine, outcomes, script
 from litmustools.candidates import Candidates, ask
@@ -30,9 +30,6 @@ LEAST_TESTS = 400
 LEAST_COMMITTED = 60
 # Of larger tests the outcomes of wrong engines are too many.
 MOST_EVENTS_OF_ENGINES = 6
-
-# The rules that a wrong judge leaves out.
-JUDGES = ("V2", "V3", "V5 case 2", "V5 case 3")
 
 # A thread of a cycle; four of them have too many orders.
 LONG_THREAD = "PosRR PosRR PosRR PosRW Rfe"
@@ -147,13 +144,9 @@ def test_theorem(tally, tests, verdicts):
 
 
 def test_model(tally, tests, verdicts, names):
-    """The rules as a plain program give the verdicts of the suite; without a rule they do not."""
+    """The rules as a plain program give the verdicts of the suite. `run_tests` leaves cases of rules out."""
     wrong = [name for name in names if verdict_of(tests[name], Model())[0] != verdicts[name]]
     tally.check(not wrong, "the plain model has the suite's verdicts", wrong)
-    for rule in JUDGES:
-        caught = next((name for name in names if verdict_of(tests[name], Model([rule]))[0] != verdicts[name]), None)
-        tally.check(caught, f"a judge without {rule} is caught")
-        print(f"a judge without {rule} is caught by {caught}")
 
 
 def permits(test, values, judge):
@@ -287,7 +280,7 @@ def test_refusals(tally, room):
     for sentence, command, *words_of_command in (
         ("an empty name: no shape has this name", "candidates", ""),
         ("'SC': no shape has this name", "candidates", "SC"),
-        ("'nosuch': there is no such edit; they are edits/CRATE/NAME.edit", "wrong-judges", "nosuch"),
+        ("'nosuch': there is no such edit; they are litmus/left-out", "wrong-judges", "nosuch"),
         ("'edits': there is no such edit", "wrong-judges", "edits"),
         ("litmus/README.md: it changes nothing", "wrong-judges", "litmus/README.md"),
         ("/nowhere: this is not a program", "candidates", "--wmlab", "/nowhere", "SB"),
@@ -313,7 +306,7 @@ def test_commands(tally, program, room):
     asked, err, status = ran("candidates", "--wmlab", program, "SB+sc", "--all-orders", "--keep", kept)
     holds = status == 0 and "* not found  0 0" in asked and "96 candidates, 4 outcomes" in asked
     tally.check(holds and len(os.listdir(kept)) == 4, "candidates of SB+sc", asked + err)
-    words_of_gallery = ["--test", "SB", "--test", "SB+sc", "--rounds", "2", "--run-rounds", "5", "--wmlab", program]
+    words_of_gallery = ["--test", "SB", "--test", "SB+sc", "--iterations", "5000", "--run-rounds", "5", "--wmlab", program]
     page, err, status = ran("gallery", *words_of_gallery, "--out", "-")
     rows = [line for line in page.splitlines() if line.startswith("| `SB")]
     is_shown = any("| permitted by 6 of 6 | `0*" in line for line in rows)
@@ -326,7 +319,7 @@ def test_finds(tally, tests):
     allowed = {"allowed threads=2": 5}
     cases = [
         ("SB+sc", False, Seen({"0 0": 1, "0 1": 4}, allowed), "node gave the cycle's outcome"),
-        ("SB+sc", False, Seen({"0 1": 5}, {"broken V3 case 2": 5}), "answered by: broken V3 case 2"),
+        ("SB+sc", False, Seen({"0 1": 5}, {"not permitted": 5}), "an outcome of node is not permitted"),
         ("SB+sc", False, Seen({"0 1": 5}, allowed), None),
         ("SB", True, Seen({"0 0": 5}, allowed), None),
     ]
@@ -364,6 +357,7 @@ def with_program(tally, tests, verdicts, program, is_all):
         test_each(tally, tests, verdicts, names, stream_on, program)
         test_second_enumeration(tally, tests, stream_on)
         test_same_answers(tally, tests, stream_on)
+        run_tests.test_run(tally, program, room)
 
 
 def without_program(tally, tests, verdicts, is_all):

@@ -9,7 +9,7 @@ import zlib
 from dataclasses import dataclass
 
 from .faults import Fault
-from .plan import Logs, Module
+from .plan import Litmus, Logs, Module, Recording
 
 try:
     from compression import zstd
@@ -20,6 +20,10 @@ except ImportError:  # before Python 3.14
 DOCUMENT_BYTES = 8_388_608
 # A batch has at most this many bytes of logs, unless one log alone has more.
 BATCH_BYTES = 4 * 2**20
+# How many litmus tests a batch has, the most iterations of one, and how many instances litmus/run makes at once.
+TESTS_OF_A_BATCH = 10
+MOST_ITERATIONS = 1_003_520
+INSTANCES = 4096
 LOG_ENDINGS = (".json", ".jsonl", ".ndjson")
 OPENERS = {".gz": gzip.open, ".xz": lzma.open, ".bz2": bz2.open, ".zst": zstd and zstd.open}
 BAD_CONTENT = (OSError, EOFError, zlib.error, lzma.LZMAError, *([zstd.ZstdError] if zstd else []))
@@ -64,6 +68,21 @@ class RoundBatch(Batch):
     def origin(self, number):
         words = [*self.options, f"--seed={self.seed + number}", "--rounds=1", self.module.path, *self.starts]
         return f"engines/node/record.mjs {' '.join(words)}"
+
+
+@dataclass(frozen=True)
+class LitmusBatch(Batch):
+    """Litmus tests to run; `logs` is the number of all iterations. A batch that is repeated has a number of its own."""
+
+    options: tuple
+    tests: tuple
+    iterations: int
+
+    def words(self):
+        return [*self.options, f"--iterations={self.iterations}", *self.tests]
+
+    def origin(self, number):
+        return f"litmus/run {' '.join([*self.options, self.tests[min(number, len(self.tests) - 1)]])}"
 
 
 # ---- lines of files
@@ -170,7 +189,23 @@ def round_batches(part, most_logs, number):
         number += 1
 
 
+def litmus_batches(part, _most_logs, number):
+    """Some tests a batch, with at most a million iterations of each."""
+    for first in range(0, len(part.tests), TESTS_OF_A_BATCH):
+        tests = part.tests[first : first + TESTS_OF_A_BATCH]
+        for repeated, begin in enumerate(range(0, part.iterations, MOST_ITERATIONS)):
+            wanted = min(MOST_ITERATIONS, part.iterations - begin)
+            iterations = -(-wanted // INSTANCES) * INSTANCES
+            name = named("litmus", part.module, json.dumps([part.options, tests, iterations, repeated]).encode())
+            count = iterations * len(tests)
+            yield LitmusBatch(number, name, part.module, count, part.options, tests, iterations)
+            number += 1
+
+
+CUTS = {Logs: log_batches, Recording: round_batches, Litmus: litmus_batches}
+
+
 def batches_of(part, most_logs, number):
     """The batches of a part, numbered from `number`."""
-    cut = log_batches if isinstance(part, Logs) else round_batches
+    cut = CUTS[type(part)]
     return cut(part, most_logs, number)

@@ -3,6 +3,7 @@ import sys
 
 from .batches import batches_of
 from .faults import FAILED, Fault
+from .histograms import Histograms
 from .table import Table
 
 # The batches that the scheduler has at once, so that its memory and ours stay bounded.
@@ -40,6 +41,7 @@ class Campaign:
         self.kept, self.failures, self.judged = set(), [], set()
         self.batches = self.finished = self.from_before = 0
         self.is_cut = False
+        self.tests = Histograms()
 
     def numbered_batches(self):
         for part in self.parts:
@@ -52,6 +54,7 @@ class Campaign:
         self.is_cut = True
 
     def count(self, batch, result):
+        self.tests.add(result.get("histograms", ()))
         self.table.add(batch.module.path, result["counts"])
         self.kept.update(result["kept"])
         self.finished += 1
@@ -114,6 +117,11 @@ class Campaign:
     def report(self):
         """Prints the table and writes it beside the results."""
         text = self.text()
+        try:
+            for path in self.tests.write(self.folder):
+                text += f"histograms: {path}\n"
+        except Fault as fault:
+            print(f"campaign: {fault}", file=sys.stderr)
         sys.stdout.write(text)
         sys.stdout.flush()
         try:

@@ -9,7 +9,7 @@ import warnings
 from concurrent.futures import CancelledError
 
 from . import worker
-from .batches import LogBatch
+from .batches import LitmusBatch, LogBatch
 from .faults import Fault
 
 # Read by Dask when it is imported, here and in the processes of a local cluster.
@@ -66,6 +66,8 @@ class Cluster:
         """A batch has the same key in each campaign that would get the same result."""
         if isinstance(batch, LogBatch):
             task, work = worker.logs_result, (batch.packed_lines,)
+        elif isinstance(batch, LitmusBatch):
+            task, work = worker.tests_result, (batch.words(), batch.logs)
         else:
             task, work = worker.rounds_result, (batch.words(), batch.logs)
         key = f"{task.__name__}-{batch.name}-{self.name}-{self.most_kept}"

@@ -2,10 +2,12 @@
 
     campaign/run --out FOLDER [OPTIONS] logs MODULE PLACE..
     campaign/run --out FOLDER [OPTIONS] record [RECORDING] MODULE START..
+    campaign/run --out FOLDER [OPTIONS] litmus [LITMUS] TEST..
     campaign/run --out FOLDER [OPTIONS] plan FILE
 
 `logs` takes files with a log on each line, plain or compressed (.gz, .xz, .bz2; .zst from Python 3.14), and folders
 with such files (.json, .jsonl, .ndjson). `record` records rounds of a module in node; `record --help` has its options.
+`litmus` runs litmus tests many times, one at a time on each machine; histograms of all machines are added up.
 A FILE of `plan` has such a part on each line, and # begins a comment.
 
 Logs that are not allowed are kept in FOLDER/kept, each with its explanation. docs/CAMPAIGNS.md describes clusters.
@@ -43,12 +45,12 @@ def parsers():
     whole.add_argument("--batch", metavar="N", type=positive, default=1_000, help="logs of a batch at most (1,000)")
     whole.add_argument("--keep", metavar="N", type=positive, default=100, help="logs kept of a batch at most (100)")
     whole.add_argument("--wmlab", metavar="PROGRAM", help="the program that judges (the one that ./wmlab runs)")
-    commands = whole.add_subparsers(dest="command", required=True, metavar="logs | record | plan")
+    commands = whole.add_subparsers(dest="command", required=True, metavar="logs | record | litmus | plan")
     add_parts(commands)
     plan = commands.add_parser("plan", help="several of these, one a line of a file")
     plan.add_argument("file", metavar="FILE")
     single = argparse.ArgumentParser(add_help=False)
-    add_parts(single.add_subparsers(dest="command", required=True, metavar="logs | record"))
+    add_parts(single.add_subparsers(dest="command", required=True, metavar="logs | record | litmus"))
     return whole, single
 
 

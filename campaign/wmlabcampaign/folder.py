@@ -98,6 +98,8 @@ class Folder:
         """Writes a result: first the logs to keep, then the file by which the batch is finished."""
         names = [self.keep(batch, log) for log in result["kept"]]
         finished = {"number": batch.number, "module": batch.module.path, "counts": result["counts"], "kept": names}
+        if "histograms" in result:
+            finished["histograms"] = result["histograms"]
         write_whole(self.place("batches", f"{batch.name}.json"), written_json(finished))
         return finished
 

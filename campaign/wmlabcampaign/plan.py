@@ -1,16 +1,19 @@
-"""What a campaign is asked for: its parts, each of which is logs of a module, or rounds of a module to record."""
+"""What a campaign is asked for: its parts, each of which is logs of a module, rounds of a module to record, or litmus
+tests to run."""
 import argparse
 import errno
 import hashlib
 import os
 import re
 import shlex
+import subprocess
 from dataclasses import asdict, dataclass
 from functools import cached_property
 
 from .faults import Fault, WrongWords
 
 MODES = ("locked", "buffered", "free")
+ENGINES = ("node", "chromium", "firefox", "webkit")
 # An integer from 1 to 999999999, as the recorder takes it.
 NUMBER = re.compile(r"0*[1-9][0-9]{0,8}")
 
@@ -70,6 +73,43 @@ class Recording:
         return {**asdict(self), "module": self.module.path, "sha256": self.module.digest}
 
 
+@dataclass(frozen=True)
+class Tests:
+    """What takes the place of a module for litmus tests, which bring modules of their own."""
+
+    engine: str
+
+    @property
+    def path(self):
+        return f"litmus tests in {self.engine}"
+
+    @property
+    def digest(self):
+        return hashlib.sha256(self.path.encode()).hexdigest()
+
+    @property
+    def name(self):
+        return self.path
+
+
+@dataclass(frozen=True)
+class Litmus:
+    """Litmus tests to run many times in an engine, by litmus/run."""
+
+    module: Tests
+    tests: tuple
+    options: tuple
+    iterations: int
+
+    @property
+    def places(self):
+        return self.tests
+
+    @property
+    def description(self):
+        return {"litmus": list(self.tests), "options": list(self.options), "iterations": self.iterations}
+
+
 # ---- the words of a part
 
 
@@ -82,6 +122,7 @@ def positive(text):
 
 def add_parts(commands):
     """The words of a part, as commands of a parser."""
+    add_litmus(commands)
     logs = commands.add_parser("logs", help="judge logs that are there", description="Judges logs, one a line.")
     logs.add_argument("module", metavar="MODULE")
     logs.add_argument("places", metavar="PLACE", nargs="+", help="a file of logs, or a folder with such files")
@@ -100,8 +141,41 @@ def add_parts(commands):
     record.add_argument("--wrong", metavar="HOW", help="be an engine that is wrong on purpose, as record.mjs has it")
 
 
+def add_litmus(commands):
+    """The words of litmus tests."""
+    litmus = commands.add_parser("litmus", help="run litmus tests many times", description="Runs tests of litmus/run.")
+    litmus.add_argument("tests", metavar="TEST", nargs="*", help="a name or a cycle; without one, each of the suite")
+    litmus.add_argument("--engine", choices=ENGINES, default="node", help="the engine of the workers (node)")
+    litmus.add_argument("--iterations", metavar="N", type=positive, default=1_000_000, help="of each test (1,000,000)")
+    for name, shows in (("chunk", "iterations between two meetings"), ("stride", "bytes between two instances")):
+        litmus.add_argument(f"--{name}", metavar="N", type=int, help=f"{shows}, as litmus/run has it")
+    litmus.add_argument("--wrong", metavar="HOW", help="be an engine that is wrong on purpose, as litmus/run has it")
+
+
+def suite_names():
+    """The names of all tests, as litmus/generate lists them."""
+    command = [os.path.join(os.path.dirname(__file__), "../../litmus/generate"), "--list"]
+    ran = subprocess.run(command, stdout=subprocess.PIPE, text=True, check=False)
+    if ran.returncode:
+        raise Fault("litmus/generate --list failed, which names the litmus tests")
+    return [line.split("\t")[0] for line in ran.stdout.splitlines()]
+
+
+def litmus_of(options):
+    """The litmus tests that the words name."""
+    known = suite_names()
+    unknown = [name for name in options.tests if name not in known and " " not in name]
+    if unknown:
+        raise WrongWords(f"litmus {unknown[0]}: no test of the suite has this name; litmus/generate --list prints them")
+    given = ((name, getattr(options, name)) for name in ("chunk", "stride", "wrong"))
+    words = [f"--engine={options.engine}", *(f"--{name}={value}" for name, value in given if value is not None)]
+    return Litmus(Tests(options.engine), tuple(options.tests or known), tuple(words), options.iterations)
+
+
 def part_of(options):
     """The part that the words of a command name."""
+    if options.command == "litmus":
+        return litmus_of(options)
     module = Module(options.module)
     if options.command == "logs":
         for place in options.places:
@@ -128,5 +202,5 @@ def parts_of(options, parser):
             parser.prog = f"{os.path.basename(options.file)} line {number}"
             parts.append(part_of(parser.parse_args(words)))
     if not parts:
-        raise WrongWords(f"{options.file} has no line `logs ..` or `record ..`")
+        raise WrongWords(f"{options.file} has no line `logs ..`, `record ..` or `litmus ..`")
     return parts

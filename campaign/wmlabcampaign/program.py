@@ -11,7 +11,7 @@ from pathlib import Path
 
 from . import worker
 from .faults import REFUSED, Fault, WrongWords
-from .plan import Recording, read_file
+from .plan import Litmus, Recording, read_file
 
 TOP = Path(__file__).resolve().parents[2]
 # Beside an installed campaign, which is in share/wmlab/campaign.
@@ -70,14 +70,25 @@ def add_file(tar, name, data, mode=0o644):
     tar.addfile(entry, io.BytesIO(data))
 
 
+def litmus_files():
+    """What litmus/run needs beside the engines."""
+    folders = ("litmus/litmustools", "litmus/harness", "scripts/wmlabtools")
+    found = [path for folder in folders for path in sorted((TOP / folder).iterdir()) if path.is_file()]
+    return [TOP / "litmus/run", *found]
+
+
 def materials(program, parts):
     """The name changes with any of the files, and with what a worker does."""
     packed, digest, data = io.BytesIO(), hashlib.sha256(), read_file(program)
     with tarfile.open(fileobj=packed, mode="w") as tar:
         add_file(tar, "wmlab", data, 0o755)
-        for module in {part.module.digest: part.module for part in parts}.values():
+        modules = [part.module for part in parts if not isinstance(part, Litmus)]
+        for module in {module.digest: module for module in modules}.values():
             add_file(tar, module.name, module.data)
-        if any(isinstance(part, Recording) for part in parts):
+        has_tests = any(isinstance(part, Litmus) for part in parts)
+        for path in litmus_files() if has_tests else ():
+            add_file(tar, str(path.relative_to(TOP)), path.read_bytes(), 0o755 if path.stat().st_mode & 0o100 else 0o644)
+        if has_tests or any(isinstance(part, Recording) for part in parts):
             for path in sorted((TOP / "engines").rglob("*.mjs")):
                 add_file(tar, str(path.relative_to(TOP)), path.read_bytes())
     digest.update(packed.getvalue())

@@ -173,7 +173,7 @@ def kept_logs(program, module, answers, document_of, most):
     ]
 
 
-# ---- the two kinds of batch
+# ---- logs and rounds
 
 
 def read(path):
@@ -223,6 +223,57 @@ def judged_rounds(materials, module, words, rounds, most_kept):
     return {"counts": counted(answers), "kept": kept}
 
 
+# ---- litmus tests
+
+# The verdicts of litmus/run, and how they are counted.
+VERDICTS = {"permitted": "allowed", "not permitted": "broken not permitted", "not decided": "refused not decided"}
+
+
+def one_at_a_time():
+    """A lock of this machine: a harness has its processors for itself."""
+    path = os.path.join(tempfile.gettempdir(), f"wmlab-litmus-{os.getuid()}.lock")
+    lock = open(path, "w", encoding="utf-8")  # held as long as the file is open
+    fcntl.flock(lock, fcntl.LOCK_EX)
+    return lock
+
+
+def found_logs(folder, most):
+    """What litmus/run kept of outcomes that are not permitted."""
+    names = sorted(name.removesuffix(".txt") for name in os.listdir(folder) if name.endswith(".txt"))[:most]
+    rows = []
+    for number, name in enumerate(names):
+        path = os.path.join(folder, f"{name}.json")
+        log = read(path).rstrip(b"\n") if os.path.exists(path) else b"[]"
+        page = read(os.path.join(folder, f"{name}.txt")).decode(errors="replace")
+        rows.append(kept_log(number, page.splitlines()[0], log, page))
+    return rows
+
+
+def judged_tests(materials, _module, words, count, most_kept):
+    """Litmus tests that this worker runs. Each line of the answer is the histogram of one."""
+    folder, python = folder_of(materials), shutil.which("python3")
+    if not python:
+        raise BatchFailed(f"{socket.gethostname()} has no python3")
+    with tempfile.TemporaryDirectory(dir=folder) as room, one_at_a_time():
+        os.mkdir(f"{room}/found")
+        places = ["--found", f"{room}/found", "--cache", os.path.join(folder, "verdicts")]
+        command = [python, os.path.join(folder, "litmus/run"), "--json", "--wmlab", os.path.join(folder, "wmlab")]
+        running = ran([*command, *places, *words], stdin=subprocess.DEVNULL)
+        if running.returncode not in (0, 1, 2) or not running.stdout:
+            raise BatchFailed(f"litmus/run {ending_of(running)}")
+        rows = [json.loads(line) for line in running.stdout.splitlines()]
+        counts = {}
+        for row in rows:
+            for state in row["states"]:
+                kind = VERDICTS[state["verdict"]]
+                counts[kind] = counts.get(kind, 0) + state["count"]
+            if row["others"]:
+                counts["refused not judged"] = counts.get("refused not judged", 0) + row["others"]
+        if sum(counts.values()) != count:
+            raise BatchFailed(f"litmus/run made {sum(counts.values())} of {count} iterations; it {ending_of(running)}")
+        return {"counts": counts, "kept": found_logs(f"{room}/found", most_kept), "histograms": rows}
+
+
 def result_of(judged, *given):
     """The result of a batch of either kind. A worker that is lost gives none, and Dask lets another one do it."""
     try:
@@ -237,3 +288,7 @@ def logs_result(*given):
 
 def rounds_result(*given):
     return result_of(judged_rounds, *given)
+
+
+def tests_result(*given):
+    return result_of(judged_tests, *given)

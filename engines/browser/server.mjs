@@ -4,7 +4,7 @@ import { readFileSync } from 'node:fs';
 import http from 'node:http';
 import { fileURLToPath } from 'node:url';
 
-const TYPES = { mjs: 'text/javascript', html: 'text/html; charset=utf-8' };
+const TYPES = { mjs: 'text/javascript', html: 'text/html; charset=utf-8', wasm: 'application/wasm' };
 const HEADERS = {
   'Cross-Origin-Opener-Policy': 'same-origin',
   'Cross-Origin-Embedder-Policy': 'require-corp',

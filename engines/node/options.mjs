@@ -16,7 +16,8 @@ USAGE
 
 OPTIONS
     --engine ENGINE   node, or a browser without a window: chromium, firefox or webkit (node)
-    --mode MODE       how accesses are recorded: locked, buffered or free (locked)
+    --mode MODE       how accesses are recorded: locked, buffered or free (locked); free is for logs of whole programs, and
+                      litmus/run for weak outcomes of small tests
     --rounds N        the number of runs (100)
     --events N        the most events of a run, up to 16384 (128)
     --turn N          the most accesses that a thread makes in one turn; locked and buffered (4)

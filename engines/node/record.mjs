@@ -38,6 +38,10 @@ function keptText(line, path) {
   return `its events are kept in ${path}, in the form of a log without a witness: each read has [] for its writers, and the order is []`;
 }
 
+/** What the mode free is for, which its table begins with. */
+const purposeOf = ({ mode }) => (mode === 'free'
+  ? ['mode free: logs of whole programs, whose threads seldom overlap; litmus/run runs a small test millions of times'] : []);
+
 /** The most outcomes of which a log is kept. */
 const MOST_KEPT = 20;
 
@@ -97,7 +101,7 @@ class Campaign {
     const stopped = stop.requested ? [`stopped after ${results.checked} of ${rounds} rounds`] : [];
     const place = (outcome) => (this.places.has(outcome) ? `  ${this.places.get(outcome)}` : '');
     const newline = stop.requested && process.stderr.isTTY ? [''] : [];
-    return [...newline, ...results.lines(place), ...stopped, ...this.conditions.map(({ line }) => line), ...this.lines].join('\n');
+    return [...newline, ...purposeOf(this.options), ...results.lines(place), ...stopped, ...this.conditions.map(({ line }) => line), ...this.lines].join('\n');
   }
 
   get status() {

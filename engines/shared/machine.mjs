@@ -1,7 +1,8 @@
 /**
  * A machine with one memory and a store buffer for each thread, over events whose values are known, with undo for a search.
  *
- * Plain stores wait in the buffer of their thread and leave it in order; an atomic access waits until the buffer is empty.
+ * Plain stores wait in the buffer of their thread and leave it in order. An atomic write waits until the buffer is empty. An atomic
+ * load does not: on x86 it is an ordinary load, which may be made while earlier plain stores wait.
  * A plain access may tear if it has 8 bytes or is not aligned: it is made in parts, in any order. The parts are the halves of
  * aligned 8 bytes, and else the single bytes. Everything else is made at once.
  *
@@ -258,7 +259,7 @@ export class Machine {
         this.publish(thread, this.oldest(thread).all & ~this.published[thread]);
       }
       const event = this.threads[thread][this.next[thread]];
-      if (!event || (event.isAtomic && (event.written || this.waits(thread)))) return;
+      if (!event || (event.isAtomic && event.written)) return;
       if (event.read && !this.read(thread, event)) return;
       if (event.written) this.push(thread, event);
       this.step(thread);

@@ -59,7 +59,7 @@ function* movesOf(state, events, thread) {
     });
   }
   const event = events[next];
-  if (!event || (event.isAtomic && waiting.length)) return;
+  if (!event || (event.isAtomic && event.written !== null && waiting.length)) return;
   const goOn = (own) => { own.next++; own.taken = []; };
   if (event.read !== null) {
     const open = event.parts.flatMap((part, number) => (taken.includes(number) ? [] : [[number, part]]));

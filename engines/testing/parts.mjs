@@ -19,6 +19,7 @@ export const PARTS = {
   recorder: async (context) => (await import('../node/test_command.mjs')).testCommand(context),
   conditions: async (context) => (await import('../node/test_conditions.mjs')).testConditions(context),
   modes: async (context) => (await import('../shared/test_modes.mjs')).testModes(context),
+  seen: async (context) => (await import('../shared/test_seen.mjs')).testSeen(context),
   witness: async (context) => (await import('../shared/test_witness.mjs')).testWitness(context),
   lowering: async (context) => (await import('../lowering/test_lowering.mjs')).testLowering(context),
   'self-command': async (context) => (await import('../selfrecord/test_command.mjs')).testCommand(context),

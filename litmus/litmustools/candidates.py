@@ -1,13 +1,16 @@
 """Every candidate execution of a test: a writer for each byte that is read, and a total order of the events."""
 import re
 from collections import Counter
+from collections.abc import Iterator
 from dataclasses import dataclass, field
-from functools import cache
+from functools import cache, cached_property
 from itertools import islice, permutations, product
 from math import factorial, prod
 
 from . import log
 from .judges import Failed
+from .orders import Access, Pair, orders_of
+from .tests import LitmusTest
 
 # How many candidates are asked at once; after an allowed one no more are, if only one outcome is wanted.
 CHUNK = 500
@@ -87,7 +90,7 @@ def program_orders(lengths, pairs):
 
 
 @cache
-def order_texts(lengths, pairs):
+def order_texts(lengths: tuple[int, ...], pairs: tuple[Pair, ...]) -> list[str]:
     return [log.compact(order) for order in program_orders(lengths, pairs)]
 
 
@@ -107,7 +110,13 @@ class Found:
 class Candidates:
     """The candidates of a test, as texts of logs; with `outcome`, those in which the observed events read this."""
 
-    def __init__(self, test, by_byte=False, all_orders=False, outcome=None):
+    def __init__(
+        self,
+        test: LitmusTest,
+        by_byte: bool = False,
+        all_orders: bool = False,
+        outcome: tuple[tuple[int, ...], ...] | None = None,
+    ) -> None:
         self.test, self.reads = test, [key for key, event in test.events.items() if event.reads]
         self.wanted = self.wanted_values(outcome)
         self.choices = [self.kept_choices(key, by_byte) for key in self.reads]
@@ -115,10 +124,14 @@ class Candidates:
         count = factorial(len(test.events)) // (1 if all_orders else prod(map(factorial, lengths)))
         if count > MOST_ORDERS:
             raise Failed(f"{test.name}: {count} orders of {len(test.events)} events, more than {MOST_ORDERS}")
-        if all_orders:
-            self.orders = [log.compact(order) for order in permutations(test.events)]
-        else:
-            self.orders = order_texts(lengths, flag_pairs(test, self.wanted))
+        self.all_orders, self.lengths = all_orders, lengths
+
+    @cached_property
+    def orders(self):
+        """The texts of the orders."""
+        if self.all_orders:
+            return [log.compact(order) for order in permutations(self.test.events)]
+        return order_texts(self.lengths, flag_pairs(self.test, self.wanted))
 
     def wanted_values(self, outcome):
         """What each read of a flag has to give, and with an outcome each observed event."""
@@ -154,6 +167,23 @@ class Candidates:
             if self.test.events[key].is_observed:
                 values[key[0]].append(choice.value)
         return tuple(tuple(values[thread]) for thread in sorted(values))
+
+    def groups(self) -> Iterator[tuple[tuple[tuple[int, ...], ...], Iterator[str]]]:
+        """The candidates in groups that differ in their order alone: the outcome, and the logs. Of the orders those are
+        there that have to be tried (`orders`)."""
+        flags = flag_pairs(self.test, self.wanted)
+        accesses = {
+            key: Access(event.address, event.access.width, event.access.is_atomic, event.writes)
+            for key, event in self.test.events.items()
+        }
+        for chosen in product(*self.choices):
+            by = {key: list(choice.writers) for key, choice in zip(self.reads, chosen)}
+            yield self.outcome_of(chosen), self.ordered(chosen, orders_of(self.lengths, accesses, by, flags))
+
+    def ordered(self, chosen, orders):
+        threads = self.threads_text(chosen)
+        for order in orders:
+            yield f'["wasm-litmus-log",2,[{threads}],{order}]'
 
     def __iter__(self):
         """Each candidate: its outcome and its log."""

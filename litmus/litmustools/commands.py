@@ -2,12 +2,13 @@
 import argparse
 import os
 import sys
+from collections.abc import Callable
 
 from . import harness
 from .accesses import BadCycle
 from .judges import Failed, has_stream
 from .names import cycle_named, named
-from .tests import test_of
+from .tests import LitmusTest, test_of
 
 
 def arguments(description):
@@ -15,7 +16,7 @@ def arguments(description):
     return harness.arguments(description)
 
 
-def program_of(options):
+def program_of(options: argparse.Namespace) -> str:
     """The program that the options name, or the one that ./wmlab runs; it has to have `stream`."""
     if options.wmlab and not (os.path.isfile(options.wmlab) and os.access(options.wmlab, os.X_OK)):
         raise Failed(f"{options.wmlab}: this is not a program; name one by --wmlab PATH")
@@ -32,7 +33,7 @@ def positive(word):
     return int(word)
 
 
-def test_named(text):
+def test_named(text: str) -> LitmusTest:
     """The test of a name, or of the text of a cycle."""
     name, form = named(cycle_named(text))
     return test_of(form, name)
@@ -44,12 +45,12 @@ def folder_for(path):
     return path
 
 
-def write(path, data):
+def write(path: str, data: bytes | str) -> None:
     with open(path, "wb") as file:
         file.write(data if isinstance(data, bytes) else data.encode())
 
 
-def ending(main):
+def ending(main: Callable[[], int]) -> None:
     """Runs a command. A mistake of its user, or a program that fails, is one line and status 2; Ctrl-C is 130."""
     try:
         sys.exit(main())

@@ -2,8 +2,8 @@
 import json
 import os
 import subprocess
+import tempfile
 from collections import Counter
-from concurrent.futures import ThreadPoolExecutor
 from dataclasses import dataclass, field
 
 from . import TOP, judges
@@ -13,17 +13,16 @@ from .judges import Failed, Stream
 from .modules import bytes_of
 from .tests import LitmusTest
 
-ROUNDS_COMMAND = os.path.join(TOP, "litmus/rounds.mjs")
-# How many processes record tests of an engine at the same time.
-PROCESSES = 3
+RUN_COMMAND = os.path.join(TOP, "litmus/run")
 
 
 @dataclass
 class Seen:
-    """What an engine gave in its rounds of a test: how often each outcome and each verdict came."""
+    """What an engine gave of a test: how often each outcome and each verdict came, in how many iterations."""
 
     outcomes: dict
     verdicts: dict
+    iterations: int = 0
 
 
 @dataclass
@@ -56,7 +55,7 @@ class Row:
             if self.times(engine) and not self.is_permitted:
                 found.append(f"{self.test.name}: {engine} gave the cycle's outcome, which no candidate permits")
             others = [line for line in seen.verdicts if not line.startswith("allowed")]
-            found += [f"{self.test.name}: a log of {engine} is answered by: {line}" for line in others]
+            found += [f"{self.test.name}: an outcome of {engine} is {line}" for line in others]
         if (self.script or self.runs) and not self.is_permitted:
             found.append(f"{self.test.name}: the store buffers gave the cycle's outcome, which no candidate permits")
         return found
@@ -114,24 +113,32 @@ def run_rounds(row, program, rounds):
     row.runs = counts.get(row.test.outcome, 0)
 
 
-def recorded(rows, program, engine, rounds):
-    """The version of an engine, and what it gave of each test in the mode free."""
-    command = [ROUNDS_COMMAND, "--engine", engine, "--rounds", str(rounds), "--wmlab", program]
-    questions = "".join(json.dumps([row.test.name, row.module, row.test.starts]) + "\n" for row in rows)
-    ran = subprocess.run(command, input=questions, capture_output=True, text=True, check=False)
-    lines = ran.stdout.split("\n")[:-1]
-    if ran.returncode or len(lines) != len(rows) + 1:
-        raise Failed(f"rounds.mjs ended with status {ran.returncode}: {ran.stderr.strip()[-200:]}")
-    answers = [json.loads(line) for line in lines]
-    return answers[0], [Seen(dict(outcomes_seen), dict(verdicts)) for _, outcomes_seen, verdicts in answers[1:]]
+def seen_of(row, run):
+    """What a line of `litmus/run --json` tells of the row's test."""
+    verdicts = Counter()
+    for state in run["states"]:
+        verdicts["allowed" if state["verdict"] == "permitted" else state["verdict"]] += state["count"]
+    return Seen({row.test.outcome: run["positive"]}, dict(verdicts), run["iterations"])
 
 
-def engine_rounds(rows, program, engine, rounds):
-    """Has an engine run each test in the mode free, in some processes at the same time. Answers its version."""
-    pieces = [rows[first::PROCESSES] for first in range(min(PROCESSES, len(rows)))]
-    with ThreadPoolExecutor(PROCESSES) as pool:
-        answers = list(pool.map(lambda piece: recorded(piece, program, engine, rounds), pieces))
-    for piece, (_, seen) in zip(pieces, answers, strict=True):
-        for row, each in zip(piece, seen, strict=True):
-            row.engines[engine] = each
-    return answers[0][0]
+def take_runs(rows, engine, lines):
+    """Gives the rows what an engine's lines of `litmus/run --json` tell. Answers its version."""
+    runs = {run["name"]: run for run in map(json.loads, lines)}
+    missing = [row.test.name for row in rows if row.test.name not in runs]
+    if missing:
+        raise Failed(f"{engine} did not run {missing[0]} and {len(missing) - 1} other tests")
+    for row in rows:
+        row.engines[engine] = seen_of(row, runs[row.test.name])
+    return next(iter(runs.values()))["engine"]
+
+
+def engine_runs(rows, program, engine, iterations):
+    """Has an engine run each test so many times by litmus/run. Answers its version."""
+    command = [RUN_COMMAND, "--json", "--engine", engine, "--iterations", str(iterations), "--wmlab", program]
+    with tempfile.TemporaryDirectory() as folder:
+        words = [*command, "--found", folder, *(row.test.name for row in rows)]
+        ran = subprocess.run(words, stdout=subprocess.PIPE, stderr=subprocess.PIPE, text=True, check=False)
+    if ran.returncode not in (0, 1):
+        last = (ran.stderr.strip().splitlines() or [f"status {ran.returncode}"])[-1]
+        raise Failed(f"litmus/run: {last.removeprefix('run: ')}")
+    return take_runs(rows, engine, ran.stdout.splitlines())

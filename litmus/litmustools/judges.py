@@ -12,10 +12,10 @@ class Failed(Exception):
 class Stream:
     """`wmlab stream` on a module. Used in a `with` statement."""
 
-    def __init__(self, program, module):
+    def __init__(self, program: str, module: str) -> None:
         self.program, self.module = program, module
 
-    def __enter__(self):
+    def __enter__(self) -> "Stream":
         self.errors = tempfile.TemporaryFile()
         try:
             self.process = subprocess.Popen(
@@ -28,7 +28,7 @@ class Stream:
             raise Failed(f"{self.program}: {error.strerror}") from error
         return self
 
-    def __exit__(self, *_):
+    def __exit__(self, *_: object) -> None:
         self.process.stdin.close()
         self.process.stdout.close()
         self.process.wait()
@@ -40,7 +40,7 @@ class Stream:
         said = self.errors.read(200).decode(errors="replace").strip()
         return Failed(f"{self.program} stream ended with status {status} before it answered: {said}")
 
-    def answers(self, lines):
+    def answers(self, lines: list[str]) -> list[str]:
         """The answer to each line, which is the text of a log. At most a batch is under way, so that neither side
         waits for the other to read."""
         found = []
@@ -65,7 +65,7 @@ def has_stream(program):
     return "stream MODULE" in ran.stdout
 
 
-def completed(program, module, document):
+def completed(program: str, module: str, document: str) -> str:
     """The log with its steps and ends, as `wmlab complete` prints it."""
     ran = subprocess.run(
         [program, "complete", module, "-"], input=document, stdout=subprocess.PIPE, text=True, check=False
@@ -75,7 +75,7 @@ def completed(program, module, document):
     return ran.stdout.strip()
 
 
-def graph(program, module, document):
+def graph(program: str, module: str, document: str) -> str:
     """The execution for Graphviz, with what is violated in red."""
     whole = completed(program, module, document)
     ran = subprocess.run([program, "graph", module, "-"], input=whole, stdout=subprocess.PIPE, text=True, check=False)

@@ -2,7 +2,7 @@
 from dataclasses import dataclass
 
 from . import wasm
-from .tests import EXPORTS, Event
+from .tests import EXPORTS, Event, LitmusTest
 
 I32, I64 = b"\x7f", b"\x7e"
 ALIGNMENT = {1: 0, 2: 1, 4: 2, 8: 3}
@@ -47,7 +47,7 @@ def signed(value):
     return out + bytes([value % 128])
 
 
-def constant(value, width=4):
+def constant(value: int, width: int = 4) -> Instruction:
     """A constant of the type of an access of this width. The bytes have it as a signed integer."""
     bits = 64 if width == 8 else 32
     wrapped = value - (1 << bits) if value >> (bits - 1) else value
@@ -64,7 +64,7 @@ def opcode_of(event):
     return (ATOMIC_STORE if access.is_atomic else STORE)[access.width]
 
 
-def access_of(event):
+def access_of(event: Event) -> Instruction:
     """The instruction of an event. A plain access that is not aligned declares an alignment of 1."""
     mnemonic, opcode = opcode_of(event)
     width, address = event.access.width, event.address
@@ -123,7 +123,7 @@ def text_of(test):
     return "\n".join(lines) + ")\n"
 
 
-def bytes_of(test):
+def bytes_of(test: LitmusTest) -> bytes:
     """The module in the binary format, as wat2wasm makes it of the text."""
     kinds, types = [], []
     for thread, _ in enumerate(test.threads):

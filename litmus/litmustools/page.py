@@ -97,8 +97,9 @@ HEAD = """# Gallery of litmus tests
 The results of each test of [litmus/](../litmus/README.md), which describes names, outcomes and candidates. For people
 who compare this model with another one, or an engine with the model. `litmus/gallery` writes this page.
 
-Made on {date} with {version}. {engines}: {rounds} rounds of each test in the mode free. {run_rounds} rounds of
-`wmlab run`. {asked} candidates were judged in {seconds:.0f} s.
+Made on {date} with {version}: {run_rounds} rounds of `wmlab run`; {asked} candidates were judged in {seconds:.0f} s.
+
+{engines}
 
 | | Tests |
 |---|---|
@@ -112,8 +113,7 @@ Made on {date} with {version}. {engines}: {rounds} rounds of each test in the mo
   - The buffers make loads in order, and all threads see a published store at once. So load buffering (`LB`), and what
     needs a store that only some threads see (`IRIW`, `WRC`), cannot come from them, although the rules permit the
     plain tests.
-- **{names}**: how often the engine gave the outcome. Each of its logs was checked. Each thread runs once in a round and
-  ends within microseconds, so threads seldom overlap.
+- **{names}**: how often the engine gave the outcome, by [`litmus/run`](LITMUS.md). Each outcome that it gave was judged.
 """
 
 
@@ -127,14 +127,20 @@ def theorem_line(rows):
     )
 
 
+def engines_line(collected, date):
+    """Which engines ran, how often, and what was seen."""
+    names = ", ".join(collected.engines.values())
+    most = max((seen.iterations for row in collected.rows for seen in row.engines.values()), default=0)
+    return f"Engines ({date}): {names}; about {round(most, -4):,} iterations of each test by `litmus/run`."
+
+
 def head(collected):
     rows = "\n".join(f"| {name} | {count} |" for name, count in counts(collected.rows).items())
     return HEAD.format(
         date=collected.date,
         version=collected.version,
-        engines=", ".join(collected.engines.values()),
+        engines=engines_line(collected, collected.date),
         names=", ".join(collected.engines),
-        rounds=collected.rounds,
         run_rounds=collected.run_rounds,
         asked=collected.asked,
         seconds=collected.seconds,
@@ -183,7 +189,7 @@ def escaped(text):
 def html_row(row, collected):
     tone = "good" if row.is_permitted else "bad"
     name = escaped(row.test.name)
-    engines = ", ".join(f"{engine}: {row.times(engine)} of {collected.rounds}" for engine in row.engines)
+    engines = ", ".join(f"{engine}: {row.times(engine)} of {seen.iterations}" for engine, seen in row.engines.items())
     return (
         f'<details id="{name}"><summary><code>{name}</code> {escaped(outcome_text(row.test))}: '
         f'<span class="{tone}">{escaped(rules_text(row))}</span></summary>'

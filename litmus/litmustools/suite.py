@@ -4,7 +4,7 @@ from itertools import product
 from .accesses import BadCycle, access_of
 from .cycles import Cycle
 from .names import SHAPES, named, shape_of
-from .tests import test_of
+from .tests import LitmusTest, test_of
 
 TWO_THREADS = ("SB", "MP", "LB", "S", "R", "2+2W")
 CAUSALITY = ("WRC", "RWC", "WWC", "WRR+2W", "WRW+WR", "WRW+2W")
@@ -127,7 +127,7 @@ def cycles():
         yield from by_location(shape)
 
 
-def suite():
+def suite() -> dict[str, LitmusTest]:
     """The tests of the suite by their names."""
     found, seen = {}, set()
     for cycle in cycles():

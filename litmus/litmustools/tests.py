@@ -195,7 +195,7 @@ class LitmusTest:
     def starts(self):
         return list(EXPORTS[: len(self.threads)])
 
-    def observed(self, thread):
+    def observed(self, thread: int) -> list[Event]:
         """The events of a thread whose values are in its result."""
         return [event for event in self.threads[thread] if event.is_observed]
 
