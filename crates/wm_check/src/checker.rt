@@ -88,6 +88,7 @@ pub fn judged_verdict(candidate: &Candidate, judgement: &Judgement) -> Verdict
 }
 
 /// What a check of the bytes of a log over a valid module finds.
+#[derive(Drop)]
 pub enum CheckedLog<'m> {
     /// The bytes are not a log with a witness within the limits.
     Refused(Refusal),
@@ -105,25 +106,6 @@ pub enum CheckedLog<'m> {
         positions: Vec<List<CodePosition>>,
         finding: Finding,
     },
-}
-
-// By hand, since a derived drop is written out wherever such a value goes out of scope.
-impl<'m> Drop for CheckedLog<'m> {
-    fn drop(self) {
-        match self {
-            CheckedLog::Refused(_refusal) => {}
-            CheckedLog::Misshapen(_misshapen) => {}
-            CheckedLog::Differs {
-                candidate: _candidate,
-                answer: _answer,
-            } => {}
-            CheckedLog::Judged {
-                candidate: _candidate,
-                positions: _positions,
-                finding: _finding,
-            } => {}
-        }
-    }
 }
 
 impl CheckedLog<'_> {

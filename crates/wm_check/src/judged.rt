@@ -9,6 +9,7 @@ use wm_logfile::{DocFault, read_document};
 use wm_rules::{Finding, judge_and_close};
 
 /// What a judgement of the bytes of a log finds.
+#[derive(Drop)]
 pub enum JudgedDocument<'i> {
     /// The bytes are not a log with a witness within the limits. The fault isn't `OutOfMemory`.
     Refused(DocFault),
@@ -18,20 +19,6 @@ pub enum JudgedDocument<'i> {
         candidate: Candidate<'i>,
         finding: Finding,
     },
-}
-
-// By hand, since a derived drop is written out wherever such a value goes out of scope.
-impl<'i> Drop for JudgedDocument<'i> {
-    fn drop(self) {
-        match self {
-            JudgedDocument::Refused(_fault) => {}
-            JudgedDocument::Misshapen(_misshapen) => {}
-            JudgedDocument::Judged {
-                candidate: _candidate,
-                finding: _finding,
-            } => {}
-        }
-    }
 }
 
 /// Judges a log with a witness over an initial memory.

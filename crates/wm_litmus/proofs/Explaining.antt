@@ -1,11 +1,16 @@
 -- An explanation of a verdict answers the bytes that the verdict is on.
-use Rattle.std.proofs.Common.{ℕ, List, string_bytes}
+use Rattle.std.proofs.Common.{◌≡◌, ℕ, List, string_bytes}
 use Rattle.wm_check.specs.declared.verdict.Refusal.{Refusal}
 use Rattle.wm_check.specs.declared.verdict.Refusal.TheVariants as refusal
 use Rattle.wm_check.specs.declared.verdict.Verdict.{Verdict}
 use Rattle.wm_check.specs.declared.verdict.Verdict.TheVariants.{Allowed, Refused, Broken}
+use Rattle.wm_check.specs.Checked.{verdict_by}
 use Rattle.wm_check.specs.Reading.{IsModuleRefusal}
+use Rattle.wm_check.specs.Texts.{verdict_status}
 use Rattle.wm_check.specs.Verdicts.{IsRefusedFor, Says}
+use Rattle.wm_event.specs.declared.log.ThreadLog.{ThreadLog}
+use Rattle.wm_event.specs.declared.rule.Judgement.{Judgement}
+use Rattle.wm_event.specs.declared.rule.Judgement.TheVariants as judgement
 use Rattle.wm_litmus.specs.declared.answer.Answer.{Answer}
 use Rattle.wm_litmus.specs.Explanation.{AnswersExplain, AnswersGraph, Explains, Shows}
 use Rattle.wm_litmus.specs.Explanation.AnswersGraph.{pictured, told}
@@ -36,3 +41,8 @@ pub answers_graph : (module_bytes document_bytes : List ℕ) (v : Verdict) (answ
 answers_graph mb db (Allowed certificate) answer said shows = pictured (Allowed certificate) said tt shows
 answers_graph mb db (Refused r) answer said shows = told r said shows.status_is shows.text_is
 answers_graph mb db (Broken breach) answer said shows = pictured (Broken breach) said tt shows
+
+-- a picture with the status of the verdict by a judgement shows it
+pub judged_shows : (log : List ThreadLog) (j : Judgement) (answer : Answer) → answer.status ≡ verdict_status (verdict_by log j) → Shows (verdict_by log j) answer
+judged_shows log judgement.Valid answer is = is
+judged_shows log (judgement.Broken fault) answer is = is

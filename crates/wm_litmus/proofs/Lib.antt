@@ -13,3 +13,4 @@ pub mod Streaming
 pub mod Statuses
 pub mod TraceTexts
 pub mod Telling
+pub mod Witnessing
