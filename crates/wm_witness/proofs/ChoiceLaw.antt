@@ -1,11 +1,11 @@
 -- Which writers a byte of a read can have.
-use Rattle.std.proofs.Common.{◌≡◌, ◌≢◌, ◌⊎◌, ℕ, ◌+◌, ◌<◌, ◌≤◌, List, [], IsSome, IsTrue, Option, Some, None, get_or, slice_get, length, refl, sym, ap, ◌∙◌, subst, arith, inl, inr, ⊎_elim}
-use Rattle.std.specs.Prelude.{option_and_then, Bool, true, false, ◌==◌, ◌&&◌}
-use Rattle.std.specs.Option.{is_none, is_some}
+use Rattle.std.proofs.Common.{◌≡◌, ◌⊎◌, ℕ, ◌+◌, ◌<◌, ◌≤◌, List, [], IsSome, IsTrue, Option, Some, None, get_or, slice_get, length, refl, sym, ap, ◌∙◌, subst, arith, inl, inr, ⊎_elim}
+use Rattle.std.specs.Prelude.{option_and_then, true, false, ◌==◌, ◌&&◌}
+use Rattle.std.specs.Option.{is_some}
 use Rattle.std.proofs.lemmas.Bool.{and_parts, cases_lt}
 use Rattle.std.proofs.lemmas.Bool.Decides.{nat_tests}
 use Rattle.wm_witness.specs.declared.assumption.Assumption.TheVariants.{TakesNone}
-use Rattle.wm_witness.specs.Assumptions.{Holds, TakesFrom}
+use Rattle.wm_witness.specs.Assumptions.{Holds}
 use Rattle.std.proofs.lemmas.Option.{same_Some, slice_get-get_or, slice_get_within}
 use Rattle.wm_event.specs.declared.event.Event.{Event}
 use Rattle.wm_event.specs.declared.event.EventKey.{EventKey}
@@ -14,13 +14,12 @@ use Rattle.wm_event.specs.declared.event.EventId.TheVariants.{Init, At}
 use Rattle.wm_event.specs.declared.witness.Witness.{Witness}
 use Rattle.wm_event.specs.Event.{byte_written, key_of}
 use Rattle.wm_event.specs.Execution.{ReadsFrom, byte_by}
-use Rattle.wm_event.specs.HappensBefore.{HappensBefore}
 use Rattle.wm_event.specs.Log.{event_in}
 use Rattle.wm_event.specs.LoggedRun.{LoggedRun, execution}
 use Rattle.wm_event.specs.Rules.{IsValid}
 use Rattle.wm_event.specs.Shape.{IsWellShaped, read_width}
 use Rattle.wm_event.specs.Witness.{writers_in}
-use Rattle.wm_writers.specs.Fits.{fitting, fits}
+use Rattle.wm_writers.specs.Fits.{fitting}
 use Rattle.wm_writers.specs.Forced.{with_witness}
 use Rattle.wm_writers.proofs.FitLaws.{writer_fits}
 use Rattle.wm_writers.proofs.FittingLemmas.{fit-listed}

@@ -1,6 +1,5 @@
 -- What the fifth rule says of the order of a valid run.
-use Rattle.std.proofs.Common.{◌≡◌, ◌≢◌, ◌⊎◌, ◌<◌, ℕ, List, [], Some, IsSome, IsTrue, refl, sym, ap, ◌∙◌, subst, arith, inl, inr, ⊎_elim}
-use Rattle.std.proofs.lemmas.Option.{same_Some}
+use Rattle.std.proofs.Common.{◌≡◌, ◌≢◌, ◌⊎◌, ◌<◌, ℕ, List, [], Some, IsSome, IsTrue, refl, arith, inl, inr, ⊎_elim}
 use Rattle.wm_event.specs.declared.event.Event.{Event}
 use Rattle.wm_event.specs.declared.event.EventKey.{EventKey}
 use Rattle.wm_event.specs.declared.event.EventId.{EventId}
@@ -17,13 +16,10 @@ use Rattle.wm_event.specs.Shape.{IsWellShaped}
 use Rattle.wm_hb.proofs.ChainLaws.{chain_there}
 use Rattle.wm_writers.specs.Forced.{with_witness}
 use Rattle.wm_witness.specs.declared.assumption.Assumption.{Assumption}
-use Rattle.wm_witness.specs.declared.choice.Taken.{Taken}
 use Rattle.wm_witness.specs.declared.relation.Kind.TheVariants.{Happens, Stands}
-use Rattle.wm_witness.specs.declared.relation.Pair.{Pair}
 use Rattle.wm_witness.specs.Assumptions.{TakesFrom}
 use Rattle.wm_witness.specs.Always.{Always}
-use Rattle.wm_witness.specs.Choice.{IsTaken}
-use Rattle.wm_witness.specs.Relations.{AlwaysRelates, IsPair, IsSynchronized, Relates}
+use Rattle.wm_witness.specs.Relations.{AlwaysRelates, Relates}
 use Rattle.wm_witness.specs.Rules.{CanSynchronize, IsAtomicWriteOf}
 use Rattle.wm_witness.proofs.Steps.{places-differ, some-is, some-of}
 

@@ -1,5 +1,5 @@
 -- A step of the search, on the stack of frames.
-use Rattle.std.proofs.Common.{◌≡◌, ◌≢◌, ℕ, ◌+◌, ◌≤◌, List, [], ◌∷◌, ◌++◌, length, map, take, refl, sym, ap, ◌∙◌, subst, arith, length-append}
+use Rattle.std.proofs.Common.{◌≡◌, ◌≢◌, ℕ, ◌+◌, ◌≤◌, List, [], ◌∷◌, ◌++◌, length, map, take, sym, ap, ◌∙◌, subst, arith, length-append}
 use Rattle.std.proofs.lemmas.List.{append-nil, length-take-le}
 use Rattle.wm_event.specs.LoggedRun.{LoggedRun}
 use Rattle.wm_writers.specs.Forced.{IsNeverValid}
@@ -7,7 +7,7 @@ use Rattle.wm_witness.specs.declared.assumption.Assumption.{Assumption}
 use Rattle.wm_witness.specs.declared.stack.Frame.{Frame}
 use Rattle.wm_witness.specs.Always.{IsClosed}
 use Rattle.wm_witness.specs.Search.{AreOpposite, IsLeftOpen, Searched, alternative, alternatives}
-use Rattle.wm_witness.specs.Search.Searched.{start, step}
+use Rattle.wm_witness.specs.Search.Searched.{step}
 use Rattle.wm_witness.specs.Search.Replaces.{closed, split}
 use Rattle.wm_witness.proofs.Frames.{AreStacked, after-pop, after-split, stacked-more, stacked-pop, stacked-push}
 use Rattle.wm_witness.proofs.SearchLaw.{none-left}

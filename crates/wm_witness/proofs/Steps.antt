@@ -1,5 +1,5 @@
 -- Lemmas that the laws share.
-use Rattle.std.proofs.Common.{◌≡◌, ◌≢◌, ◌⊎◌, Bor, ℕ, ◌<◌, zero, suc, List, [], ◌∷◌, ◌++◌, slice_get, Option, None, Some, IsSome, refl, sym, ap, ◌∙◌, subst, arith, inl, inr, ⊎_elim}
+use Rattle.std.proofs.Common.{◌≡◌, ◌≢◌, ◌⊎◌, Bor, ◌<◌, List, [], ◌∷◌, ◌++◌, slice_get, Option, None, Some, IsSome, refl, sym, ap, ◌∙◌, subst, arith, inl, inr, ⊎_elim}
 use Rattle.std.specs.Prelude.{◌==◌, ◌&&◌, true, false, is_some, option_copied}
 use Rattle.std.proofs.lemmas.Bool.{and_from, cases_eq, cases_lt, false≢true}
 use Rattle.std.proofs.lemmas.Bool.Decides.{nat_tests}
@@ -7,8 +7,8 @@ use Rattle.std.proofs.lemmas.Option.{same_Some}
 use Rattle.wm_event.specs.declared.event.EventKey.{EventKey}
 use Rattle.wm_event.specs.declared.event.EventId.{EventId}
 use Rattle.wm_event.specs.declared.event.EventId.TheVariants.{Init, At}
-use Rattle.wm_event.specs.Execution.{Execution, ReadsFrom, place}
-use Rattle.wm_event.specs.HappensBefore.{Chain, HappensBefore, SynchronizesWith}
+use Rattle.wm_event.specs.Execution.{Execution, place}
+use Rattle.wm_event.specs.HappensBefore.{Chain, HappensBefore}
 use Rattle.wm_event.specs.Log.{event_in}
 use Rattle.wm_event.specs.LoggedRun.{LoggedRun, execution}
 use Rattle.wm_event.specs.Shape.{ListsEachOnce}

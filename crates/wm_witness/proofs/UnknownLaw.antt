@@ -1,6 +1,6 @@
 -- A log whose own shape has no fault is well shaped with all bytes from Init and its threads one after the other.
-use Rattle.std.proofs.Common.{◌≡◌, ℕ, ◌+◌, ◌-◌, ◌<◌, ◌≤◌, zero, suc, List, [], ◌∷◌, ◌++◌, Option, Some, None, IsSome, length, get_or, slice_get, map, refl, sym, ap, ◌∙◌, subst, arith, inl, inr, ⊎_elim}
-use Rattle.std.specs.Prelude.{All, flat_map, option_and_then, replicate, unwrap_or}
+use Rattle.std.proofs.Common.{◌≡◌, ℕ, ◌+◌, ◌-◌, ◌<◌, ◌≤◌, zero, suc, List, [], ◌∷◌, ◌++◌, Option, Some, None, IsSome, length, slice_get, map, refl, sym, ap, ◌∙◌, subst, arith, ⊎_elim}
+use Rattle.std.specs.Prelude.{All, flat_map, option_and_then, unwrap_or}
 use Rattle.std.specs.Option.{option_map}
 use Rattle.std.proofs.lemmas.Bool.{cases_lt}
 use Rattle.std.proofs.lemmas.List.{length-map, length-replicate}
@@ -14,10 +14,10 @@ use Rattle.wm_event.specs.declared.log.ThreadLog.{ThreadLog}
 use Rattle.wm_event.specs.declared.witness.Witness.{Witness}
 use Rattle.wm_event.specs.Event.{key_of}
 use Rattle.wm_event.specs.Log.{HasKeys, event_in}
-use Rattle.wm_event.specs.Shape.{IsGoodEvent, IsThere, IsWellShaped, ListsEachOnce, event_counts, read_width, writer_counts}
+use Rattle.wm_event.specs.Shape.{IsThere, ListsEachOnce, event_counts, read_width}
 use Rattle.wm_event.specs.Witness.{writers_in}
 use Rattle.wm_hb.proofs.ThreadLemmas.{named_so}
-use Rattle.wm_witness.specs.Unknown.{HasOwnShape, IsStart, IsUnknown, from_init, keys_of, thread_from_init}
+use Rattle.wm_witness.specs.Unknown.{IsStart, IsUnknown, from_init, keys_of, thread_from_init}
 
 -- how many events come before event i of thread j, if the threads follow one another
 abbrev place-in : List ThreadLog → ℕ → ℕ → ℕ

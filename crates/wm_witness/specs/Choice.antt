@@ -1,5 +1,5 @@
 -- The writers that a byte of a read can have, in the valid runs that keep the assumptions.
-use Rattle.std.specs.Prelude.{◌≡◌, ℕ, List, Some, All}
+use Rattle.std.specs.Prelude.{◌≡◌, ℕ, List, Some}
 use Rattle.wm_event.specs.declared.event.Event.{Event}
 use Rattle.wm_event.specs.declared.event.EventKey.{EventKey}
 use Rattle.wm_event.specs.declared.event.EventId.{EventId}
@@ -7,7 +7,6 @@ use Rattle.wm_event.specs.Event.{key_of}
 use Rattle.wm_event.specs.Execution.{ReadsFrom}
 use Rattle.wm_event.specs.Log.{event_in}
 use Rattle.wm_event.specs.LoggedRun.{LoggedRun, execution}
-use Rattle.wm_event.specs.Shape.{read_width}
 use Rattle.wm_witness.specs.declared.assumption.Assumption.{Assumption}
 use Rattle.wm_witness.specs.declared.choice.Choice.{Choice}
 use Rattle.wm_witness.specs.declared.choice.Choice.TheVariants.{Nothing, Only, Several}

@@ -8,7 +8,7 @@ use Rattle.wm_event.specs.declared.log.ThreadLog.{ThreadLog}
 use Rattle.wm_event.specs.declared.witness.Witness.{Witness}
 use Rattle.wm_event.specs.Event.{key_of}
 use Rattle.wm_event.specs.Limits.{max_events}
-use Rattle.wm_event.specs.Log.{HasKeys, event_in}
+use Rattle.wm_event.specs.Log.{event_in}
 use Rattle.wm_event.specs.Shape.{InMemory, IsWellShaped, ValuesFit, event_count, read_width}
 
 -- Init, once for each byte that the event reads

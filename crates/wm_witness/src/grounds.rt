@@ -2,7 +2,7 @@
 
 use crate::assumption::Assumption;
 use std::alloc::{AllocError, Global};
-use wm_event::{Candidate, EventId, EventKey, Rule, RuleFault};
+use wm_event::{Candidate, EventId, Rule, RuleFault};
 use wm_hb::{FaultChain, LinkKind, fault_chains, find_cycle};
 
 /// Adds that each read of a chain takes a byte from the write that synchronizes with it.

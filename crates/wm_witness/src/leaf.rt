@@ -1,5 +1,5 @@
 //! A witness that is likely to make the log valid, given what is known. Nothing rests on it but how soon the search ends.
-ghost use Rattle.std.specs.Prelude.{◌≡◌, ◌<◌};
+ghost use Rattle.std.specs.Prelude.{◌<◌};
 ghost use Rattle.wm_witness.specs.Choice.{IsEventOf};
 ghost use Rattle.wm_witness.specs.Rules.{IsNode};
 
@@ -79,7 +79,11 @@ fn merit(
     if !can_synchronize(start, before) {
         return 3;
     }
-    if node.stands_open(start, assumed, before) { 1 } else { 4 }
+    if node.stands_open(start, assumed, before) {
+        1
+    } else {
+        4
+    }
 }
 
 /// The best writer of a byte of a read, one of those that are left; None if there is none.
@@ -103,7 +107,11 @@ fn best_writer(
         if !is_left(start, assumed, node, event, byte, *id) {
             continue;
         }
-        let merit = if liked == Some(*id) { 16 } else { merit(start, assumed, node, event, *id) };
+        let merit = if liked == Some(*id) {
+            16
+        } else {
+            merit(start, assumed, node, event, *id)
+        };
         if merit >= best_merit {
             best = Some(*id);
             best_merit = merit;

@@ -19,8 +19,6 @@ mod stack;
 mod step;
 mod unknown;
 
-
 pub use answer::Answer;
 pub use search::find;
 pub use unknown::unknown_witness;
-

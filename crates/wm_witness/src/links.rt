@@ -118,8 +118,14 @@ impl Links {
                     Some(end) => *end,
                     None => size,
                 };
-                let count =
-                    self.advance(relation, pairs, &mut done, from, end, is_forced && !is_new)?;
+                let count = self.advance(
+                    relation,
+                    pairs,
+                    &mut done,
+                    from,
+                    end,
+                    is_forced && !is_new,
+                )?;
                 if count > 0 && thread < nexts.len() && from <= size {
                     nexts[thread] = from.saturating_add(count);
                     is_new = true;

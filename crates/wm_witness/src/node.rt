@@ -1,5 +1,5 @@
 //! What is known of the valid runs that keep some assumptions.
-ghost use Rattle.std.specs.Prelude.{◌≡◌, ◌<◌, All, IfOk, IfSome, IsTrue, OnOk};
+ghost use Rattle.std.specs.Prelude.{◌<◌, IfOk, IfSome, IsTrue, OnOk};
 ghost use Rattle.wm_event.specs.Shape.{read_width};
 ghost use Rattle.wm_witness.specs.Always.{IsClosed};
 ghost use Rattle.wm_witness.specs.Choice.{IsEventOf, IsTaken};

@@ -120,13 +120,7 @@ impl Relation {
     }
 
     /// Adds what comes before one event to what comes before another, and the event itself. Whether that is new.
-    fn join(
-        &mut self,
-        start: &Candidate,
-        assumed: &[Assumption],
-        from: usize,
-        into: usize,
-    ) -> bool
+    fn join(&mut self, start: &Candidate, assumed: &[Assumption], from: usize, into: usize) -> bool
         requires from { from < length self.old.rows.items }
         requires into { into < length self.old.rows.items }
         requires rows { AreRows start.now assumed.now self.old.kind self.old.rows.items }
@@ -146,12 +140,7 @@ impl Relation {
     }
 
     /// Adds a pair. Whether it is new.
-    pub(crate) fn add_pair(
-        &mut self,
-        start: &Candidate,
-        assumed: &[Assumption],
-        pair: Pair,
-    ) -> bool
+    pub(crate) fn add_pair(&mut self, start: &Candidate, assumed: &[Assumption], pair: Pair) -> bool
         requires rows { AreRows start.now assumed.now self.old.kind self.old.rows.items }
         requires pair { IsPair start.now assumed.now self.old.kind pair }
         ensures kind { self.new.kind ≡ self.old.kind }

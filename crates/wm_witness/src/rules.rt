@@ -48,11 +48,7 @@ pub(crate) fn pair_of_taken(
 }
 
 /// The pair that synchronizes by an assumption.
-pub(crate) fn pair_assumed(
-    start: &Candidate,
-    assumed: &[Assumption],
-    index: usize,
-) -> Option<Pair>
+pub(crate) fn pair_assumed(start: &Candidate, assumed: &[Assumption], index: usize) -> Option<Pair>
     ensures { IfSome result (IsSynchronized start.now assumed.now) }
 {
     match assumed.get(index)? {
@@ -72,11 +68,7 @@ pub(crate) fn pair_assumed(
 }
 
 /// The pair that an assumption orders.
-pub(crate) fn order_assumed(
-    start: &Candidate,
-    assumed: &[Assumption],
-    index: usize,
-) -> Option<Pair>
+pub(crate) fn order_assumed(start: &Candidate, assumed: &[Assumption], index: usize) -> Option<Pair>
     ensures { IfSome result (IsPair start.now assumed.now Stands) }
 {
     match assumed.get(index)? {
@@ -89,11 +81,7 @@ pub(crate) fn order_assumed(
 }
 
 /// What a byte that is assumed to be from a writer says.
-pub(crate) fn byte_assumed(
-    start: &Candidate,
-    assumed: &[Assumption],
-    index: usize,
-) -> Option<Taken>
+pub(crate) fn byte_assumed(start: &Candidate, assumed: &[Assumption], index: usize) -> Option<Taken>
     ensures { IfSome result (IsTaken start.now assumed.now) }
 {
     match assumed.get(index)? {

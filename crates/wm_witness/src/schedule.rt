@@ -29,7 +29,11 @@ fn source(start: &Candidate, reader: EventKey, writer: Option<EventId>) -> Optio
         first,
         second: reader,
     };
-    if can_synchronize(start, pair) { Some(first) } else { None }
+    if can_synchronize(start, pair) {
+        Some(first)
+    } else {
+        None
+    }
 }
 
 /// The write with which a read would synchronize by its writers.
@@ -129,7 +133,11 @@ impl Schedule {
         if !event.is_atomic() {
             return Some(2);
         }
-        if self.is_waited_for(start, node, key, source) { Some(0) } else { Some(1) }
+        if self.is_waited_for(start, node, key, source) {
+            Some(0)
+        } else {
+            Some(1)
+        }
     }
 
     /// Whether a read is still to come, other than the event itself, that synchronizes with the last atomic write of the
@@ -276,7 +284,9 @@ impl Schedule {
                 && let Some(bytes) = writers.get(index)
                 && let Some(source) = source_of(start, row.key, bytes)
                 && !self.has(source)
-                && !node.stands.counts(row.key.thread as usize, row.key.number as usize, source)
+                && !node
+                    .stands
+                    .counts(row.key.thread as usize, row.key.number as usize, source)
             {
                 return Some((row.key, source));
             }

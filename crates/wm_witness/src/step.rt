@@ -1,7 +1,6 @@
 //! One step of the search.
-ghost use Rattle.std.specs.Prelude.{◌≡◌, IfOk, IfSome};
+ghost use Rattle.std.specs.Prelude.{IfOk, IfSome};
 ghost use Rattle.wm_witness.specs.Rules.{IsNode};
-ghost use Rattle.wm_witness.specs.Search.{AreOpposite};
 ghost use Rattle.wm_witness.specs.Steps.{IsSameLog, IsSplit, IsStep};
 
 use crate::assumption::Assumption;
@@ -12,9 +11,7 @@ use crate::node::{Node, settle};
 use crate::schedule::Schedule;
 use crate::split::{is_open, opposite_of};
 use std::alloc::{AllocError, Global};
-use wm_event::{
-    Candidate, EventId, EventKey, Judgement, Log, RuleFault, ShapeFault, Witness,
-};
+use wm_event::{Candidate, EventId, EventKey, Judgement, Log, ShapeFault, Witness};
 use wm_list::List;
 use wm_rules::judge_sequentially;
 

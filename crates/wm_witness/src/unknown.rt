@@ -11,7 +11,11 @@ fn event_writers(alloc: Global, event: &Event) -> Result<List<EventId>, AllocErr
     ensures { IfOk result (λ list. list ≡ from_init event.now) }
 {
     let mut list = List::new(alloc);
-    let count = if event.reads() { event.width.bytes() } else { 0 };
+    let count = if event.reads() {
+        event.width.bytes()
+    } else {
+        0
+    };
     for _ in 0..count {
         list.push(EventId::Init)?;
     }

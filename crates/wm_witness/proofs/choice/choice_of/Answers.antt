@@ -1,4 +1,4 @@
-use Rattle.std.proofs.Common.{◌≡◌, ◌<◌, ◌+◌, ℕ, IsTrue, List, length, refl, sym, ap, ◌∙◌, subst, arith}
+use Rattle.std.proofs.Common.{◌≡◌, List, length, refl, sym, ap, ◌∙◌, subst, arith}
 use Rattle.wm_event.specs.declared.event.EventId.{EventId}
 use Rattle.wm_writers.specs.Fits.{fitting}
 use Rattle.wm_witness.proofs.ChoiceLaw.{AreSeen, nothing-found, only-found, seen-excluded, seen-first}

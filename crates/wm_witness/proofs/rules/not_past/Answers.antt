@@ -1,19 +1,17 @@
-use Rattle.std.proofs.Common.{◌≡◌, ◌≢◌, Some, refl, sym, subst, ◌∙◌}
+use Rattle.std.proofs.Common.{◌≡◌, Some, refl, sym, subst}
 use Rattle.wm_event.specs.declared.event.Event.{Event}
-use Rattle.wm_event.specs.declared.event.EventKey.{EventKey}
 use Rattle.wm_event.specs.declared.event.EventId.{EventId}
 use Rattle.wm_event.specs.declared.event.EventId.TheVariants.{Init, At}
-use Rattle.wm_event.specs.declared.event.Range.{Range}
-use Rattle.wm_event.specs.Event.{is_atomic, range_of}
+use Rattle.wm_event.specs.Event.{range_of}
 use Rattle.wm_event.specs.Execution.{ReadsFrom}
 use Rattle.wm_event.specs.Log.{event_in}
 use Rattle.wm_event.specs.LoggedRun.{execution}
 use Rattle.wm_witness.specs.declared.relation.Kind.{Kind}
-use Rattle.wm_witness.specs.declared.relation.Kind.TheVariants.{Happens, Stands}
+use Rattle.wm_witness.specs.declared.relation.Kind.TheVariants.{Happens}
 use Rattle.wm_witness.specs.Always.{Always}
 use Rattle.wm_witness.specs.Relations.{AlwaysRelates}
 use Rattle.wm_witness.specs.Rules.{IsAtomicWriteOf}
-use Rattle.wm_witness.proofs.RulesLaw.{after-both, before-both, overwritten, past, past-init}
+use Rattle.wm_witness.proofs.RulesLaw.{past, past-init}
 use Rattle.wm_witness.proofs.Steps.{apart}
 use Rattle.wm_witness.proofs.rules.not_past.Goals as goal
 

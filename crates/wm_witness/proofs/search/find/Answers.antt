@@ -1,4 +1,4 @@
-use Rattle.std.proofs.Common.{◌≡◌, ◌+◌, ◌≤◌, Bool, true, false, List, [], ◌∷◌, ◌++◌, length, take, refl, sym, ap, ◌∙◌, subst, arith}
+use Rattle.std.proofs.Common.{◌≡◌, true, List, [], ◌∷◌, ◌++◌, length, take, sym, ap, ◌∙◌, subst, arith}
 use Rattle.wm_event.specs.LoggedRun.{LoggedRun}
 use Rattle.wm_witness.specs.declared.assumption.Assumption.{Assumption}
 use Rattle.wm_witness.specs.declared.step.Step.{Step}
@@ -33,35 +33,35 @@ split-by run xs s a b is step = subst (IsStep run xs) is step
 
 pub loop-begun-preserved : goal.loop-begun-preserved
 loop-begun-preserved c = elim c.match-branch-2.branch [
-    in-Split+in_ok-split-in-Split w ↦
-        let run : LoggedRun = c.args.start.now in
-        let xs : List Assumption = c.loop-begun.stack.assumed.items in
-        let fs : List Frame = c.loop-begun.stack.frames.items in
-        let searched : Searched run c.loop-begun.begun (alternatives xs fs) = c.loop-begun.invariant.searched in
-        let stacked : AreStacked 0 fs (length xs) = c.loop-begun.invariant.stacked in
-        let ys : c.match-branch-2.stack.assumed.items ≡ xs ++ w.in-Split.last ∷ [] = ap (λ (s : Stack). s.assumed.items) w.stack-is ∙ w.in_ok-split-in-Split.ensures.assumed in
-        let gs : c.match-branch-2.stack.frames.items ≡ fs ++ record { mark = length xs; last = w.in-Split.other } ∷ [] =
-        ap (λ (s : Stack). s.frames.items) w.stack-is ∙ w.in_ok-split-in-Split.ensures.frames in
-        let opposite = split-by run c.as_slice.result.now c.in_ok-witness.field-0 w.in-Split.last w.in-Split.other w.in-Split.is c.in_ok-witness.ensures in
-        record {
-          searched = split-searched run c.loop-begun.begun xs fs searched stacked w.in-Split.last w.in-Split.other c.match-branch-2.stack.assumed.items c.match-branch-2.stack.frames.items ys gs opposite;
-          stacked = split-stacked run c.loop-begun.begun xs fs searched stacked w.in-Split.last w.in-Split.other c.match-branch-2.stack.assumed.items c.match-branch-2.stack.frames.items ys gs opposite;
-        }
+  | in-Split+in_ok-split-in-Split w ↦
+      let run : LoggedRun = c.args.start.now in
+      let xs : List Assumption = c.loop-begun.stack.assumed.items in
+      let fs : List Frame = c.loop-begun.stack.frames.items in
+      let searched : Searched run c.loop-begun.begun (alternatives xs fs) = c.loop-begun.invariant.searched in
+      let stacked : AreStacked 0 fs (length xs) = c.loop-begun.invariant.stacked in
+      let ys : c.match-branch-2.stack.assumed.items ≡ xs ++ w.in-Split.last ∷ [] = ap (λ (s : Stack). s.assumed.items) w.stack-is ∙ w.in_ok-split-in-Split.ensures.assumed in
+      let gs : c.match-branch-2.stack.frames.items ≡ fs ++ record { mark = length xs; last = w.in-Split.other } ∷ [] =
+      ap (λ (s : Stack). s.frames.items) w.stack-is ∙ w.in_ok-split-in-Split.ensures.frames in
+      let opposite = split-by run c.as_slice.result.now c.in_ok-witness.field-0 w.in-Split.last w.in-Split.other w.in-Split.is c.in_ok-witness.ensures in
+      record {
+        searched = split-searched run c.loop-begun.begun xs fs searched stacked w.in-Split.last w.in-Split.other c.match-branch-2.stack.assumed.items c.match-branch-2.stack.frames.items ys gs opposite;
+        stacked = split-stacked run c.loop-begun.begun xs fs searched stacked w.in-Split.last w.in-Split.other c.match-branch-2.stack.assumed.items c.match-branch-2.stack.frames.items ys gs opposite;
+      }
   | in-Closed+in_ok-back-in-Closed+else-not-branch w ↦
-        let run : LoggedRun = c.args.start.now in
-        let xs : List Assumption = c.loop-begun.stack.assumed.items in
-        let fs : List Frame = c.loop-begun.stack.frames.items in
-        let searched : Searched run c.loop-begun.begun (alternatives xs fs) = c.loop-begun.invariant.searched in
-        let stacked : AreStacked 0 fs (length xs) = c.loop-begun.invariant.stacked in
-        let back : IsBack c.loop-begun.stack w.back.new.self true = subst (IsBack c.loop-begun.stack w.back.new.self) w.if-not-branch.false w.in_ok-back-in-Closed.ensures in
-        let gs : fs ≡ c.match-branch-2.stack.frames.items ++ back.0 ∷ [] = back.1 ∙ ap (λ (s : Stack). s.frames.items ++ back.0 ∷ []) (sym w.stack-is) in
-        let ys : c.match-branch-2.stack.assumed.items ≡ take back.0.mark xs ++ back.0.last ∷ [] = ap (λ (s : Stack). s.assumed.items) w.stack-is ∙ back.2 in
-        let closed = closed-by run xs c.as_slice.result.now c.in_ok-witness.field-0 c.as_slice.ensures.value w.in-Closed.is c.in_ok-witness.ensures in
-        record {
-          searched = closed-searched run c.loop-begun.begun xs fs searched stacked back.0 c.match-branch-2.stack.assumed.items c.match-branch-2.stack.frames.items gs ys closed;
-          stacked = closed-stacked run c.loop-begun.begun xs fs searched stacked back.0 c.match-branch-2.stack.assumed.items c.match-branch-2.stack.frames.items gs ys;
-        }
-  ]
+      let run : LoggedRun = c.args.start.now in
+      let xs : List Assumption = c.loop-begun.stack.assumed.items in
+      let fs : List Frame = c.loop-begun.stack.frames.items in
+      let searched : Searched run c.loop-begun.begun (alternatives xs fs) = c.loop-begun.invariant.searched in
+      let stacked : AreStacked 0 fs (length xs) = c.loop-begun.invariant.stacked in
+      let back : IsBack c.loop-begun.stack w.back.new.self true = subst (IsBack c.loop-begun.stack w.back.new.self) w.if-not-branch.false w.in_ok-back-in-Closed.ensures in
+      let gs : fs ≡ c.match-branch-2.stack.frames.items ++ back.0 ∷ [] = back.1 ∙ ap (λ (s : Stack). s.frames.items ++ back.0 ∷ []) (sym w.stack-is) in
+      let ys : c.match-branch-2.stack.assumed.items ≡ take back.0.mark xs ++ back.0.last ∷ [] = ap (λ (s : Stack). s.assumed.items) w.stack-is ∙ back.2 in
+      let closed = closed-by run xs c.as_slice.result.now c.in_ok-witness.field-0 c.as_slice.ensures.value w.in-Closed.is c.in_ok-witness.ensures in
+      record {
+        searched = closed-searched run c.loop-begun.begun xs fs searched stacked back.0 c.match-branch-2.stack.assumed.items c.match-branch-2.stack.frames.items gs ys closed;
+        stacked = closed-stacked run c.loop-begun.begun xs fs searched stacked back.0 c.match-branch-2.stack.assumed.items c.match-branch-2.stack.frames.items gs ys;
+      }
+]
 
 pub returns-clause-gave_up : goal.returns-clause-gave_up
 returns-clause-gave_up c =

@@ -1,7 +1,7 @@
-use Rattle.std.proofs.Common.{◌≡◌, IsSome, refl, sym, ap, ◌∙◌, subst}
+use Rattle.std.proofs.Common.{IsSome, sym, subst}
 use Rattle.wm_event.specs.Log.{event_in}
 use Rattle.wm_witness.specs.declared.assumption.Assumption.{Assumption}
-use Rattle.wm_witness.specs.declared.assumption.Assumption.TheVariants.{Before, Byte, NotByte, Takes, TakesNone}
+use Rattle.wm_witness.specs.declared.assumption.Assumption.TheVariants.{Before, NotByte, TakesNone}
 use Rattle.wm_witness.specs.Search.{AreOpposite}
 use Rattle.wm_witness.specs.Search.AreOpposite.{byte_or_not, one_is_first, takes_or_not}
 use Rattle.wm_witness.proofs.Steps.{apart, copied-there}

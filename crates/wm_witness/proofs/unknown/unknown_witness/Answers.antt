@@ -1,4 +1,4 @@
-use Rattle.std.proofs.Common.{◌≡◌, ◌∙◌, ap}
+use Rattle.std.proofs.Common.{◌∙◌, ap}
 use Rattle.std.specs.Prelude.{flat_map, map}
 use Rattle.wm_witness.specs.Unknown.{keys_of, thread_from_init}
 use Rattle.wm_witness.proofs.UnknownLaw.{unknown-shape}

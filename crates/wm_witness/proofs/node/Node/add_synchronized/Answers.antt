@@ -1,4 +1,3 @@
-use Rattle.std.proofs.Common.{◌≡◌}
 use Rattle.wm_witness.specs.declared.relation.Kind.TheVariants.{Stands}
 use Rattle.wm_witness.specs.Relations.{IsPair, IsSynchronized}
 use Rattle.wm_witness.proofs.NodeLaw.{all-pushed}

@@ -1,7 +1,6 @@
-use Rattle.std.proofs.Common.{◌≡◌, ◌<◌, ◌∙◌, ap, get_or, length, List, [], sym, subst, refl}
-use Rattle.wm_event.specs.declared.event.EventKey.{EventKey}
+use Rattle.std.proofs.Common.{◌≡◌, get_or, [], sym, subst}
 use Rattle.wm_witness.specs.declared.row.Row.{Row}
-use Rattle.wm_witness.specs.Relations.{AreRows, Covers, IsRow}
+use Rattle.wm_witness.specs.Relations.{AreRows}
 use Rattle.wm_witness.proofs.RelationLaw.{row-cycle}
 use Rattle.wm_witness.proofs.relation.Relation.has_cycle.Goals as goal
 

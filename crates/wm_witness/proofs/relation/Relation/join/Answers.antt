@@ -1,6 +1,5 @@
-use Rattle.std.proofs.Common.{◌≡◌, ◌<◌, get_or, sym, subst, ap, ◌∙◌, refl}
+use Rattle.std.proofs.Common.{◌≡◌, get_or, sym, subst}
 use Rattle.std.proofs.lemmas.List.Elements.{All-set}
-use Rattle.wm_witness.specs.declared.row.Row.{Row}
 use Rattle.wm_witness.specs.Relations.{IsRow}
 use Rattle.wm_witness.proofs.RelationLaw.{joined-row}
 use Rattle.wm_witness.proofs.relation.Relation.join.Goals as goal

@@ -1,6 +1,5 @@
-use Rattle.std.proofs.Common.{◌≡◌, ◌<◌, ◌-◌, length, get_or, refl, sym, ap, ◌∙◌, subst, arith}
+use Rattle.std.proofs.Common.{◌≡◌, ◌<◌, ◌-◌, length, sym, ap, ◌∙◌, subst, arith}
 use Rattle.std.proofs.lemmas.List.{get_or_default}
-use Rattle.wm_event.specs.declared.event.EventKey.{EventKey}
 use Rattle.wm_witness.specs.declared.row.Row.{Row}
 use Rattle.wm_witness.proofs.RelationLaw.{earlier-row}
 use Rattle.wm_witness.proofs.relation.Relation.join_earlier.Goals as goal

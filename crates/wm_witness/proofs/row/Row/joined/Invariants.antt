@@ -1,4 +1,4 @@
-use Rattle.std.proofs.Common.{◌≡◌, ◌<◌, ◌⊎◌, ℕ, get_or, length}
+use Rattle.std.proofs.Common.{◌<◌, ◌⊎◌, ℕ, get_or}
 use Rattle.wm_witness.proofs.row.Row.joined.Given as goal
 
 abbrev pub invariant-loop-lane : goal.invariant-loop-lane
