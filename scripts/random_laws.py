@@ -164,7 +164,8 @@ def judged(
     size: int,
     overlapping: Callable[[SharedEvent, SharedEvent], bool],
 ) -> tuple[Candidate, list[SharedEvent]]:
-    """The candidate execution of a run, and the order of its events. Each Init event writes `size` bytes."""
+    """The candidate execution of a run, and the order of its events. Each Init event writes `size` bytes, and one agent
+    makes them in order."""
     initial = initial_events(size)
     shared = {event: shared_of(chance, event) for event in order}
     sources = {
@@ -178,12 +179,7 @@ def judged(
     chosen = {shared[event]: bytes_of(event.read, event.width) for event in order if event.kind in "rx"}
     agents = [initial, *([shared[event] for event in thread] for thread in threads)]
     listed = [*initial, *(shared[event] for event in order)]
-    return Candidate(agents if size == MEMORY else agents_of_bytes(agents), sources, chosen, overlapping), listed
-
-
-def agents_of_bytes(agents: list[list[SharedEvent]]) -> list[list[SharedEvent]]:
-    """Init events are in no agent order: each is alone in a list."""
-    return [*([event] for event in agents[0]), *agents[1:]]
+    return Candidate(agents, sources, chosen, overlapping), listed
 
 
 # ---- what the laws speak of

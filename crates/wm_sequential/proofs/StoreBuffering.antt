@@ -60,7 +60,7 @@ module _ (o : MemoryOrder) where
       writers = ([] ∷ (Init ∷ []) ∷ []) ∷ ([] ∷ (Init ∷ []) ∷ []) ∷ [];
       order = key 0 0 ∷ key 1 0 ∷ key 0 1 ∷ key 1 1 ∷ [];
     };
-    initial = 0 ∷ 0 ∷ [];
+    initial = 0 ∷ 0 ∷ 0 ∷ 0 ∷ 0 ∷ 0 ∷ 0 ∷ 0 ∷ 0 ∷ [];
   }
 
   abbrev x : Execution
@@ -92,7 +92,7 @@ module _ (o : MemoryOrder) where
   source (suc zero) (suc (suc n)) k w h = absurd (none-some w h)
   source (suc (suc t)) n k w h = absurd (none-some w h)
 
-  not-event : (r u : EventKey) (k : ℕ) → ReadsFrom x r k (At u) → ⊥
+  pub not-event : (r u : EventKey) (k : ℕ) → ReadsFrom x r k (At u) → ⊥
   not-event r u k from = let s = (source r.thread r.number k (At u) from).2 in cc
 
   pub listed-at : (m : ℕ) (q : EventKey) → slice_get run.witness.order m ≡ Some q → (q.thread < 2) × (q.number < 2) × (m ≡ q.thread + (q.number + q.number))

@@ -52,7 +52,7 @@ pub record IsExecutionOf (p : Program) (x : Execution) : Type 0 where
   pub places : (a b : EventKey) → IsSome (x.event_of a) → IsSome (x.event_of b) → x.place_of a ≡ x.place_of b → a ≡ b
   pub initial : x.initial ≡ p.initial
 
--- no run of the module makes a compare-exchange, which reads only if it fails: with another value it may write
+-- no run of the module makes a compare-exchange. One that fails only reads, and with another value it may write
 abbrev pub MakesNoCompareExchange : Module → Type 0
 MakesNoCompareExchange m = (k : ℕ) (name args reads : List ℕ) (start : Config) (j : ℕ) (ran : Ran) (a : OpFields) (expected new : ℕ) → started m name args ≡ Ok start
     → steps m k start reads j ≡ Some ran → access_of (step m 0 ran.config) ≡ Some a → a.kind ≢ CmpXchg expected new

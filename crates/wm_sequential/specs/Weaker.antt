@@ -81,7 +81,7 @@ PlainRacesAreNotEnough = IsNotEnough PlainRace
 abbrev pub ThirdCaseIsNeeded : Type 0
 ThirdCaseIsNeeded = IsCaseNeeded 3
 
--- Statements that don't hold; each leaves out of a law what makes it one. The must-fail edits put them in the laws' places.
+-- Statements that don't hold; each leaves out of a law what makes it one.
 
 -- a valid run without a race is sequential in whatever order its events are listed
 abbrev pub AreSequentialInAnyOrder : Type 0

@@ -152,6 +152,50 @@ module _ (run : LoggedRun) (ops : EventKey → Operation) (shape : IsWellShaped 
           let one = named-log (f.byte_index + i) w.writer u w.named in
           modified i b (At u) g (at-e i (At u) (w.at ∙ ap Some one)) (to-whole run ops shape u g is_n) at_b kind
 
+  -- ---- the order of events
+
+  pub order-irreflexive : (e : ByteEvent) → byte_order_of run e e → ⊥
+  order-irreflexive (InitAt a) l = omega (arith, l)
+  order-irreflexive (Of a) l = omega (arith, l)
+
+  pub order-transitive : (e f g : ByteEvent) → byte_order_of run e f → byte_order_of run f g → byte_order_of run e g
+  order-transitive (InitAt a) (InitAt b) (InitAt n) h k = omega (arith, h, k)
+  order-transitive (InitAt a) (InitAt b) (Of n) h k = tt
+  order-transitive (InitAt a) (Of b) (InitAt n) h k = absurd k
+  order-transitive (InitAt a) (Of b) (Of n) h k = tt
+  order-transitive (Of a) (InitAt b) g h k = absurd h
+  order-transitive (Of a) (Of b) (InitAt n) h k = absurd k
+  order-transitive (Of a) (Of b) (Of n) h k = omega (arith, h, k)
+
+  pub order-total : (e f : ByteEvent) → IsEvent d e → IsEvent d f → (e ≡ f) ⊎ (byte_order_of run e f ⊎ byte_order_of run f e)
+  order-total (InitAt a) (InitAt b) is_e is_f = ⊎_elim
+      (λ (l : a < b). inr (inl l))
+      (λ (l : b ≤ a). ⊎_elim (λ (m : b < a). inr (inr m)) (λ (m : a ≤ b). let s : a ≡ b = omega (arith, l, m) in inl (ap InitAt s)) (cases_lt b a))
+      (cases_lt a b)
+  order-total (InitAt a) (Of b) is_e is_f = inr (inl tt)
+  order-total (Of a) (InitAt b) is_e is_f = inr (inr tt)
+  order-total (Of a) (Of b) is_e is_f =
+      let e = logged-event a is_e in
+      let f = logged-event b is_f in
+      ⊎_elim
+      (λ (same : At a ≡ At b). inl (let k : a ≡ b = cc in ap Of k))
+      (λ (o : order_of run (At a) (At b) ⊎ order_of run (At b) (At a)). inr (⊎_elim (λ (l : order_of run (At a) (At b)). inl (omega (arith, l))) (λ (l : order_of run (At b) (At a)). inr (omega (arith, l))) o))
+      (total run ops shape fitting large (At a) (At b) (is_at a e.0 refl e.1) (is_at b f.0 refl f.1))
+    where
+      logged-event : (a : EventKey) → IsEvent d (Of a) → (e : Event) × (event_in run.log a ≡ Some e)
+      logged-event a is = by (byte-stands-at run ops shape is.0 is.2 is.1 (Of a) is.3 is.4)
+        where
+          by : ByteStands run ops shape is.0 is.2 (Of a) → (e : Event) × (event_in run.log a ≡ Some e)
+          by (made p h) = absurd (cc)
+          by (of_log t e p there h) = let k : a ≡ record { thread = t; number = is.2 } = cc in (e, ap (event_in run.log) k ∙ there)
+
+  pub in-list : (e : ByteEvent) (f : SharedEvent) → IsShared d e f → Reads f → (i : ℕ) × (slice_get (map Of run.witness.order) i ≡ Some e)
+  in-list (InitAt a) f is does = absurd (byte-reads run ops shape a f is does)
+  in-list (Of key) f is does =
+      let l = byte-logged run ops shape key f is in
+      let n = shape.order.listed key (some_of (event_in run.log key) l.event l.there) in
+      (n.0, slice_get-map Of run.witness.order n.0 ∙ ap (option_map Of) n.1)
+
   -- ---- from the rules to the standard
 
   module _ (valid : IsValid x) (values : ValuesEnd x) where
@@ -275,41 +319,6 @@ module _ (run : LoggedRun) (ops : EventKey → Operation) (shape : IsWellShaped 
     below-order (Of a) (InitAt b) h = h
     below-order (Of a) (Of b) h = let l = valid.keeps_order (At a) (At b) h in omega (arith, l)
 
-    order-irreflexive : (e : ByteEvent) → byte_order_of run e e → ⊥
-    order-irreflexive (InitAt a) l = omega (arith, l)
-    order-irreflexive (Of a) l = omega (arith, l)
-
-    order-transitive : (e f g : ByteEvent) → byte_order_of run e f → byte_order_of run f g → byte_order_of run e g
-    order-transitive (InitAt a) (InitAt b) (InitAt n) h k = omega (arith, h, k)
-    order-transitive (InitAt a) (InitAt b) (Of n) h k = tt
-    order-transitive (InitAt a) (Of b) (InitAt n) h k = absurd k
-    order-transitive (InitAt a) (Of b) (Of n) h k = tt
-    order-transitive (Of a) (InitAt b) g h k = absurd h
-    order-transitive (Of a) (Of b) (InitAt n) h k = absurd k
-    order-transitive (Of a) (Of b) (Of n) h k = omega (arith, h, k)
-
-    order-total : (e f : ByteEvent) → IsEvent d e → IsEvent d f → (e ≡ f) ⊎ (byte_order_of run e f ⊎ byte_order_of run f e)
-    order-total (InitAt a) (InitAt b) is_e is_f = ⊎_elim
-        (λ (l : a < b). inr (inl l))
-        (λ (l : b ≤ a). ⊎_elim (λ (m : b < a). inr (inr m)) (λ (m : a ≤ b). let s : a ≡ b = omega (arith, l, m) in inl (ap InitAt s)) (cases_lt b a))
-        (cases_lt a b)
-    order-total (InitAt a) (Of b) is_e is_f = inr (inl tt)
-    order-total (Of a) (InitAt b) is_e is_f = inr (inr tt)
-    order-total (Of a) (Of b) is_e is_f =
-        let e = logged-event a is_e in
-        let f = logged-event b is_f in
-        ⊎_elim
-        (λ (same : At a ≡ At b). inl (let k : a ≡ b = cc in ap Of k))
-        (λ (o : order_of run (At a) (At b) ⊎ order_of run (At b) (At a)). inr (⊎_elim (λ (l : order_of run (At a) (At b)). inl (omega (arith, l))) (λ (l : order_of run (At b) (At a)). inr (omega (arith, l))) o))
-        (total run ops shape fitting large (At a) (At b) (is_at a e.0 refl e.1) (is_at b f.0 refl f.1))
-      where
-        logged-event : (a : EventKey) → IsEvent d (Of a) → (e : Event) × (event_in run.log a ≡ Some e)
-        logged-event a is = by (byte-stands-at run ops shape is.0 is.2 is.1 (Of a) is.3 is.4)
-          where
-            by : ByteStands run ops shape is.0 is.2 (Of a) → (e : Event) × (event_in run.log a ≡ Some e)
-            by (made p h) = absurd (cc)
-            by (of_log t e p there h) = let k : a ≡ record { thread = t; number = is.2 } = cc in (e, ap (event_in run.log) k ∙ there)
-
     atomics : (r n m : ByteEvent) (f g h : SharedEvent) → ReadsFrom d r n f → IsShared d n g → IsShared d m h → Writes h → h.order ≡ SeqCst
         → byte_order_of run n m → byte_order_of run m r → Overtakes HaveCommonBytes d r n m f g h → ⊥
     atomics (InitAt a) n m f g h from is_n is_m does atomic before after o = byte-reads run ops shape a f from.reader from.reads
@@ -363,13 +372,6 @@ module _ (run : LoggedRun) (ops : EventKey → Operation) (shape : IsWellShaped 
                     (m'.event, m'.there, logged-equal run ops shape u a h g m' q (equal-turned g h equal)))
             cases (read_past first second f_atomic equal) =
                 rule 3 (past refl (logged-atomic run ops shape r f l f_atomic) (to v named r first) (to v named u second) (ranged equal))
-
-    in-list : (e : ByteEvent) (f : SharedEvent) → IsShared d e f → Reads f → (i : ℕ) × (slice_get (map Of run.witness.order) i ≡ Some e)
-    in-list (InitAt a) f is does = absurd (byte-reads run ops shape a f is does)
-    in-list (Of key) f is does =
-        let l = byte-logged run ops shape key f is in
-        let n = shape.order.listed key (some_of (event_in run.log key) l.event l.there) in
-        (n.0, slice_get-map Of run.witness.order n.0 ∙ ap (option_map Of) n.1)
 
     memory-order : IsMemoryOrder HaveCommonBytes d (byte_order_of run)
     memory-order = record {

@@ -142,7 +142,7 @@ module _ (run : LoggedRun) (ops : EventKey → Operation) (shape : IsWellShaped 
       let t = memory-to run ops shape large (At a) (At b) g f whole (to-whole run ops shape a g is_w) f_atomic g_atomic equal in
       record { writer = t.0; reader = t.1; is_writer = (let h : At a ≡ At t.0 = t.2 in let k : a ≡ t.0 = cc in ap Of k); is_reader = (let h : At b ≡ At t.1 = t.3 in let k : b ≡ t.1 = cc in ap Of k); synchronizes = t.4 }
 
-  no-pairs : (n i : ℕ) (r : AgentEvents ByteEvent) (p : ByteEvent × ByteEvent) → slice_get (byte_maker run.initial ∷ map byte_agent_of run.log) n ≡ Some r → slice_get r.agent_synchronizes_with i ≡ Some p → ⊥
+  pub no-pairs : (n i : ℕ) (r : AgentEvents ByteEvent) (p : ByteEvent × ByteEvent) → slice_get (byte_maker run.initial ∷ map byte_agent_of run.log) n ≡ Some r → slice_get r.agent_synchronizes_with i ≡ Some p → ⊥
   no-pairs zero i r p at_r at_p = none-some p (subst (λ (r : AgentEvents ByteEvent). slice_get r.agent_synchronizes_with i ≡ Some p) (sym (same_Some (byte_maker run.initial) r at_r)) at_p)
   no-pairs (suc n) i r p at_r at_p =
       let thread = map-at byte_agent_of run.log n r at_r in

@@ -21,27 +21,27 @@ use Rattle.wm_standard.specs.Agreement.Ends.{ends}
 use Rattle.wm_standard.specs.Needed.{OrderIsNeeded}
 use Rattle.wm_standard.proofs.Unsynchronized.{IsUnsynchronized, is-valid, keeps-atomics}
 
-abbrev key : ℕ → EventKey
+abbrev pub key : ℕ → EventKey
 key n = record { thread = 0; number = n }
 
-abbrev write : ℕ → Event
+abbrev pub write : ℕ → Event
 write n = record { thread = 0; number = n; kind = Write; order = Unordered; address = 0; width = One; read = 0; written = 1 }
 
-abbrev in_order : List EventKey → LoggedRun
+abbrev pub in_order : List EventKey → LoggedRun
 in_order order = record {
   log = record { start = record { name = []; args = [] }; end = Cut; steps = 2; events = write 0 ∷ write 1 ∷ [] } ∷ [];
   witness = record { writers = ([] ∷ [] ∷ []) ∷ []; order = order };
   initial = 0 ∷ 0 ∷ 0 ∷ 0 ∷ 0 ∷ 0 ∷ 0 ∷ 0 ∷ 0 ∷ [];
 }
 
-abbrev turned : LoggedRun
+abbrev pub turned : LoggedRun
 turned = in_order (key 1 ∷ key 0 ∷ [])
 
-abbrev straight : LoggedRun
+abbrev pub straight : LoggedRun
 straight = in_order (key 0 ∷ key 1 ∷ [])
 
 -- the events
-small : (t n : ℕ) → IsSome (event_in turned.log (record { thread = t; number = n })) → (t ≡ 0) × (n < 2)
+pub small : (t n : ℕ) → IsSome (event_in turned.log (record { thread = t; number = n })) → (t ≡ 0) × (n < 2)
 small zero zero h = (refl, omega arith)
 small zero (suc zero) h = (refl, omega arith)
 small zero (suc (suc n)) h = absurd (false≢true h)
@@ -71,7 +71,7 @@ good zero (suc zero) e h = subst (λ (e : Event). (e.thread ≡ 0) × (e.number 
 good zero (suc (suc n)) e h = absurd (none-some e h)
 good (suc t) n e h = absurd (none-some e h)
 
-shaped : (order : List EventKey) → ListsEachOnce turned.log order → IsWellShaped (in_order order)
+pub shaped : (order : List EventKey) → ListsEachOnce turned.log order → IsWellShaped (in_order order)
 shaped order lists = record {
   keys = λ q e h. let g = good q.thread q.number e h in (g.0, g.1);
   few = omega arith;
@@ -80,7 +80,7 @@ shaped order lists = record {
   order = lists;
 }
 
-turned-lists : ListsEachOnce turned.log turned.witness.order
+pub turned-lists : ListsEachOnce turned.log turned.witness.order
 turned-lists = record {
   listed = λ q h. by q.thread q.number h;
   events = λ m q h. let l = at m q h in there q l.0 l.1;
@@ -98,7 +98,7 @@ turned-lists = record {
     by zero (suc (suc n)) h = absurd (false≢true h)
     by (suc t) n h = absurd (false≢true h)
 
-straight-lists : ListsEachOnce turned.log straight.witness.order
+pub straight-lists : ListsEachOnce turned.log straight.witness.order
 straight-lists = record {
   listed = λ q h. by q.thread q.number h;
   events = λ m q h. let l = at m q h in there q l.0 l.1;
@@ -119,7 +119,7 @@ straight-lists = record {
 reads-nothing : (order : List EventKey) (r : EventKey) (k : ℕ) (w : EventId) → ReadsFrom (execution (in_order order)) r k w → ⊥
 reads-nothing order r k w from = no-source order r.thread r.number k w from
 
-unsynchronized : IsUnsynchronized (execution straight)
+pub unsynchronized : IsUnsynchronized (execution straight)
 unsynchronized = record {
   threads = λ r u k from. absurd (reads-nothing straight.witness.order r k (At u) from);
   ranges = λ r u k e f from. absurd (reads-nothing straight.witness.order r k (At u) from);
@@ -144,7 +144,7 @@ unsynchronized = record {
         let l = s.earlier in
         omega (arith, p, q, l)
 
-valid-straight : IsValid (execution straight)
+pub valid-straight : IsValid (execution straight)
 valid-straight = is-valid (execution straight) unsynchronized (keeps-atomics (execution straight) unsynchronized (λ r e k w v is from. absurd (reads-nothing straight.witness.order r k w from)))
 
 not-valid : IsValid (execution turned) → ⊥

@@ -17,7 +17,7 @@ use Rattle.wm_standard.specs.SharedEvents.EventType.{WriteSharedMemory}
 use Rattle.wm_standard.specs.CandidateExecution.{AgentEvents, CandidateExecution}
 use Rattle.wm_standard.specs.ValidExecution.{IsValidExecution}
 use Rattle.wm_standard.specs.Transcribed.{AreOperations, Operation, shared_of, value_read}
-use Rattle.wm_standard.specs.Agreement.{ValuesEnd}
+use Rattle.wm_standard.specs.Agreement.{IsValidInSomeOrder, ValuesEnd}
 
 -- the Init event of the byte at an address, or an event of the log
 pub data ByteEvent : Type 0 where
@@ -100,3 +100,13 @@ IsAllowedByBytes = (run : LoggedRun) (ops : EventKey → Operation) → IsWellSh
 abbrev pub AgreesByTheLetter : Type 0
 AgreesByTheLetter = (run : LoggedRun) (ops : EventKey → Operation) → IsWellShaped run → AreOperations run ops → 8 < length run.initial
     → (IsValid (execution run) × ValuesEnd (execution run)) ↔ IsValidExecution HaveOverlappingRanges (byte_candidate_of run ops) (byte_order_of run)
+
+-- two updates of one byte that both read Init: by the letter a valid execution, and by V1 to V5 in no order
+pub record LetterAllowsMore : Type 0 where
+  pub run : LoggedRun
+  pub ops : EventKey → Operation
+  pub shaped : IsWellShaped run
+  pub fitting : AreOperations run ops
+  pub large : 8 < length run.initial
+  pub standard : IsValidExecution HaveOverlappingRanges (byte_candidate_of run ops) (byte_order_of run)
+  pub not_valid : IsValidInSomeOrder run → ⊥

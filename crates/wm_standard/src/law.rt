@@ -1,6 +1,6 @@
 //! That the rules V1 to V5 agree with ECMA-262.
 ghost use Rattle.wm_standard.specs.Agreement.{AgreesInSomeOrder, AgreesLookingBack, AgreesWithTheStandard};
-ghost use Rattle.wm_standard.specs.InitialBytes.{AgreesByBytes, IsAllowedByBytes};
+ghost use Rattle.wm_standard.specs.InitialBytes.{AgreesByBytes, IsAllowedByBytes, LetterAllowsMore};
 ghost use Rattle.wm_standard.specs.Needed.{OrderIsNeeded, ValuesOutOfThinAir};
 ghost use Rattle.wm_standard.specs.Recorded.{HasOperations, RecordedIsStandard, RecordedIsStandardByBytes};
 
@@ -44,6 +44,11 @@ pub fn agrees_by_bytes()
 /// The premises are those of [`agrees_with_the_standard`].
 pub fn is_allowed_by_bytes()
     ensures { IsAllowedByBytes }
+{}
+
+/// By the letter ECMA-262 allows more than V1 to V5: two atomic updates of one byte may both read the initial byte.
+pub fn letter_allows_more()
+    ensures { LetterAllowsMore }
 {}
 
 /// What a legal history of store buffers records is a valid execution of ECMA-262, with the order in which it was recorded as

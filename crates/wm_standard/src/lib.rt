@@ -6,6 +6,6 @@ mod law;
 
 pub use law::{
     agrees_by_bytes, agrees_in_some_order, agrees_looking_back, agrees_with_the_standard,
-    has_operations, is_allowed_by_bytes, order_is_needed, recorded_is_standard,
+    has_operations, is_allowed_by_bytes, letter_allows_more, order_is_needed, recorded_is_standard,
     recorded_is_standard_by_bytes, values_out_of_thin_air,
 };
