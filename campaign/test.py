@@ -472,6 +472,7 @@ def mistakes(tally, room):
         ("too many rounds", ["record", "--rounds", "9" * 5_000, MODULE, "a"], {}, 2, f"9' was given; {NUMBER}\n"),
         ("two clusters", ["--workers", "1", "--scheduler", "x", "logs", MODULE, one], {}, 2, "not allowed with"),
         ("an unknown mode", ["record", "--mode", "fast", MODULE, "a"], {}, 2, "invalid choice"),
+        ("an unknown test", ["litmus", "SC"], {}, 2, "litmus SC: no test of the suite has this name"),
         ("an empty plan", ["plan", "/dev/null"], {}, 2, "has no line"),
         ("a plan of a plan", ["plan", str(room.folder / "plans.txt")], {}, 2, "plans.txt line 2: error: argument"),
         ("a quote that is open", ["plan", str(room.folder / "quote.txt")], {}, 2, "quote.txt line 1: No closing"),
@@ -552,6 +553,29 @@ def other_folders(tally, room, cluster):
     tally.check(status == 0 and counts_in(out)[0][0] == 1, "a result that does not fit its batch is made again", out)
 
 
+def litmus_tests(tally, room, cluster):
+    """Litmus tests on two workers: their histograms are added up, and what a wrong engine gives is kept."""
+    (room.folder / "tests.txt").write_text(
+        "litmus --iterations 1010000 SB\nlitmus --wrong plain-atomics --iterations 400000 SB+sc\n", encoding="utf-8"
+    )
+    words = ["--scheduler", cluster.address, "plan", str(room.folder / "tests.txt")]
+    out, err, status = room.run("tests", *words)
+    tally.check(status == 1 and "broken not permitted" in out, "a wrong engine in a campaign", (status, out, err))
+    files = sorted((room.folder / "tests/litmus").glob("*.jsonl"))
+    rows = [json.loads(line) for path in files for line in path.read_text(encoding="utf-8").splitlines()]
+    whole = next((row for row in rows if row["name"] == "SB"), {"iterations": 0, "states": []})
+    tally.check(whole["iterations"] == 1_011_712, "the histograms of two batches are added up", rows)
+    count = sum(state["count"] for state in whole["states"])
+    tally.check(count == whole["iterations"], "each iteration is counted once", whole)
+    pages = list((room.folder / "tests/litmus").glob("*.html"))
+    texts = [page.read_text(encoding="utf-8") for page in pages]
+    tally.check(len(pages) == 2 and all("litmus tests" in text for text in texts), "a page per engine", pages)
+    kept = list((room.folder / "tests/kept").glob("*.txt"))
+    tally.check(kept and "What is to blame" in kept[0].read_text(encoding="utf-8"), "the page of a find is kept", kept)
+    again = room.run("tests", "--resume", *words)
+    tally.check(again[2] == 1 and "3 of them by an earlier run" in again[0], "a campaign of tests is resumed", again)
+
+
 def main():
     options = harness.arguments(__doc__).parse_args()
     missing = [tool for tool in ("dask", "node") if not shutil.which(tool)]
@@ -567,7 +591,9 @@ def main():
         without_dask(tally, room)
         without_pictures(tally, room)
         with dask_cluster(room.folder, 2) as cluster:
-            for test in (statuses, one_kept_log, forms_of_logs, recordings, failing_streams, no_logs, other_folders):
+            for test in (statuses, one_kept_log, forms_of_logs, recordings, litmus_tests):
+                test(tally, room, cluster)
+            for test in (failing_streams, no_logs, other_folders):
                 test(tally, room, cluster)
     tally.end()
 

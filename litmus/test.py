@@ -306,7 +306,8 @@ def test_commands(tally, program, room):
     asked, err, status = ran("candidates", "--wmlab", program, "SB+sc", "--all-orders", "--keep", kept)
     holds = status == 0 and "* not found  0 0" in asked and "96 candidates, 4 outcomes" in asked
     tally.check(holds and len(os.listdir(kept)) == 4, "candidates of SB+sc", asked + err)
-    words_of_gallery = ["--test", "SB", "--test", "SB+sc", "--iterations", "5000", "--run-rounds", "5", "--wmlab", program]
+    words_of_gallery = ["--test", "SB", "--test", "SB+sc", "--iterations", "5000", "--run-rounds", "5"]
+    words_of_gallery += ["--wmlab", program]
     page, err, status = ran("gallery", *words_of_gallery, "--out", "-")
     rows = [line for line in page.splitlines() if line.startswith("| `SB")]
     is_shown = any("| permitted by 6 of 6 | `0*" in line for line in rows)

@@ -10,7 +10,7 @@ from .faults import Fault, WrongWords
 MANIFEST = "campaign.json"
 
 
-def write_whole(path, data):
+def write_whole(path: str, data: bytes) -> None:
     new = ""
     try:
         with tempfile.NamedTemporaryFile(dir=os.path.dirname(path), prefix=".new-", delete=False) as file:
@@ -58,10 +58,10 @@ def first_difference(ours, theirs):
 class Folder:
     """The results of one campaign."""
 
-    def __init__(self, path):
+    def __init__(self, path: str) -> None:
         self.path = path
 
-    def place(self, *names):
+    def place(self, *names: str) -> str:
         return os.path.join(self.path, *names)
 
     def examine(self, manifest, is_resumed):

@@ -65,7 +65,8 @@ def page_of(engine: str, rows: list[Row]) -> str:
     seen = sum(row["positive"] > 0 for row in rows)
     bad = sum(any(state["verdict"] != "permitted" for state in row["states"]) for row in rows)
     return (
-        f'<!doctype html><html lang="en"><meta charset="utf-8"><title>{html.escape(engine)}</title><style>{STYLE}</style>'
+        f'<!doctype html><html lang="en"><meta charset="utf-8"><title>{html.escape(engine)}</title>'
+        f"<style>{STYLE}</style>"
         f"<body><h1>{html.escape(engine)}</h1><p>{len(rows)} litmus tests, {iterations:,} iterations. The condition's "
         f"states were seen in {seen} tests; outcomes that are not permitted in {bad}. A star marks the condition's "
         f"states.</p>{''.join(map(test_part, rows))}</body></html>\n"

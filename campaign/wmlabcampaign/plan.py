@@ -155,6 +155,8 @@ def add_litmus(commands):
 def suite_names():
     """The names of all tests, as litmus/generate lists them."""
     command = [os.path.join(os.path.dirname(__file__), "../../litmus/generate"), "--list"]
+    if not os.path.exists(command[0]):
+        raise Fault("litmus tests need a clone of the repository, which has litmus/run")
     ran = subprocess.run(command, stdout=subprocess.PIPE, text=True, check=False)
     if ran.returncode:
         raise Fault("litmus/generate --list failed, which names the litmus tests")

@@ -87,7 +87,7 @@ def materials(program, parts):
             add_file(tar, module.name, module.data)
         has_tests = any(isinstance(part, Litmus) for part in parts)
         for path in litmus_files() if has_tests else ():
-            add_file(tar, str(path.relative_to(TOP)), path.read_bytes(), 0o755 if path.stat().st_mode & 0o100 else 0o644)
+            add_file(tar, str(path.relative_to(TOP)), path.read_bytes(), path.stat().st_mode & 0o777)
         if has_tests or any(isinstance(part, Recording) for part in parts):
             for path in sorted((TOP / "engines").rglob("*.mjs")):
                 add_file(tar, str(path.relative_to(TOP)), path.read_bytes())

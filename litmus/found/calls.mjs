@@ -3,7 +3,9 @@
 
 const VALUES = [1, 2, 12345];
 
-/** @param {BufferSource} bytes */
+/**
+ * @param {BufferSource} bytes
+ */
 export function calls(bytes) {
   const { f } = /** @type {any} */ (new WebAssembly.Instance(new WebAssembly.Module(bytes)).exports);
   return VALUES.map((value) => [value, f(value)]);

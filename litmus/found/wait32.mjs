@@ -19,7 +19,11 @@ import { calls } from './calls.mjs';
 const SECONDS = 90;
 const FILES = ['calls.mjs', 'page.html'];
 
-/** What the page of a browser answers. @param {string} kind */
+/**
+ * What the page of a browser answers.
+ *
+ * @param {string} kind
+ */
 async function inBrowser(kind) {
   const { program, version } = requireBrowser(kind);
   const token = randomUUID();

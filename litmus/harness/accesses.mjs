@@ -21,7 +21,13 @@ const CONSTANTS = new Set([CODE.i32Const, CODE.i64Const]);
 const NOT_TAKEN = new Set([CODE.callIndirect, CODE.typedSelect, CODE.memoryGrow, CODE.memoryCopy, CODE.memoryFill]);
 const CONTROL = new Set([CODE.block, CODE.loop, CODE.if, CODE.else, CODE.branch, 0x0d, CODE.branchTable, CODE.return, CODE.call]);
 
-/** The unit that the last items and an access make, if they do. @param {Item[]} items @param {Access} access @param {Instruction} instruction */
+/**
+ * The unit that the last items and an access make, if they do.
+ *
+ * @param {Item[]} items
+ * @param {Access} access
+ * @param {Instruction} instruction
+ */
 function unitOf(items, access, { args: [align, offset] }) {
   const count = 1 + operandsOf(access).length;
   const last = items.slice(-count);
@@ -30,10 +36,16 @@ function unitOf(items, access, { args: [align, offset] }) {
   if (address.code !== CODE.i32Const) return null;
   items.splice(-count);
   const isConstant = operands.every(({ code }) => CONSTANTS.has(code));
-  return /** @type {Unit} */ ({ unit: true, access, address: Number(BigInt.asUintN(32, address.args[0])) + offset, align, operands, isConstant });
+  const at = Number(BigInt.asUintN(32, address.args[0])) + offset;
+  return /** @type {Unit} */ ({ unit: true, access, address: at, align, operands, isConstant });
 }
 
-/** The items of a function. @param {Instruction[]} instructions @param {string} where */
+/**
+ * The items of a function.
+ *
+ * @param {Instruction[]} instructions
+ * @param {string} where
+ */
 export function itemsOf(instructions, where) {
   /** @type {Item[]} */
   const items = [];
@@ -47,10 +59,18 @@ export function itemsOf(instructions, where) {
   return items;
 }
 
-/** Whether nothing in a function branches. @param {Item[]} items */
+/**
+ * Whether nothing in a function branches.
+ *
+ * @param {Item[]} items
+ */
 export const isStraight = (items) => items.every((item) => item.unit || !CONTROL.has(item.instruction.code));
 
-/** The ranges of the accesses if each address is known, and otherwise null. @param {Item[]} items */
+/**
+ * The ranges of the accesses if each address is known, and otherwise null.
+ *
+ * @param {Item[]} items
+ */
 export function rangesOf(items) {
   if (items.some((item) => !item.unit && item.access)) return null;
   return items.flatMap((item) => (item.unit ? [{ address: item.address, width: item.access.width }] : []));

@@ -15,7 +15,8 @@ const HARNESS = [
   'code.mjs', 'meeting.mjs', 'wrong.mjs', 'accesses.mjs', 'tasks.mjs', 'mailbox.mjs',
 ];
 const ENGINES = [
-  'shared/binary.mjs', 'shared/errors.mjs', 'shared/accesses.mjs', 'lowering/instructions.mjs', 'lowering/module.mjs', 'lowering/assembly.mjs',
+  'shared/binary.mjs', 'shared/errors.mjs', 'shared/accesses.mjs', 'lowering/instructions.mjs', 'lowering/module.mjs',
+  'lowering/assembly.mjs',
 ];
 const PAGES = Object.fromEntries([
   ...HARNESS.map((file) => [`/litmus/harness/${file}`, `../litmus/harness/${file}`]), ...ENGINES.map((file) => [`/engines/${file}`, file]),
@@ -23,7 +24,9 @@ const PAGES = Object.fromEntries([
 
 /** A browser whose page asks for one test after the other. */
 class BrowserHarness {
-  /** @param {{ engine: string, pin: number[] }} given */
+  /**
+   * @param {{ engine: string, pin: number[] }} given
+   */
   constructor({ engine, pin }) {
     const { program, version } = requireBrowser(engine);
     this.kind = engine;
@@ -45,7 +48,11 @@ class BrowserHarness {
     return new Promise((resolve) => { this.receive = resolve; });
   }
 
-  /** What the server does with a post of the page. @param {(value: any) => any} action */
+  /**
+   * What the server does with a post of the page.
+   *
+   * @param {(value: any) => any} action
+   */
   handler(action) {
     return (/** @type {string} */ body, /** @type {URLSearchParams} */ query) => {
       if (query.get('token') !== this.token) throw new Error('this page is not the one that runs tests');
@@ -64,15 +71,19 @@ class BrowserHarness {
     return { stop: this.options.isStopped?.() ?? false };
   }
 
-  /** Pins the youngest workers, of which the page's coordinator is the oldest. @param {{ workers: number }} given */
+  /**
+   * Pins the youngest workers, of which the page's coordinator is the oldest.
+   *
+   * @param {{ workers: number }} given
+   */
   async pin({ workers }) {
     const end = Date.now() + MILLISECONDS_TO_APPEAR;
-    let found = workersOf(this.token);
-    while (found.length < workers + 1 && Date.now() < end) {
+    let found = workersOf(this.token, workers + 1);
+    while (!found.length && Date.now() < end) {
       await new Promise((resolve) => { setTimeout(resolve, 50); });
-      found = workersOf(this.token);
+      found = workersOf(this.token, workers + 1);
     }
-    if (found.length < workers + 1) this.pins.problem = `the threads of ${this.kind} were not found`;
+    if (!found.length) this.pins.problem = `the threads of ${this.kind} were not found`;
     else found.slice(-workers).forEach((system, thread) => this.pins.pin(system, thread));
     return {};
   }
@@ -84,12 +95,17 @@ class BrowserHarness {
       'POST /litmus/pin': this.handler((value) => this.pin(value)),
     }, 0, PAGES);
     this.page = openPage(this.kind, this.program, `${this.server.origin}/litmus/harness/page.html?token=${this.token}`);
-    const late = new Promise((resolve) => { setTimeout(() => resolve({ error: `it did not open the page in ${SECONDS_TO_OPEN} seconds` }), 1000 * SECONDS_TO_OPEN).unref(); });
+    const error = `it did not open the page in ${SECONDS_TO_OPEN} seconds`;
+    const late = new Promise((resolve) => { setTimeout(() => resolve({ error }), 1000 * SECONDS_TO_OPEN).unref(); });
     await this.answer(late);
     return this;
   }
 
-  /** What the page posts next. @param {Promise<any>} [late] */
+  /**
+   * What the page posts next.
+   *
+   * @param {Promise<any>} [late]
+   */
   async answer(late) {
     const gone = this.page?.ended.then(() => ({ error: 'the browser ended' }));
     const answer = await Promise.race([this.posted, gone, ...(late ? [late] : [])]);
@@ -103,7 +119,10 @@ class BrowserHarness {
     return this.hasEnded;
   }
 
-  /** @param {any} task @param {any} options */
+  /**
+   * @param {any} task
+   * @param {any} options
+   */
   async run(task, options) {
     const { tell, isStopped, ...given } = options;
     this.options = { tell, isStopped };
@@ -120,7 +139,11 @@ class BrowserHarness {
   }
 }
 
-/** Opens a browser. @param {{ engine: string, pin: number[] }} given */
+/**
+ * Opens a browser.
+ *
+ * @param {{ engine: string, pin: number[] }} given
+ */
 export async function openBrowserHarness(given) {
   const harness = new BrowserHarness(given);
   try {

@@ -11,7 +11,11 @@ export const globalGet = (/** @type {number} */ index) => [0x23, ...u32(index)];
 export const globalSet = (/** @type {number} */ index) => [0x24, ...u32(index)];
 export const call = (/** @type {number} */ index) => [0x10, ...u32(index)];
 export const i32 = (/** @type {number} */ value) => [0x41, ...s32(value)];
-/** A small constant of 64 bits. @param {number} value */
+/**
+ * A small constant of 64 bits.
+ *
+ * @param {number} value
+ */
 export const i64 = (value) => [0x42, ...s32(value)];
 export const branch = (/** @type {number} */ depth) => [0x0c, ...u32(depth)];
 export const branchIf = (/** @type {number} */ depth) => [0x0d, ...u32(depth)];
@@ -23,13 +27,22 @@ export const atomicLoad = (/** @type {number} */ offset) => [0xfe, 0x10, 2, ...u
 export const atomicStore = (/** @type {number} */ offset) => [0xfe, 0x17, 2, ...u32(offset)];
 export const wait32 = [0xfe, 0x01, 2, 0];
 
-/** Groups of locals of one type, as a body has them. @param {number[][]} groups each a count and a type */
+/**
+ * Groups of locals of one type, as a body has them.
+ *
+ * @param {number[][]} groups each a count and a type
+ */
 export const localsOf = (groups) => {
   const used = groups.filter(([count]) => count);
   return [...u32(used.length), ...used.flatMap(([count, type]) => [...u32(count), type])];
 };
 
-/** A body with its size. @param {number[][]} groups @param {number[]} code */
+/**
+ * A body with its size.
+ *
+ * @param {number[][]} groups
+ * @param {number[]} code
+ */
 export function bodyOf(groups, code) {
   const bytes = [...localsOf(groups), ...code, ...END];
   return [...u32(bytes.length), ...bytes];

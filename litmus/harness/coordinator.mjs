@@ -5,13 +5,20 @@ import { Mailbox } from './mailbox.mjs';
 import { Pool, runTest } from './runner.mjs';
 import { testOf } from './tasks.mjs';
 
-/** @param {string} path @param {object} value */
+/**
+ * @param {string} path
+ * @param {object} value
+ */
 async function post(path, value) {
   const response = await fetch(`/litmus/${path}${location.search}`, { method: 'POST', body: JSON.stringify(value) });
   return response.json();
 }
 
-/** The workers that were started and have not yet said that they are there. @type {Promise<void>[]} */
+/**
+ * The workers that were started and have not yet said that they are there.
+ *
+ * @type {Promise<void>[]}
+ */
 let started = [];
 
 function spawn() {
@@ -19,7 +26,7 @@ function spawn() {
   const mailbox = new Mailbox();
   /** @type {() => void} */
   let isThere = () => {};
-  started.push(new Promise((resolve) => { isThere = resolve; }));
+  started.push(new Promise((/** @type {(value: void) => void} */ resolve) => { isThere = resolve; }));
   worker.onmessage = ({ data }) => (data === 'there' ? isThere() : mailbox.post(data));
   worker.onerror = (event) => {
     isThere();
@@ -32,7 +39,11 @@ function spawn() {
 
 const pool = new Pool(spawn);
 
-/** Starts the workers of a test, and has the new ones pinned. @param {number} threads */
+/**
+ * Starts the workers of a test, and has the new ones pinned.
+ *
+ * @param {number} threads
+ */
 async function prepare(threads) {
   pool.grow(threads);
   if (!started.length) return;
@@ -41,7 +52,9 @@ async function prepare(threads) {
   await post('pin', { workers: pool.workers.length });
 }
 
-/** @param {{ test: any, options: any }} task */
+/**
+ * @param {{ test: any, options: any }} task
+ */
 async function answerTo({ test: given, options }) {
   let isStopped = false;
   const tell = (/** @type {number} */ done) => { post('progress', { done }).then(({ stop }) => { isStopped = isStopped || stop; }); };

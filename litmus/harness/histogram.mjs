@@ -9,7 +9,12 @@ export const MOST_TUPLES = 4096;
 /** @typedef {{ at: number, step: number, size: number }} Column a value of `size` bytes at `at + i * step` */
 /** @typedef {{ items: Uint8Array | Uint16Array | Uint32Array, at: number, step: number, shift: number, column: number }} Word */
 
-/** The parts of a column's value: aligned words of at most 4 bytes, or else its bytes. @param {ArrayBufferLike} buffer @returns {Word[]} */
+/**
+ * The parts of a column's value: aligned words of at most 4 bytes, or else its bytes.
+ *
+ * @param {ArrayBufferLike} buffer
+ * @returns {Word[]}
+ */
 function wordsOf(/** @type {Column} */ { at, step, size }, /** @type {number} */ column, buffer) {
   const width = at % Math.min(size, 4) || step % Math.min(size, 4) ? 1 : Math.min(size, 4);
   const items = width === 1 ? new Uint8Array(buffer) : width === 2 ? new Uint16Array(buffer) : new Uint32Array(buffer);
@@ -19,7 +24,9 @@ function wordsOf(/** @type {Column} */ { at, step, size }, /** @type {number} */
 
 /** A table of tuples, each of some words, with open addressing. */
 class Tuples {
-  /** @param {Word[]} words */
+  /**
+   * @param {Word[]} words
+   */
   constructor(words) {
     this.words = words;
     this.slots = new Int32Array(4 * MOST_TUPLES).fill(-1);
@@ -30,7 +37,9 @@ class Tuples {
     this.now = new Uint32Array(words.length);
   }
 
-  /** @param {number} i */
+  /**
+   * @param {number} i
+   */
   take(i) {
     const { words, now, slots } = this;
     let hash = 0;
@@ -47,14 +56,18 @@ class Tuples {
     }
   }
 
-  /** @param {number} number */
+  /**
+   * @param {number} number
+   */
   isNow(number) {
     const { kept, now } = this;
     for (let w = 0, at = number * now.length; w < now.length; w++, at++) if (kept[at] !== now[w]) return false;
     return true;
   }
 
-  /** @param {number} slot */
+  /**
+   * @param {number} slot
+   */
   add(slot) {
     if (this.count === MOST_TUPLES) return this.others++;
     this.slots[slot] = this.count;
@@ -62,7 +75,9 @@ class Tuples {
     return this.counts[this.count++]++;
   }
 
-  /** @returns {[bigint[], number][]} */
+  /**
+   * @returns {[bigint[], number][]}
+   */
   all(/** @type {number} */ columns) {
     return Array.from({ length: this.count }, (_, number) => {
       const values = /** @type {bigint[]} */ (Array(columns).fill(0n));
@@ -75,7 +90,11 @@ class Tuples {
 }
 
 export class Histogram {
-  /** @param {Column[]} columns @param {number} batch @param {ArrayBufferLike} buffer */
+  /**
+   * @param {Column[]} columns
+   * @param {number} batch
+   * @param {ArrayBufferLike} buffer
+   */
   constructor(columns, batch, buffer) {
     this.columns = columns;
     this.batch = batch;
@@ -121,7 +140,11 @@ export class Histogram {
     }
   }
 
-  /** Each tuple with its count, as `[values, count]`; values are decimal, without a sign. @returns {[string[], number][]} */
+  /**
+   * Each tuple with its count, as `[values, count]`; values are decimal, without a sign.
+   *
+   * @returns {[string[], number][]}
+   */
   tuples() {
     const { columns: { length } } = this;
     const found = this.rest.all(length).map(([values, count]) => /** @type {[string[], number]} */ ([values.map(String), count]));

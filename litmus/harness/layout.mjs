@@ -30,7 +30,11 @@ export const DEFAULTS = { batch: 4096, stride: 64, chunk: 256, wrong: /** @type 
 
 const up = (/** @type {number} */ value, /** @type {number} */ to) => Math.ceil(value / to) * to;
 
-/** The locations of ranges: those that share a block, or that a range connects, are one. @param {Range[]} ranges */
+/**
+ * The locations of ranges: those that share a block, or that a range connects, are one.
+ *
+ * @param {Range[]} ranges
+ */
 export function locationsOf(ranges) {
   const sorted = [...ranges].sort((one, other) => one.address - other.address);
   /** @type {{ first: number, end: number }[]} */
@@ -74,7 +78,12 @@ export function layoutOf({ ranges, results, widest }, options) {
   return { batch, stride, columns, locations, begin, end: at, pages: Math.ceil(at / PAGE) };
 }
 
-/** The location that has an address. @param {{ locations: Location[] }} layout @param {number} address */
+/**
+ * The location that has an address.
+ *
+ * @param {{ locations: Location[] }} layout
+ * @param {number} address
+ */
 export function locationAt({ locations }, address) {
   const found = locations.find(({ first, size }) => address >= first && address < first + size);
   if (!found) throw new Error(`no location has the address ${address}`);

@@ -37,33 +37,48 @@ const NARROW_STORE = /** @type {Record<string, number>} */ ({ 'i32 1': 0x3a, 'i3
 
 /** Locals of a function that are added to its own. */
 class Locals {
-  /** @param {number[]} own the types of the function's own */
+  /**
+   * @param {number[]} own the types of the function's own
+   */
   constructor(own) {
     this.types = own;
   }
 
-  /** @param {string} type */
+  /**
+   * @param {string} type
+   */
   add(type) {
     return this.types.push(typeByte(type)) - 1;
   }
 
-  /** The groups after the parameters. @param {number} parameters */
+  /**
+   * The groups after the parameters.
+   *
+   * @param {number} parameters
+   */
   groups(parameters) {
     return this.types.slice(parameters).map((type) => [1, type]);
   }
 }
 
-/** Refuses a module that is not a test for a harness. @param {any} module */
+/**
+ * Refuses a module that is not a test for a harness.
+ *
+ * @param {any} module
+ */
 function requireModule(module) {
   if (module.imports.some((/** @type {any} */ { kind }) => kind !== KIND.memory)) throw new UserError('an import that is not a memory');
   if (module.start !== null) throw new UserError('a start function; export it, and name it as a thread');
   if (!module.memories[0]?.shared) throw new UserError('a memory that is not there, or not shared; write (memory 1 1 shared)');
-  if (module.memories[0].minimum > MOST_PAGES) throw new UserError(`a memory of ${module.memories[0].minimum} pages; the most are ${MOST_PAGES}`);
+  const { minimum } = module.memories[0];
+  if (minimum > MOST_PAGES) throw new UserError(`a memory of ${minimum} pages; the most are ${MOST_PAGES}`);
 }
 
 /** A test's module, read, with its threads and data segments. */
 class Source {
-  /** @param {Test} test */
+  /**
+   * @param {Test} test
+   */
   constructor({ module, threads, finals }) {
     this.module = readModule(module);
     requireModule(this.module);
@@ -75,7 +90,9 @@ class Source {
       { address: Number(constantOf(offset, this.module.globals)), bytes }));
   }
 
-  /** @param {Thread} thread */
+  /**
+   * @param {Thread} thread
+   */
   startOf({ start, args }) {
     const found = this.module.exports.find(({ name: exported, kind }) => exported === start && kind === KIND.function);
     if (!found) throw new UserError(`start ${start}: no function is exported under this name`);
@@ -89,10 +106,11 @@ class Source {
   /** What is accessed, or the whole memory if an address is not a constant. */
   ranges() {
     const each = this.bodies.map(({ items }) => rangesOf(items));
+    const known = each.flatMap((ranges) => ranges ?? []);
     const size = this.module.memories[0].minimum * PAGE;
-    const outside = each.flat().find((range) => range && range.address + range.width > size);
+    const outside = known.find(({ address, width }) => address + width > size);
     if (outside) throw new UserError(`an access at ${outside.address} is outside of the memory of ${size} bytes`);
-    return each.some((ranges) => ranges === null) ? [{ address: 0, width: size }] : [...each.flat(), ...this.finals];
+    return each.includes(null) ? [{ address: 0, width: size }] : [...known, ...this.finals];
   }
 
   get widest() {
@@ -109,7 +127,8 @@ class Source {
 /** Writes the code of one function of the test, in a loop or called from one. */
 class FunctionWriter {
   /**
-   * @param {LoopedModule} whole @param {Locals} locals
+   * @param {LoopedModule} whole
+   * @param {Locals} locals
    * @param {{ base: number[], shift: number, isInline: boolean }} place how the instance's base is pushed; the number of the first local
    */
   constructor(whole, locals, { base, shift, isInline }) {
@@ -122,15 +141,25 @@ class FunctionWriter {
     this.depth = 0;
   }
 
-  /** The instruction of an access, as the engine makes it. @param {Access} access @param {number} align @param {number} offset */
+  /**
+   * The instruction of an access, as the engine makes it.
+   *
+   * @param {Access} access
+   * @param {number} align
+   * @param {number} offset
+   */
   made(access, align, offset) {
     const kept = this.whole.wrong === 'plain-atomics' ? plainOf(access) : access;
     return [...opcode(kept), ...u32(align), ...u32(offset)];
   }
 
   /**
-   * An access of which the address and the operands are pushed by some code. @param {Access} access @param {number} align
-   * @param {number} offset @param {number[]} address @param {number[][]} operands
+   * An access of which the address and the operands are pushed by some code.
+   * @param {Access} access
+   * @param {number} align
+   * @param {number} offset
+   * @param {number[]} address
+   * @param {number[][]} operands
    */
   access(access, align, offset, address, operands) {
     const { wrong } = this.whole;
@@ -139,7 +168,12 @@ class FunctionWriter {
     return [...address, ...operands.flat(), ...this.made(access, align, offset)];
   }
 
-  /** @param {Access} access @param {number} offset @param {number[]} address @param {number[]} operand */
+  /**
+   * @param {Access} access
+   * @param {number} offset
+   * @param {number[]} address
+   * @param {number[]} operand
+   */
   torn({ type, width }, offset, address, operand) {
     const size = width / 2;
     const store = [NARROW_STORE[`${type} ${size}`], 0];
@@ -147,7 +181,13 @@ class FunctionWriter {
     return [...address, ...operand, ...store, ...u32(offset), ...address, ...operand, ...later, ...store, ...u32(offset + size)];
   }
 
-  /** @param {Access} access @param {number} align @param {number} offset @param {number[]} address @param {number[]} operand */
+  /**
+   * @param {Access} access
+   * @param {number} align
+   * @param {number} offset
+   * @param {number[]} address
+   * @param {number[]} operand
+   */
   split(access, align, offset, address, operand) {
     const base = { i32: { 4: 0, 1: 2, 2: 3 }, i64: { 8: 1, 1: 4, 2: 5, 4: 6 } }[/** @type {'i32' | 'i64'} */ (access.type)];
     const shape = /** @type {Record<number, number>} */ (base)[access.width];
@@ -155,14 +195,23 @@ class FunctionWriter {
     return [...address, 0xfe, 0x10 + shape, ...memory, ...address, ...operand, 0xfe, 0x17 + shape, ...memory];
   }
 
-  /** An access of a constant address. @param {Unit} unit */
+  /**
+   * An access of a constant address.
+   *
+   * @param {Unit} unit
+   */
   unit({ access, address, align, operands }) {
     const location = locationAt(this.whole.layout, address);
     const pushed = operands.map((operand) => this.plain(operand));
     return this.access(access, align, location.base + address - location.first, this.base, pushed);
   }
 
-  /** An access whose address is on the stack: it traps outside of the instance. @param {Access} access @param {any} instruction */
+  /**
+   * An access whose address is on the stack: it traps outside of the instance.
+   *
+   * @param {Access} access
+   * @param {any} instruction
+   */
   dynamic(access, { args: [align, offset] }) {
     const [{ base, size }] = this.whole.layout.locations;
     const operands = operandsOf(access).map((type) => this.locals.add(type));
@@ -176,7 +225,11 @@ class FunctionWriter {
     ];
   }
 
-  /** An instruction that is not an access. @param {any} instruction */
+  /**
+   * An instruction that is not an access.
+   *
+   * @param {any} instruction
+   */
   plain({ code, args, bytes }) {
     if (code >= CODE.localGet && code <= 0x22) return [code, ...u32(args[0] + this.shift)];
     if (code === CODE.call) return call(this.whole.functionAt(args[0]));
@@ -185,7 +238,9 @@ class FunctionWriter {
     return bytes;
   }
 
-  /** @param {Item} item */
+  /**
+   * @param {Item} item
+   */
   item(item) {
     if (item.unit) return this.unit(item);
     if (item.access) return this.dynamic(item.access, item.instruction);
@@ -195,14 +250,23 @@ class FunctionWriter {
     return bytes;
   }
 
-  /** The code of all items, without the last `end`. @param {Item[]} items */
+  /**
+   * The code of all items, without the last `end`.
+   *
+   * @param {Item[]} items
+   */
   all(items) {
     const { isSwapped } = WRONG[this.whole.wrong ?? ''] ?? {};
     const own = items.slice(0, -1);
     return isSwapped && isStraight(own) ? this.swapped(own, isSwapped) : own.flatMap((item) => this.item(item));
   }
 
-  /** The same with pairs of neighbours in the other order. @param {Item[]} items @param {(first: any, later: any) => boolean} isSwapped */
+  /**
+   * The same with pairs of neighbours in the other order.
+   *
+   * @param {Item[]} items
+   * @param {(first: any, later: any) => boolean} isSwapped
+   */
   swapped(items, isSwapped) {
     const units = items.filter((item) => item.unit && item.isConstant);
     /** @type {Map<Item, Item>} */
@@ -219,7 +283,10 @@ class FunctionWriter {
 
 /** The looped module of a test. */
 class LoopedModule {
-  /** @param {Test} test @param {typeof DEFAULTS} options */
+  /**
+   * @param {Test} test
+   * @param {typeof DEFAULTS} options
+   */
   constructor(test, options) {
     this.source = new Source(test);
     this.options = options;
@@ -231,19 +298,30 @@ class LoopedModule {
     this.pause = this.source.threads.length;
   }
 
-  /** The number that a function of the test has: the loops and the pause come first. @param {number} index */
+  /**
+   * The number that a function of the test has: the loops and the pause come first.
+   *
+   * @param {number} index
+   */
   functionAt(index) {
     return this.source.threads.length + 1 + index;
   }
 
-  /** @param {number[]} params @param {number[]} results */
+  /**
+   * @param {number[]} params
+   * @param {number[]} results
+   */
   typeOf(params, results) {
     const type = [0x60, ...u32(params.length), ...params, ...u32(results.length), ...results];
     const at = this.types.findIndex((other) => `${other}` === `${type}`);
     return at < 0 ? this.types.push(type) - 1 : at;
   }
 
-  /** The type of a block without operands. @param {number[]} results */
+  /**
+   * The type of a block without operands.
+   *
+   * @param {number[]} results
+   */
   blockType(results) {
     if (results.length > 1) return u32(this.typeOf([], results));
     return results.length ? [results[0]] : [0x40];
@@ -258,14 +336,36 @@ class LoopedModule {
     return [...reset, ...values.flatMap((value, k) => [...value, ...set(first + k)])];
   }
 
-  /** Stores a result in its column; a narrow one takes the lowest byte. @param {any} column @param {number} i @param {number} register */
+  /**
+   * Stores a result in its column; a narrow one takes the lowest byte.
+   *
+   * @param {any} column
+   * @param {number} i
+   * @param {number} register
+   */
   stored({ at, size, isWide }, i, register) {
+    /** @type {Record<number, number[]>} */
     const opcodes = isWide ? { 1: [0x3c, 0], 8: [0x37, 3] } : { 1: [0x3a, 0], 4: [0x36, 2] };
-    const store = /** @type {Record<number, number[]>} */ (opcodes)[size];
+    const store = opcodes[size];
     return [...get(i), ...(size > 1 ? [...i32(Math.log2(size)), ...SHL] : []), ...get(register), ...store, ...u32(at)];
   }
 
-  /** The loop of a thread. @param {number} t */
+  /**
+   * Stores all results of a thread.
+   *
+   * @param {number} t
+   * @param {number} i
+   * @param {number[]} registers
+   */
+  storedAll(t, i, registers) {
+    return registers.flatMap((register, k) => this.stored(this.layout.columns[t][k], i, register));
+  }
+
+  /**
+   * The loop of a thread.
+   *
+   * @param {number} t
+   */
   loop(t) {
     const thread = this.source.threads[t];
     const body = this.source.bodies[thread.index];
@@ -273,21 +373,28 @@ class LoopedModule {
     const [i, turn, spin, base, first] = [1, 2, 3, 4, 5];
     const hasCalls = body.items.some((/** @type {Item} */ item) => !item.unit && item.instruction.code === CODE.call);
     const locals = new Locals([I32, I32, I32, I32, I32, ...own]);
-    const registers = thread.results.map((type) => locals.add(typeName(type)));
+    const registers = thread.results.map((/** @type {number} */ type) => locals.add(typeName(type)));
     const writer = new FunctionWriter(this, locals, { base: get(base), shift: first, isInline: true });
-    const meeting = meetingCode({ thread: t, threads: this.source.threads.length, chunk: this.options.chunk, pause: this.pause, locals: { i, turn, spin } });
+    const { options: { chunk }, pause, source: { threads } } = this;
+    const meeting = meetingCode({ thread: t, threads: threads.length, chunk, pause, locals: { i, turn, spin } });
     const code = [
-      ...LOOP, ...get(i), ...i32(this.layout.stride), ...MUL, ...set(base), ...(hasCalls ? [...get(base), ...globalSet(this.baseGlobal)] : []),
+      ...LOOP, ...get(i), ...i32(this.layout.stride), ...MUL, ...set(base),
+      ...(hasCalls ? [...get(base), ...globalSet(this.baseGlobal)] : []),
       ...this.fresh(thread, first, own), ...meeting,
       0x02, ...this.blockType(thread.results), ...writer.all(body.items), ...END,
       ...[...registers].reverse().flatMap(set),
-      ...registers.flatMap((register, k) => this.stored(this.layout.columns[t][k], i, register)),
+      ...this.storedAll(t, i, registers),
       ...get(i), ...i32(1), ...ADD, ...tee(i), ...get(0), ...LT_U, ...branchIf(0), ...END,
     ];
     return bodyOf(locals.groups(1), code);
   }
 
-  /** A function that a start may call. @param {any} body @param {number} index */
+  /**
+   * A function that a start may call.
+   *
+   * @param {any} body
+   * @param {number} index
+   */
   called(body, index) {
     const { module } = this.source;
     const { params } = module.types[module.functionTypes[index]];
@@ -322,7 +429,8 @@ class LoopedModule {
 /**
  * The looped module of a test as bytes, with its layout, its data segments, and where the final values are.
  *
- * @param {Test} test @param {Partial<typeof DEFAULTS>} given
+ * @param {Test} test
+ * @param {Partial<typeof DEFAULTS>} given
  */
 export function loopedModule(test, given = {}) {
   const options = { ...DEFAULTS, ...given };

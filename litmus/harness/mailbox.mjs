@@ -8,14 +8,18 @@ export class Mailbox {
     this.waiting = [];
   }
 
-  /** @param {string} word */
+  /**
+   * @param {string} word
+   */
   post(word) {
     const receive = this.waiting.shift();
     if (receive) receive(word);
     else this.words.push(word);
   }
 
-  /** @returns {Promise<string>} */
+  /**
+   * @returns {Promise<string>}
+   */
   receive() {
     const word = this.words.shift();
     return word === undefined ? new Promise((resolve) => { this.waiting.push(resolve); }) : Promise.resolve(word);

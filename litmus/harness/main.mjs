@@ -5,20 +5,28 @@
  * for each test, until it ends. Each line of standard output is JSON: `engine` with its version, `progress`, `result` or `failed`.
  */
 
-import { createInterface } from 'node:readline';
+import { text } from 'node:stream/consumers';
 import { UserError } from '../../engines/shared/errors.mjs';
 import { openNode } from './node.mjs';
 
 const print = (/** @type {object} */ value) => process.stdout.write(`${JSON.stringify(value)}\n`);
 
-/** @param {any} given */
+/**
+ * @param {any} given
+ */
 async function open(given) {
   if (given.engine === 'node') return openNode(given);
   const { openBrowserHarness } = await import('./browser.mjs');
   return openBrowserHarness(given);
 }
 
-/** Runs a test and prints what came. @param {any} engine @param {any} task @param {any} options */
+/**
+ * Runs a test and prints what came.
+ *
+ * @param {any} engine
+ * @param {any} task
+ * @param {any} options
+ */
 async function runTask(engine, task, options) {
   const tell = (/** @type {number} */ done) => print({ progress: { name: task.name, done } });
   try {
@@ -36,14 +44,12 @@ async function main() {
   let isStopped = false;
   process.on('SIGINT', () => { isStopped = true; });
   process.stdout.on('error', () => process.exit(3));
-  const lines = createInterface({ input: process.stdin })[Symbol.asyncIterator]();
-  const given = JSON.parse((await lines.next()).value);
+  const [head, ...tasks] = (await text(process.stdin)).trim().split('\n');
+  const given = JSON.parse(head);
   const engine = await open(given);
   print({ engine: engine.version });
   const options = { ...given.options, isStopped: () => isStopped };
-  for (let line = await lines.next(); !line.done && !isStopped; line = await lines.next()) {
-    if (!await runTask(engine, JSON.parse(line.value), options)) break;
-  }
+  for (const task of tasks) if (isStopped || !await runTask(engine, JSON.parse(task), options)) break;
   await engine.close();
   process.exit(0);
 }

@@ -2,8 +2,8 @@
 /** What threads do between iterations: they meet, so that their next iterations overlap. */
 
 import {
-  ADD, AND, BLOCK, DROP, END, EQZ, GE_S, IF, LOOP, LT_S, LT_U, SUB, atomicLoad, atomicStore, bodyOf, branch, branchIf, call, get, i32, i64, set,
-  tee, wait32,
+  ADD, AND, BLOCK, DROP, END, EQZ, GE_S, IF, LOOP, LT_S, LT_U, SUB, atomicLoad, atomicStore, bodyOf, branch, branchIf, call, get, i32, i64,
+  set, tee, wait32,
 } from './code.mjs';
 import { MEETING, MEETING_STRIDE } from './layout.mjs';
 
@@ -14,7 +14,13 @@ const WAIT_NANOSECONDS = 50_000;
 
 const placeOf = (/** @type {number} */ thread) => MEETING + MEETING_STRIDE * thread;
 
-/** Waits for another thread. @param {number} place @param {{ turn: number, spin: number }} locals @param {number} pause */
+/**
+ * Waits for another thread.
+ *
+ * @param {number} place
+ * @param {{ turn: number, spin: number }} locals
+ * @param {number} pause
+ */
 function waiting(place, { turn, spin }, pause) {
   return [
     ...i32(0), ...set(spin),

@@ -7,7 +7,11 @@ import { Pins } from './pinning.mjs';
 import { Pool, runTest } from './runner.mjs';
 import { testOf } from './tasks.mjs';
 
-/** Starts workers, of which number k is pinned to the k-th processor. @param {Pins} pins */
+/**
+ * Starts workers, of which number k is pinned to the k-th processor.
+ *
+ * @param {Pins} pins
+ */
 function spawner(pins) {
   let count = 0;
   return () => {
@@ -17,12 +21,16 @@ function spawner(pins) {
     worker.on('message', (word) => (word.system === undefined ? mailbox.post(word) : pins.pin(word.system, thread)));
     worker.on('error', (error) => mailbox.post(`failed: ${error.message}`));
     return {
-      send: (/** @type {object} */ task) => worker.postMessage(task), receive: () => mailbox.receive(), close: () => { worker.terminate(); },
+      send: (/** @type {object} */ task) => worker.postMessage(task),
+      receive: () => mailbox.receive(),
+      close: () => { worker.terminate(); },
     };
   };
 }
 
-/** @param {{ pin: number[] }} given */
+/**
+ * @param {{ pin: number[] }} given
+ */
 export function openNode({ pin }) {
   const pins = new Pins(pin);
   const pool = new Pool(spawner(pins));

@@ -19,7 +19,10 @@ import { argumentsOf, unsignedStart } from '../../engines/shared/starts.mjs';
 
 /** A path goes no further. */
 class Cut extends Error {
-  /** @param {string} why @param {bigint[]} [options] */
+  /**
+   * @param {string} why
+   * @param {bigint[]} [options]
+   */
   constructor(why, options = []) {
     super(why);
     this.why = why;
@@ -31,7 +34,10 @@ const byteOf = (/** @type {bigint} */ value, /** @type {number} */ k) => Number(
 
 /** The writes that are known, and what a read may get of them. */
 class Writes {
-  /** @param {Uint8Array} initial @param {boolean} isByBytes */
+  /**
+   * @param {Uint8Array} initial
+   * @param {boolean} isByBytes
+   */
   constructor(initial, isByBytes) {
     this.initial = initial;
     this.isByBytes = isByBytes;
@@ -39,7 +45,11 @@ class Writes {
     this.known = new Map();
   }
 
-  /** Adds the writes of a path. Answers whether one is new. @param {any[]} events */
+  /**
+   * Adds the writes of a path. Answers whether one is new.
+   *
+   * @param {any[]} events
+   */
   add(events) {
     let isNew = false;
     for (const [kind, , address, width, ...values] of events) {
@@ -53,7 +63,12 @@ class Writes {
     return isNew;
   }
 
-  /** The parts of a range that are read as wholes. @param {number} address @param {number} width */
+  /**
+   * The parts of a range that are read as wholes.
+   *
+   * @param {number} address
+   * @param {number} width
+   */
   partsOf(address, width) {
     const edges = new Set([address, address + width]);
     for (const { address: at, bytes } of this.known.values()) for (const edge of [at, at + bytes.length]) edges.add(edge);
@@ -62,7 +77,12 @@ class Writes {
     return sorted.slice(1).map((end, k) => [sorted[k], end]);
   }
 
-  /** The values that a read may get. @param {number} address @param {number} width */
+  /**
+   * The values that a read may get.
+   *
+   * @param {number} address
+   * @param {number} width
+   */
   valuesAt(address, width) {
     let values = [0n];
     for (const [from, end] of this.partsOf(address, width)) {
@@ -70,7 +90,8 @@ class Writes {
       const valueOf = (/** @type {(at: number) => number} */ byte) => (
         Array.from({ length: end - from }, (_, k) => BigInt(byte(from + k)) << BigInt(8 * k)).reduce((one, other) => one | other, 0n));
       const writers = [...this.known.values()].filter(({ address: at, bytes }) => at <= from && from < at + bytes.length);
-      const options = new Set([valueOf((at) => this.initial[at]), ...writers.map(({ address: at, bytes }) => valueOf((place) => bytes[place - at]))]);
+      const written = writers.map(({ address: at, bytes }) => valueOf((place) => bytes[place - at]));
+      const options = new Set([valueOf((at) => this.initial[at]), ...written]);
       values = values.flatMap((value) => [...options].map((option) => value | (option << shift)));
     }
     return values;
@@ -79,7 +100,11 @@ class Writes {
 
 /** A thread that can be run on any values that its reads get. */
 class Thread {
-  /** @param {any} made @param {{ start: string, args: string[] }} thread @param {WebAssembly.Memory} memory */
+  /**
+   * @param {any} made
+   * @param {{ start: string, args: string[] }} thread
+   * @param {WebAssembly.Memory} memory
+   */
   constructor(made, { start, args }, memory) {
     this.module = new WebAssembly.Module(made.bytes);
     this.importedAs = made.memory;
@@ -89,7 +114,9 @@ class Thread {
     this.args = argumentsOf(unsigned, made.parameters.get(start));
   }
 
-  /** @param {(access: any, args: any[]) => any} make */
+  /**
+   * @param {(access: any, args: any[]) => any} make
+   */
   exports(make) {
     /** @type {any} */
     const imports = { recorder: {} };
@@ -99,7 +126,14 @@ class Thread {
     return new WebAssembly.Instance(this.module, imports).exports;
   }
 
-  /** Runs the thread on these values. @param {bigint[]} values @param {Writes} writes @param {number} most @returns {{ path: Path | null, options: bigint[] }} */
+  /**
+   * Runs the thread on these values.
+   *
+   * @param {bigint[]} values
+   * @param {Writes} writes
+   * @param {number} most
+   * @returns {{ path: Path | null, options: bigint[] }}
+   */
   run(values, writes, most) {
     /** @type {any[]} */
     const events = [];
@@ -125,7 +159,12 @@ class Thread {
     }
   }
 
-  /** All paths, at most `mostPaths`. @param {Writes} writes @param {{ mostEvents: number, mostPaths: number }} limits */
+  /**
+   * All paths, at most `mostPaths`.
+   *
+   * @param {Writes} writes
+   * @param {{ mostEvents: number, mostPaths: number }} limits
+   */
   paths(writes, { mostEvents, mostPaths }) {
     /** @type {Path[]} */
     const found = [];
@@ -141,25 +180,34 @@ class Thread {
   }
 }
 
-/** The memory of a module as it begins. @param {any} made */
+/**
+ * The memory of a module as it begins.
+ *
+ * @param {any} made
+ */
 function initialOf(made) {
   const { initial, maximum } = made.memory;
   const memory = new WebAssembly.Memory({ initial, maximum, shared: true });
-  new Thread(made, { start: [...made.parameters.keys()][0], args: made.parameters.values().next().value.map(() => '0') }, memory).exports(() => 0);
+  const [start, parameters] = made.parameters.entries().next().value;
+  new Thread(made, { start, args: parameters.map(() => '0') }, memory).exports(() => 0);
   return { memory, bytes: new Uint8Array(memory.buffer).slice() };
 }
 
-/** @param {any} given */
+/**
+ * @param {any} given
+ */
 function pathsOf({ module, threads, byBytes, ...limits }) {
   const made = rewrite(Uint8Array.from(atob(module), (character) => character.charCodeAt(0)), 'hooked');
   const { memory, bytes } = initialOf(made);
   const writes = new Writes(bytes, byBytes);
   const each = threads.map((/** @type {any} */ thread) => new Thread(made, thread, memory));
   for (;;) {
+    /** @type {{ found: Path[], isCut: boolean }[]} */
     const found = each.map((/** @type {Thread} */ thread) => thread.paths(writes, limits));
-    const isNew = found.map((/** @type {any} */ { found: paths }) => paths.map((/** @type {Path} */ { events }) => writes.add(events)).some(Boolean));
-    const isCut = found.some((/** @type {any} */ one) => one.isCut);
-    if (!isNew.some(Boolean) || isCut) return { threads: found.map((/** @type {any} */ one) => one.found), isCut, initial: [...bytes.entries()].filter(([, byte]) => byte) };
+    const isNew = found.flatMap(({ found: paths }) => paths.map(({ events }) => writes.add(events))).includes(true);
+    const isCut = found.some((one) => one.isCut);
+    const initial = [...bytes.entries()].filter(([, byte]) => byte);
+    if (!isNew || isCut) return { threads: found.map(({ found: paths }) => paths), isCut, initial };
   }
 }
 

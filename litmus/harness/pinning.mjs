@@ -6,7 +6,9 @@ import { readFileSync, readdirSync } from 'node:fs';
 
 /** What came of the wish to pin threads: how many were, and why one was not. */
 export class Pins {
-  /** @param {number[]} processors the processor of each thread; none if they are not pinned */
+  /**
+   * @param {number[]} processors the processor of each thread; none if they are not pinned
+   */
   constructor(processors) {
     this.processors = processors;
     this.pinned = 0;
@@ -14,7 +16,12 @@ export class Pins {
     this.problem = processors.length ? null : 'not asked for';
   }
 
-  /** Pins a thread by its number for the system. @param {number | null} system @param {number} thread */
+  /**
+   * Pins a thread by its number for the system.
+   *
+   * @param {number | null} system
+   * @param {number} thread
+   */
   pin(system, thread) {
     if (!this.processors.length) return;
     if (system === null) {
@@ -46,7 +53,11 @@ const textOf = (/** @type {string} */ path) => {
   }
 };
 
-/** The processes of a browser: the one that was given an address with this token, and all that they started. @param {string} token */
+/**
+ * The processes of a browser: the one that was given an address with this token, and all that they started.
+ *
+ * @param {string} token
+ */
 function processesOf(token) {
   const parents = new Map(numbersIn('/proc').map((id) => [id, Number(textOf(`/proc/${id}/stat`).split(') ').at(-1)?.split(' ')[1])]));
   const found = new Set([...parents.keys()].filter((id) => textOf(`/proc/${id}/cmdline`).includes(token)));
@@ -58,9 +69,19 @@ function processesOf(token) {
       isGrown = true;
     }
   }
-  return [...found];
+  // The pages are in processes that the browser started, which do not have the address.
+  return [...found].filter((id) => !textOf(`/proc/${id}/cmdline`).includes(token));
 }
 
-/** The workers of a browser's page, the oldest first. @param {string} token @returns {number[]} */
-export const workersOf = (token) => processesOf(token).flatMap((id) => numbersIn(`/proc/${id}/task`)
-  .filter((task) => WORKER_NAME.test(textOf(`/proc/${id}/task/${task}/comm`)))).sort((one, other) => one - other);
+/**
+ * The workers of a browser's page, the oldest first: those of the process that has at least so many.
+ *
+ * @param {string} token
+ * @param {number} least
+ * @returns {number[]}
+ */
+export function workersOf(token, least) {
+  const each = processesOf(token).map((id) => numbersIn(`/proc/${id}/task`)
+    .filter((task) => WORKER_NAME.test(textOf(`/proc/${id}/task/${task}/comm`))).sort((one, other) => one - other));
+  return each.find((workers) => workers.length >= least) ?? [];
+}

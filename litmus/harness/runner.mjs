@@ -18,12 +18,15 @@ const MOST_PAGES = 65_536;
 /**
  * @typedef {{ send: (task: object) => void, receive: () => Promise<string>, close: () => void }} Worker
  * @typedef {import('./looped.mjs').Test} Test
- * @typedef {{ iterations: number, seconds: number, isStopped?: () => boolean, tell?: (done: number) => void } & Record<string, any>} Options
+ * @typedef {{ isStopped?: () => boolean, tell?: (done: number) => void }} Hooks
+ * @typedef {{ iterations: number, seconds: number } & Hooks & Record<string, any>} Options
  */
 
 /** Workers that stay for all tests, with one memory that grows. */
 export class Pool {
-  /** @param {() => Worker} spawn */
+  /**
+   * @param {() => Worker} spawn
+   */
   constructor(spawn) {
     this.spawn = spawn;
     /** @type {Worker[]} */
@@ -32,13 +35,17 @@ export class Pool {
     this.memory = null;
   }
 
-  /** @param {number} count */
+  /**
+   * @param {number} count
+   */
   grow(count) {
     while (this.workers.length < count) this.workers.push(this.spawn());
     return this.workers.slice(0, count);
   }
 
-  /** @param {number} pages */
+  /**
+   * @param {number} pages
+   */
   memoryOf(pages) {
     if (!this.memory || this.memory.buffer.byteLength < pages * 65_536) {
       this.memory = new WebAssembly.Memory({ initial: pages, maximum: MOST_PAGES, shared: true });
@@ -55,7 +62,11 @@ export class Pool {
 
 /** One run of a test. */
 class Run {
-  /** @param {Pool} pool @param {Test} test @param {Options} options */
+  /**
+   * @param {Pool} pool
+   * @param {Test} test
+   * @param {Options} options
+   */
   constructor(pool, test, options) {
     const made = loopedModule(test, /** @type {any} */ (options));
     this.pool = pool;
@@ -70,7 +81,9 @@ class Run {
     this.initial = this.initialOf(made.segments);
   }
 
-  /** @param {{ at: number, width: number }[]} finals */
+  /**
+   * @param {{ at: number, width: number }[]} finals
+   */
   columnsOf(finals) {
     const { columns, stride } = this.layout;
     return [
@@ -79,7 +92,11 @@ class Run {
     ];
   }
 
-  /** The bytes of an instance that do not begin as zeros, by their place. @param {{ address: number, bytes: number[] }[]} segments */
+  /**
+   * The bytes of an instance that do not begin as zeros, by their place.
+   *
+   * @param {{ address: number, bytes: number[] }[]} segments
+   */
   initialOf(segments) {
     return segments.flatMap(({ address, bytes }) => bytes.flatMap((byte, k) => {
       const at = address + k;
@@ -150,7 +167,11 @@ class Run {
   }
 }
 
-/** The word of a worker that failed, if there is one: it says more than that a thread failed. @param {Run} run */
+/**
+ * The word of a worker that failed, if there is one: it says more than that a thread failed.
+ *
+ * @param {Run} run
+ */
 async function reasonOf(run, /** @type {unknown} */ error) {
   const late = new Promise((resolve) => { setTimeout(() => resolve(null), 500); });
   const words = (run.workers ?? []).map((worker) => worker.receive().then((word) => (word.startsWith('failed: ') ? word.slice(8) : late)));
@@ -162,7 +183,9 @@ async function reasonOf(run, /** @type {unknown} */ error) {
  * Runs a test until `iterations` or `seconds` are reached. Answers how many iterations were made in how many milliseconds, and each
  * tuple of values with its count.
  *
- * @param {Pool} pool @param {Test} test @param {Options} options
+ * @param {Pool} pool
+ * @param {Test} test
+ * @param {Options} options
  */
 export async function runTest(pool, test, options) {
   const run = new Run(pool, test, options);

@@ -91,6 +91,7 @@ class Harness:
     version: str = ""
     tell: Callable[[str, int], None] = field(default=ignore)
     is_stopped: bool = False
+    ending: str = "the harness ended early"
 
     def __enter__(self) -> "Harness":
         node = shutil.which("node")
@@ -119,7 +120,7 @@ class Harness:
         self.process.send_signal(signal.SIGINT)
 
     def hand_out(self, specimens: list[Specimen]) -> None:
-        """Writes the tests, which a thread of its own does: the harness reads one after the other."""
+        """Writes the tests, which a thread of its own does: the harness may end before it has read all."""
         settings = self.settings
         lines = [json.dumps({"engine": settings.engine, "pin": list(settings.pin), "options": settings.options})]
         lines += map(task_of, specimens)
@@ -149,3 +150,8 @@ class Harness:
             else:
                 yield Ran(value["failed"]["name"], problem=value["failed"]["message"])
         writer.join(timeout=1)
+        status = self.process.wait()
+        if status < 0:
+            self.ending = f"the harness was ended by {signal.Signals(-status).name}"
+        elif status:
+            self.ending = f"the harness ended with status {status}"

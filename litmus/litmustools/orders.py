@@ -1,7 +1,7 @@
-"""The orders of a candidate's events that have to be tried. The rules V1, V3 and V4 do not look at the order, V2 only at
-edges of happens-before, and V5 at a read, its writer and another atomic write. So orders that agree with V2 differ for
-the rules only in the places of events that are in such a triple, and of those only of the atomic ones: where V5 has a
-plain access in a triple, it demands an edge of happens-before too, by which V2 orders it."""
+"""The orders of a candidate's events that have to be tried. The rules V1, V3 and V4 do not look at the order, V2 only
+at edges of happens-before, and V5 at a read, its writer and another atomic write. So orders that agree with V2 differ
+for the rules only in the places of events that are in such a triple, and of those only of the atomic ones: where V5 has
+a plain access in a triple, it demands an edge of happens-before too, by which V2 orders it."""
 from collections.abc import Iterable, Iterator
 from dataclasses import dataclass
 

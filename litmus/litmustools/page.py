@@ -113,7 +113,7 @@ Made on {date} with {version}: {run_rounds} rounds of `wmlab run`; {asked} candi
   - The buffers make loads in order, and all threads see a published store at once. So load buffering (`LB`), and what
     needs a store that only some threads see (`IRIW`, `WRC`), cannot come from them, although the rules permit the
     plain tests.
-- **{names}**: how often the engine gave the outcome, by [`litmus/run`](LITMUS.md). Each outcome that it gave was judged.
+- **{names}**: how often the engine gave the outcome, by [`litmus/run`](LITMUS.md). Each outcome was judged.
 """
 
 
@@ -128,10 +128,12 @@ def theorem_line(rows):
 
 
 def engines_line(collected, date):
-    """Which engines ran, how often, and what was seen."""
-    names = ", ".join(collected.engines.values())
-    most = max((seen.iterations for row in collected.rows for seen in row.engines.values()), default=0)
-    return f"Engines ({date}): {names}; about {round(most, -4):,} iterations of each test by `litmus/run`."
+    """Which engines ran, and how often each test."""
+    names = []
+    for engine, version in collected.engines.items():
+        most = max((row.engines[engine].iterations for row in collected.rows if engine in row.engines), default=0)
+        names.append(f"{version}, about {round(most, -4):,} iterations of each test")
+    return f"Engines ({date}), by `litmus/run`: {'; '.join(names)}."
 
 
 def head(collected):

@@ -31,7 +31,7 @@ NOTICED_BY = {
 MOST_TRIES = 6
 HANDSHAKE = "litmus/examples/handshake.wat"
 
-MISTAKES = (
+MISTAKES: tuple[tuple[list[str], str], ...] = (
     (["--iterations", "0", "SB"], "expected an integer from 1"),
     (["--seconds", "0", "SB"], "expected a number of seconds that is more than 0"),
     (["--batch", "0", "SB"], "expected an integer from 1"),
@@ -134,8 +134,8 @@ class Commands:
 def test_output(tally: Tally, run: Commands) -> None:
     """The form of litmus7, and the same as JSON."""
     out, err, status = run.run("SB", "SB+sc", "--iterations", "20000")
-    wanted = ("Test SB Allowed", "Histogram (", "*>0:r0=0; 1:r0=0;", "Observation SB ", "Time SB ")
-    wanted += ("Permitted SB 4 outcomes",)
+    head = ("Test SB Allowed", "Histogram (", "*>0:r0=0; 1:r0=0;", "Observation SB ", "Time SB ")
+    wanted = (*head, "Permitted SB 4 outcomes")
     missing = [part for part in wanted if part not in out]
     tally.check(status == 0 and not missing, "run prints a histogram", f"{missing} {out} {err}")
     tally.check("Observation SB+sc Never 0 20480" in out, "SB+sc has no weak outcome", out)
@@ -239,12 +239,28 @@ def test_surroundings(tally: Tally, run: Commands) -> None:
     tally.check(status == 2 and "node is not installed" in err.splitlines()[-1], "node is missing", out + err)
 
 
+def test_browsers(tally: Tally, run: Commands) -> None:
+    """The same tests in each browser that is installed."""
+    for engine, programs in (("chromium", ("chromium",)), ("firefox", ("firefox-esr", "firefox"))):
+        if not any(map(shutil.which, programs)):
+            print(f"{engine} is not there: litmus/run in it is left out")
+            continue
+        out, err, status = run.run("SB+sc", HANDSHAKE, "--engine", engine, "--iterations", "20000", "--json")
+        rows = [json.loads(line) for line in out.splitlines()]
+        holds = status == 0 and [row["iterations"] for row in rows] == [20480, 20480]
+        tally.check(holds and engine in rows[0]["engine"].lower(), f"litmus/run in {engine}", out + err)
+
+
 def test_interruption(tally: Tally, run: Commands) -> None:
-    """Ctrl-C ends with the tables and status 130."""
-    process = run.start("SB", "--iterations", "1000000000000")
-    time.sleep(3)
-    process.send_signal(signal.SIGINT)
-    out, err = process.communicate(timeout=60)
+    """Ctrl-C ends with the tables and status 130. On a busy machine the test may not have begun, so that there is no
+    table yet; then it is tried again later."""
+    for seconds in (3, 10, 30):
+        process = run.start("SB", "--iterations", "1000000000000")
+        time.sleep(seconds)
+        process.send_signal(signal.SIGINT)
+        out, err = process.communicate(timeout=60)
+        if "Histogram" in out:
+            break
     holds = process.returncode == 130 and "Histogram" in out and "stopped after" in err
     tally.check(holds, "Ctrl-C prints the tables", f"{process.returncode} {out} {err}")
 
@@ -328,6 +344,7 @@ def test_run(tally: Tally, program: str, room: str) -> None:
     test_wrong_engines(tally, run)
     test_mistakes(tally, run)
     test_surroundings(tally, run)
+    test_browsers(tally, run)
     test_interruption(tally, run)
     test_pipes(tally, run)
 

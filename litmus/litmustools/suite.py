@@ -154,7 +154,7 @@ X+X+rmw X+W+rmw+un SB+rfi-pod+rfi-pod
 """.split()
 
 
-def committed(tests):
+def committed(tests: dict[str, LitmusTest]) -> list[str]:
     """The names of the selection, each of which is in the suite."""
     missing = [name for name in COMMITTED if name not in tests]
     if missing:
