@@ -41,10 +41,10 @@ pub data AnswersRules (bytes : List ℕ) (status : ℕ) (text : List ℕ) : Type
 -- the status and the line of what a judgement of a document found
 abbrev pub judged_status : JudgedDocument → ℕ
 judged_status (document.Refused fault) = 2
-judged_status (document.Misshapen misshapen) = 2
+judged_status (document.Misshapen m) = 2
 judged_status (document.Judged run finding) = judgement_status (judgement_of finding)
 
 abbrev pub judged_text : JudgedDocument → List ℕ
 judged_text (document.Refused fault) = document_line_text fault
-judged_text (document.Misshapen misshapen) = shape_line_text misshapen.fault
+judged_text (document.Misshapen m) = shape_line_text m.fault
 judged_text (document.Judged run finding) = judgement_text (judgement_of finding)

@@ -190,7 +190,7 @@ fn witness_of<'a, R: AllocGlobal + Threads + Sync, F: Files, I: Read>(
     words: WitnessWords<'a>,
 ) -> Result<Answer, Failure<'a>>
     requires { F.failures_of files.old + 1 < 2 ^ 64 }
-    ensures answers { IfOk result (Gives (IsWitnessAnswer words (F.content_of files.old) (I.remaining input.old))) }
+    ensures answers { IfOk result (Gives (IsWitnessAnswer words.entry (F.content_of files.old) (I.remaining input.old))) }
     ensures unread { IfErr result (λ stop. IsUnreadFile stop
         → F.failures_of files.old < F.failures_of files.new) }
 {

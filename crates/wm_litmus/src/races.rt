@@ -1,5 +1,5 @@
 //! The command `races`: the data races of an allowed run, by instructions or by events.
-ghost use Rattle.std.specs.Prelude.{◌≡◌, ℕ, IfOk, List, string_bytes};
+ghost use Rattle.std.specs.Prelude.{◌≡◌, ℕ, IfOk, List, Some, string_bytes};
 ghost use Rattle.wm_check.specs.Checked.{IsCheckOf, verdict_of};
 ghost use Rattle.wm_check.specs.Judged.{IsJudgedDocument};
 ghost use Rattle.wm_check.specs.Reading.{SaysOver};

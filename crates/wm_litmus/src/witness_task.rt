@@ -29,8 +29,8 @@ pub(crate) enum WitnessTask<'a> {
 ///
 /// `Nodes` if a number of nodes is none of 1 to 4,294,967,295.
 pub(crate) fn witness_task<'a>(words: WitnessWords<'a>) -> Result<WitnessTask<'a>, WordFault>
-    ensures task { IfOk result (λ task. spelled words ≡ Some task) }
-    ensures fault { IfErr result (λ fault. (fault ≡ WordFault.Nodes) × (spelled words ≡ None)) }
+    ensures task { IfOk result (λ task. spelled words.entry ≡ Some task) }
+    ensures fault { IfErr result (λ fault. (fault ≡ WordFault.Nodes) × (spelled words.entry ≡ None)) }
 {
     match words {
         WitnessWords::One(document) => Ok(WitnessTask::OfDocument {
