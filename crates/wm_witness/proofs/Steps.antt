@@ -1,7 +1,7 @@
 -- Lemmas that the laws share.
 use Rattle.std.proofs.Common.{◌≡◌, ◌≢◌, ◌⊎◌, Bor, ◌<◌, List, [], ◌∷◌, ◌++◌, slice_get, Option, None, Some, IsSome, refl, sym, ap, ◌∙◌, subst, arith, inl, inr, ⊎_elim}
-use Rattle.std.specs.Prelude.{◌==◌, ◌&&◌, true, false, is_some, option_copied}
-use Rattle.std.proofs.lemmas.Bool.{and_from, cases_eq, cases_lt, false≢true}
+use Rattle.std.specs.Prelude.{◌==◌, ◌&&◌, not, Bool, true, false, is_some, option_copied}
+use Rattle.std.proofs.lemmas.Bool.{and_from, and_parts, cases_eq, cases_lt, false≢true}
 use Rattle.std.proofs.lemmas.Bool.Decides.{nat_tests}
 use Rattle.std.proofs.lemmas.Option.{same_Some}
 use Rattle.wm_event.specs.declared.event.EventKey.{EventKey}
@@ -71,3 +71,14 @@ apart a b t h =
 pub copied-there : {X : Type 0} (o : Option (Bor X)) (p : Option X) → option_copied o ≡ p → is_some o ≡ true → IsSome p
 copied-there None p is some = absurd (false≢true some)
 copied-there (Some b) p is some = subst (λ q. IsSome q) is refl
+
+pub keys-equal : (a b : EventKey) → (a.thread == b.thread && a.number == b.number) ≡ true → a ≡ b
+keys-equal a b t =
+    let p = and_parts (a.thread == b.thread) (a.number == b.number) t in
+    let m : a.thread ≡ b.thread = grind (arith, nat_tests) in
+    let n : a.number ≡ b.number = grind (arith, nat_tests) in
+    λ i. record { thread = m i; number = n i }
+
+pub not-not : (b : Bool) → false ≡ not b → b ≡ true
+not-not true h = refl
+not-not false h = absurd (false≢true h)

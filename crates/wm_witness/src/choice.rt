@@ -1,10 +1,11 @@
 //! The writers that a byte of a read can have.
-ghost use Rattle.std.specs.Prelude.{◌≡◌, ◌<◌, ◌++◌, IfOk, IsTrue, OnOk};
+ghost use Rattle.std.specs.Prelude.{◌≡◌, ◌<◌, ◌++◌, IfOk, IfSome, IsTrue, OnOk};
 ghost use Rattle.std.specs.List.{filter};
 ghost use Rattle.wm_event.specs.Event.{key_of};
 ghost use Rattle.wm_event.specs.Shape.{read_width};
 ghost use Rattle.wm_writers.specs.Fits.{fits as spec_fits, fitting, is_from as spec_is_from};
-ghost use Rattle.wm_witness.specs.Choice.{Denies, IsChoice, IsEventOf, IsExcluded};
+ghost use Rattle.wm_witness.specs.Always.{IsClosed};
+ghost use Rattle.wm_witness.specs.Choice.{Denies, IsChoice, IsEventOf, IsExcluded, IsTaken};
 ghost use Rattle.wm_witness.specs.Relations.{AreRows};
 ghost use Rattle.wm_witness.specs.declared.relation.Kind.TheVariants.{Happens};
 
@@ -273,4 +274,33 @@ pub(crate) fn choice_of(
         None => Ok(Choice::Nothing),
         Some(writer) => Ok(Choice::Only(writer)),
     }
+}
+
+/// The event of that name; None if there is no such event.
+pub(crate) fn event_of<'a>(start: &'a Candidate, key: EventKey) -> Option<&'a Event>
+    ensures { IfSome result (λ event. IsEventOf start.now event.now) }
+{
+    let _log = start.log();
+    start.event(EventId::At(key))
+}
+
+/// Whether a writer that is known to be that of a byte is also known not to be.
+pub(crate) fn is_refuted(
+    start: &Candidate,
+    assumed: &[Assumption],
+    happens: &Relation,
+    taken: &Taken,
+) -> bool
+    requires rows { AreRows start.now assumed.now happens.now.kind happens.now.rows.items }
+    requires kind { happens.now.kind ≡ Happens }
+    requires taken { IsTaken start.now assumed.now taken.now }
+    ensures { IsTrue result → IsClosed start.now assumed.now }
+{
+    let Some(event) = event_of(start, taken.reader) else {
+        return false;
+    };
+    if event.key() != taken.reader {
+        return false;
+    }
+    is_excluded(start, assumed, happens, event, taken.byte, taken.writer)
 }

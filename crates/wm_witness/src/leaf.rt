@@ -4,8 +4,8 @@ ghost use Rattle.wm_witness.specs.Choice.{IsEventOf};
 ghost use Rattle.wm_witness.specs.Rules.{IsNode};
 
 use crate::assumption::Assumption;
-use crate::choice::{fitting_ids, is_excluded};
-use crate::node::{Node, event_of};
+use crate::choice::{event_of, fitting_ids, is_excluded};
+use crate::node::Node;
 use crate::relation::Pair;
 use crate::rules::can_synchronize;
 use std::alloc::{AllocError, Global};

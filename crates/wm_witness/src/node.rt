@@ -8,10 +8,10 @@ ghost use Rattle.wm_witness.specs.Rules.{IsNode, IsSettled};
 ghost use Rattle.wm_witness.specs.declared.relation.Kind.TheVariants.{Stands};
 
 use crate::assumption::Assumption;
-use crate::choice::{Choice, Taken, choice_of};
+use crate::choice::{Choice, Taken, choice_of, event_of, is_refuted};
 use crate::relation::{Kind, Pair, Relation};
 use crate::rules::{
-    byte_assumed, not_between, not_overwritten, not_past, order_assumed, pair_assumed,
+    byte_assumed, is_torn, not_between, not_overwritten, not_past, order_assumed, pair_assumed,
     pair_of_taken,
 };
 use std::alloc::{AllocError, Global};
@@ -33,26 +33,24 @@ pub(crate) struct Node {
     pub ordered: Vec<Pair>,
     /// The bytes whose writers are known.
     pub taken: Vec<Taken>,
-    /// For each row the writers of its bytes, as far as they are known. Nothing rests on it.
-    pub writers: Vec<[Option<EventId>; 8]>,
+    /// For each row where in `taken` the writers of its bytes are, as far as they are known. Nothing rests on it.
+    pub places: Vec<[Option<usize>; 8]>,
 }
 
-/// Notes the writer of a byte.
-fn note(writers: &mut Vec<[Option<EventId>; 8]>, happens: &Relation, taken: &Taken) {
-    if let Some(index) = happens.index(taken.reader)
-        && index < writers.len()
-        && taken.byte < 8
+/// Notes where the writer of a byte is.
+fn note(
+    places: &mut Vec<[Option<usize>; 8]>,
+    happens: &Relation,
+    reader: EventKey,
+    byte: u8,
+    place: usize,
+) {
+    if let Some(index) = happens.index(reader)
+        && index < places.len()
+        && byte < 8
     {
-        writers[index][taken.byte as usize] = Some(taken.writer);
+        places[index][byte as usize] = Some(place);
     }
-}
-
-/// The event of that name; None if there is no such event.
-pub(crate) fn event_of<'a>(start: &'a Candidate, key: EventKey) -> Option<&'a Event>
-    ensures { IfSome result (λ event. IsEventOf start.now event.now) }
-{
-    let _log = start.log();
-    start.event(EventId::At(key))
 }
 
 /// The last atomic write of a range by a thread that is known to stand before an event.
@@ -126,14 +124,14 @@ impl Node {
     {
         let happens = Relation::new(alloc, start, Kind::Happens)?;
         let stands = Relation::new(alloc, start, Kind::Stands)?;
-        let writers = vec![in alloc; [None; 8]; happens.rows.len()]?;
+        let places = vec![in alloc; [None; 8]; happens.rows.len()]?;
         Ok(Node {
             happens,
             stands,
             synchronized: Vec::new(alloc),
             ordered: Vec::new(alloc),
             taken: Vec::new(alloc),
-            writers,
+            places,
         })
     }
 
@@ -181,7 +179,14 @@ impl Node {
         requires taken { IsTaken start.now assumed.now taken }
         ensures { OnOk result (IsNode start.now assumed.now self.new) }
     {
-        note(&mut self.writers, &self.happens, &taken);
+        let place = self.taken.len();
+        note(
+            &mut self.places,
+            &self.happens,
+            taken.reader,
+            taken.byte,
+            place,
+        );
         self.taken.push(taken)?;
         if let Some(pair) = pair_of_taken(start, assumed, &taken) {
             self.add_synchronized(start, assumed, pair)?;
@@ -269,9 +274,71 @@ impl Node {
         }
     }
 
+    /// What is known of the writer of a byte of the event of a row.
+    fn taken_at(
+        &self,
+        start: &Candidate,
+        assumed: &[Assumption],
+        index: usize,
+        byte: u8,
+    ) -> Option<Taken>
+        requires { IsNode start.now assumed.now self.now }
+        ensures { IfSome result (IsTaken start.now assumed.now) }
+    {
+        let place = (*self.places.get(index)?.get(byte as usize)?)?;
+        if place < self.taken.len() {
+            Some(self.taken[place])
+        } else {
+            None
+        }
+    }
+
     /// The writer of a byte of the event of a row, if it is known.
     pub(crate) fn writer(&self, index: usize, byte: u8) -> Option<EventId> {
-        *self.writers.get(index)?.get(byte as usize)?
+        let place = (*self.places.get(index)?.get(byte as usize)?)?;
+        Some(self.taken.get(place)?.writer)
+    }
+
+    /// Whether the writer of a byte can't be that, alone or beside that of an earlier byte.
+    fn contradicts_at(
+        &self,
+        start: &Candidate,
+        assumed: &[Assumption],
+        index: usize,
+        byte: u8,
+    ) -> bool
+        requires { IsNode start.now assumed.now self.now }
+        ensures { IsTrue result → IsClosed start.now assumed.now }
+    {
+        let Some(taken) = self.taken_at(start, assumed, index, byte) else {
+            return false;
+        };
+        if is_refuted(start, assumed, &self.happens, &taken) {
+            return true;
+        }
+        for earlier in 0..byte {
+            if let Some(other) = self.taken_at(start, assumed, index, earlier)
+                && is_torn(start, assumed, &taken, &other)
+            {
+                return true;
+            }
+        }
+        false
+    }
+
+    /// Whether the writers that are known contradict the rules.
+    fn contradicts(&self, start: &Candidate, assumed: &[Assumption]) -> bool
+        requires { IsNode start.now assumed.now self.now }
+        ensures { IsTrue result → IsClosed start.now assumed.now }
+    {
+        for index in 0..self.places.len() {
+            for byte in 0..8 {
+                if self.contradicts_at(start, assumed, index, byte) {
+                    return true;
+                }
+            }
+        }
+        false
     }
 
     /// Whether it isn't known that the first event of a pair stands before the second.
@@ -510,7 +577,7 @@ pub(crate) fn settle(
     let mut node = Node::of(alloc, start, assumed)?;
     for _ in 0..MAX_ROUNDS {
         node.close(alloc, start, assumed)?;
-        if node.stands.has_cycle(start, assumed) {
+        if node.stands.has_cycle(start, assumed) || node.contradicts(start, assumed) {
             return Ok(None);
         }
         let (ordered, taken) = (node.ordered.len(), node.taken.len());
