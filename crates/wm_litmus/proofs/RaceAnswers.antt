@@ -1,5 +1,5 @@
 -- What lists the races of a run answers what records it.
-use Rattle.std.proofs.Common.{◌≡◌, ◌⊎◌, inl, inr, ℕ, List, [], ◌∷◌, length, ap, subst, sym, string_bytes, ◌∙◌, refl, arith}
+use Rattle.std.proofs.Common.{◌≡◌, ◌⊎◌, inl, inr, ℕ, List, [], ◌∷◌, length, take, ap, subst, sym, string_bytes, ◌∙◌, refl, arith}
 use Rattle.std.proofs.lemmas.Option.{slice_get_within}
 use Rattle.wm_event.specs.declared.event.EventKey.{EventKey}
 use Rattle.wm_event.specs.Execution.{Execution}
@@ -13,10 +13,11 @@ use Rattle.wm_races.specs.declared.site.SiteRace.{SiteRace}
 use Rattle.wm_races.specs.First.{AreFirstRaces}
 use Rattle.wm_races.specs.Races.{IsIn, IsRaceList, Race}
 use Rattle.wm_races.specs.Report.{HasLine, IsRaceReport}
+use Rattle.wm_sites.specs.Sites.{AreEventSites, Code}
 use Rattle.wm_sequential.specs.Sequential.{IsSequential, RaceFreeRunsAreSequential}
 use Rattle.wm_litmus.specs.declared.answer.Answer.{Answer}
 use Rattle.wm_litmus.specs.Prints.{Gives}
-use Rattle.wm_litmus.specs.Races.{ListsFirst, ListsRaces, ReportsOwnRaces, pair_text}
+use Rattle.wm_litmus.specs.Races.{ListsFirst, ListsRaces, ReportsOwnRaces, ReportsRaces, pair_text, sites_text}
 
 -- of no race in the list there is none
 none_in : (p : RacingPair) → IsIn [] p → ⊥
@@ -50,7 +51,23 @@ pub reported_sequential : RaceFreeRunsAreSequential → (run : LoggedRun) → Is
 reported_sequential law run shape valid sites lines report none =
     law run shape valid (no_race (execution run) report.pairs report.list (no_pair (execution run) sites lines report none))
 
--- what lists the races of a run reports them
+-- what lists the races of a run by the sites of its events reports them
+pub reports_races : RaceFreeRunsAreSequential → (code : Code) (run : LoggedRun) → IsWellShaped run → IsValid (execution run) → (sites : List (List Site))
+    → (races shown : List SiteRace) (threads events total : ℕ) (answer : Answer) → HasSites run.log sites → AreEventSites code run.log sites
+    → IsRaceReport (execution run) sites races → shown ≡ take 1000 races → total ≡ length races → threads ≡ length run.log → events ≡ event_count run.log
+    → ListsFirst sites_text threads events shown total answer → Gives (ReportsRaces code run) answer
+reports_races law code run shape valid sites races shown threads events total answer has of_events report is_shown is_total of_threads of_count lists = record {
+  sites = sites;
+  has_sites = has;
+  of_events = of_events;
+  races = races;
+  report = report;
+  sequential = reported_sequential law run shape valid sites races report;
+  lists = subst (λ n. ListsRaces sites_text n (event_count run.log) races answer.status (string_bytes answer.text)) of_threads
+      (subst (λ n. ListsRaces sites_text threads n races answer.status (string_bytes answer.text)) of_count (lists races is_shown is_total));
+}
+
+-- what lists them one by one reports them
 pub reports_own : RaceFreeRunsAreSequential → (run : LoggedRun) → IsWellShaped run → IsValid (execution run) → (found : FirstRaces) (threads events : ℕ) (answer : Answer)
     → AreFirstRaces (execution run) 1000 found → threads ≡ length run.log → events ≡ event_count run.log
     → ListsFirst pair_text threads events found.pairs found.total answer → Gives (ReportsOwnRaces run) answer

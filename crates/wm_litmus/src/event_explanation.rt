@@ -91,7 +91,8 @@ pub(crate) fn graph_events_answer<R: AllocGlobal + Threads + Sync>(
     ensures { IfOk result (Gives (AnswersEventGraph bytes.now)) }
 {
     let initial = zero_memory(rt.alloc(), INITIAL_PAGES);
-    match judge_document(rt, bytes, &initial)? {
+    let judged = judge_document(rt, bytes, &initial)?;
+    match judged {
         JudgedDocument::Judged { candidate, finding } => {
             draw(rt.alloc(), &candidate, &finding.judgement())
         }

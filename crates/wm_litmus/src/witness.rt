@@ -37,7 +37,8 @@ fn searched(alloc: Global, start: &Candidate, nodes: u32) -> Result<Answer, Allo
     ensures { IfOk result (Gives (AnswersSearch start.now nodes)) }
 {
     let log = start.log();
-    match find(alloc, start, u64::from(nodes))? {
+    let answer = find(alloc, start, u64::from(nodes))?;
+    match answer {
         Search::Found(witness) => {
             let text = write_document(alloc, log, &witness)?;
             Answer::of_line(0, text)
