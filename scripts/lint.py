@@ -86,6 +86,7 @@ def main():
     argparse.ArgumentParser(description=__doc__, formatter_class=layout).parse_args()
     tally = harness.Tally()
     lint_crates(tally)
+    lint_changes(tally)
     lint_pages(tally, [name for name in tracked() if name.endswith(".md")])
     by_language = {"python": [], "sh": []}
     for name in tracked():

@@ -5,7 +5,8 @@
 
 A log has at most seven events and no witness. The plain program knows the memory model (`wmlabtools/model.py`) and
 nothing of a search: it tries each writer of each byte, and of each such execution all orders. If some are allowed, the
-program has to print a document of the log that the model allows; otherwise that there is no witness. It may not give up.
+program has to print a document of the log that the model allows; otherwise that there is no witness. It may not give
+up.
 The last line is `N passed, N failed`.
 """
 from __future__ import annotations

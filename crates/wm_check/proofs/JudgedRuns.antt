@@ -1,18 +1,13 @@
 -- The verdict on a log whose threads are runs.
-use Rattle.std.proofs.Common.{◌≡◌, ℕ, List, refl}
+use Rattle.std.proofs.Common.{refl}
 use Rattle.wm_ast.specs.declared.module.Module.{Module}
 use Rattle.wm_event.specs.declared.rule.Judgement.{Judgement}
 use Rattle.wm_event.specs.declared.rule.Judgement.TheVariants as judgement
 use Rattle.wm_event.specs.Faults.{Judges}
 use Rattle.wm_event.specs.LoggedRun.{LoggedRun, execution}
-use Rattle.wm_event.specs.Shape.{IsWellShaped}
-use Rattle.wm_logfile.specs.DocumentBytes.{IsDocumentOf}
 use Rattle.wm_replay.specs.Replay.{AreRuns}
-use Rattle.wm_valid.specs.Valid.{IsInit}
 use Rattle.wm_check.specs.Checked.{verdict_by}
 use Rattle.wm_check.specs.Reading.{ComparesLog}
-use Rattle.wm_check.specs.Run.{IsModuleOf}
-use Rattle.wm_check.specs.Verdicts.{Says}
 use Rattle.wm_check.specs.Verified.{JudgesRun}
 
 pub judges_run : (run : LoggedRun) (j : Judgement) → Judges (execution run) j → JudgesRun run (verdict_by run.log j)

@@ -1,5 +1,5 @@
 -- The line of what a judgement of a document found answers the document.
-use Rattle.std.proofs.Common.{◌≡◌, ℕ, List, subst, sym}
+use Rattle.std.proofs.Common.{◌≡◌, ℕ, List, subst}
 use Rattle.wm_check.specs.declared.judged.JudgedDocument.{JudgedDocument}
 use Rattle.wm_check.specs.declared.judged.JudgedDocument.TheVariants.{Refused, Misshapen, Judged}
 use Rattle.wm_check.specs.Judged.{IsJudgedDocument}

@@ -1,5 +1,5 @@
 -- From what a search for a witness starts, and what its answer says of a run over a module.
-use Rattle.std.proofs.Common.{◌≡◌, ◌≢◌, IfErr, IfOk, List, ℕ, Result, Ok, Err, ap, refl, sym, subst}
+use Rattle.std.proofs.Common.{◌≡◌, IfErr, IfOk, List, ℕ, Result, Ok, Err, ap, refl, sym, subst}
 use Rattle.wm_event.specs.declared.log.ThreadLog.{ThreadLog}
 use Rattle.wm_event.specs.declared.shape_fault.ShapeFault.{ShapeFault}
 use Rattle.wm_event.specs.declared.witness.Witness.{Witness}

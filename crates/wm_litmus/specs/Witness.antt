@@ -30,7 +30,7 @@ use Rattle.wm_witness.specs.Unknown.{IsUnknown}
 use Rattle.wm_writers.specs.Forced.{IsNeverValid, with_witness}
 use Rattle.wm_litmus.specs.declared.answer.Answer.{Answer}
 use Rattle.wm_litmus.specs.Lines.{document_line_text, shape_line_text}
-use Rattle.wm_litmus.specs.Prints.{Gives, ended}
+use Rattle.wm_litmus.specs.Prints.{ended}
 use Rattle.wm_litmus.specs.Rules.{zeros}
 
 -- ---- the search

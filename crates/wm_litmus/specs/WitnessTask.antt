@@ -1,5 +1,5 @@
 -- What the words of the command `witness` ask.
-use Rattle.std.specs.Prelude.{ℕ, List, Option, Some, if◌then◌else◌}
+use Rattle.std.specs.Prelude.{ℕ, Option, Some, if◌then◌else◌}
 use Rattle.std.specs.Char.{is_ascii_digit}
 use Rattle.std.specs.List.{list_all}
 use Rattle.std.specs.Option.{option_map}

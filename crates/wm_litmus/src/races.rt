@@ -20,10 +20,11 @@ use std::alloc::{AllocError, Global};
 use std::fmt;
 use std::thread::Threads;
 use wm_check::{
-    CheckedLog, JudgedDocument, check_log, count_events, judge_document, read_module,
+    Breach, CheckedLog, JudgedDocument, Verdict, check_log, count_events, judge_document,
+    read_module,
 };
 use wm_closure::Closure;
-use wm_event::Candidate;
+use wm_event::{Candidate, Judgement};
 use wm_hb::HappensBefore;
 use wm_list::List;
 use wm_machine::CodePosition;
@@ -179,8 +180,13 @@ fn races_of_checked<R: AllocGlobal + Threads + Sync>(
         CheckedLog::Judged {
             candidate,
             positions,
-            finding: Finding::Valid(closure),
-        } => list_allowed(rt, code, &candidate, positions, closure),
+            finding,
+        } => match finding {
+            Finding::Valid(closure) => list_allowed(rt, code, &candidate, positions, closure),
+            Finding::Broken(fault) => {
+                Answer::of_verdict(rt.alloc(), &Verdict::Broken(Breach::Rule(fault)))
+            }
+        },
         told => Answer::of_verdict(rt.alloc(), &told.into_verdict()),
     }
 }
@@ -256,10 +262,10 @@ fn races_of_judged<R: AllocGlobal + Threads + Sync>(
     ensures { IfOk result (Gives (AnswersEventRaces bytes.now)) }
 {
     match judged {
-        JudgedDocument::Judged {
-            candidate,
-            finding: Finding::Valid(closure),
-        } => list_valid(rt, &candidate, closure),
+        JudgedDocument::Judged { candidate, finding } => match finding {
+            Finding::Valid(closure) => list_valid(rt, &candidate, closure),
+            Finding::Broken(fault) => Answer::judged(rt.alloc(), &Judgement::Broken(fault)),
+        },
         told => judged_line(rt.alloc(), &told),
     }
 }

@@ -1,9 +1,7 @@
 //! The command `witness`: whether any writers and any order make a log allowed, and which.
-ghost use Rattle.std.specs.Prelude.{◌≡◌, IfOk, MatchResult};
-ghost use Rattle.wm_event.specs.LoggedRun.{LoggedRun};
+ghost use Rattle.std.specs.Prelude.{IfOk};
 ghost use Rattle.wm_litmus.specs.Prints.{Gives};
 ghost use Rattle.wm_litmus.specs.Witness.{AnswersEventWitness, AnswersSearch, AnswersWitness, AnswersWitnessOver, IsStarted};
-ghost use Rattle.wm_valid.specs.Valid.{IsInit};
 
 use crate::INITIAL_PAGES;
 use crate::answer::Answer;

@@ -132,7 +132,8 @@ pub fn earliest_out_of_order(
 ) -> Option<EventKey>
     requires listed { IsEventOf (execution relation.now) event.now }
     requires writer { IsThere relation.now.log writer }
-    ensures { FindsBelow (execution relation.now) (length relation.now.log) (IsOutOfOrder relation.now event.now writer (overtaking_number case)) result }
+    ensures { FindsBelow (execution relation.now) (length relation.now.log)
+        (IsOutOfOrder relation.now event.now writer (overtaking_number case)) result }
 {
     let candidate = relation.candidate();
     let mut earliest = None;

@@ -1,5 +1,5 @@
 //! V5: in three cases no atomic write is between a read and its writer in the order.
-ghost use Rattle.std.specs.Prelude.{◌≡◌, ◌≢◌, ◌<◌, ◌↔◌, [], ◌∷◌, ℕ, IsTrue, None, Some};
+ghost use Rattle.std.specs.Prelude.{◌≡◌, ◌<◌, ◌↔◌, [], ◌∷◌, ℕ, IsTrue, None, Some};
 ghost use Rattle.wm_event.specs.declared.event.EventId.{EventId};
 ghost use Rattle.wm_event.specs.Execution.{event_at};
 ghost use Rattle.wm_event.specs.declared.event.EventId.TheVariants.{At};
@@ -110,7 +110,8 @@ pub fn is_out_of_order(
     requires listed { IsEventOf (execution relation.now) event.now }
     requires writer { IsThere relation.now.log writer }
     requires other { IsThere relation.now.log other }
-    ensures { IsTrue result ↔ BreaksSequentialConsistency (execution relation.now) (key_of event.now) event.now writer other (overtaking_number case) }
+    ensures { IsTrue result
+        ↔ BreaksSequentialConsistency (execution relation.now) (key_of event.now) event.now writer other (overtaking_number case) }
 {
     is_atomic_write(relation.candidate(), other)
         && stands_before(relation.candidate(), writer, other)
@@ -120,7 +121,8 @@ pub fn is_out_of_order(
 
 /// Whether a writer of a read can be overtaken by a case of the rule.
 fn may_be_overtaken(relation: &HappensBefore, event: &Event, writer: EventId, case: OvertakingCase) -> bool
-    ensures { (v : EventId) → Overtakes (execution relation.now) writer v (key_of event.now) event.now (overtaking_number case) → IsTrue result }
+    ensures { (v : EventId) → Overtakes (execution relation.now) writer v (key_of event.now) event.now (overtaking_number case)
+        → IsTrue result }
 {
     match case {
         OvertakingCase::Synchronized => match writer {

@@ -15,7 +15,8 @@ use wm_event::{Candidate, Event, EventId, Rule, RuleFault, byte_of};
 /// The first case in which a byte of a read breaks the rule.
 fn value_case(candidate: &Candidate, event: &Event, byte: u8, writer: EventId) -> Option<ValueCase>
     requires { byte < 8 }
-    ensures { FindsFirst (λ c. c ∷ []) (BreaksWrittenValues (execution candidate.now) (key_of event.now) event.now byte writer) (option_map value_number result) }
+    ensures { FindsFirst (λ c. c ∷ []) (BreaksWrittenValues (execution candidate.now) (key_of event.now) event.now byte writer)
+        (option_map value_number result) }
 {
     if writer == EventId::At(event.key()) {
         return Some(ValueCase::OwnWrite);

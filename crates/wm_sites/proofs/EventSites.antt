@@ -1,9 +1,7 @@
 -- The positions and the sites of a log's events, thread by thread.
-use Rattle.std.proofs.Common.{◌≡◌, ℕ, ◌+◌, ◌<◌, List, [], ◌∷◌, ◌++◌, length, get_or, map, Option, Some, None, option_map, Result, Ok, refl, sym, ap, subst, ◌∙◌, inl, inr}
-use Rattle.std.proofs.lemmas.List.{length-map}
+use Rattle.std.proofs.Common.{◌≡◌, ℕ, ◌+◌, ◌<◌, List, [], ◌∷◌, ◌++◌, length, get_or, Option, Some, None, refl, sym, ap, subst, ◌∙◌, inl, inr}
 use Rattle.std.specs.Prelude.{IfSome, slice_get, unwrap_or}
-use Rattle.std.proofs.lemmas.Option.{option_and_then_some, same_Some, slice_get-get_or, slice_get-map}
-use Rattle.wm_ast.specs.declared.module.Module.{Module}
+use Rattle.std.proofs.lemmas.Option.{option_and_then_some, same_Some, slice_get-get_or}
 use Rattle.wm_event.specs.declared.event.Event.{Event}
 use Rattle.wm_event.specs.declared.event.EventKey.{EventKey}
 use Rattle.wm_event.specs.declared.log.ThreadLog.{ThreadLog}
@@ -15,7 +13,6 @@ use Rattle.wm_races.specs.declared.site.Site.{Site}
 use Rattle.wm_races.specs.Report.{site_in}
 use Rattle.wm_sites.specs.Sites.{Code, AreSitesOf, AreThreadSites, IsMadeNowhere, IsNoOpcode, IsSiteAt, IsSiteMade, IsSiteOf, IsSiteOrFirst, first_site, position_in}
 use Rattle.wm_replay.proofs.LogPositions.{one_more}
-use Rattle.wm_replay.specs.Positions.{AreLogPositions}
 
 -- the sites of the first threads
 abbrev pub AreSitesIn : Code → List (List CodePosition) → List ThreadLog → List (List Site) → Type 0

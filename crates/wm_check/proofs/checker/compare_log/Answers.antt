@@ -1,4 +1,4 @@
-use Rattle.std.proofs.Common.{◌≡◌, subst, sym}
+use Rattle.std.proofs.Common.{subst, sym}
 use Rattle.std.proofs.lemmas.Result.{IfOk-weaker}
 use Rattle.wm_event.specs.LoggedRun.{LoggedRun}
 use Rattle.wm_event.specs.Shape.{IsWellShaped}

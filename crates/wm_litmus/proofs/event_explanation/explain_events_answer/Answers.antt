@@ -1,4 +1,4 @@
-use Rattle.std.proofs.Common.{List, ℕ, ◌++◌, ap, subst, string_bytes, ◌∙◌}
+use Rattle.std.proofs.Common.{List, ℕ, subst, string_bytes, ◌∙◌}
 use Rattle.std.proofs.lemmas.Result.{IfOk-weaker}
 use Rattle.wm_check.specs.Judged.{IsJudgedDocument}
 use Rattle.wm_litmus.proofs.JudgedDocuments.{answers_rules}

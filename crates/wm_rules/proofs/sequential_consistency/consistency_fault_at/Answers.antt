@@ -1,5 +1,5 @@
 -- The cases, one after the other.
-use Rattle.std.proofs.Common.{◌≡◌, ◌+◌, ℕ, [], ◌∷◌, rules, subst, arith, refl, sym, ◌∙◌}
+use Rattle.std.proofs.Common.{◌+◌, ℕ, [], ◌∷◌, rules, subst, arith, refl, sym, ◌∙◌}
 use Rattle.wm_event.specs.Faults.{Breaks, rank}
 use Rattle.wm_event.specs.LoggedRun.{execution}
 use Rattle.wm_event.proofs.Scan.{scan-found, scan-more}
