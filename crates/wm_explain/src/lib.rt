@@ -15,6 +15,7 @@ mod some_sites;
 mod start_refusal;
 
 pub use reasons::{
-    explain_difference, explain_document, explain_events, explain_judged, explain_refusal, explain_shape,
+    explain_difference, explain_document, explain_events, explain_judged, explain_refusal,
+    explain_shape,
 };
 pub use replay::{PictureNotes, difference_notes, judged_notes};

@@ -41,7 +41,11 @@ pub fn explain_refusal(
 /// # Errors
 ///
 /// Only if an allocation fails.
-pub fn explain_document(alloc: Global, fault: &DocFault, bytes: &[u8]) -> Result<String, AllocError> {
+pub fn explain_document(
+    alloc: Global,
+    fault: &DocFault,
+    bytes: &[u8],
+) -> Result<String, AllocError> {
     document_reason(alloc, fault, bytes)
 }
 

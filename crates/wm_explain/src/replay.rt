@@ -215,7 +215,12 @@ fn is_from_nowhere(
     match writers_that_fit(alloc, candidate, fault)? {
         Writers::Only(writers) | Writers::Several(writers) => {
             for source in writers.sources.as_slice() {
-                if source.bytes.as_slice().iter().any(|byte: &ByteFit| -> bool { byte.fit.is_empty() }) {
+                if source
+                    .bytes
+                    .as_slice()
+                    .iter()
+                    .any(|byte: &ByteFit| -> bool { byte.fit.is_empty() })
+                {
                     return Ok(true);
                 }
             }

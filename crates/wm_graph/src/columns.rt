@@ -50,7 +50,11 @@ pub(crate) struct Column {
 }
 
 /// The column of a thread: a node for each of its events, in order.
-fn column_of(alloc: Global, thread: &ThreadLog, breach: Option<Breach>) -> Result<Column, AllocError>
+fn column_of(
+    alloc: Global,
+    thread: &ThreadLog,
+    breach: Option<Breach>,
+) -> Result<Column, AllocError>
     ensures events { IfOk result (λ column. events_of column ≡ thread.now.events) }
     ensures marks { IfOk result (λ column. All (IsMarkedBy breach) column.nodes) }
 {

@@ -105,7 +105,10 @@ impl<'c, 'i> HappensBefore<'c, 'i> {
     pub fn into_closure(self) -> Closure
         ensures { IsHappensBefore self.entry result }
     {
-        let HappensBefore { candidate: _candidate, closure } = self;
+        let HappensBefore {
+            candidate: _candidate,
+            closure,
+        } = self;
         closure
     }
 

@@ -166,11 +166,7 @@ fn judged_picture(
 }
 
 /// The picture of what was checked; if that is refused, the line of the refusal.
-fn show_checked(
-    alloc: Global,
-    code: ModuleCode,
-    checked: CheckedLog,
-) -> Result<Answer, AllocError>
+fn show_checked(alloc: Global, code: ModuleCode, checked: CheckedLog) -> Result<Answer, AllocError>
     ensures { IfOk result (Shows (verdict_of checked.entry)) }
 {
     match checked {

@@ -46,28 +46,28 @@ module _ (run : LoggedRun) where
     -- so of those the early ones, which happen before the event, come first
     pub before_turns : (place : ℕ) → TurnsOnce (AtIndex (λ o. IsBeforeAt run o place) places) (AtIndex (λ o. IsNotBeforeAt run o place) places) (length places)
     before_turns place = record {
-          falls = λ i j l within early o at.
-              let n = get_or places j 0 in
-              let at_n = slice_get-get_or places j 0 within in
-              before_before i j o n place l at at_n (early n at_n);
-          rises = λ i j l within late o at.
-              let m = get_or places i 0 in
-              let at_m = slice_get-get_or places i 0 (omega (arith, l, within)) in
-              not_before_before i j m o place l at_m at (late m at_m);
-        }
+      falls = λ i j l within early o at.
+          let n = get_or places j 0 in
+          let at_n = slice_get-get_or places j 0 within in
+          before_before i j o n place l at at_n (early n at_n);
+      rises = λ i j l within late o at.
+          let m = get_or places i 0 in
+          let at_m = slice_get-get_or places i 0 (omega (arith, l, within)) in
+          not_before_before i j m o place l at_m at (late m at_m);
+    }
 
     -- and the late ones, which the event happens before, come last
     pub after_turns : (place : ℕ) → TurnsOnce (AtIndex (λ o. IsNotBeforeAt run place o) places) (AtIndex (λ o. IsBeforeAt run place o) places) (length places)
     after_turns place = record {
-          falls = λ i j l within early o at.
-              let n = get_or places j 0 in
-              let at_n = slice_get-get_or places j 0 within in
-              not_after_after i j o n place l at at_n (early n at_n);
-          rises = λ i j l within late o at.
-              let m = get_or places i 0 in
-              let at_m = slice_get-get_or places i 0 (omega (arith, l, within)) in
-              before_after i j m o place l at_m at (late m at_m);
-        }
+      falls = λ i j l within early o at.
+          let n = get_or places j 0 in
+          let at_n = slice_get-get_or places j 0 within in
+          not_after_after i j o n place l at at_n (early n at_n);
+      rises = λ i j l within late o at.
+          let m = get_or places i 0 in
+          let at_m = slice_get-get_or places i 0 (omega (arith, l, within)) in
+          before_after i j m o place l at_m at (late m at_m);
+    }
 
 -- the places up to the turn, and the others
 pub parted : (P Q : ℕ → Type 0) (places : List ℕ) (n : ℕ) → IsTurn (AtIndex P places) (AtIndex Q places) (length places) n → AreParted P Q places n

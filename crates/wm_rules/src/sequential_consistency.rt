@@ -120,7 +120,12 @@ pub fn is_out_of_order(
 }
 
 /// Whether a writer of a read can be overtaken by a case of the rule.
-fn may_be_overtaken(relation: &HappensBefore, event: &Event, writer: EventId, case: OvertakingCase) -> bool
+fn may_be_overtaken(
+    relation: &HappensBefore,
+    event: &Event,
+    writer: EventId,
+    case: OvertakingCase,
+) -> bool
     ensures { (v : EventId) → Overtakes (execution relation.now) writer v (key_of event.now) event.now (overtaking_number case)
         → IsTrue result }
 {
@@ -142,7 +147,12 @@ fn may_be_overtaken(relation: &HappensBefore, event: &Event, writer: EventId, ca
 }
 
 /// The range that the other write has in a case of the rule.
-pub fn range_by_case(candidate: &Candidate, event: &Event, writer: EventId, case: OvertakingCase) -> Range
+pub fn range_by_case(
+    candidate: &Candidate,
+    event: &Event,
+    writer: EventId,
+    case: OvertakingCase,
+) -> Range
     ensures { IsRangeBy (execution candidate.now) event.now writer case result }
 {
     if case != OvertakingCase::WrittenOver {
