@@ -5,13 +5,18 @@ use Rattle.wm_check.specs.declared.judged.JudgedDocument.TheVariants.{Refused, M
 use Rattle.wm_check.specs.Judged.{IsJudgedDocument}
 use Rattle.wm_event.specs.Faults.{Judges}
 use Rattle.wm_event.specs.LoggedRun.{LoggedRun, execution}
+use Rattle.wm_event.specs.Rules.{IsValid}
 use Rattle.wm_event.specs.Shape.{IsWellShaped}
+use Rattle.wm_rules.specs.declared.scan.Finding.TheVariants.{Valid}
+use Rattle.wm_litmus.specs.declared.answer.Answer.{Answer}
+use Rattle.wm_litmus.specs.Races.{AnswersEventRaces, ReportsOwnRaces}
+use Rattle.wm_litmus.specs.Races.AnswersEventRaces.{listed}
 use Rattle.wm_rules.specs.declared.scan.Finding.{Finding}
 use Rattle.wm_rules.specs.Finding.{judgement_of}
 use Rattle.wm_litmus.specs.EventExplanation.{AnswersEventGraph}
 use Rattle.wm_litmus.specs.EventExplanation.AnswersEventGraph.{pictured}
 use Rattle.wm_litmus.specs.Lines.{judgement_status}
-use Rattle.wm_litmus.specs.Prints.{ended}
+use Rattle.wm_litmus.specs.Prints.{Gives, ended}
 use Rattle.wm_litmus.specs.Rules.{AnswersRules, AnswersRun, judged_status, judged_text, zeros}
 use Rattle.wm_litmus.specs.Rules.AnswersRules.{read, refused}
 use Rattle.wm_litmus.specs.Rules.AnswersRun.{judged, misshapen}
@@ -32,3 +37,12 @@ answers_picture bytes run finding status text is status_is =
     (subst IsWellShaped is.1.run_is is.1.shape)
     (subst (λ (r : LoggedRun). Judges (execution r) (judgement_of finding)) is.1.run_is is.1.judged)
     status_is
+
+-- and the races of a valid run answer it
+pub answers_races : (bytes : List ℕ) (run : LoggedRun) (closure : List (List ℕ)) (answer : Answer) → IsJudgedDocument bytes (zeros 16) (Judged run (Valid closure))
+    → Gives (ReportsOwnRaces run) answer → Gives (AnswersEventRaces bytes) answer
+answers_races bytes run closure answer is reports =
+    listed run.log run.witness is.0
+    (subst IsWellShaped is.1.run_is is.1.shape)
+    (subst (λ (r : LoggedRun). IsValid (execution r)) is.1.run_is is.1.judged)
+    (subst (λ (r : LoggedRun). Gives (ReportsOwnRaces r) answer) is.1.run_is reports)

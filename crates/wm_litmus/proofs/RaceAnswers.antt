@@ -1,6 +1,9 @@
 -- What lists the races of a run answers what records it.
 use Rattle.std.proofs.Common.{◌≡◌, ◌⊎◌, inl, inr, ℕ, List, [], ◌∷◌, length, take, ap, subst, string_bytes, refl, arith}
 use Rattle.std.proofs.lemmas.Option.{slice_get_within}
+use Rattle.wm_check.specs.declared.verdict.Verdict.{Verdict}
+use Rattle.wm_check.specs.Reading.{SaysOver}
+use Rattle.wm_check.specs.Texts.{verdict_status, verdict_text}
 use Rattle.wm_event.specs.declared.event.EventKey.{EventKey}
 use Rattle.wm_event.specs.Execution.{Execution}
 use Rattle.wm_event.specs.LoggedRun.{LoggedRun, execution}
@@ -16,8 +19,9 @@ use Rattle.wm_races.specs.Report.{HasLine, IsRaceReport}
 use Rattle.wm_sites.specs.Sites.{AreEventSites, Code}
 use Rattle.wm_sequential.specs.Sequential.{IsSequential, RaceFreeRunsAreSequential}
 use Rattle.wm_litmus.specs.declared.answer.Answer.{Answer}
-use Rattle.wm_litmus.specs.Prints.{Gives}
-use Rattle.wm_litmus.specs.Races.{ListsFirst, ListsRaces, ReportsOwnRaces, ReportsRaces, pair_text, sites_text}
+use Rattle.wm_litmus.specs.Prints.{Gives, Prints}
+use Rattle.wm_litmus.specs.Races.{IsNotAllowed, ListsFirst, ListsRaces, RacesOver, ReportsOwnRaces, ReportsRaces, pair_text, sites_text}
+use Rattle.wm_litmus.specs.Races.AnswersRaces.{told}
 
 -- of no race in the list there is none
 none_in : (p : RacingPair) → IsIn [] p → ⊥
@@ -78,6 +82,11 @@ reports_own law run shape valid found threads events answer first of_threads of_
   lists = subst (λ n. ListsRaces pair_text n (event_count run.log) first.races answer.status (string_bytes answer.text)) of_threads
       (subst (λ n. ListsRaces pair_text threads n first.races answer.status (string_bytes answer.text)) of_events (lists first.races first.first first.total));
 }
+
+-- the line of a verdict that doesn't allow a run answers the bytes that it is on
+pub told_over : (code : Code) (document_bytes : List ℕ) (v : Verdict) (answer : Answer) → SaysOver code.module document_bytes v → IsNotAllowed v
+    → Prints (verdict_status v) (verdict_text v) answer → RacesOver code document_bytes answer
+told_over code document_bytes v answer says other prints = λ is_module. told v (says code.bytes is_module) other prints.status_is prints.text_is
 
 -- the status of a broken run, or of a refused one, isn't that of an allowed one
 pub one_not_zero : (status : ℕ) → status ≡ 1 → status ≡ 0 → ⊥

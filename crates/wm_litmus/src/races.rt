@@ -5,7 +5,6 @@ ghost use Rattle.wm_check.specs.Judged.{IsJudgedDocument};
 ghost use Rattle.wm_check.specs.Reading.{SaysOver};
 ghost use Rattle.wm_event.specs.LoggedRun.{execution};
 ghost use Rattle.wm_event.specs.Rules.{IsValid};
-ghost use Rattle.wm_event.specs.Shape.{IsWellShaped};
 ghost use Rattle.wm_hb.specs.Steps.{IsHappensBefore};
 ghost use Rattle.wm_litmus.specs.Races.{AnswersEventRaces, AnswersRaces, ListsFirst, RacesOver, ReportsOwnRaces, ReportsRaces, more_text, pair_text, shown_text, site_text, sites_text};
 ghost use Rattle.wm_litmus.specs.Prints.{Gives, ended};
@@ -15,12 +14,12 @@ ghost use Rattle.wm_sites.specs.Sites.{code_in};
 
 use crate::INITIAL_PAGES;
 use crate::answer::Answer;
-use crate::rules::{judged_line, zero_memory};
+use crate::rules::zero_memory;
 use std::alloc::{AllocError, Global};
 use std::fmt;
 use std::thread::Threads;
 use wm_check::{
-    Breach, CheckedLog, JudgedDocument, Verdict, check_log, count_events, judge_document,
+    Breach, CheckedLog, JudgedDocument, Refusal, Verdict, check_log, count_events, judge_document,
     read_module,
 };
 use wm_closure::Closure;
@@ -146,7 +145,6 @@ fn list_allowed<R: AllocGlobal + Threads + Sync>(
 ) -> Result<Answer, AllocError>
     requires positions { AreLogPositions (code_in code).module candidate.now.log positions.items }
     requires closure { IsHappensBefore candidate.now closure }
-    requires shape { IsWellShaped candidate.now }
     requires valid { IsValid (execution candidate.now) }
     ensures { IfOk result (Gives (ReportsRaces (code_in code.exit) candidate.now)) }
 {
@@ -176,7 +174,16 @@ fn races_of_checked<R: AllocGlobal + Threads + Sync>(
     requires kept { IsCheckOf (code_in code).module document_bytes.now checked }
     ensures { IfOk result (RacesOver (code_in code.exit) document_bytes.now) }
 {
+    let alloc = rt.alloc();
     match checked {
+        CheckedLog::Refused(refusal) => Answer::of_verdict(alloc, &Verdict::Refused(refusal)),
+        CheckedLog::Misshapen(misshapen) => {
+            Answer::of_verdict(alloc, &Verdict::Refused(Refusal::Shape(misshapen.fault)))
+        }
+        CheckedLog::Differs {
+            candidate: _candidate,
+            answer,
+        } => Answer::of_verdict(alloc, &Verdict::Broken(Breach::Replay(answer))),
         CheckedLog::Judged {
             candidate,
             positions,
@@ -184,10 +191,9 @@ fn races_of_checked<R: AllocGlobal + Threads + Sync>(
         } => match finding {
             Finding::Valid(closure) => list_allowed(rt, code, &candidate, positions, closure),
             Finding::Broken(fault) => {
-                Answer::of_verdict(rt.alloc(), &Verdict::Broken(Breach::Rule(fault)))
+                Answer::of_verdict(alloc, &Verdict::Broken(Breach::Rule(fault)))
             }
         },
-        told => Answer::of_verdict(rt.alloc(), &told.into_verdict()),
     }
 }
 
@@ -235,7 +241,6 @@ fn list_valid<R: AllocGlobal + Threads + Sync>(
     closure: Closure,
 ) -> Result<Answer, AllocError>
     requires closure { IsHappensBefore candidate.now closure }
-    requires shape { IsWellShaped candidate.now }
     requires valid { IsValid (execution candidate.now) }
     ensures { IfOk result (Gives (ReportsOwnRaces candidate.now)) }
 {
@@ -262,11 +267,14 @@ fn races_of_judged<R: AllocGlobal + Threads + Sync>(
     ensures { IfOk result (Gives (AnswersEventRaces bytes.now)) }
 {
     match judged {
+        JudgedDocument::Refused(fault) => Answer::refused_document(rt.alloc(), &fault),
+        JudgedDocument::Misshapen(misshapen) => {
+            Answer::refused_shape(rt.alloc(), misshapen.fault)
+        }
         JudgedDocument::Judged { candidate, finding } => match finding {
             Finding::Valid(closure) => list_valid(rt, &candidate, closure),
             Finding::Broken(fault) => Answer::judged(rt.alloc(), &Judgement::Broken(fault)),
         },
-        told => judged_line(rt.alloc(), &told),
     }
 }
 

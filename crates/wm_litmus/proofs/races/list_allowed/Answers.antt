@@ -26,7 +26,7 @@ returns g c =
     let threads : c.threads-threads.result.now ≡ run.log = c.threads-threads.ensures.value ∙ c.log.ensures.value in
     IfOk-weaker c.listed.result _ _
     (λ answer lists.
-    reports_races c.race_free_runs_are_sequential.ensures (code_in c.args.code) run c.requires.shape c.requires.valid sites races (take c.min-shown.result c.as_slice-2.result.now)
+    reports_races c.race_free_runs_are_sequential.ensures (code_in c.args.code) run c.log.ensures.shape c.requires.valid sites races (take c.min-shown.result c.as_slice-2.result.now)
     c.len-2.result c.count_events.result c.len-3.result answer has of_events report shown c.len-3.ensures
     (c.len-2.ensures ∙ ap length threads) (c.count_events.ensures ∙ ap event_count threads) lists)
     c.listed.ensures
