@@ -1,4 +1,4 @@
-use Rattle.std.proofs.Common.{ap, string_bytes, subst, ◌∙◌}
+use Rattle.std.proofs.Common.{string_bytes, subst}
 use Rattle.std.proofs.lemmas.Result.{IfOk-weaker}
 use Rattle.wm_check.specs.declared.judged.JudgedDocument.TheVariants.{Refused, Misshapen, Judged}
 use Rattle.wm_check.specs.Judged.{IsJudgedDocument}
