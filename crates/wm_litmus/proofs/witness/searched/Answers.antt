@@ -16,7 +16,7 @@ pub write_document-requires : goal.write_document-requires
 write_document-requires c =
     let run = c.args.start.now in
     let is = subst (FoundIsValid run) c.in-Found.is c.in_ok-answer.ensures.found in
-    subst (λ log. FitsLog log c.in-Found.witness) (sym c.log.ensures.value) (fits_log (with_witness run c.in-Found.witness) is.0)
+    subst (λ log. FitsLog log c.in-Found.witness) (sym c.log-log.ensures.value) (fits_log (with_witness run c.in-Found.witness) is.0)
 
 pub returns-in_ok-text-in-Found : goal.returns-in_ok-text-in-Found
 returns-in_ok-text-in-Found c =
@@ -25,14 +25,14 @@ returns-in_ok-text-in-Found c =
     let is = subst (FoundIsValid run) c.in-Found.is c.in_ok-answer.ensures.found in
     IfOk-weaker c.of_line.result _ _
     (λ answer prints. found w is.0 is.1 prints.status_is
-    (prints.text_is ∙ ap ended (c.in_ok-text.ensures.text ∙ ap (λ log. compact_text (document_2 log w)) c.log.ensures.value)))
+    (prints.text_is ∙ ap ended (c.in_ok-text.ensures.text ∙ ap (λ log. compact_text (document_2 log w)) c.log-log.ensures.value)))
     c.of_line.ensures
 
 pub returns-in_ok-line-in-NoWitness : goal.returns-in_ok-line-in-NoWitness
 returns-in_ok-line-in-NoWitness c =
     let run = c.args.start.now in
     let is = subst (NoneIsNever run) c.in-NoWitness.is c.in_ok-answer.ensures.none in
-    let threads : c.threads-threads.result.now ≡ run.log = c.threads-threads.ensures.value ∙ c.log.ensures.value in
+    let threads : c.threads-threads.result.now ≡ run.log = c.threads-threads.ensures.value ∙ c.log-log.ensures.value in
     IfOk-weaker c.of_line-in-NoWitness.result _ _
     (λ answer prints. none is prints.status_is
     (prints.text_is ∙ ap ended (c.in_ok-line.ensures.ok ∙ ap₂ no_witness_text (c.len.ensures ∙ ap length threads) (c.count_events.ensures ∙ ap event_count threads))))
