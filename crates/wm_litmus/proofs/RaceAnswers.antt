@@ -15,7 +15,7 @@ use Rattle.wm_races.specs.declared.site.Site.{Site}
 use Rattle.wm_races.specs.declared.site.SiteRace.{SiteRace}
 use Rattle.wm_races.specs.First.{AreFirstRaces}
 use Rattle.wm_races.specs.Races.{IsIn, IsRaceList, Race}
-use Rattle.wm_races.specs.Report.{HasLine, IsRaceReport}
+use Rattle.wm_races.specs.Report.{HasLine, HasSites, IsRaceReport}
 use Rattle.wm_sites.specs.Sites.{AreEventSites, Code}
 use Rattle.wm_sequential.specs.Sequential.{IsSequential, RaceFreeRunsAreSequential}
 use Rattle.wm_litmus.specs.declared.answer.Answer.{Answer}

@@ -1,5 +1,5 @@
 -- From what a search for a witness starts, and what its answer says of a run over a module.
-use Rattle.std.proofs.Common.{◌≡◌, IfErr, IfOk, List, ℕ, Result, Ok, Err, ap, refl, sym, subst}
+use Rattle.std.proofs.Common.{◌≡◌, IfErr, IfOk, List, ℕ, Result, Ok, Err, ap, refl, sym, subst, ◌++◌, append_assoc}
 use Rattle.wm_event.specs.declared.log.ThreadLog.{ThreadLog}
 use Rattle.wm_event.specs.declared.shape_fault.ShapeFault.{ShapeFault}
 use Rattle.wm_event.specs.declared.witness.Witness.{Witness}
@@ -7,6 +7,10 @@ use Rattle.wm_event.specs.LoggedRun.{LoggedRun}
 use Rattle.wm_event.specs.Shape.{IsShapeFault}
 use Rattle.wm_witness.specs.Unknown.{IsUnknown}
 use Rattle.wm_litmus.specs.Witness.{IsStarted}
+
+-- a line of four parts, from the left and from the right
+pub joined_4 : (a b c d : List ℕ) → a ++ b ++ c ++ d ≡ a ++ (b ++ (c ++ d))
+joined_4 a b c d = simp append_assoc
 
 -- a log as a candidate is a start of a search, or has the first fault of its shape
 pub started_as : (log : List ThreadLog) (initial : List ℕ) (w : Witness) (r : Result LoggedRun ShapeFault) → IsUnknown log w

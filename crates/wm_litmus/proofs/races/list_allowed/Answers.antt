@@ -27,6 +27,6 @@ returns g c =
     IfOk-weaker c.listed.result _ _
     (λ answer lists.
     reports_races c.race_free_runs_are_sequential.ensures (code_in c.args.code) run c.log.ensures.shape c.requires.valid sites races (take c.min-shown.result c.as_slice-2.result.now)
-    c.len-2.result c.count_events.result c.len-3.result answer has of_events report shown c.len-3.ensures
-    (c.len-2.ensures ∙ ap length threads) (c.count_events.ensures ∙ ap event_count threads) lists)
+    (length c.threads-threads.result.now) c.count_events.result c.len-2.result answer has of_events report shown c.len-2.ensures
+    (ap length threads) (c.count_events.ensures ∙ ap event_count threads) lists)
     c.listed.ensures

@@ -15,7 +15,7 @@ returns g c =
     let threads : c.threads-threads.result.now ≡ run.log = c.threads-threads.ensures.value ∙ c.log.ensures.value in
     IfOk-weaker c.listed.result _ _
     (λ answer lists.
-    reports_own c.race_free_runs_are_sequential.ensures run c.log.ensures.shape c.requires.valid found c.len.result c.count_events.result answer first
-    (c.len.ensures ∙ ap length threads) (c.count_events.ensures ∙ ap event_count threads)
-    (subst (λ shown. ListsFirst pair_text c.len.result c.count_events.result shown found.total answer) c.as_slice.ensures lists))
+    reports_own c.race_free_runs_are_sequential.ensures run c.log.ensures.shape c.requires.valid found (length c.threads-threads.result.now) c.count_events.result answer first
+    (ap length threads) (c.count_events.ensures ∙ ap event_count threads)
+    (subst (λ shown. ListsFirst pair_text (length c.threads-threads.result.now) c.count_events.result shown found.total answer) c.as_slice.ensures lists))
     c.listed.ensures
