@@ -13,18 +13,18 @@ use Rattle.wm_litmus.specs.Races.AnswersRaces.{listed}
 use Rattle.wm_litmus.proofs.RaceAnswers.{told_over}
 use Rattle.wm_litmus.proofs.races.races_of_checked.Goals as goal
 
-pub list_allowed-requires-positions : goal.list_allowed-requires-positions
-list_allowed-requires-positions g c =
+pub list_allowed-requires-clause-positions : goal.list_allowed-requires-clause-positions
+list_allowed-requires-clause-positions g c =
     let is = subst (IsCheckOf c.args.code.module.now c.args.document_bytes.now) c.in-Judged.is c.requires.kept in
     is.1.made_at
 
-pub list_allowed-requires-closure : goal.list_allowed-requires-closure
-list_allowed-requires-closure g c =
+pub list_allowed-requires-clause-closure : goal.list_allowed-requires-clause-closure
+list_allowed-requires-clause-closure g c =
     let is = subst (IsCheckOf c.args.code.module.now c.args.document_bytes.now) c.in-Judged.is c.requires.kept in
     subst (HasClosure c.in-Judged.candidate) c.in-Valid.is is.1.closed
 
-pub list_allowed-requires-valid : goal.list_allowed-requires-valid
-list_allowed-requires-valid g c =
+pub list_allowed-requires-clause-valid : goal.list_allowed-requires-clause-valid
+list_allowed-requires-clause-valid g c =
     let is = subst (IsCheckOf c.args.code.module.now c.args.document_bytes.now) c.in-Judged.is c.requires.kept in
     subst (λ f. Judges (execution c.in-Judged.candidate) (judgement_of f)) c.in-Valid.is is.1.judged
 

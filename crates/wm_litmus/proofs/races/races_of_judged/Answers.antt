@@ -12,13 +12,13 @@ use Rattle.wm_litmus.proofs.JudgedDocuments.{answers_races, answers_rules}
 use Rattle.wm_litmus.proofs.RaceAnswers.{one_not_zero, two_not_zero}
 use Rattle.wm_litmus.proofs.races.races_of_judged.Goals as goal
 
-pub list_valid-requires-closure : goal.list_valid-requires-closure
-list_valid-requires-closure g c =
+pub list_valid-requires-clause-closure : goal.list_valid-requires-clause-closure
+list_valid-requires-clause-closure g c =
     let is = subst (IsJudgedDocument c.args.bytes.now (zeros 16)) c.in-Judged.is c.requires in
     subst (HasClosure c.in-Judged.candidate) c.in-Valid.is is.1.closed
 
-pub list_valid-requires-valid : goal.list_valid-requires-valid
-list_valid-requires-valid g c =
+pub list_valid-requires-clause-valid : goal.list_valid-requires-clause-valid
+list_valid-requires-clause-valid g c =
     let is = subst (IsJudgedDocument c.args.bytes.now (zeros 16)) c.in-Judged.is c.requires in
     subst (λ f. Judges (execution c.in-Judged.candidate) (judgement_of f)) c.in-Valid.is is.1.judged
 
