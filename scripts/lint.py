@@ -11,7 +11,7 @@ import os
 import shutil
 import subprocess
 
-from wmlabtools import TOP, cited, clauses, harness, imports, paragraphs, prover
+from wmlabtools import TOP, changes, cited, clauses, harness, imports, paragraphs, prover
 
 COLUMNS = 120
 
@@ -70,6 +70,11 @@ def lint_crates(tally):
         tally.check(not unused, f"{crate} imports what it doesn't name", "\n".join(unused))
 
 
+def lint_changes(tally):
+    lines = changes.faults()
+    tally.check(not lines, f"{changes.PAGE} has a table that is not complete", "\n".join(lines))
+
+
 def lint_pages(tally, names):
     for name in names:
         long_ones = paragraphs.long_ones(name)
@@ -81,6 +86,7 @@ def main():
     argparse.ArgumentParser(description=__doc__, formatter_class=layout).parse_args()
     tally = harness.Tally()
     lint_crates(tally)
+    lint_changes(tally)
     lint_pages(tally, [name for name in tracked() if name.endswith(".md")])
     by_language = {"python": [], "sh": []}
     for name in tracked():

@@ -29,7 +29,7 @@ TAKES = "{read} takes its byte {byte}, at address {address}, from "
 BETWEEN = "is between {writer} and {read} in the order"
 CANNOT = "with this order {read} can't read from {writer}."
 SENTENCES = {
-    ("V1", 1): TAKES + "itself: an update can't read from its own write.",
+    ("V1", 1): TAKES + "{itself}.",
     ("V1", 2): TAKES + "{writer}, which doesn't write that address.",
     ("V1", 3): TAKES + "{writer}: it reads {value_read} there, and {writer} wrote {value_written}.",
     ("V2", 1): "{writer} comes before {read} in their thread, but the order lists {writer} after {read}.",
@@ -63,6 +63,8 @@ SENTENCES = {
         + BETWEEN + ", and {writer} happens before {other} and {read}: " + CANNOT
     ),
 }
+# An event that is its own writer, by whether it writes.
+ITSELF = {True: "itself: an update can't read from its own write", False: "itself, which is a read and writes nothing"}
 # What happens before what in a fault: `r` is its read, `w` the writer and `o` the other write.
 PREMISES = {("V3", 1): ["rw"], ("V3", 2): ["wo", "or"], ("V5", 2): ["wr", "or"], ("V5", 3): ["wr", "wo"]}
 TABLE = ["The events, with their places in the order:", *LEGEND]
@@ -246,6 +248,7 @@ class Explanation:
         address = self.read.address + self.byte
         return SENTENCES[self.rule, self.case].format(
             read=self.read.name,
+            itself=ITSELF[self.read.is_write()],
             writer=self.writer.name,
             other=self.other and self.other.name,
             byte=self.byte,

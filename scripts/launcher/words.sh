@@ -8,17 +8,25 @@ usage_of() {
         line=${line#./}
         line=${line#wmlab }
         line=${line%%  *}
-        if [[ $line =~ ^$1(\ \[[A-Z]+\])?(\ [A-Z]+(\.\.\.?)?)+$ ]]; then
+        if [[ $line =~ ^$1(\ \[[A-Z]+\])?(\ [A-Z]+(\.\.\.?)?)+(\ \[[A-Z]+\])?$ ]]; then
             printf '%s\n' "$line"
             return
         fi
     done <"$help"
 }
 
-# The same for several words, the command among them: with the word in brackets if there is room for it, or without.
+# The same for several words, the command among them: with the word in brackets if there is room for it, or without. The
+# last word decides between a module and a number of nodes.
 usage_for() {
     local usage words
     usage=$(usage_of "$1")
+    if [ "$1" = witness ] && [ -n "$usage" ]; then
+        case $2:$3 in
+        [12]:*) usage="witness DOC" ;;
+        3:*[!0-9]*) usage="witness MODULE DOC" ;;
+        3:*) usage="witness DOC NODES" ;;
+        esac
+    fi
     read -ra words <<<"$usage"
     if [ "$2" -lt "${#words[@]}" ]; then usage=${usage/ \[*\]/}; fi
     printf '%s\n' "${usage//[\[\]]/}"
@@ -58,7 +66,7 @@ look_at_words() {
     # The shell takes many times longer over letters that may have several bytes.
     local LC_ALL=C usage word least=0
     [[ ${1-} =~ ^[a-z]+$ ]] || refuse_command "${1-}"
-    usage=$(usage_for "$1" $#)
+    usage=$(usage_for "$1" $# "${!#}")
     [ -n "$usage" ] || refuse_command "$1"
     for word in $usage; do
         case $word in *..) ;; *) least=$((least + 1)) ;; esac
@@ -80,6 +88,7 @@ look_at_words() {
         look_at_starts "${@:4}"
         ;;
     esac
+    case $usage in witness*NODES) look_at_nodes "${!#}" ;; esac
     look_at_files "$usage" "${@:2}"
     case $1 in drive | trace | run) look_at_plan "$@" ;; esac
 }
@@ -146,6 +155,11 @@ look_at_turns() {
 look_at_rounds() {
     if is_number "$1" 10000 && [[ $1 =~ [1-9] ]]; then return; fi
     refuse rounds "ROUNDS is ${1@Q}. Expected: an integer from 1 to 10000"
+}
+
+look_at_nodes() {
+    if is_number "$1" 4294967295 && [[ $1 =~ [1-9] ]]; then return; fi
+    refuse nodes "NODES is ${1@Q}. Expected: an integer from 1 to 4294967295"
 }
 
 # What to write for an argument that is not an unsigned decimal: as an i32, and, if another, as an i64; nothing if that

@@ -5,7 +5,7 @@ pub mod SameRefusal
 pub mod OnePlace
 pub mod SameVerdict
 pub mod CompletedFits
-pub mod Candidates
 pub mod SameEvents
 pub mod OneCompletion
 pub mod AsCheck
+pub mod JudgedRuns

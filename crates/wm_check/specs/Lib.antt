@@ -7,3 +7,4 @@ pub mod Alone
 pub mod SameVerdict
 pub mod Verified
 pub mod Texts
+pub mod Judged

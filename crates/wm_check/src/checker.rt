@@ -1,11 +1,11 @@
 //! The check of a log against a module.
-ghost use Rattle.std.specs.Prelude.{◌≡◌, ◌≤◌, IfErr, IfOk, IfSome};
+ghost use Rattle.std.specs.Prelude.{◌≡◌, ◌≤◌, IfErr, IfOk};
 ghost use Rattle.wm_event.specs.Limits.{max_events};
 ghost use Rattle.wm_event.specs.Shape.{event_count};
 ghost use Rattle.wm_logfile.specs.DocumentBytes.{IsDocumentOf};
 ghost use Rattle.wm_check.specs.Run.{IsModuleOf};
-ghost use Rattle.wm_check.specs.Reading.{ComparesLog, ComparesOver, HasCandidate, IsCandidateOver, IsCertified, IsJudged, IsRecordedOver, IsUnreadDocument, IsUnreadModule, KeepsMisshapen, KeepsPositions, SaysOver};
-ghost use Rattle.wm_check.specs.Checked.{RefusesShape};
+ghost use Rattle.wm_check.specs.Checked.{IsCheckOf, IsCheckOfLog, IsCheckOfRun, verdict_by, verdict_of};
+ghost use Rattle.wm_check.specs.Reading.{ComparesLog, ComparesOver, IsUnreadDocument, IsUnreadModule, SaysOver};
 ghost use Rattle.wm_check.specs.Verdicts.{IfAllowed, IfBroken, IfRefused, IsAllowed, IsBrokenBy, IsRefusedFor, Says};
 ghost use Rattle.wm_check.specs.declared.checker.Unread.TheVariants.{OutOfMemory};
 
@@ -18,7 +18,7 @@ use wm_list::List;
 use wm_logfile::{DocFault, read_document};
 use wm_machine::CodePosition;
 use wm_replay::{ReplayAnswer, Replayed, replay_with_positions};
-use wm_rules::judge;
+use wm_rules::{Finding, judge_and_close};
 use wm_valid::{ValidFault, ValidModule, validate};
 
 /// Why there is no run to compare.
@@ -71,111 +71,105 @@ pub fn count_events(threads: &[ThreadLog]) -> usize
     events
 }
 
-/// A verdict on a candidate.
-#[derive(Drop)]
-struct CheckedRun {
-    verdict: Verdict,
-    /// The positions in the code at which the threads make the candidate's events; None if they don't run as it states.
-    positions: Option<Vec<List<CodePosition>>>,
-}
-
-/// The verdict on a candidate.
-fn compare<R: AllocGlobal + Threads + Sync>(
-    rt: &R,
-    module: &ValidModule,
-    candidate: &Candidate,
-) -> Result<CheckedRun, AllocError>
-    ensures says { IfOk result (λ checked. ComparesLog «module».now candidate.now checked.verdict) }
-    ensures judged { IfOk result (λ checked. IsJudged checked.verdict) }
-    ensures certified { IfOk result (λ checked. IsCertified candidate.now checked.verdict) }
-    ensures positions { IfOk result (λ checked. KeepsPositions «module».now candidate.now.log checked.verdict checked.positions) }
+/// The verdict on a candidate whose threads run as it states, by its judgement.
+pub fn judged_verdict(candidate: &Candidate, judgement: &Judgement) -> Verdict
+    ensures { result ≡ verdict_by candidate.now.log judgement.now }
 {
-    let Replayed { answer, positions } = replay_with_positions(rt, module, candidate.log())?;
-    if answer != ReplayAnswer::Same {
-        return Ok(CheckedRun {
-            verdict: Verdict::Broken(Breach::Replay(answer)),
-            positions: None,
-        });
-    }
-    match judge(rt, candidate)? {
-        Judgement::Broken(fault) => Ok(CheckedRun {
-            verdict: Verdict::Broken(Breach::Rule(fault)),
-            positions: Some(positions),
-        }),
+    match judgement {
+        Judgement::Broken(fault) => Verdict::Broken(Breach::Rule(*fault)),
         Judgement::Valid => {
             let threads = candidate.log().threads();
-            let certificate = Certificate {
+            Verdict::Allowed(Certificate {
                 threads: threads.len(),
                 events: count_events(threads),
-            };
-            Ok(CheckedRun {
-                verdict: Verdict::Allowed(certificate),
-                positions: Some(positions),
             })
         }
     }
 }
 
-/// A verdict on a document, with the candidate that it is about.
+/// What a check of the bytes of a log over a valid module finds.
 #[derive(Drop)]
-pub struct CheckedLog<'m> {
-    pub verdict: Verdict,
-    /// The log with its witness over the module's initial memory; None if they are refused.
-    pub candidate: Option<Candidate<'m>>,
-    /// The log with its witness and its fault, if their shape is refused.
-    pub misshapen: Option<Misshapen>,
-    /// For each thread of the candidate, the positions in the code at which it makes its events, in order; None if there is
-    /// no candidate, or if its threads don't run as it states.
-    pub positions: Option<Vec<List<CodePosition>>>,
+pub enum CheckedLog<'m> {
+    /// The bytes are not a log with a witness within the limits.
+    Refused(Refusal),
+    /// The log and the witness are not a candidate over the module's initial memory.
+    Misshapen(Misshapen),
+    /// Some thread's log isn't its run. The answer isn't `Same`.
+    Differs {
+        candidate: Candidate<'m>,
+        answer: ReplayAnswer,
+    },
+    /// Each thread's log is its run.
+    Judged {
+        candidate: Candidate<'m>,
+        /// For each thread, the positions in the code at which it makes its events, in order.
+        positions: Vec<List<CodePosition>>,
+        finding: Finding,
+    },
 }
 
-/// The refusal of a log with a witness that are not a candidate; an allocation failure is not a refusal.
-fn refuse_shape<'m>(misshapen: Misshapen) -> Result<CheckedLog<'m>, AllocError>
-    ensures { IfOk result (RefusesShape misshapen) }
-{
-    match misshapen.fault {
-        ShapeFault::OutOfMemory => Err(AllocError),
-        _ => Ok(CheckedLog {
-            verdict: Verdict::Refused(Refusal::Shape(misshapen.fault)),
-            candidate: None,
-            misshapen: Some(misshapen),
-            positions: None,
-        }),
+impl CheckedLog<'_> {
+    /// The verdict alone.
+    pub fn into_verdict(self) -> Verdict
+        ensures { result ≡ verdict_of self.entry }
+    {
+        match self {
+            CheckedLog::Refused(refusal) => Verdict::Refused(refusal),
+            CheckedLog::Misshapen(misshapen) => Verdict::Refused(Refusal::Shape(misshapen.fault)),
+            CheckedLog::Differs {
+                candidate: _candidate,
+                answer,
+            } => Verdict::Broken(Breach::Replay(answer)),
+            CheckedLog::Judged {
+                candidate,
+                positions: _positions,
+                finding,
+            } => judged_verdict(&candidate, &finding.judgement()),
+        }
     }
 }
 
-/// The verdict on a log with a witness over the initial memory of a module.
+/// Compares the threads of a candidate with their runs, and then its events with the memory rules.
+fn compare<'m, R: AllocGlobal + Threads + Sync>(
+    rt: &R,
+    module: &ValidModule,
+    candidate: Candidate<'m>,
+) -> Result<CheckedLog<'m>, AllocError>
+    ensures verdict { IfOk result (λ checked. ComparesLog «module».now candidate.entry (verdict_of checked)) }
+    ensures kept { IfOk result (IsCheckOfRun «module».now candidate.entry) }
+{
+    let Replayed { answer, positions } = replay_with_positions(rt, module, candidate.log())?;
+    if answer != ReplayAnswer::Same {
+        return Ok(CheckedLog::Differs { candidate, answer });
+    }
+    let finding = judge_and_close(rt, &candidate)?;
+    Ok(CheckedLog::Judged {
+        candidate,
+        positions,
+        finding,
+    })
+}
+
+/// Checks a log with a witness over the initial memory of a module.
 fn compare_log<'m, R: AllocGlobal + Threads + Sync>(
     rt: &R,
     module: &'m ValidModule,
     log: Log,
     witness: Witness,
 ) -> Result<CheckedLog<'m>, AllocError>
-    ensures verdict { IfOk result (λ checked. ComparesOver «module».now log witness checked.verdict) }
-    ensures candidate { IfOk result (λ checked. IfSome checked.candidate (IsCandidateOver «module».now log witness)) }
-    ensures certified { IfOk result (λ checked. IfSome checked.candidate (λ run. IsCertified run checked.verdict)) }
-    ensures refused { IfOk result (λ checked. HasCandidate checked.verdict checked.candidate) }
-    ensures misshapen { IfOk result (λ checked.
-        KeepsMisshapen (λ l w. (l ≡ log) × (w ≡ witness)) checked.verdict checked.misshapen) }
-    ensures positions { IfOk result (λ checked. IfSome checked.candidate (λ run.
-        KeepsPositions «module».now run.log checked.verdict checked.positions)) }
+    ensures verdict { IfOk result (λ checked. ComparesOver «module».now log witness (verdict_of checked)) }
+    ensures kept { IfOk result (IsCheckOfLog «module».now log witness) }
 {
     match Candidate::of(rt.alloc(), log, witness, module.initial()) {
-        Ok(candidate) => {
-            let CheckedRun { verdict, positions } = compare(rt, module, &candidate)?;
-            Ok(CheckedLog {
-                verdict,
-                candidate: Some(candidate),
-                misshapen: None,
-                positions,
-            })
-        }
-        Err(misshapen) => refuse_shape(misshapen),
+        Ok(candidate) => compare(rt, module, candidate),
+        Err(misshapen) => match misshapen.fault {
+            ShapeFault::OutOfMemory => Err(AllocError),
+            _ => Ok(CheckedLog::Misshapen(misshapen)),
+        },
     }
 }
 
-/// Checks the bytes of a log against a valid module, as [`check`] does, and keeps the candidate, or the log and the
-/// witness if their shape is refused.
+/// Checks the bytes of a log against a valid module, as [`check`] does, and keeps what it finds.
 ///
 /// # Errors
 ///
@@ -185,23 +179,12 @@ pub fn check_log<'m, R: AllocGlobal + Threads + Sync>(
     module: &'m ValidModule,
     document_bytes: &[u8],
 ) -> Result<CheckedLog<'m>, AllocError>
-    ensures verdict { IfOk result (λ checked. SaysOver «module».now document_bytes.now checked.verdict) }
-    ensures candidate { IfOk result (λ checked. IfSome checked.candidate (IsRecordedOver «module».now document_bytes.now)) }
-    ensures certified { IfOk result (λ checked. IfSome checked.candidate (λ run. IsCertified run checked.verdict)) }
-    ensures refused { IfOk result (λ checked. HasCandidate checked.verdict checked.candidate) }
-    ensures misshapen { IfOk result (λ checked.
-        KeepsMisshapen (IsDocumentOf document_bytes.now) checked.verdict checked.misshapen) }
-    ensures positions { IfOk result (λ checked. IfSome checked.candidate (λ run.
-        KeepsPositions «module».now run.log checked.verdict checked.positions)) }
+    ensures verdict { IfOk result (λ checked. SaysOver «module».now document_bytes.now (verdict_of checked)) }
+    ensures kept { IfOk result (IsCheckOf «module».now document_bytes.now) }
 {
     match read_log(rt.alloc(), document_bytes) {
         Ok((log, witness)) => compare_log(rt, module, log, witness),
-        Err(Unread::Refused(refusal)) => Ok(CheckedLog {
-            verdict: Verdict::Refused(refusal),
-            candidate: None,
-            misshapen: None,
-            positions: None,
-        }),
+        Err(Unread::Refused(refusal)) => Ok(CheckedLog::Refused(refusal)),
         Err(Unread::OutOfMemory) => Err(AllocError),
     }
 }
@@ -215,7 +198,7 @@ fn verdict_over<R: AllocGlobal + Threads + Sync>(
     ensures { IfOk result (SaysOver «module».now document_bytes.now) }
 {
     let checked = check_log(rt, module, document_bytes)?;
-    Ok(checked.verdict)
+    Ok(checked.into_verdict())
 }
 
 /// The verdict on the bytes, if both can be read.

@@ -3,12 +3,16 @@
 
 mod checker;
 mod completed;
+mod judged;
 mod law;
 mod verdict;
 mod verified;
 
-pub use checker::{CheckedLog, Unread, check, check_log, count_events, read_module};
+pub use checker::{
+    CheckedLog, Unread, check, check_log, count_events, judged_verdict, read_module,
+};
 pub use completed::{CompletedDocument, complete_document};
+pub use judged::{JudgedDocument, judge_document};
 pub use law::{one_verdict, same_verdict, verify_is_check_of_completed};
 pub use verdict::{Breach, Certificate, Refusal, Verdict};
 pub use verified::{verify, verify_log};

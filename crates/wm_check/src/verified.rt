@@ -2,10 +2,10 @@
 ghost use Rattle.std.specs.Prelude.{IfOk};
 ghost use Rattle.wm_check.specs.Verified.{Verifies, VerifiesCandidate, VerifiesOver, VerifiesPair};
 
-use crate::checker::{Unread, count_events, read_log, read_module};
-use crate::verdict::{Breach, Certificate, Refusal, Verdict};
+use crate::checker::{Unread, judged_verdict, read_log, read_module};
+use crate::verdict::{Breach, Refusal, Verdict};
 use std::alloc::{AllocError, Global};
-use wm_event::{Candidate, Judgement, Log, ShapeFault, Witness};
+use wm_event::{Candidate, Log, ShapeFault, Witness};
 use wm_replay::without_run;
 use wm_rules::judge_sequentially;
 use wm_valid::ValidModule;
@@ -21,16 +21,10 @@ fn verify_candidate(
 {
     match without_run(alloc, module, candidate.log())? {
         Some(answer) => Ok(Verdict::Broken(Breach::Replay(answer))),
-        None => match judge_sequentially(alloc, candidate)? {
-            Judgement::Broken(fault) => Ok(Verdict::Broken(Breach::Rule(fault))),
-            Judgement::Valid => {
-                let threads = candidate.log().threads();
-                Ok(Verdict::Allowed(Certificate {
-                    threads: threads.len(),
-                    events: count_events(threads),
-                }))
-            }
-        },
+        None => {
+            let judgement = judge_sequentially(alloc, candidate)?;
+            Ok(judged_verdict(candidate, &judgement))
+        }
     }
 }
 

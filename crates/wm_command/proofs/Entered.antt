@@ -11,7 +11,8 @@ use Rattle.clap.specs.declared.parser.matches.Found.{Found}
 use Rattle.clap.proofs.WalkLemmas.{first_value-rows}
 use Rattle.wm_command.specs.Commands.{HasFields, IsNamed, LacksField, LacksFields, Means, NamesNoCommand, absent_of, fields_of, name_of, required_of}
 use Rattle.wm_command.specs.declared.command.Command.{Command}
-use Rattle.wm_command.specs.declared.command.Command.TheVariants.{OfRun, OfDocument, Stream, Drive, Trace, Run, Help, Version}
+use Rattle.wm_command.specs.declared.command.Command.TheVariants.{OfRun, OfDocument, Witness, Stream, Drive, Trace, Run, Help, Version}
+use Rattle.wm_command.specs.declared.command.WitnessWords.TheVariants.{One, Two, Three}
 use Rattle.wm_command.specs.declared.command.DocumentTask.TheVariants as document
 use Rattle.wm_command.specs.declared.command.RunTask.TheVariants as run
 
@@ -64,6 +65,9 @@ fields_begin (OfDocument document.Migrate d) = ([], refl)
 fields_begin (OfDocument document.Races d) = ([], refl)
 fields_begin (OfDocument document.Explain d) = ([], refl)
 fields_begin (OfDocument document.Graph d) = ([], refl)
+fields_begin (Witness (One a)) = ([], refl)
+fields_begin (Witness (Two a b)) = (codes "document" ∷ [], refl)
+fields_begin (Witness (Three a b c)) = (codes "document" ∷ codes "nodes" ∷ [], refl)
 fields_begin (Stream m) = ([], refl)
 fields_begin (Drive m t) = ([], refl)
 fields_begin (Trace m t) = ([], refl)

@@ -113,6 +113,22 @@ graph_is_taken : fault_of wmlab_app (codes "graph" ∷ codes "a.wasm" ∷ codes 
 unfolding clap_on_literals
 graph_is_taken = refl
 
+witness_of_a_document_is_taken : fault_of wmlab_app (codes "witness" ∷ codes "-" ∷ []) ≡ []
+unfolding clap_on_literals
+witness_of_a_document_is_taken = refl
+
+witness_of_a_module_is_taken : fault_of wmlab_app (codes "witness" ∷ codes "a.wasm" ∷ codes "-" ∷ codes "9" ∷ []) ≡ []
+unfolding clap_on_literals
+witness_of_a_module_is_taken = refl
+
+witness_of_a_module_is_read : read (codes "witness" ∷ codes "a.wasm" ∷ codes "-" ∷ codes "9" ∷ []) ≡ Some (codes "witness", Some (codes "a.wasm"), Some (codes "-"))
+unfolding clap_on_literals read
+witness_of_a_module_is_read = refl
+
+witness_takes_no_fourth_word : IsNoCommand (codes "witness" ∷ codes "a.wasm" ∷ codes "-" ∷ codes "9" ∷ codes "9" ∷ [])
+unfolding clap_on_literals
+witness_takes_no_fourth_word command is = let none = is.taken in cc
+
 no_word_at_all : IsNoCommand []
 unfolding clap_on_literals
 no_word_at_all command is = let none = is.taken in cc

@@ -11,11 +11,13 @@ use Rattle.clap.specs.declared.builder.action.ArgAction.TheVariants.{Append, Set
 use Rattle.clap.specs.declared.error.kind.ErrorKind.{ErrorKind}
 use Rattle.clap.specs.declared.error.kind.ErrorKind.TheVariants as kind
 use Rattle.wm_command.specs.declared.command.Command.{Command}
-use Rattle.wm_command.specs.declared.command.Command.TheVariants.{OfRun, OfDocument, Stream, Drive, Trace, Run, Help, Version}
+use Rattle.wm_command.specs.declared.command.Command.TheVariants.{OfRun, OfDocument, Witness, Stream, Drive, Trace, Run, Help, Version}
 use Rattle.wm_command.specs.declared.command.DocumentTask.{DocumentTask}
 use Rattle.wm_command.specs.declared.command.DocumentTask.TheVariants as document
 use Rattle.wm_command.specs.declared.command.RunTask.{RunTask}
 use Rattle.wm_command.specs.declared.command.RunTask.TheVariants as run
+use Rattle.wm_command.specs.declared.command.WitnessWords.{WitnessWords}
+use Rattle.wm_command.specs.declared.command.WitnessWords.TheVariants.{One, Two, Three}
 use Rattle.wm_command.specs.declared.command.Shape.{Shape}
 use Rattle.wm_command.specs.declared.command.Shape.TheVariants as shape
 use Rattle.wm_command.specs.declared.command.CommandFault.{CommandFault}
@@ -48,6 +50,10 @@ checked_form name = record { name = name; required = codes "file" ∷ codes "doc
 abbrev pub log_form : Text → Form
 log_form name = record { name = name; required = codes "file" ∷ []; optional = codes "document" ∷ []; repeated = [] }
 
+-- a document, or a module and a document, and a number of nodes
+abbrev pub search_form : Text → Form
+search_form name = record { name = name; required = codes "file" ∷ []; optional = codes "document" ∷ codes "nodes" ∷ []; repeated = [] }
+
 -- a module, how its threads run, and their starts
 abbrev pub started_form : Text → Text → Form
 started_form name how = record { name = name; required = codes "file" ∷ how ∷ []; optional = []; repeated = codes "start" ∷ [] }
@@ -58,6 +64,7 @@ form_of name shape.Plain = plain_form name
 form_of name shape.File = file_form name
 form_of name shape.Checked = checked_form name
 form_of name shape.Log = log_form name
+form_of name shape.Search = search_form name
 form_of name shape.Turns = started_form name (codes "turns")
 form_of name shape.Rounds = started_form name (codes "rounds")
 
@@ -79,6 +86,7 @@ forms =
     ∷ log_form (codes "races")
     ∷ log_form (codes "explain")
     ∷ log_form (codes "graph")
+    ∷ search_form (codes "witness")
     ∷ plain_form (codes "help")
     ∷ plain_form (codes "version")
     ∷ []
@@ -144,6 +152,7 @@ document_task_name document.Graph = codes "graph"
 abbrev pub name_of : Command → Text
 name_of (OfRun task file document) = run_task_name task
 name_of (OfDocument task document) = document_task_name task
+name_of (Witness words) = codes "witness"
 name_of (Stream file) = codes "stream"
 name_of (Drive file turns) = codes "drive"
 name_of (Trace file turns) = codes "trace"
@@ -151,10 +160,17 @@ name_of (Run file rounds) = codes "run"
 name_of Help = codes "help"
 name_of Version = codes "version"
 
+-- the name and the value of each word of `witness`
+abbrev pub witness_fields : WitnessWords → List (Text × Text)
+witness_fields (One first) = (codes "file", first.now) ∷ []
+witness_fields (Two first second) = (codes "file", first.now) ∷ (codes "document", second.now) ∷ []
+witness_fields (Three first second third) = (codes "file", first.now) ∷ (codes "document", second.now) ∷ (codes "nodes", third.now) ∷ []
+
 -- the name and the value of each word, except for those that may be repeated
 abbrev pub fields_of : Command → List (Text × Text)
 fields_of (OfRun task file document) = (codes "file", file.now) ∷ (codes "document", document.now) ∷ []
 fields_of (OfDocument task document) = (codes "file", document.now) ∷ []
+fields_of (Witness words) = witness_fields words
 fields_of (Stream file) = (codes "file", file.now) ∷ []
 fields_of (Drive file turns) = (codes "file", file.now) ∷ (codes "turns", turns.now) ∷ []
 fields_of (Trace file turns) = (codes "file", file.now) ∷ (codes "turns", turns.now) ∷ []
@@ -168,9 +184,16 @@ absent_of_task document.Rules = []
 absent_of_task document.Migrate = []
 absent_of_task task = codes "document" ∷ []
 
+-- the same of `witness`; no word comes after one that isn't there
+abbrev pub absent_of_witness : WitnessWords → List Text
+absent_of_witness (One first) = codes "document" ∷ []
+absent_of_witness (Two first second) = codes "nodes" ∷ []
+absent_of_witness (Three first second third) = []
+
 -- the words that a command of this name may have, and this one doesn't have
 abbrev pub absent_of : Command → List Text
 absent_of (OfDocument task document) = absent_of_task task
+absent_of (Witness words) = absent_of_witness words
 absent_of command = []
 
 -- the values of a subcommand's words

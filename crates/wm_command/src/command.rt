@@ -1,7 +1,7 @@
 //! The command line.
 ghost use Rattle.std.specs.Prelude.{◌≡◌, ◌∷◌, [], false, Err, IfOk, IfSome, None, Some, codes, fold, map};
 ghost use Rattle.clap.specs.Words.{app_of, first_of, kind_of, rule_of, subcommand_rows_of};
-ghost use Rattle.wm_command.specs.Commands.{AddsAs, HasFields, IsCommand, IsNamed, IsNoCommand, LacksField, Means, NamesNoCommand, absent_of_task, any_words_rule, checked_form, document_task_name, fault_of_kind, file_form, form_app, form_in, form_of, forms, log_form, optional_rule, plain_form, required_of, rows_in, run_task_name, started_form, with_form, wmlab_app, word_rule};
+ghost use Rattle.wm_command.specs.Commands.{AddsAs, HasFields, IsCommand, IsNamed, IsNoCommand, LacksField, Means, NamesNoCommand, absent_of_task, any_words_rule, checked_form, document_task_name, fault_of_kind, file_form, form_app, form_in, form_of, forms, log_form, optional_rule, plain_form, required_of, rows_in, run_task_name, search_form, started_form, with_form, wmlab_app, word_rule};
 ghost use Rattle.wm_command.specs.declared.command.Command.{Command};
 ghost use Rattle.wm_command.specs.declared.command.CommandFault.TheVariants.{OutOfMemory, Words};
 
@@ -41,6 +41,14 @@ pub enum DocumentTask {
     Graph,
 }
 
+/// The words of `witness` after its name. Its reader tells which of them is a module, a document or a number of nodes.
+#[derive(Clone, Copy)]
+pub enum WitnessWords<'a> {
+    One(&'a str),
+    Two(&'a str, &'a str),
+    Three(&'a str, &'a str, &'a str),
+}
+
 /// A command of the program.
 #[derive(Clone, Copy)]
 pub enum Command<'a> {
@@ -54,6 +62,10 @@ pub enum Command<'a> {
     OfDocument {
         task: DocumentTask,
         document: &'a str,
+    },
+    /// Searches for a witness of a document, over a module or alone.
+    Witness {
+        words: WitnessWords<'a>,
     },
     /// Verifies each line of the input as a document against a module.
     Stream {
@@ -166,6 +178,16 @@ fn log_parser<'a>(alloc: Global, name: &'a str) -> Result<Parser<'a>, AllocError
         .arg(optional_word(alloc, "document"))
 }
 
+/// A command with a document, or with a module and a document, and with a number of nodes after them.
+fn search_parser<'a>(alloc: Global, name: &'a str) -> Result<Parser<'a>, AllocError>
+    ensures { IfOk result (AddsAs (form_app (search_form name.now))) }
+{
+    Parser::new(alloc, name)
+        .arg(word(alloc, "file"))?
+        .arg(optional_word(alloc, "document"))?
+        .arg(optional_word(alloc, "nodes"))
+}
+
 /// A command with a module, a word `how`, and starts of threads.
 fn started_parser<'a>(alloc: Global, name: &'a str, how: &'a str) -> Result<Parser<'a>, AllocError>
     ensures { IfOk result (AddsAs (form_app (started_form name.now how.now))) }
@@ -185,6 +207,8 @@ enum Shape {
     Checked,
     /// A document, or a module and a document.
     Log,
+    /// A document, or a module and a document, and a number of nodes.
+    Search,
     /// A module, a script and starts of threads.
     Turns,
     /// A module, a number of rounds and starts of threads.
@@ -200,6 +224,7 @@ fn shaped_parser<'a>(alloc: Global, name: &'a str, shape: Shape) -> Result<Parse
         Shape::File => file_parser(alloc, name),
         Shape::Checked => checked_parser(alloc, name),
         Shape::Log => log_parser(alloc, name),
+        Shape::Search => search_parser(alloc, name),
         Shape::Turns => started_parser(alloc, name, "turns"),
         Shape::Rounds => started_parser(alloc, name, "rounds"),
     }
@@ -248,6 +273,7 @@ fn with_commands<'a>(alloc: Global, parser: Parser<'a>) -> Result<Parser<'a>, Al
         ("races", Shape::Log),
         ("explain", Shape::Log),
         ("graph", Shape::Log),
+        ("witness", Shape::Search),
         ("help", Shape::Plain),
         ("version", Shape::Plain),
     ];
@@ -343,6 +369,24 @@ fn log_command<'a>(
     }
 }
 
+/// The search for a witness with its words.
+fn witness_command<'a>(name: &str, words: &ArgMatches<'a>) -> Option<Command<'a>>
+    requires named { name.now ≡ codes "witness" }
+    requires file { required_of name.now ≡ codes "file" ∷ [] }
+    ensures some { IfSome result (IsNamed name.now (rows_in words.now)) }
+    ensures none { result ≡ None → NamesNoCommand name.now (rows_in words.now) }
+{
+    let first = one_word(words, "file")?;
+    let words = match one_word(words, "document") {
+        None => WitnessWords::One(first),
+        Some(second) => match one_word(words, "nodes") {
+            None => WitnessWords::Two(first, second),
+            Some(third) => WitnessWords::Three(first, second, third),
+        },
+    };
+    Some(Command::Witness { words })
+}
+
 /// The command of this name, with its words.
 fn command_of<'a>(name: &str, words: &ArgMatches<'a>) -> Option<Command<'a>>
     ensures some { IfSome result (IsNamed name.now (rows_in words.now)) }
@@ -373,6 +417,7 @@ fn command_of<'a>(name: &str, words: &ArgMatches<'a>) -> Option<Command<'a>>
         "races" => log_command(name, RunTask::Races, DocumentTask::Races, words),
         "explain" => log_command(name, RunTask::Explain, DocumentTask::Explain, words),
         "graph" => log_command(name, RunTask::Graph, DocumentTask::Graph, words),
+        "witness" => witness_command(name, words),
         "help" => Some(Command::Help),
         "version" => Some(Command::Version),
         _ => None,

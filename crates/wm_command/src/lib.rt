@@ -3,4 +3,4 @@
 
 mod command;
 
-pub use command::{Command, CommandFault, DocumentTask, RunTask, read_command};
+pub use command::{Command, CommandFault, DocumentTask, RunTask, WitnessWords, read_command};

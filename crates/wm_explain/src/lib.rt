@@ -14,5 +14,8 @@ mod rule;
 mod some_sites;
 mod start_refusal;
 
-pub use reasons::{explain_events, explain_refusal, explain_run, explain_shape};
-pub use replay::{PictureNotes, picture_notes};
+pub use reasons::{
+    explain_difference, explain_document, explain_events, explain_judged, explain_refusal,
+    explain_shape,
+};
+pub use replay::{PictureNotes, difference_notes, judged_notes};

@@ -3,7 +3,6 @@
 use crate::function_name::{BriefName, FunctionName, FunctionNames};
 use std::alloc::{AllocError, Global};
 use std::fmt;
-use std::thread::Threads;
 use wm_event::{EventId, EventKey, Log};
 use wm_list::List;
 use wm_machine::CodePosition;
@@ -115,24 +114,6 @@ impl<'a> Drop for NamedSites<'a> {
 }
 
 impl<'a> NamedSites<'a> {
-    /// The instructions that make the events of a log. Without their positions, the threads are followed to find them.
-    ///
-    /// # Errors
-    ///
-    /// Only if an allocation fails.
-    pub(crate) fn of<R: AllocGlobal + Threads + Sync>(
-        rt: &R,
-        code: ModuleCode<'a>,
-        log: &'a Log,
-        positions: Option<Vec<List<CodePosition>>>,
-    ) -> Result<Self, AllocError> {
-        let sites = match positions {
-            Some(positions) => RunSites::at(rt.alloc(), code, positions),
-            None => RunSites::of(rt, code, log),
-        }?;
-        NamedSites::new(rt.alloc(), code, log, sites)
-    }
-
     /// The instructions at these positions, at which the threads of a log make its events.
     ///
     /// # Errors
@@ -144,16 +125,7 @@ impl<'a> NamedSites<'a> {
         log: &'a Log,
         positions: Vec<List<CodePosition>>,
     ) -> Result<Self, AllocError> {
-        NamedSites::new(alloc, code, log, RunSites::at(alloc, code, positions)?)
-    }
-
-    /// These instructions with the names of their functions.
-    fn new(
-        alloc: Global,
-        code: ModuleCode<'a>,
-        log: &'a Log,
-        sites: RunSites<'a>,
-    ) -> Result<Self, AllocError> {
+        let sites = RunSites::at(alloc, code, positions)?;
         Ok(NamedSites {
             alloc,
             log,

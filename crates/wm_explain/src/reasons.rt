@@ -7,11 +7,13 @@ use crate::row::EventTables;
 use crate::rule::rule_reason;
 use std::alloc::{AllocError, Global};
 use std::thread::Threads;
-use wm_check::{Breach, Refusal, Verdict};
-use wm_event::{Candidate, Judgement, Misshapen, RuleFault};
+use wm_check::Refusal;
+use wm_event::{Candidate, Judgement, Misshapen};
 use wm_list::List;
+use wm_logfile::DocFault;
 use wm_machine::CodePosition;
 use wm_refusal::{decode_reason, document_reason, shape_reason, valid_reason};
+use wm_replay::ReplayAnswer;
 use wm_sites::ModuleCode;
 
 /// Why the bytes of a module or of a document are refused: where the fault is, what was found and what was expected.
@@ -29,9 +31,22 @@ pub fn explain_refusal(
     match refusal {
         Refusal::Decode(fault) => decode_reason(alloc, fault, module_bytes),
         Refusal::Valid(fault) => valid_reason(alloc, fault, module_bytes),
-        Refusal::Document(fault) => document_reason(alloc, fault, document_bytes),
+        Refusal::Document(fault) => explain_document(alloc, fault, document_bytes),
         Refusal::Shape(_) => Ok(String::new(alloc)),
     }
+}
+
+/// Why the bytes of a document are refused, as in [`explain_refusal`].
+///
+/// # Errors
+///
+/// Only if an allocation fails.
+pub fn explain_document(
+    alloc: Global,
+    fault: &DocFault,
+    bytes: &[u8],
+) -> Result<String, AllocError> {
+    document_reason(alloc, fault, bytes)
 }
 
 /// Why a log and its witness are not a candidate over an initial memory of `memory_bytes` bytes. Each line ends with a
@@ -48,45 +63,41 @@ pub fn explain_shape(
     shape_reason(alloc, misshapen, memory_bytes)
 }
 
-/// What a run rests on whose events the memory rules allow, or why they don't.
-fn events_reason<R: AllocGlobal + Threads + Sync>(
-    rt: &R,
-    code: ModuleCode,
-    candidate: &Candidate,
-    positions: Option<Vec<List<CodePosition>>>,
-    fault: Option<&RuleFault>,
-) -> Result<String, AllocError> {
-    let sites = NamedSites::of(rt, code, candidate.log(), positions)?;
-    let mut tables = EventTables::over(rt.alloc(), candidate, sites);
-    match fault {
-        None => allowed_reason(&mut tables),
-        Some(fault) => rule_reason(&mut tables, fault),
-    }
-}
-
-/// Why a check gave its verdict on a candidate over the initial memory of a module, in sentences and a table. Events are
-/// shown with the byte offsets of the instructions that make them; `positions` are those at which the threads make the
-/// events, if they are known, otherwise the threads are followed to find them. Each line ends with a newline. The text is
-/// empty for a refusal, which has no candidate: [`explain_refusal`] has its reason.
+/// Why the memory rules allow the events of a candidate whose threads run as it states, or don't, in sentences and a table.
+/// Events are shown with the byte offsets of the instructions that make them; `positions` are those at which the threads
+/// make the events. Each line ends with a newline.
 ///
 /// # Errors
 ///
 /// Only if an allocation fails.
-pub fn explain_run<R: AllocGlobal + Threads + Sync>(
+pub fn explain_judged(
+    alloc: Global,
+    code: ModuleCode,
+    candidate: &Candidate,
+    positions: Vec<List<CodePosition>>,
+    judgement: &Judgement,
+) -> Result<String, AllocError> {
+    let sites = NamedSites::at(alloc, code, candidate.log(), positions)?;
+    let mut tables = EventTables::over(alloc, candidate, sites);
+    match judgement {
+        Judgement::Valid => allowed_reason(&mut tables),
+        Judgement::Broken(fault) => rule_reason(&mut tables, fault),
+    }
+}
+
+/// Why a thread of a candidate over the initial memory of a module isn't its run, and whether the memory rules allow the
+/// events, in sentences and a table. Each line ends with a newline.
+///
+/// # Errors
+///
+/// Only if an allocation fails.
+pub fn explain_difference<R: AllocGlobal + Threads + Sync>(
     rt: &R,
     code: ModuleCode,
-    verdict: &Verdict,
     candidate: &Candidate,
-    positions: Option<Vec<List<CodePosition>>>,
+    answer: ReplayAnswer,
 ) -> Result<String, AllocError> {
-    match verdict {
-        Verdict::Refused(_) => Ok(String::new(rt.alloc())),
-        Verdict::Allowed(_) => events_reason(rt, code, candidate, positions, None),
-        Verdict::Broken(Breach::Rule(fault)) => {
-            events_reason(rt, code, candidate, positions, Some(fault))
-        }
-        Verdict::Broken(Breach::Replay(answer)) => replay_reason(rt, code, candidate, *answer),
-    }
+    replay_reason(rt, code, candidate, answer)
 }
 
 /// Why the memory rules allow the events of a candidate, or don't, in sentences and a table. Each line ends with a

@@ -11,8 +11,8 @@ use std::alloc::{AllocError, Global};
 use std::cmp::Ordering;
 use std::fmt;
 use std::thread::Threads;
-use wm_check::{Breach, Verdict};
-use wm_event::{Candidate, EventId, Judgement, Log, MAX_STEPS, OpKind, Rule, RuleFault, ThreadLog};
+use wm_access::RmwOperator;
+use wm_event::{Candidate, EventId, Judgement, MAX_STEPS, OpKind, Rule, RuleFault, ThreadLog};
 use wm_list::List;
 use wm_machine::CodePosition;
 use wm_phrase::{AndEndPhrase, Count, EndPhrase, JsonText};
@@ -20,6 +20,7 @@ use wm_replay::{Place, ReplayAnswer};
 use wm_rules::judge;
 use wm_sites::ModuleCode;
 use wm_valid::ValidModule;
+use wm_writers::{ByteFit, Writers, writers_that_fit};
 
 /// A thread of a log, by its number.
 #[derive(Clone, Copy)]
@@ -184,28 +185,82 @@ fn add_position(
     add_position_phrase(alloc, text, code, start, compared.position)
 }
 
+/// Whether what an access writes depends on the value that it reads: that of an update but an exchange, and that of a
+/// compare-exchange.
+fn writes_by_read(kind: OpKind) -> bool {
+    match kind {
+        OpKind::Rmw(operator, _) => operator != RmwOperator::Xchg,
+        OpKind::CmpXchg(_, _) => true,
+        _ => false,
+    }
+}
+
+/// Whether the read of a fault is the event at which the thread differs, and its value decides what the module writes there.
+fn decides_difference(compared: &Compared, fault: &RuleFault) -> bool {
+    match (compared.made, compared.logged) {
+        (Next::Access(op), Next::Event(event)) => event.key() == fault.event
+            && event.address == op.address
+            && event.width == op.width
+            && writes_by_read(op.kind),
+        _ => false,
+    }
+}
+
+/// Whether a byte at which a read breaks V1 has a value that no other event, and not the initial memory, left there.
+fn is_from_nowhere(
+    alloc: Global,
+    candidate: &Candidate,
+    fault: &RuleFault,
+) -> Result<bool, AllocError> {
+    match writers_that_fit(alloc, candidate, fault)? {
+        Writers::Only(writers) | Writers::Several(writers) => {
+            for source in writers.sources.as_slice() {
+                if source
+                    .bytes
+                    .as_slice()
+                    .iter()
+                    .any(|byte: &ByteFit| -> bool { byte.fit.is_empty() })
+                {
+                    return Ok(true);
+                }
+            }
+            Ok(false)
+        }
+        Writers::Other => Ok(false),
+    }
+}
+
 /// What a fault of V1 at a read of the thread suggests about the thread's run.
-fn hint(compared: &Compared, fault: &RuleFault) -> &'static str {
-    if fault.case != 3 {
-        return "That is about who wrote a byte, so it can't be the cause: a thread's run depends only on the values that it reads.";
+fn hint(
+    alloc: Global,
+    candidate: &Candidate,
+    compared: &Compared,
+    fault: &RuleFault,
+) -> Result<&'static str, AllocError> {
+    if fault.case != 3 && !is_from_nowhere(alloc, candidate, fault)? {
+        return Ok(
+            "That is about who wrote a byte, so it can't be the cause: a thread's run depends only on the values that it reads.",
+        );
     }
     if (fault.event.number as usize) < compared.events {
-        return "That read comes before the difference and may be the cause. Check how the read's value was recorded.";
+        return Ok(
+            "That read comes before the difference and may be the cause. Check how the read's value was recorded.",
+        );
     }
-    match compared.made {
-        Next::Access(op)
-            if fault.event.number as usize == compared.events
-                && matches!(op.kind, OpKind::Rmw(_, _) | OpKind::CmpXchg(_, _)) => {
-            "That read is at the difference and may be the cause: what an update or a compare-exchange writes depends on the value that it reads."
-        }
-        _ => "That read doesn't come before the difference, so it can't be the cause.",
+    if decides_difference(compared, fault) {
+        return Ok(
+            "That read is at the difference and may be the cause: what an update or a compare-exchange writes depends on the value that it reads.",
+        );
     }
+    Ok("That read doesn't come before the difference, so it can't be the cause.")
 }
 
 /// Adds that the memory rules don't allow the events either, since a wrong value that was read often shows up later as
 /// a different step.
 fn add_fault(
+    alloc: Global,
     text: &mut String,
+    candidate: &Candidate,
     thread: LoggedThread,
     compared: &Compared,
     fault: &RuleFault,
@@ -215,7 +270,7 @@ fn add_fault(
         "The memory rules are also violated; the first violation is {fault}."
     )?;
     if fault.rule == Rule::WrittenValues && fault.event.thread as usize == thread.number {
-        let hint = hint(compared, fault);
+        let hint = hint(alloc, candidate, compared, fault)?;
         writeln!(text, "{hint}")?;
     }
     Ok(())
@@ -282,7 +337,7 @@ fn add_judgement<R: AllocGlobal + Threads + Sync>(
     match judge(rt, candidate)? {
         Judgement::Valid => Ok(text.push_str("The memory rules allow the events as logged.\n")?),
         Judgement::Broken(fault) => {
-            add_fault(text, thread, compared, &fault)?;
+            add_fault(rt.alloc(), text, candidate, thread, compared, &fault)?;
             let run = ComparedRun {
                 number: thread.number,
                 compared,
@@ -363,37 +418,40 @@ pub struct PictureNotes {
     pub module_does: String,
 }
 
+/// What a picture of a candidate that shows these events shows of the module, if the threads make the events at these
+/// positions.
+///
+/// # Errors
+///
+/// Only if an allocation fails.
+pub fn judged_notes(
+    alloc: Global,
+    code: ModuleCode,
+    candidate: &Candidate,
+    positions: Vec<List<CodePosition>>,
+    ids: &[EventId],
+) -> Result<PictureNotes, AllocError> {
+    let mut sites = NamedSites::at(alloc, code, candidate.log(), positions)?;
+    Ok(PictureNotes {
+        places: event_places(alloc, &mut sites, ids)?,
+        module_does: String::new(alloc),
+    })
+}
+
 /// The thread that differs from its log, compared with it; None if no thread that starts differs.
 fn compare_differing(
     alloc: Global,
     module: &ValidModule,
-    verdict: &Verdict,
     candidate: &Candidate,
+    answer: ReplayAnswer,
 ) -> Result<Option<(usize, Compared)>, AllocError> {
-    let Verdict::Broken(Breach::Replay(ReplayAnswer::Differs(number, _))) = verdict else {
+    let ReplayAnswer::Differs(number, _) = answer else {
         return Ok(None);
     };
-    match compare_thread(alloc, module, candidate, *number)? {
-        Some(compared) => Ok(Some((*number, compared))),
+    match compare_thread(alloc, module, candidate, number)? {
+        Some(compared) => Ok(Some((number, compared))),
         None => Ok(None),
     }
-}
-
-/// For each of these events, the instruction that makes it; empty if its thread doesn't make it. `run` is a thread that
-/// was followed before.
-fn places_of(
-    alloc: Global,
-    code: ModuleCode,
-    log: &Log,
-    positions: Option<Vec<List<CodePosition>>>,
-    ids: &[EventId],
-    run: Option<ComparedRun>,
-) -> Result<Vec<String>, AllocError> {
-    let mut sites = match positions {
-        Some(positions) => NamedSites::at(alloc, code, log, positions),
-        None => sites_of(alloc, code, log, ids, run),
-    }?;
-    event_places(alloc, &mut sites, ids)
 }
 
 /// What the module does next in the thread that differs from its log; empty if none does.
@@ -404,22 +462,20 @@ fn module_does(alloc: Global, run: Option<ComparedRun>) -> Result<String, AllocE
     }
 }
 
-/// What a picture of a candidate that shows these events shows of the module; `verdict` is a check's verdict on the
-/// candidate. `positions` are those at which the threads make the events, if they are known; otherwise the threads are
+/// What a picture of a candidate that shows these events shows of the module, if a thread isn't its run. The threads are
 /// followed up to the last of these events.
 ///
 /// # Errors
 ///
 /// Only if an allocation fails.
-pub fn picture_notes(
+pub fn difference_notes(
     alloc: Global,
     code: ModuleCode,
-    verdict: &Verdict,
     candidate: &Candidate,
-    positions: Option<Vec<List<CodePosition>>>,
+    answer: ReplayAnswer,
     ids: &[EventId],
 ) -> Result<PictureNotes, AllocError> {
-    let differing = compare_differing(alloc, code.module, verdict, candidate)?;
+    let differing = compare_differing(alloc, code.module, candidate, answer)?;
     let run = match &differing {
         Some((number, compared)) => Some(ComparedRun {
             number: *number,
@@ -427,9 +483,9 @@ pub fn picture_notes(
         }),
         None => None,
     };
-    let places = places_of(alloc, code, candidate.log(), positions, ids, run)?;
+    let mut sites = sites_of(alloc, code, candidate.log(), ids, run)?;
     Ok(PictureNotes {
-        places,
+        places: event_places(alloc, &mut sites, ids)?,
         module_does: module_does(alloc, run)?,
     })
 }

@@ -101,9 +101,10 @@ impl RuleSentence {
     fn write_values<W: fmt::Write>(&self, f: &mut fmt::Formatter<W>) -> fmt::Result {
         let writer = self.fault.writer;
         self.write_taken(f)?;
-        match self.fault.case {
-            1 => f.write_str("itself: an update can't read from its own write."),
-            2 => write!(f, "{writer}, which doesn't write that address."),
+        match (self.fault.case, self.written) {
+            (1, None) => f.write_str("itself, which is a read and writes nothing."),
+            (1, Some(_)) => f.write_str("itself: an update can't read from its own write."),
+            (2, _) => write!(f, "{writer}, which doesn't write that address."),
             _ => write!(
                 f,
                 "{writer}: it reads {} there, and {writer} wrote {}.",

@@ -3,27 +3,24 @@ ghost use Rattle.std.specs.Prelude.{◌≡◌, ◌↔◌, All, IfOk, IsTrue};
 ghost use Rattle.wm_graph.specs.Columns.{AreColumnsOf, IsMarked, IsMarkedBy, events_of};
 
 use std::alloc::{AllocError, Global};
-use wm_check::{Breach, Verdict};
+use wm_check::Breach;
 use wm_event::{Event, EventId, Log, ThreadLog};
 use wm_list::List;
 use wm_replay::{Place, ReplayAnswer};
 
-/// Whether a verdict names an event: an event of a fault of a memory rule, or the event at which a thread differs from
+/// Whether what a check found broken names an event: an event of a fault of a memory rule, or the event at which a thread differs from
 /// its log.
-pub(crate) fn is_marked(verdict: &Verdict, id: EventId) -> bool
-    ensures { IsTrue result ↔ IsMarked verdict.now id }
+pub(crate) fn is_marked(breach: Option<Breach>, id: EventId) -> bool
+    ensures { IsTrue result ↔ IsMarked breach id }
 {
-    match verdict {
-        Verdict::Broken(Breach::Rule(fault)) => {
+    match breach {
+        Some(Breach::Rule(fault)) => {
             id == EventId::At(fault.event) || id == fault.writer || fault.other == Some(id)
         }
-        Verdict::Broken(Breach::Replay(ReplayAnswer::Differs(thread, Place::Event(number)))) => {
-            match id {
-                EventId::Init => false,
-                EventId::At(key) => key.thread as usize == *thread
-                    && key.number as usize == *number,
-            }
-        }
+        Some(Breach::Replay(ReplayAnswer::Differs(thread, Place::Event(number)))) => match id {
+            EventId::Init => false,
+            EventId::At(key) => key.thread as usize == thread && key.number as usize == number,
+        },
         _ => false,
     }
 }
@@ -36,13 +33,13 @@ pub(crate) struct Node {
 }
 
 /// The node of an event.
-fn node_of(event: &Event, verdict: &Verdict) -> Node
+fn node_of(event: &Event, breach: Option<Breach>) -> Node
     ensures event { result.event ≡ event.now }
-    ensures marked { IsMarkedBy verdict.now result }
+    ensures marked { IsMarkedBy breach result }
 {
     Node {
         event: *event,
-        is_marked: is_marked(verdict, EventId::At(event.key())),
+        is_marked: is_marked(breach, EventId::At(event.key())),
     }
 }
 
@@ -53,13 +50,17 @@ pub(crate) struct Column {
 }
 
 /// The column of a thread: a node for each of its events, in order.
-fn column_of(alloc: Global, thread: &ThreadLog, verdict: &Verdict) -> Result<Column, AllocError>
+fn column_of(
+    alloc: Global,
+    thread: &ThreadLog,
+    breach: Option<Breach>,
+) -> Result<Column, AllocError>
     ensures events { IfOk result (λ column. events_of column ≡ thread.now.events) }
-    ensures marks { IfOk result (λ column. All (IsMarkedBy verdict.now) column.nodes) }
+    ensures marks { IfOk result (λ column. All (IsMarkedBy breach) column.nodes) }
 {
     let mut nodes = List::new(alloc);
     for event in thread.events.as_slice() {
-        nodes.push(node_of(event, verdict))?;
+        nodes.push(node_of(event, breach))?;
     }
     Ok(Column { nodes })
 }
@@ -68,14 +69,14 @@ fn column_of(alloc: Global, thread: &ThreadLog, verdict: &Verdict) -> Result<Col
 pub(crate) fn columns(
     alloc: Global,
     log: &Log,
-    verdict: &Verdict,
+    breach: Option<Breach>,
 ) -> Result<List<Column>, AllocError>
     ensures columns { IfOk result (AreColumnsOf log.now) }
-    ensures marks { IfOk result (All (λ column. All (IsMarkedBy verdict.now) column.nodes)) }
+    ensures marks { IfOk result (All (λ column. All (IsMarkedBy breach) column.nodes)) }
 {
     let mut columns = List::new(alloc);
     for thread in log.threads() {
-        columns.push(column_of(alloc, thread, verdict)?)?;
+        columns.push(column_of(alloc, thread, breach)?)?;
     }
     Ok(columns)
 }

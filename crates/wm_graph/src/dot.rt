@@ -12,7 +12,7 @@ use crate::shown::Shown;
 use std::alloc::{AllocError, Global};
 use std::fmt;
 use std::slice::Iter;
-use wm_check::{Breach, Verdict};
+use wm_check::Breach;
 use wm_event::{Candidate, EventId};
 use wm_replay::{Place, ReplayAnswer};
 
@@ -91,13 +91,13 @@ fn add_gap(
 }
 
 /// The thread that differs from its log, or doesn't start.
-fn differing_thread(verdict: &Verdict) -> Option<usize> {
-    match verdict {
-        Verdict::Broken(
+fn differing_thread(breach: Option<Breach>) -> Option<usize> {
+    match breach {
+        Some(
             Breach::Replay(
                 ReplayAnswer::Differs(thread, _) | ReplayAnswer::StartRefused(thread, _),
             ),
-        ) => Some(*thread),
+        ) => Some(thread),
         _ => None,
     }
 }
@@ -106,7 +106,7 @@ fn differing_thread(verdict: &Verdict) -> Option<usize> {
 fn add_module_does(
     text: &mut String,
     number: usize,
-    verdict: &Verdict,
+    breach: Option<Breach>,
     caption: Caption,
 ) -> Result<(), AllocError> {
     if caption.module_does.is_empty() {
@@ -117,8 +117,7 @@ fn add_module_does(
         text,
         "    module_{number} [label=\"the module has {does}\", shape=\"note\"{FAULT_COLOURS}];"
     )?;
-    let Verdict::Broken(Breach::Replay(ReplayAnswer::Differs(_, Place::Event(event)))) = verdict
-    else {
+    let Some(Breach::Replay(ReplayAnswer::Differs(_, Place::Event(event)))) = breach else {
         return Ok(());
     };
     match event.checked_sub(1) {
@@ -140,7 +139,7 @@ fn add_column(
     caption: Caption,
     places: &mut Iter<String>,
 ) -> Result<(), AllocError> {
-    let (verdict, candidate) = (sketch.verdict, sketch.candidate);
+    let (breach, candidate) = (sketch.breach, sketch.candidate);
     let function = match candidate.log().threads().get(number) {
         Some(thread) => thread.start.name.as_str(),
         None => "",
@@ -150,7 +149,7 @@ fn add_column(
         text,
         "  subgraph cluster_{number} {{\n    label=\"thread {number}: {function}\";"
     )?;
-    let differs = differing_thread(verdict) == Some(number);
+    let differs = differing_thread(breach) == Some(number);
     if differs {
         writeln!(
             text,
@@ -159,7 +158,7 @@ fn add_column(
     }
     add_nodes(text, column, &sketch.picture.shown, candidate, places)?;
     if differs {
-        add_module_does(text, number, verdict, caption)?;
+        add_module_does(text, number, breach, caption)?;
     }
     text.push_str("  }\n")?;
     Ok(())
@@ -208,7 +207,7 @@ impl fmt::Display for CountLabel {
 /// An execution before it is drawn: which of its events the picture shows, and how they are connected.
 pub struct Sketch<'a> {
     picture: Picture,
-    verdict: &'a Verdict,
+    breach: Option<Breach>,
     candidate: &'a Candidate<'a>,
 }
 
@@ -217,14 +216,14 @@ impl<'a> Drop for Sketch<'a> {
     fn drop(self) {
         let Sketch {
             picture: _picture,
-            verdict: _verdict,
+            breach: _breach,
             candidate: _candidate,
         } = self;
     }
 }
 
 impl<'a> Sketch<'a> {
-    /// The sketch of a candidate; `verdict` is a check's verdict on it.
+    /// The sketch of a candidate; `breach` is what a check found broken, None if it found nothing.
     ///
     /// If there are more than 60 events, those of the fault are shown with their neighbours, or without a fault the
     /// first 60 of the order.
@@ -234,12 +233,12 @@ impl<'a> Sketch<'a> {
     /// Only if an allocation fails.
     pub fn of(
         alloc: Global,
-        verdict: &'a Verdict,
+        breach: Option<Breach>,
         candidate: &'a Candidate<'a>,
     ) -> Result<Self, AllocError> {
         Ok(Sketch {
-            picture: picture_of(alloc, verdict, candidate)?,
-            verdict,
+            picture: picture_of(alloc, breach, candidate)?,
+            breach,
             candidate,
         })
     }
@@ -273,7 +272,7 @@ impl<'a> Sketch<'a> {
         for (number, column) in picture.columns.as_slice().iter().enumerate() {
             add_column(&mut text, number, column, self, caption, &mut places)?;
         }
-        let drawn = drawn_edges(alloc, picture, self.verdict)?;
+        let drawn = drawn_edges(alloc, picture, self.breach)?;
         add_lines(&mut text, drawn.as_slice(), picture.shown.has_all())?;
         text.push_str("}\n")?;
         Ok(text)

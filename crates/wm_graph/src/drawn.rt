@@ -4,7 +4,7 @@ use crate::edges::{Edge, EdgeKind};
 use crate::picture::Picture;
 use crate::shown::Shown;
 use std::alloc::{AllocError, Global};
-use wm_check::{Breach, Verdict};
+use wm_check::Breach;
 use wm_event::{EventId, EventKey};
 use wm_hb::LinkKind;
 
@@ -27,10 +27,10 @@ pub(crate) struct DrawnEdge {
 
 /// Whether an edge is drawn. Of the reads from Init, only the one of a fault is; the labels of the others state it. An
 /// edge of the order from Init isn't drawn either.
-fn is_drawn(edge: &Edge, verdict: &Verdict) -> bool {
+fn is_drawn(edge: &Edge, breach: Option<Breach>) -> bool {
     match (edge.from, edge.kind) {
-        (EventId::Init, EdgeKind::ReadsFrom(_)) => match verdict {
-            Verdict::Broken(Breach::Rule(fault)) => {
+        (EventId::Init, EdgeKind::ReadsFrom(_)) => match breach {
+            Some(Breach::Rule(fault)) => {
                 fault.event == edge.to
                     && (fault.writer == EventId::Init || fault.other == Some(EventId::Init))
             }
@@ -54,10 +54,10 @@ fn add_edges(
     drawn: &mut Vec<DrawnEdge>,
     shown: &Shown,
     edges: &[Edge],
-    verdict: &Verdict,
+    breach: Option<Breach>,
 ) -> Result<(), AllocError> {
     for edge in edges {
-        if is_drawn(edge, verdict) {
+        if is_drawn(edge, breach) {
             let Edge { from, to, kind } = *edge;
             let kind = DrawnKind::Edge(kind);
             add_shown(drawn, shown, DrawnEdge { from, to, kind })?;
@@ -93,12 +93,12 @@ fn add_links(
 pub(crate) fn drawn_edges(
     alloc: Global,
     picture: &Picture,
-    verdict: &Verdict,
+    breach: Option<Breach>,
 ) -> Result<Vec<DrawnEdge>, AllocError> {
     let mut drawn = Vec::new(alloc);
     let shown = &picture.shown;
-    add_edges(&mut drawn, shown, picture.edges.as_slice(), verdict)?;
+    add_edges(&mut drawn, shown, picture.edges.as_slice(), breach)?;
     add_links(&mut drawn, shown, picture)?;
-    add_edges(&mut drawn, shown, picture.fault_edges.as_slice(), verdict)?;
+    add_edges(&mut drawn, shown, picture.fault_edges.as_slice(), breach)?;
     Ok(drawn)
 }

@@ -11,7 +11,7 @@ use crate::edges::{Edge, edges};
 use crate::fault_edges::fault_edges;
 use crate::shown::{FaultParts, Shown};
 use std::alloc::{AllocError, Global};
-use wm_check::{Breach, Verdict};
+use wm_check::Breach;
 use wm_event::{Candidate, EventId};
 use wm_hb::{FaultChain, fault_chains};
 use wm_list::List;
@@ -20,7 +20,7 @@ use wm_list::List;
 /// shown, the edges to these, and what the fault of a memory rule needs in addition.
 #[derive(Drop)]
 pub(crate) struct Picture {
-    /// Whether the verdict names Init.
+    /// Whether what the check found names Init.
     pub is_init_marked: bool,
     pub columns: List<Column>,
     pub shown: Shown,
@@ -32,60 +32,60 @@ pub(crate) struct Picture {
     pub fault_edges: List<Edge>,
 }
 
-/// The chains that the fault of a verdict rests on.
+/// The chains that the fault of a rule rests on.
 fn chains_of(
     alloc: Global,
-    verdict: &Verdict,
+    breach: Option<Breach>,
     candidate: &Candidate,
 ) -> Result<List<FaultChain>, AllocError>
-    ensures { IfOk result (HasChains candidate.now verdict.now) }
+    ensures { IfOk result (HasChains candidate.now breach) }
 {
     let _log = candidate.log();
-    let Verdict::Broken(Breach::Rule(fault)) = verdict else {
+    let Some(Breach::Rule(fault)) = breach else {
         return Ok(List::new(alloc));
     };
-    match fault_chains(alloc, candidate, fault)? {
+    match fault_chains(alloc, candidate, &fault)? {
         Some(chains) => Ok(chains),
         None => Ok(List::new(alloc)),
     }
 }
 
-/// The edges that the fault of a verdict needs in addition to its chains.
+/// The edges that the fault of a rule needs in addition to its chains.
 fn fault_edges_of(
     alloc: Global,
-    verdict: &Verdict,
+    breach: Option<Breach>,
     candidate: &Candidate,
 ) -> Result<List<Edge>, AllocError>
     ensures { IfOk result (All (IsRight candidate.now)) }
 {
-    match verdict {
-        Verdict::Broken(Breach::Rule(fault)) => fault_edges(alloc, candidate, fault),
+    match breach {
+        Some(Breach::Rule(fault)) => fault_edges(alloc, candidate, &fault),
         _ => Ok(List::new(alloc)),
     }
 }
 
-/// The picture of a candidate on which a check gave a verdict.
+/// The picture of a candidate with what a check found broken, if anything.
 ///
 /// # Errors
 ///
 /// Only if an allocation fails.
 pub(crate) fn picture_of(
     alloc: Global,
-    verdict: &Verdict,
+    breach: Option<Breach>,
     candidate: &Candidate,
 ) -> Result<Picture, AllocError>
-    ensures init { IfOk result (λ p. IsTrue p.is_init_marked ↔ IsMarked verdict.now Init) }
+    ensures init { IfOk result (λ p. IsTrue p.is_init_marked ↔ IsMarked breach Init) }
     ensures columns { IfOk result (λ p. AreColumnsOf candidate.now.log p.columns) }
-    ensures marks { IfOk result (λ p. All (λ column. All (IsMarkedBy verdict.now) column.nodes) p.columns) }
+    ensures marks { IfOk result (λ p. All (λ column. All (IsMarkedBy breach) column.nodes) p.columns) }
     ensures edges { IfOk result (λ p. All (IsRight candidate.now) p.edges) }
     ensures few { IfOk result (λ p. length candidate.now.witness.order ≤ max_shown → ShowsAll p.shown) }
     ensures complete { IfOk result (λ p. AreComplete candidate.now p.shown p.edges) }
-    ensures chains { IfOk result (λ p. HasChains candidate.now verdict.now p.chains) }
+    ensures chains { IfOk result (λ p. HasChains candidate.now breach p.chains) }
     ensures fault_edges { IfOk result (λ p. All (IsRight candidate.now) p.fault_edges) }
 {
-    let columns = columns(alloc, candidate.log(), verdict)?;
-    let chains = chains_of(alloc, verdict, candidate)?;
-    let fault_edges = fault_edges_of(alloc, verdict, candidate)?;
+    let columns = columns(alloc, candidate.log(), breach)?;
+    let chains = chains_of(alloc, breach, candidate)?;
+    let fault_edges = fault_edges_of(alloc, breach, candidate)?;
     let fault = FaultParts {
         chains: chains.as_slice(),
         edges: fault_edges.as_slice(),
@@ -93,7 +93,7 @@ pub(crate) fn picture_of(
     let shown = Shown::of(alloc, candidate, columns.as_slice(), fault)?;
     let edges = edges(alloc, candidate, &shown)?;
     Ok(Picture {
-        is_init_marked: is_marked(verdict, EventId::Init),
+        is_init_marked: is_marked(breach, EventId::Init),
         columns,
         shown,
         edges,

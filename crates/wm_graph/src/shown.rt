@@ -12,7 +12,7 @@ use wm_list::List;
 /// Up to this number of events, all are shown.
 const MAX_SHOWN: usize = 60;
 
-/// What a picture shows of the fault of a verdict.
+/// What a picture shows of the fault of a rule.
 #[derive(Clone, Copy)]
 pub(crate) struct FaultParts<'a> {
     pub chains: &'a [FaultChain],
@@ -20,9 +20,9 @@ pub(crate) struct FaultParts<'a> {
     pub edges: &'a [Edge],
 }
 
-/// The events of a picture that are shown: all if there are at most 60. Otherwise, the events that the verdict marks
+/// The events of a picture that are shown: all if there are at most 60. Otherwise, the events that the breach marks
 /// and those of the fault's chains, with their neighbours: the events before and after them in their threads, and the
-/// writers that they read from. If the verdict marks no event, the first 60 of the order.
+/// writers that they read from. If it marks no event, the first 60 of the order.
 #[derive(Drop)]
 pub(crate) struct Shown {
     /// Whether an event is shown, by thread and number; None if all are.
@@ -109,7 +109,7 @@ impl Shown {
         }
     }
 
-    /// Shows the events that the verdict marks, and both ends of the edges that its fault needs.
+    /// Shows the events that the breach marks, and both ends of the edges that its fault needs.
     fn add_marked(&mut self, columns: &[Column], fault: FaultParts) {
         for column in columns {
             for node in column.nodes.as_slice() {

@@ -14,8 +14,7 @@ use Rattle.wm_event.specs.Execution.{Execution}
 use Rattle.wm_event.specs.Faults.{BreaksCoherence, BreaksRule, Judges, reads_future, rule_number, written_between}
 use Rattle.wm_event.specs.HappensBefore.{HappensBefore}
 use Rattle.wm_event.specs.Rules.{Overtakes, read_past, synchronized, written_over}
-use Rattle.wm_hb.specs.Edges.{IsFirstBroken, fault_of}
-use Rattle.wm_hb.specs.declared.ordered.Edge.{Edge}
+use Rattle.wm_hb.specs.Edges.{IsFirstBroken}
 use Rattle.wm_hb.specs.declared.fault_chain.FaultChain.{FaultChain}
 use Rattle.wm_hb.specs.Premises.{FindsChains, FindsShown, Hold, before, coherence_premises, premises, premises_by, sequential_premises}
 use Rattle.wm_hb.specs.declared.premise.Premise.{Premise}
@@ -70,12 +69,13 @@ module _ (x : Execution) where
   rule_of f SequentialConsistency some = omega arith
 
   -- a first fault that has premises doesn't come after a broken edge
-  pub order-kept : (f : RuleFault) (edge : Edge) → (length (premises f) ≡ 0 → ⊥) → IsFirstBroken x edge → Judges x (Broken f) → ⊥
+  pub order-kept : (f edge : RuleFault) → (length (premises f) ≡ 0 → ⊥) → IsFirstBroken x edge → Judges x (Broken f) → ⊥
   order-kept f edge some broken first =
-      let later = first.first (fault_of edge) broken.holds.0 in
-      let low : rule_number f.rule ≤ 2 = later.0 in
+      let later = first.first edge broken.holds.0 in
+      let second : rule_number edge.rule ≡ 2 = broken.holds.1.0 in
+      let low : rule_number f.rule ≤ rule_number edge.rule = later.0 in
       let high : 3 ≤ rule_number f.rule = rule_of f f.rule some in
-      omega (arith, low, high)
+      omega (arith, low, high, second)
 
   -- the chains of the premises show the fault
   pub shown : (f : RuleFault) (list : List Premise) → list ≡ premises f → (r : Option (List FaultChain)) → FindsChains x list r → FindsShown x f r

@@ -1,11 +1,12 @@
 -- Events each of which happens before the next ones: what holds of all that come after one of which it holds.
-use Rattle.std.proofs.Common.{◌≡◌, ℕ, ◌+◌, ◌<◌, ◌≤◌, List, [], ◌∷◌, ◌++◌, length, slice_get, Some, sym, ap, ◌∙◌, subst, arith, ⊎_elim}
-use Rattle.std.proofs.lemmas.Bool.{cases_lt}
-use Rattle.std.proofs.lemmas.Option.{same_Some}
+use Rattle.std.proofs.Common.{ℕ, List, [], ◌∷◌, ◌++◌, length, get_or, arith}
+use Rattle.std.proofs.lemmas.Option.{slice_get-get_or, slice_get_within}
 use Rattle.wm_event.specs.declared.event.EventId.{EventId}
+use Rattle.wm_event.specs.declared.event.EventId.TheVariants.{Init}
 use Rattle.wm_event.specs.Execution.{Execution}
 use Rattle.wm_event.specs.HappensBefore.{Chain, HappensBefore}
-use Rattle.wm_hb.specs.Sequence.{AreInSequence}
+use Rattle.wm_hb.specs.Sequence.{AreInSequence, HasInRow, HoldsFrom, NoneInRow}
+use Rattle.wm_hb.specs.Turn.{IsTurn, TurnsOnce}
 
 -- happens-before is transitive
 pub before_join : (x : Execution) (a b c : EventId) → HappensBefore x a b → HappensBefore x b c → HappensBefore x a c
@@ -15,36 +16,21 @@ before_join x a b c h k = (h.0 ++ b ∷ k.0, join h.0 a h.1)
     join [] a e = (e, k.1)
     join (m ∷ ms) a e = (e.0, join ms m e.1)
 
--- T holds of none of the ids below `low`, and of those from `high` on
-pub record IsParted (T : EventId → Type 0) (ids : List EventId) (low high : ℕ) : Type 0 where
-  pub order : low ≤ high
-  pub bound : high ≤ length ids
-  pub fails : (i : ℕ) (v : EventId) → i < low → slice_get ids i ≡ Some v → T v → ⊥
-  pub holds : (i : ℕ) (v : EventId) → high ≤ i → slice_get ids i ≡ Some v → T v
-
 -- where T holds of all that comes after one of which it holds
-module _ (x : Execution) (T : EventId → Type 0) (onward : (u v : EventId) → HappensBefore x u v → T u → T v) (ids : List EventId) (sequence : AreInSequence x ids)
-    (low high m : ℕ) (u : EventId) (at : slice_get ids m ≡ Some u) (above : low ≤ m) (below : m < high) (parted : IsParted T ids low high) where
-  pub parted_high : T u → IsParted T ids low m
-  parted_high here =
-      let bound = parted.bound in
-      record {
-        order = above;
-        bound = omega (arith, below, bound);
-        fails = parted.fails;
-        holds = λ i v l at_v. ⊎_elim
-            (λ (h : m < i). onward u v (sequence m i u v h at at_v) here)
-            (λ (h : i ≤ m). let e : m ≡ i = omega (arith, l, h) in subst T (same_Some u v (sym at ∙ ap (slice_get ids) e ∙ at_v)) here)
-            (cases_lt m i);
-      }
-
-  pub parted_low : (T u → ⊥) → IsParted T ids (m + 1) high
-  parted_low not = record {
-    order = omega (arith, below);
-    bound = parted.bound;
-    fails = λ i v l at_v h. ⊎_elim
-        (λ (k : i < m). not (onward v u (sequence i m v u k at_v at) h))
-        (λ (k : m ≤ i). let e : m ≡ i = omega (arith, l, k) in not (subst T (same_Some v u (sym at_v ∙ ap (slice_get ids) (sym e) ∙ at)) h))
-        (cases_lt i m);
-    holds = parted.holds;
+module _ (x : Execution) (T : EventId → Type 0) (onward : (u v : EventId) → HappensBefore x u v → T u → T v) (ids : List EventId) (sequence : AreInSequence x ids) where
+  pub turns : TurnsOnce (NoneInRow T ids) (HasInRow T ids) (length ids)
+  turns = record {
+    falls = λ i j lt within none v at_v here.
+        let at_j = slice_get-get_or ids j Init within in
+        none (get_or ids j Init) at_j (onward v (get_or ids j Init) (sequence i j v (get_or ids j Init) lt at_v at_j) here);
+    rises = λ i j lt within here v at_v.
+        let at_i = slice_get-get_or ids i Init (omega (arith, lt, within)) in
+        onward (get_or ids i Init) v (sequence i j (get_or ids i Init) v lt at_i at_v) (here (get_or ids i Init) at_i);
   }
+
+-- the ids from the turn on
+pub holds_from : (T : EventId → Type 0) (ids : List EventId) (n : ℕ) → IsTurn (NoneInRow T ids) (HasInRow T ids) (length ids) n → HoldsFrom T ids n
+holds_from T ids n turn = record {
+  fails = λ i v lt at here. turn.first i lt v at here;
+  holds = λ i v le at. turn.rest i le (slice_get_within ids i v at) v at;
+}

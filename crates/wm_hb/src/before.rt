@@ -1,14 +1,15 @@
 //! Happens-before of a candidate whose order agrees with it.
-ghost use Rattle.std.specs.Prelude.{◌≡◌, ◌≤◌, ◌↔◌, IsTrue, IfOk, Some, None, length};
+ghost use Rattle.std.specs.Prelude.{◌≡◌, ◌<◌, ◌≤◌, ◌↔◌, IsTrue, IfOk, Some, None, length};
 ghost use Rattle.wm_event.specs.declared.event.EventId.TheVariants.{Init, At};
 ghost use Rattle.wm_event.specs.declared.event.EventKey.{EventKey};
 ghost use Rattle.wm_event.specs.HappensBefore.{HappensBefore as IsBefore};
 ghost use Rattle.wm_event.specs.LoggedRun.{execution};
 ghost use Rattle.wm_event.specs.Rules.{KeepsOrder};
 ghost use Rattle.wm_hb.specs.Sequence.{AreInSequence, HoldsFrom};
-ghost use Rattle.wm_hb.specs.Steps.{DecidesBefore};
+ghost use Rattle.wm_hb.specs.Steps.{DecidesBefore, IsHappensBefore};
 
 use crate::ordered::Ordered;
+use crate::search::{Turning, turn_of};
 use crate::steps::{graph, place_of, threads};
 use std::alloc::{AllocError, Global};
 use std::marker::Model;
@@ -100,6 +101,25 @@ impl<'c, 'i> HappensBefore<'c, 'i> {
         }
     }
 
+    /// The closure of the steps, without the candidate: [`HappensBefore::over`] takes it back.
+    pub fn into_closure(self) -> Closure
+        ensures { IsHappensBefore self.entry result }
+    {
+        let HappensBefore {
+            candidate: _candidate,
+            closure,
+        } = self;
+        closure
+    }
+
+    /// Happens-before of a candidate by the closure of its steps, which [`HappensBefore::into_closure`] gave.
+    pub fn over(candidate: &'c Candidate<'i>, closure: Closure) -> Self
+        requires { IsHappensBefore candidate.now closure }
+        ensures { result ≡ candidate.now }
+    {
+        HappensBefore { candidate, closure }
+    }
+
     /// How many of these events `id` doesn't happen before. Each of them happens before the next ones, so `id` happens
     /// before all those after the counted ones.
     pub fn count_not_after(&self, id: EventId, events: &[EventId]) -> usize
@@ -107,16 +127,33 @@ impl<'c, 'i> HappensBefore<'c, 'i> {
         ensures bound { result ≤ length events.now }
         ensures turn { HoldsFrom (IsBefore (execution self.now) id) events.now result }
     {
-        let mut low = 0usize;
-        let mut high = events.len();
-        while low < high {
-            let middle = low + (high - low) / 2;
-            if self.before(id, events[middle]) {
-                high = middle;
-            } else {
-                low = middle + 1;
-            }
-        }
-        low
+        let row = AfterRow {
+            relation: self,
+            id,
+            events,
+        };
+        turn_of(&row, events.len())
+    }
+}
+
+/// Events in sequence, of which an event happens before the late ones.
+#[derive(Clone, Copy)]
+struct AfterRow<'r, 'c, 'i> {
+    relation: &'r HappensBefore<'c, 'i>,
+    id: EventId,
+    events: &'r [EventId],
+}
+
+impl Turning for AfterRow<'_, '_, '_> {
+    ghost use Rattle.wm_hb.specs.Sequence.{HasInRow, NoneInRow};
+
+    ghost ready = { λ row i. i < length row.events.now };
+
+    ghost early = { λ row i. NoneInRow (IsBefore (execution row.relation.now) row.id) row.events.now i };
+
+    ghost late = { λ row i. HasInRow (IsBefore (execution row.relation.now) row.id) row.events.now i };
+
+    fn is_late(&self, index: usize) -> bool {
+        self.relation.before(self.id, self.events[index])
     }
 }

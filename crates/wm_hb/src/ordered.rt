@@ -5,7 +5,7 @@ ghost use Rattle.wm_hb.specs.Scan.{Finds};
 
 use crate::order::order_fault;
 use std::marker::Model;
-use wm_event::{Candidate, EventId, EventKey, RuleFault};
+use wm_event::{Candidate, RuleFault};
 
 /// The first fault of a thread.
 fn fault_in_thread(candidate: &Candidate, thread: usize) -> Option<RuleFault>
@@ -41,16 +41,6 @@ pub struct Ordered<'c, 'i> {
     candidate: &'c Candidate<'i>,
 }
 
-/// An edge of happens-before that the order doesn't agree with: its later end as the event, its earlier end as the
-/// writer.
-#[derive(Clone, Copy)]
-pub struct Edge {
-    pub case: u8,
-    pub event: EventKey,
-    pub byte: u8,
-    pub writer: EventId,
-}
-
 impl<'c, 'i> Model for Ordered<'c, 'i> {
     ghost use Rattle.wm_event.specs.LoggedRun.{LoggedRun, execution};
     ghost use Rattle.wm_event.specs.Rules.{KeepsOrder};
@@ -67,8 +57,8 @@ impl<'c, 'i> Ordered<'c, 'i> {
     ghost use Rattle.wm_event.specs.Rules.{KeepsOrder};
     ghost use Rattle.wm_hb.specs.Edges.{IsFirstBroken};
 
-    /// The candidate, if its order agrees with each edge; otherwise the first edge that it doesn't agree with.
-    pub fn of(candidate: &'c Candidate<'i>) -> Result<Self, Edge>
+    /// The candidate, if its order agrees with each edge of happens-before; otherwise the first fault of V2.
+    pub fn of(candidate: &'c Candidate<'i>) -> Result<Self, RuleFault>
         ensures value { IfOk result (λ o. o ≡ candidate.now) }
         ensures agrees { OnOk result (KeepsOrder (execution candidate.now)) }
         ensures fails { OnErr result (KeepsOrder (execution candidate.now) → ⊥) }
@@ -76,12 +66,7 @@ impl<'c, 'i> Ordered<'c, 'i> {
     {
         match first_fault(candidate) {
             None => Ok(Ordered { candidate }),
-            Some(fault) => Err(Edge {
-                case: fault.case,
-                event: fault.event,
-                byte: fault.byte,
-                writer: fault.writer,
-            }),
+            Some(fault) => Err(fault),
         }
     }
 

@@ -1,5 +1,5 @@
 //! The writers of the bytes of a read, by runs of bytes with one writer.
-ghost use Rattle.std.specs.Prelude.{◌≡◌, ◌+◌, false, IfOk, slice_get};
+ghost use Rattle.std.specs.Prelude.{◌≡◌, ◌≢◌, ◌+◌, ◌<◌, false, true, IfOk, length, slice_get};
 ghost use Rattle.wm_event.specs.Witness.{writers_in};
 ghost use Rattle.wm_hb.specs.ReadsFrom.{AreFromWriters};
 
@@ -19,7 +19,9 @@ pub struct WriterRun {
 
 /// Whether there is no next byte, or it has another writer.
 fn is_last(writers: &[EventId], byte: usize) -> bool
-    ensures { result ≡ false → slice_get writers.now (byte + 1) ≡ slice_get writers.now byte }
+    requires { byte < length writers.now }
+    ensures same { result ≡ false → slice_get writers.now (byte + 1) ≡ slice_get writers.now byte }
+    ensures ended { result ≡ true → slice_get writers.now (byte + 1) ≢ slice_get writers.now byte }
 {
     match (writers.get(byte), writers.get(byte.saturating_add(1))) {
         (Some(one), Some(other)) => one != other,

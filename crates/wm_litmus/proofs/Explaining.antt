@@ -1,17 +1,19 @@
 -- An explanation of a verdict answers the bytes that the verdict is on.
-use Rattle.std.proofs.Common.{◌≡◌, ◌∙◌, ℕ, List, Option, Some, None, sym, string_bytes}
-use Rattle.std.proofs.lemmas.Option.{none-some}
+use Rattle.std.proofs.Common.{◌≡◌, ℕ, List, string_bytes}
 use Rattle.wm_check.specs.declared.verdict.Refusal.{Refusal}
 use Rattle.wm_check.specs.declared.verdict.Refusal.TheVariants as refusal
 use Rattle.wm_check.specs.declared.verdict.Verdict.{Verdict}
 use Rattle.wm_check.specs.declared.verdict.Verdict.TheVariants.{Allowed, Refused, Broken}
-use Rattle.wm_check.specs.Reading.{HasCandidate, IsModuleRefusal}
+use Rattle.wm_check.specs.Checked.{verdict_by}
+use Rattle.wm_check.specs.Reading.{IsModuleRefusal}
+use Rattle.wm_check.specs.Texts.{verdict_status}
 use Rattle.wm_check.specs.Verdicts.{IsRefusedFor, Says}
-use Rattle.wm_check.specs.Texts.{verdict_status, verdict_text}
+use Rattle.wm_event.specs.declared.log.ThreadLog.{ThreadLog}
+use Rattle.wm_event.specs.declared.rule.Judgement.{Judgement}
+use Rattle.wm_event.specs.declared.rule.Judgement.TheVariants as judgement
 use Rattle.wm_litmus.specs.declared.answer.Answer.{Answer}
 use Rattle.wm_litmus.specs.Explanation.{AnswersExplain, AnswersGraph, Explains, Shows}
 use Rattle.wm_litmus.specs.Explanation.AnswersGraph.{pictured, told}
-use Rattle.wm_litmus.specs.Prints.{Prints}
 
 -- bytes that spell no module are refused for that, whatever the document is
 pub refused_for : (module_bytes document_bytes : List ℕ) (r : Refusal) → IsModuleRefusal module_bytes r → IsRefusedFor module_bytes document_bytes r
@@ -40,16 +42,7 @@ answers_graph mb db (Allowed certificate) answer said shows = pictured (Allowed 
 answers_graph mb db (Refused r) answer said shows = told r said shows.status_is shows.text_is
 answers_graph mb db (Broken breach) answer said shows = pictured (Broken breach) said tt shows
 
--- a picture shows what has a candidate
-pub picture_shows : {X : Type 0} (v : Verdict) (candidate : Option X) (run : X) (answer : Answer) → HasCandidate v candidate → candidate ≡ Some run
-    → answer.status ≡ verdict_status v → Shows v answer
-picture_shows (Allowed certificate) candidate run answer has is status = status
-picture_shows (Refused r) candidate run answer has is status = absurd (none-some run (sym has ∙ is))
-picture_shows (Broken breach) candidate run answer has is status = status
-
--- and its line what has none
-pub line_shows : {X : Type 0} (v : Verdict) (candidate : Option X) (answer : Answer) → HasCandidate v candidate → candidate ≡ None
-    → Prints (verdict_status v) (verdict_text v) answer → Shows v answer
-line_shows (Allowed certificate) candidate answer has is prints = absurd (none-some has.0 (sym is ∙ has.1))
-line_shows (Refused r) candidate answer has is prints = prints
-line_shows (Broken breach) candidate answer has is prints = absurd (none-some has.0 (sym is ∙ has.1))
+-- a picture with the status of the verdict by a judgement shows it
+pub judged_shows : (log : List ThreadLog) (j : Judgement) (answer : Answer) → answer.status ≡ verdict_status (verdict_by log j) → Shows (verdict_by log j) answer
+judged_shows log judgement.Valid answer is = is
+judged_shows log (judgement.Broken fault) answer is = is

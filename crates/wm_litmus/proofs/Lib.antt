@@ -1,5 +1,5 @@
 pub mod Answering
-pub mod EventExplaining
+pub mod JudgedDocuments
 pub mod Pieces
 pub mod OwnVerdicts
 pub mod Counting
@@ -13,3 +13,4 @@ pub mod Streaming
 pub mod Statuses
 pub mod TraceTexts
 pub mod Telling
+pub mod Witnessing

@@ -4,7 +4,7 @@ use Rattle.std.specs.Fmt.{decimal}
 use Rattle.std.proofs.lemmas.List.{append-nil, length-take}
 use Rattle.std.proofs.lemmas.List.Concat.{flat_map-append}
 use Rattle.wm_litmus.specs.Prints.{ended}
-use Rattle.wm_litmus.specs.Races.{ListsRaces, lines_text, more_text, no_races_text, shown_text}
+use Rattle.wm_litmus.specs.Races.{ListsRaces, lines_text, more_text, no_races_text, sequential_text, shown_text}
 
 -- one race more, whose line was added
 pub line_added : {X : Type 0} (line : X → List ℕ) (races : List X) (race : X) (text row written : List ℕ) → text ≡ shown_text line races → row ≡ ended (line race)
@@ -27,9 +27,12 @@ pub more_of : (n : ℕ) → (n ≡ 0 → ⊥) → more_text n ≡ codes "and " +
 more_of zero some = absurd (some refl)
 more_of (suc n) some = simp append_assoc
 
+pub ended_none : (a b c d e : List ℕ) → ended (a ++ b ++ c ++ d) ++ ended e ≡ a ++ (b ++ (c ++ (d ++ (10 ∷ e ++ 10 ∷ []))))
+ended_none a b c d e = simp append_assoc
+
 -- what is printed of no race, and of some
-pub lists_none : {X : Type 0} (line : X → List ℕ) (threads events : ℕ) (races : List X) (text : List ℕ) → length races ≡ 0 → text ≡ ended (no_races_text threads events)
-    → ListsRaces line threads events races 0 text
+pub lists_none : {X : Type 0} (line : X → List ℕ) (threads events : ℕ) (races : List X) (text : List ℕ) → length races ≡ 0
+    → text ≡ ended (no_races_text threads events) ++ ended sequential_text → ListsRaces line threads events races 0 text
 lists_none line threads events [] text none is = record { status_is = refl; text_is = is }
 lists_none line threads events (race ∷ races) text none is = absurd cc
 

@@ -1,5 +1,6 @@
 -- The status of each answer is below 3.
 use Rattle.std.proofs.Common.{ℕ, ◌<◌, List, [], ◌∷◌, Option, arith}
+use Rattle.wm_ast.specs.declared.module.Module.{Module}
 use Rattle.wm_check.specs.declared.verdict.Verdict.{Verdict}
 use Rattle.wm_check.specs.declared.verdict.Verdict.TheVariants as verdict
 use Rattle.wm_check.specs.Texts.{verdict_status}
@@ -7,6 +8,7 @@ use Rattle.wm_command.specs.declared.command.DocumentTask.{DocumentTask}
 use Rattle.wm_command.specs.declared.command.DocumentTask.TheVariants as document
 use Rattle.wm_command.specs.declared.command.RunTask.{RunTask}
 use Rattle.wm_command.specs.declared.command.RunTask.TheVariants as run
+use Rattle.wm_command.specs.declared.command.WitnessWords.{WitnessWords}
 use Rattle.wm_event.specs.declared.rule.Judgement.{Judgement}
 use Rattle.wm_event.specs.declared.rule.Judgement.TheVariants as judgement
 use Rattle.wm_event.specs.LoggedRun.{LoggedRun}
@@ -18,18 +20,17 @@ use Rattle.wm_stream.specs.Answers.{overall, status_code}
 use Rattle.wm_litmus.specs.Drive.{AnswersDrive, IsScriptAnswer}
 use Rattle.wm_litmus.specs.Drive.AnswersDrive.{no_module as drive_no_module, refused as drive_refused, driven as drive_driven}
 use Rattle.wm_litmus.specs.Drive.IsScriptAnswer.{played as script_played, no_script as script_no_script}
-use Rattle.wm_litmus.specs.EventExplanation.{AnswersEventGraph, GraphsRun}
-use Rattle.wm_litmus.specs.EventExplanation.AnswersEventGraph.{read as event_graph_read, refused as event_graph_refused}
-use Rattle.wm_litmus.specs.EventExplanation.GraphsRun.{pictured as graph_run_pictured, told as graph_run_told}
+use Rattle.wm_litmus.specs.EventExplanation.{AnswersEventGraph}
+use Rattle.wm_litmus.specs.EventExplanation.AnswersEventGraph.{pictured as event_graph_pictured, told as event_graph_told}
 use Rattle.wm_litmus.specs.Explanation.{AnswersGraph}
 use Rattle.wm_litmus.specs.Explanation.AnswersGraph.{pictured as graph_pictured, told as graph_told}
 use Rattle.wm_litmus.specs.Lines.{judgement_status}
-use Rattle.wm_litmus.specs.Races.{AnswersEventRaces, AnswersRaces, AnswersRunRaces, races_status}
-use Rattle.wm_litmus.specs.Races.AnswersEventRaces.{read as event_races_read, refused as event_races_refused}
+use Rattle.wm_litmus.specs.Races.{AnswersEventRaces, AnswersRaces, races_status}
+use Rattle.wm_litmus.specs.Races.AnswersEventRaces.{listed as event_races_listed, told as event_races_told}
 use Rattle.wm_litmus.specs.Races.AnswersRaces.{listed as races_listed, told as races_told}
-use Rattle.wm_litmus.specs.Races.AnswersRunRaces.{listed as run_races_listed, told as run_races_told}
-use Rattle.wm_litmus.specs.Replies.{Given, IsAnswer}
-use Rattle.wm_litmus.specs.Replies.IsAnswer.{document_task_of, drive_of, help_of, no_command, run_of, run_task_of, stream_of, trace_of, version_of}
+use Rattle.wm_litmus.specs.Replies.{Given, IsAnswer, IsWitnessAnswer}
+use Rattle.wm_litmus.specs.Replies.IsAnswer.{document_task_of, drive_of, help_of, no_command, run_of, run_task_of, stream_of, trace_of, version_of, witness_of}
+use Rattle.wm_litmus.specs.Replies.IsWitnessAnswer.{of_run as witness_of_run, of_document as witness_of_document, no_nodes}
 use Rattle.wm_litmus.specs.Rounds.{AnswersRounds, IsRoundsAnswer}
 use Rattle.wm_litmus.specs.Rounds.AnswersRounds.{no_module as rounds_no_module, refused as rounds_refused, too_large as rounds_too_large, made as rounds_made}
 use Rattle.wm_litmus.specs.Rounds.IsRoundsAnswer.{ran as rounds_words_ran, no_rounds as rounds_words_no_rounds}
@@ -41,6 +42,11 @@ use Rattle.wm_litmus.specs.Tasks.AnswersCheck.{allowed as check_allowed, refused
 use Rattle.wm_litmus.specs.Tasks.AnswersComplete.{completed as complete_completed, refused_for as complete_refused_for, without_run as complete_without_run}
 use Rattle.wm_litmus.specs.Tasks.AnswersMigrate.{migrated as migrate_migrated, misplaced as migrate_misplaced, refused as migrate_refused}
 use Rattle.wm_litmus.specs.Trace.{AnswersTrace}
+use Rattle.wm_litmus.specs.Witness.{AnswersCompared, AnswersEventWitness, AnswersSearch, AnswersWitness}
+use Rattle.wm_litmus.specs.Witness.AnswersCompared.{searched as compared_searched, broken as compared_broken}
+use Rattle.wm_litmus.specs.Witness.AnswersEventWitness.{searched as event_searched, misshapen as event_misshapen, no_document as event_no_document}
+use Rattle.wm_litmus.specs.Witness.AnswersSearch.{found as search_found, none as search_none, gave_up as search_gave_up}
+use Rattle.wm_litmus.specs.Witness.AnswersWitness.{compared as module_compared, misshapen as module_misshapen, no_module as module_none, no_document as module_no_document}
 use Rattle.wm_litmus.specs.Trace.AnswersTrace.{no_module as trace_no_module, refused as trace_refused, traced as trace_traced}
 
 -- ---- the statuses of what is answered
@@ -73,14 +79,6 @@ of_rules : (status : ℕ) (text bytes : List ℕ) → AnswersRules bytes status 
 of_rules status text bytes (rules_read log witness document answers) = of_run status text _ answers
 of_rules status text bytes (rules_refused fault document is line) = omega (arith, is)
 
-of_run_races : (status : ℕ) (text : List ℕ) (r : LoggedRun) → AnswersRunRaces r status text → status < 3
-of_run_races status text r (run_races_listed shaped valid report) = omega (arith, report.lists.status_is, of_races report.races)
-of_run_races status text r (run_races_told other answers) = of_run status text r answers
-
-of_run_graph : (status : ℕ) (text : List ℕ) (r : LoggedRun) → GraphsRun r status text → status < 3
-of_run_graph status text r (graph_run_pictured j shaped judges is) = omega (arith, is, of_judgement j)
-of_run_graph status text r (graph_run_told is answers) = omega (arith, is)
-
 of_check : (status : ℕ) (text m d : List ℕ) → AnswersCheck m d status text → status < 3
 of_check status text m d (check_allowed certificate allowed is line) = omega (arith, is)
 of_check status text m d (check_refused_for refusal refused is line) = omega (arith, is)
@@ -92,7 +90,7 @@ of_complete status text m d (complete_refused_for refusal refused is text_is) = 
 of_complete status text m d (complete_without_run answer without is text_is) = omega (arith, is)
 
 of_module_races : (status : ℕ) (text m d : List ℕ) → AnswersRaces m d status text → status < 3
-of_module_races status text m d (races_listed code r certificate candidate says valid report) = omega (arith, report.lists.status_is, of_races report.races)
+of_module_races status text m d (races_listed code r candidate says valid report) = omega (arith, report.lists.status_is, of_races report.races)
 of_module_races status text m d (races_told v says other is text_is) = omega (arith, is, of_verdict v)
 
 of_graph : (status : ℕ) (text m d : List ℕ) → AnswersGraph m d status text → status < 3
@@ -113,12 +111,12 @@ of_migrate status text bytes (migrate_misplaced misplaced is text_is) = omega (a
 of_migrate status text bytes (migrate_refused fault refused is text_is) = omega (arith, is)
 
 of_event_races : (status : ℕ) (text bytes : List ℕ) → AnswersEventRaces bytes status text → status < 3
-of_event_races status text bytes (event_races_read log witness document answers) = of_run_races status text _ answers
-of_event_races status text bytes (event_races_refused fault document is text_is) = omega (arith, is)
+of_event_races status text bytes (event_races_listed log witness document shape valid report) = omega (arith, report.lists.status_is, of_races report.races)
+of_event_races status text bytes (event_races_told other answers) = of_rules status text bytes answers
 
 of_event_graph : (status : ℕ) (text bytes : List ℕ) → AnswersEventGraph bytes status text → status < 3
-of_event_graph status text bytes (event_graph_read log witness document answers) = of_run_graph status text _ answers
-of_event_graph status text bytes (event_graph_refused is answers) = omega (arith, is)
+of_event_graph status text bytes (event_graph_pictured log witness j document shape judges is) = omega (arith, is, of_judgement j)
+of_event_graph status text bytes (event_graph_told is answers) = omega (arith, is)
 
 of_document_task : (status : ℕ) (text : List ℕ) (task : DocumentTask) (bytes : List ℕ) → AnswersDocumentTask task bytes status text → status < 3
 of_document_task status text document.Rules bytes answers = of_rules status text bytes answers
@@ -126,6 +124,33 @@ of_document_task status text document.Migrate bytes answers = of_migrate status 
 of_document_task status text document.Races bytes answers = of_event_races status text bytes answers
 of_document_task status text document.Explain bytes answers = of_rules status answers.line bytes answers.rules
 of_document_task status text document.Graph bytes answers = of_event_graph status text bytes answers
+
+-- ---- the statuses of searches
+
+of_search : (status : ℕ) (text : List ℕ) (r : LoggedRun) (nodes : ℕ) → AnswersSearch r nodes status text → status < 3
+of_search status text r nodes (search_found witness shape valid is line) = omega (arith, is)
+of_search status text r nodes (search_none never is line) = omega (arith, is)
+of_search status text r nodes (search_gave_up left is line) = omega (arith, is)
+
+of_compared : (status : ℕ) (text : List ℕ) (m : Module) (r : LoggedRun) (nodes : ℕ) → AnswersCompared m r nodes status text → status < 3
+of_compared status text m r nodes (compared_searched runs answers) = of_search status text r nodes answers
+of_compared status text m r nodes (compared_broken answer other replays is line) = omega (arith, is)
+
+of_witness : (status : ℕ) (text : List ℕ) (nodes : ℕ) (m d : List ℕ) → AnswersWitness nodes m d status text → status < 3
+of_witness status text nodes m d (module_compared code log own r modules document initial start answers) = of_compared status text code r nodes answers
+of_witness status text nodes m d (module_misshapen code log own r fault modules document initial start first is line) = omega (arith, is)
+of_witness status text nodes m d (module_none refusal refused is line) = omega (arith, is)
+of_witness status text nodes m d (module_no_document code fault modules none is line) = omega (arith, is)
+
+of_event_witness : (status : ℕ) (text : List ℕ) (nodes : ℕ) (bytes : List ℕ) → AnswersEventWitness nodes bytes status text → status < 3
+of_event_witness status text nodes bytes (event_searched log own r document start answers) = of_search status text r nodes answers
+of_event_witness status text nodes bytes (event_misshapen log own r fault document start first is line) = omega (arith, is)
+of_event_witness status text nodes bytes (event_no_document fault none is line) = omega (arith, is)
+
+of_witness_words : (words : WitnessWords) (files : List ℕ → Option (List ℕ)) (input : Option (List ℕ)) (status : ℕ) (text : List ℕ) → IsWitnessAnswer words files input status text → status < 3
+of_witness_words words files input status text (witness_of_run file document nodes m d spelled read read_too answers) = of_witness status text nodes m d answers
+of_witness_words words files input status text (witness_of_document document nodes bytes spelled read answers) = of_event_witness status text nodes bytes answers
+of_witness_words words files input status text (no_nodes none is line) = omega (arith, is)
 
 -- ---- the statuses of scripts and rounds
 
@@ -161,6 +186,7 @@ pub below_three : (given : Given) (status : ℕ) (text : List ℕ) → IsAnswer 
 below_three given status text (no_command none is line) = omega (arith, is)
 below_three given status text (run_task_of task file document command answer) = of_run_task status text task answer.module_bytes answer.document_bytes answer.answers
 below_three given status text (document_task_of task document command answer) = of_document_task status text task answer.bytes answer.answers
+below_three given status text (witness_of words command answers) = of_witness_words words _ _ status text answers
 below_three given status text (stream_of file bytes command read answers) = omega (arith, answers.status_is, of_line (overall answers.answers))
 below_three given status text (drive_of file turns command answers) = of_script AnswersDrive _ _ _ status text (λ bytes plan turns. of_drive status text bytes plan turns) answers
 below_three given status text (trace_of file turns command answers) = of_script AnswersTrace _ _ _ status text (λ bytes plan turns. of_trace status text bytes plan turns) answers

@@ -1,10 +1,9 @@
 -- The answers of the commands `explain` and `graph`.
-use Rattle.std.specs.Prelude.{◌≡◌, ℕ, List, ◌++◌, string_bytes}
+use Rattle.std.specs.Prelude.{◌≡◌, ℕ, List, ◌++◌, ⊤, string_bytes}
 use Rattle.wm_ast.specs.declared.module.Module.{Module}
 use Rattle.wm_check.specs.declared.verdict.Refusal.{Refusal}
 use Rattle.wm_check.specs.declared.verdict.Verdict.{Verdict}
 use Rattle.wm_check.specs.declared.verdict.Verdict.TheVariants.{Allowed, Refused, Broken}
-use Rattle.wm_check.specs.Reading.{IsJudged}
 use Rattle.wm_check.specs.Run.{IsModuleOf}
 use Rattle.wm_check.specs.Verdicts.{IsRefusedFor, Says}
 use Rattle.wm_check.specs.Texts.{verdict_status, verdict_text}
@@ -43,10 +42,16 @@ Shows (Allowed certificate) answer = answer.status ≡ 0
 Shows (Refused refusal) answer = Prints 2 (verdict_text (Refused refusal)) answer
 Shows (Broken breach) answer = answer.status ≡ 1
 
+-- there is a candidate, of which there is a picture
+abbrev pub HasPicture : Verdict → Type 0
+HasPicture (Allowed certificate) = ⊤
+HasPicture (Refused refusal) = ⊥
+HasPicture (Broken breach) = ⊤
+
 -- the status and the text that answer a module and a document: the status of `check` with a picture that isn't
 -- specified, if there is a candidate; otherwise the line of the refusal
 pub data AnswersGraph (module_bytes document_bytes : List ℕ) (status : ℕ) (text : List ℕ) : Type 0 where
-  pictured : (verdict : Verdict) → Says module_bytes document_bytes verdict → IsJudged verdict
+  pictured : (verdict : Verdict) → Says module_bytes document_bytes verdict → HasPicture verdict
       → status ≡ verdict_status verdict → AnswersGraph module_bytes document_bytes status text
   told : (refusal : Refusal) → IsRefusedFor module_bytes document_bytes refusal
       → status ≡ 2 → text ≡ ended (verdict_text (Refused refusal)) → AnswersGraph module_bytes document_bytes status text

@@ -18,3 +18,5 @@ pub mod Serving
 pub mod Stream
 pub mod Table
 pub mod Tasks
+pub mod Witness
+pub mod WitnessTask

@@ -7,7 +7,7 @@ use Rattle.wm_event.specs.declared.shape_fault.ShapeFault.{ShapeFault}
 use Rattle.wm_run.specs.declared.fault.RunFault.{RunFault}
 use Rattle.wm_run.specs.Texts.{run_fault_text}
 use Rattle.wm_words.specs.declared.fault.WordFault.{WordFault}
-use Rattle.wm_words.specs.declared.fault.WordFault.TheVariants.{Turns, Rounds, Start, OutOfMemory}
+use Rattle.wm_words.specs.declared.fault.WordFault.TheVariants.{Turns, Rounds, Nodes, Start, OutOfMemory}
 use Rattle.wm_logfile.specs.Texts.{doc_fault_text}
 use Rattle.wm_logfile.specs.declared.fault.DocFault.{DocFault}
 
@@ -29,6 +29,7 @@ abbrev pub word_text : WordFault → List ℕ
 word_text Turns = codes "turns"
 word_text Rounds = codes "rounds"
 word_text Start = codes "start"
+word_text Nodes = codes "nodes"
 word_text OutOfMemory = []
 
 abbrev pub word_line_text : WordFault → List ℕ

@@ -1,12 +1,15 @@
 -- The answers of the program: what it prints, and the exit status.
-use Rattle.std.specs.Prelude.{◌≡◌, ◌<◌, ℕ, List, Option, drop, map}
+use Rattle.std.specs.Prelude.{◌≡◌, ◌<◌, ℕ, List, Option, None, Some, drop, map}
 use Rattle.std.specs.Borrow.{Bor}
 use Rattle.std.specs.Io.KnownBytes.{Appends}
 use Rattle.wm_decode.specs.Bounds.{max_module_bytes}
 use Rattle.clap.specs.Words.{Text}
-use Rattle.wm_command.specs.declared.command.Command.TheVariants.{OfRun, OfDocument, Stream, Drive, Trace, Run, Help, Version}
+use Rattle.wm_command.specs.declared.command.Command.TheVariants.{OfRun, OfDocument, Witness, Stream, Drive, Trace, Run, Help, Version}
 use Rattle.wm_command.specs.declared.command.DocumentTask.{DocumentTask}
 use Rattle.wm_command.specs.declared.command.RunTask.{RunTask}
+use Rattle.wm_command.specs.declared.command.WitnessWords.{WitnessWords}
+use Rattle.wm_words.specs.declared.fault.WordFault.TheVariants.{Nodes}
+use Rattle.wm_litmus.specs.declared.witness_task.WitnessTask.TheVariants.{OfRun as OfRunTask, OfDocument as OfDocumentTask}
 use Rattle.wm_command.specs.Commands.{IsCommand, IsNoCommand}
 use Rattle.wm_litmus.specs.Drive.{AnswersDrive, IsScriptAnswer}
 use Rattle.wm_litmus.specs.Help.{help_text, version_text}
@@ -17,7 +20,9 @@ use Rattle.wm_litmus.specs.Input.{IsDocumentRead, IsReadOf}
 use Rattle.wm_stream.specs.Output.{AppendsFront}
 use Rattle.wm_litmus.specs.Prints.{ended}
 use Rattle.wm_litmus.specs.Stream.{AnswersFirstLines, AnswersStream}
-use Rattle.wm_litmus.specs.Lines.{words_line_text}
+use Rattle.wm_litmus.specs.Lines.{word_line_text, words_line_text}
+use Rattle.wm_litmus.specs.Witness.{AnswersEventWitness, AnswersWitness}
+use Rattle.wm_litmus.specs.WitnessTask.{spelled}
 
 abbrev pub words_of : List (Bor Text) → List Text
 words_of words = map (λ word. word.now) words
@@ -45,6 +50,16 @@ pub record IsDocumentAnswer (task : DocumentTask) (files : List ℕ → Option (
   pub read : IsDocumentRead files input document bytes
   pub answers : AnswersDocumentTask task bytes status text
 
+-- and those that answer the words of a search for a witness: by what was read of the files that they name; or their number
+-- of nodes is none
+pub data IsWitnessAnswer (words : WitnessWords) (files : List ℕ → Option (List ℕ)) (input : Option (List ℕ)) (status : ℕ) (text : List ℕ) : Type 0 where
+  of_run : (file document : Bor Text) (nodes : ℕ) (module_bytes document_bytes : List ℕ) → spelled words ≡ Some (OfRunTask file document nodes)
+      → IsReadOf (files file.now) max_module_bytes module_bytes → IsDocumentRead files input document.now document_bytes
+      → AnswersWitness nodes module_bytes document_bytes status text → IsWitnessAnswer words files input status text
+  of_document : (document : Bor Text) (nodes : ℕ) (bytes : List ℕ) → spelled words ≡ Some (OfDocumentTask document nodes)
+      → IsDocumentRead files input document.now bytes → AnswersEventWitness nodes bytes status text → IsWitnessAnswer words files input status text
+  no_nodes : spelled words ≡ None → status ≡ 2 → text ≡ ended (word_line_text Nodes) → IsWitnessAnswer words files input status text
+
 -- the status and the text that answer this input
 pub data IsAnswer (given : Given) (status : ℕ) (text : List ℕ) : Type 0 where
   no_command : IsNoCommand given.words → status ≡ 2 → text ≡ ended words_line_text → IsAnswer given status text
@@ -52,6 +67,8 @@ pub data IsAnswer (given : Given) (status : ℕ) (text : List ℕ) : Type 0 wher
       → IsRunAnswer task given.files given.input file.now document.now status text → IsAnswer given status text
   document_task_of : (task : DocumentTask) (document : Bor Text) → IsCommand given.words (OfDocument task document)
       → IsDocumentAnswer task given.files given.input document.now status text → IsAnswer given status text
+  witness_of : (words : WitnessWords) → IsCommand given.words (Witness words)
+      → IsWitnessAnswer words given.files given.input status text → IsAnswer given status text
   stream_of : (file : Bor Text) (module_bytes : List ℕ) → IsCommand given.words (Stream file)
       → IsReadOf (given.files file.now) max_module_bytes module_bytes
       → AnswersStream module_bytes given.input status text → IsAnswer given status text

@@ -12,6 +12,9 @@ use Rattle.wm_logfile.specs.declared.fault.DocFault.{DocFault}
 use Rattle.wm_logfile.specs.DocumentBytes.{IsDocumentOf, IsNoDocument}
 use Rattle.wm_event.specs.Texts.{judgement_text}
 use Rattle.wm_litmus.specs.Lines.{document_line_text, judgement_status, shape_line_text}
+use Rattle.wm_rules.specs.Finding.{judgement_of}
+use Rattle.wm_check.specs.declared.judged.JudgedDocument.{JudgedDocument}
+use Rattle.wm_check.specs.declared.judged.JudgedDocument.TheVariants as document
 use Rattle.wm_litmus.specs.Prints.{ended}
 
 -- this number of pages of zeros, of 65,536 bytes each
@@ -34,3 +37,14 @@ pub data AnswersRules (bytes : List ℕ) (status : ℕ) (text : List ℕ) : Type
       → AnswersRun (run_over 16 log witness) status text → AnswersRules bytes status text
   refused : (fault : DocFault) → IsNoDocument bytes fault
       → status ≡ 2 → text ≡ ended (document_line_text fault) → AnswersRules bytes status text
+
+-- the status and the line of what a judgement of a document found
+abbrev pub judged_status : JudgedDocument → ℕ
+judged_status (document.Refused fault) = 2
+judged_status (document.Misshapen m) = 2
+judged_status (document.Judged run finding) = judgement_status (judgement_of finding)
+
+abbrev pub judged_text : JudgedDocument → List ℕ
+judged_text (document.Refused fault) = document_line_text fault
+judged_text (document.Misshapen m) = shape_line_text m.fault
+judged_text (document.Judged run finding) = judgement_text (judgement_of finding)

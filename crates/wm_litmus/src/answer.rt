@@ -25,7 +25,7 @@ pub(crate) struct Answer {
 }
 
 /// The exit status of a judgement.
-fn status_of(judgement: &Judgement) -> u8
+pub(crate) fn status_of(judgement: &Judgement) -> u8
     ensures { result ≡ judgement_status judgement.now }
 {
     match judgement {
@@ -116,6 +116,7 @@ impl Answer {
             WordFault::Turns => "turns",
             WordFault::Rounds => "rounds",
             WordFault::Start => "start",
+            WordFault::Nodes => "nodes",
             WordFault::OutOfMemory => return Err(AllocError),
         };
         let line = format!(in alloc; "refused command {word}")?;

@@ -1,55 +1,77 @@
 //! The commands `explain` and `graph`: why a check gives its answer, in sentences and as a picture. Module and document
-//! are read and checked once, and the explanation is about the candidate of that check.
+//! are read and checked once, and the explanation is about what that check found.
 ghost use Rattle.std.specs.Prelude.{IfOk, string_bytes};
-ghost use Rattle.wm_check.specs.Reading.{HasCandidate};
-ghost use Rattle.wm_check.specs.declared.verdict.Verdict.TheVariants.{Refused};
+ghost use Rattle.wm_check.specs.Checked.{verdict_by, verdict_of};
+ghost use Rattle.wm_check.specs.declared.verdict.Breach.TheVariants.{Replay};
+ghost use Rattle.wm_check.specs.declared.verdict.Verdict.TheVariants.{Broken, Refused};
 ghost use Rattle.wm_litmus.specs.Explanation.{AnswersExplain, AnswersGraph, Explains, ExplainsOver, GraphsOver, Shows};
 
 use crate::answer::Answer;
+use crate::event_explanation::breach_of;
 use crate::line::verdict_line;
 use std::alloc::{AllocError, Global};
 use std::thread::Threads;
-use wm_check::{CheckedLog, Refusal, Unread, Verdict, check_log, read_module};
-use wm_event::Candidate;
-use wm_explain::{PictureNotes, explain_refusal, explain_run, explain_shape, picture_notes};
+use wm_check::{
+    Breach, CheckedLog, Refusal, Unread, Verdict, check_log, judged_verdict, read_module,
+};
+use wm_event::{Candidate, Judgement};
+use wm_explain::{
+    PictureNotes, difference_notes, explain_difference, explain_judged, explain_refusal,
+    explain_shape, judged_notes,
+};
 use wm_graph::{Caption, Sketch};
 use wm_list::List;
 use wm_machine::CodePosition;
+use wm_replay::ReplayAnswer;
 use wm_sites::ModuleCode;
 use wm_valid::ValidModule;
 
-/// The explanation of the verdict on a document, by its candidate or by what was refused.
-fn reasons_of<R: AllocGlobal + Threads + Sync>(
-    rt: &R,
-    code: ModuleCode,
-    checked: &CheckedLog,
-    positions: Option<Vec<List<CodePosition>>>,
+/// The line of a refusal, and why these bytes are refused.
+fn explain_refused(
+    alloc: Global,
+    refusal: Refusal,
+    module_bytes: &[u8],
     document_bytes: &[u8],
-) -> Result<String, AllocError> {
-    match (&checked.candidate, &checked.misshapen, &checked.verdict) {
-        (Some(candidate), _, verdict) => explain_run(rt, code, verdict, candidate, positions),
-        (None, Some(misshapen), _) => {
-            explain_shape(rt.alloc(), misshapen, code.module.initial().len())
-        }
-        (None, None, Verdict::Refused(refusal)) => {
-            explain_refusal(rt.alloc(), refusal, code.bytes, document_bytes)
-        }
-        (None, None, _) => Ok(String::new(rt.alloc())),
-    }
+) -> Result<Answer, AllocError>
+    ensures { IfOk result (Explains (Refused refusal)) }
+{
+    let reasons = explain_refusal(alloc, &refusal, module_bytes, document_bytes)?;
+    Answer::explained(alloc, &Verdict::Refused(refusal), reasons)
 }
 
-/// The line of the verdict on a document, and its explanation.
+/// The line of a check, and its explanation.
 fn explain_checked<R: AllocGlobal + Threads + Sync>(
     rt: &R,
     code: ModuleCode,
-    checked: &CheckedLog,
-    positions: Option<Vec<List<CodePosition>>>,
+    checked: CheckedLog,
     document_bytes: &[u8],
 ) -> Result<Answer, AllocError>
-    ensures { IfOk result (Explains checked.now.verdict) }
+    ensures { IfOk result (Explains (verdict_of checked.entry)) }
 {
-    let reasons = reasons_of(rt, code, checked, positions, document_bytes)?;
-    Answer::explained(rt.alloc(), &checked.verdict, reasons)
+    let alloc = rt.alloc();
+    match checked {
+        CheckedLog::Refused(refusal) => {
+            explain_refused(alloc, refusal, code.bytes, document_bytes)
+        }
+        CheckedLog::Misshapen(misshapen) => {
+            let reasons = explain_shape(alloc, &misshapen, code.module.initial().len())?;
+            let verdict = Verdict::Refused(Refusal::Shape(misshapen.fault));
+            Answer::explained(alloc, &verdict, reasons)
+        }
+        CheckedLog::Differs { candidate, answer } => {
+            let reasons = explain_difference(rt, code, &candidate, answer)?;
+            Answer::explained(alloc, &Verdict::Broken(Breach::Replay(answer)), reasons)
+        }
+        CheckedLog::Judged {
+            candidate,
+            positions,
+            finding,
+        } => {
+            let judgement = finding.judgement();
+            let reasons = explain_judged(alloc, code, &candidate, positions, &judgement)?;
+            Answer::explained(alloc, &judged_verdict(&candidate, &judgement), reasons)
+        }
+    }
 }
 
 /// The answer to a document over a module.
@@ -61,26 +83,12 @@ fn explain_log<R: AllocGlobal + Threads + Sync>(
 ) -> Result<Answer, AllocError>
     ensures { IfOk result (ExplainsOver «module».now document_bytes.now) }
 {
-    let mut checked = check_log(rt, module, document_bytes)?;
-    let positions = checked.positions.take();
+    let checked = check_log(rt, module, document_bytes)?;
     let code = ModuleCode {
         module,
         bytes: module_bytes,
     };
-    explain_checked(rt, code, &checked, positions, document_bytes)
-}
-
-/// The answer to the bytes of a refused module.
-fn explain_unread(
-    alloc: Global,
-    refusal: Refusal,
-    module_bytes: &[u8],
-    document_bytes: &[u8],
-) -> Result<Answer, AllocError>
-    ensures { IfOk result (Explains (Refused refusal)) }
-{
-    let reasons = explain_refusal(alloc, &refusal, module_bytes, document_bytes)?;
-    Answer::explained(alloc, &Verdict::Refused(refusal), reasons)
+    explain_checked(rt, code, checked, document_bytes)
 }
 
 /// The line of the check of these bytes, and its explanation.
@@ -99,30 +107,10 @@ pub(crate) fn explain_answer<R: AllocGlobal + Threads + Sync>(
     match read_module(rt.alloc(), module_bytes) {
         Ok(module) => explain_log(rt, &module, module_bytes, document_bytes),
         Err(Unread::Refused(refusal)) => {
-            explain_unread(rt.alloc(), refusal, module_bytes, document_bytes)
+            explain_refused(rt.alloc(), refusal, module_bytes, document_bytes)
         }
         Err(Unread::OutOfMemory) => Err(AllocError),
     }
-}
-
-/// What a sketch of a candidate shows of the module.
-fn notes_of(
-    alloc: Global,
-    code: ModuleCode,
-    verdict: &Verdict,
-    candidate: &Candidate,
-    positions: Option<Vec<List<CodePosition>>>,
-    sketch: &Sketch,
-) -> Result<PictureNotes, AllocError> {
-    let events = sketch.events(alloc)?;
-    picture_notes(
-        alloc,
-        code,
-        verdict,
-        candidate,
-        positions,
-        events.as_slice(),
-    )
 }
 
 /// A sketch with its notes, under the line of the verdict.
@@ -141,35 +129,59 @@ fn draw(
     sketch.draw(alloc, caption)
 }
 
-/// The picture of a candidate with this verdict, with the places in the module of the events that it shows.
-fn picture_of(
+/// The picture of a candidate with a thread that isn't its run, with what the module does there.
+fn differing_picture(
     alloc: Global,
     code: ModuleCode,
-    verdict: &Verdict,
     candidate: &Candidate,
-    positions: Option<Vec<List<CodePosition>>>,
-) -> Result<String, AllocError> {
-    let sketch = Sketch::of(alloc, verdict, candidate)?;
-    let notes = notes_of(alloc, code, verdict, candidate, positions, &sketch)?;
-    draw(alloc, verdict, &sketch, &notes)
+    answer: ReplayAnswer,
+) -> Result<Answer, AllocError>
+    ensures { IfOk result (Shows (Broken (Replay answer))) }
+{
+    let breach = Breach::Replay(answer);
+    let verdict = Verdict::Broken(breach);
+    let sketch = Sketch::of(alloc, Some(breach), candidate)?;
+    let events = sketch.events(alloc)?;
+    let notes = difference_notes(alloc, code, candidate, answer, events.as_slice())?;
+    let picture = draw(alloc, &verdict, &sketch, &notes)?;
+    Ok(Answer::pictured(&verdict, picture))
+}
+
+/// The picture of a candidate with this judgement, whose threads make its events at these positions.
+fn judged_picture(
+    alloc: Global,
+    code: ModuleCode,
+    candidate: &Candidate,
+    positions: Vec<List<CodePosition>>,
+    judgement: &Judgement,
+) -> Result<Answer, AllocError>
+    ensures { IfOk result (Shows (verdict_by candidate.now.log judgement.now)) }
+{
+    let verdict = judged_verdict(candidate, judgement);
+    let sketch = Sketch::of(alloc, breach_of(judgement), candidate)?;
+    let events = sketch.events(alloc)?;
+    let notes = judged_notes(alloc, code, candidate, positions, events.as_slice())?;
+    let picture = draw(alloc, &verdict, &sketch, &notes)?;
+    Ok(Answer::pictured(&verdict, picture))
 }
 
 /// The picture of what was checked; if that is refused, the line of the refusal.
-fn show_checked(
-    alloc: Global,
-    code: ModuleCode,
-    checked: &CheckedLog,
-    positions: Option<Vec<List<CodePosition>>>,
-) -> Result<Answer, AllocError>
-    requires { HasCandidate checked.now.verdict checked.now.candidate }
-    ensures { IfOk result (Shows checked.now.verdict) }
+fn show_checked(alloc: Global, code: ModuleCode, checked: CheckedLog) -> Result<Answer, AllocError>
+    ensures { IfOk result (Shows (verdict_of checked.entry)) }
 {
-    match &checked.candidate {
-        Some(candidate) => {
-            let picture = picture_of(alloc, code, &checked.verdict, candidate, positions)?;
-            Ok(Answer::pictured(&checked.verdict, picture))
+    match checked {
+        CheckedLog::Refused(refusal) => Answer::of_verdict(alloc, &Verdict::Refused(refusal)),
+        CheckedLog::Misshapen(misshapen) => {
+            Answer::of_verdict(alloc, &Verdict::Refused(Refusal::Shape(misshapen.fault)))
         }
-        None => Answer::of_verdict(alloc, &checked.verdict),
+        CheckedLog::Differs { candidate, answer } => {
+            differing_picture(alloc, code, &candidate, answer)
+        }
+        CheckedLog::Judged {
+            candidate,
+            positions,
+            finding,
+        } => judged_picture(alloc, code, &candidate, positions, &finding.judgement()),
     }
 }
 
@@ -182,13 +194,12 @@ fn show_log<R: AllocGlobal + Threads + Sync>(
 ) -> Result<Answer, AllocError>
     ensures { IfOk result (GraphsOver «module».now document_bytes.now) }
 {
-    let mut checked = check_log(rt, module, document_bytes)?;
-    let positions = checked.positions.take();
+    let checked = check_log(rt, module, document_bytes)?;
     let code = ModuleCode {
         module,
         bytes: module_bytes,
     };
-    show_checked(rt.alloc(), code, &checked, positions)
+    show_checked(rt.alloc(), code, checked)
 }
 
 /// The execution that these bytes record, for Graphviz; if they are refused, the line of the refusal.

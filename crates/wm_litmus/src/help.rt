@@ -20,6 +20,7 @@ COMMANDS
     explain [MODULE] DOC          check a log, and explain the answer in sentences
     graph [MODULE] DOC            draw a log for Graphviz, with the first violation in red
     races [MODULE] DOC            list the data races of an allowed log
+    witness [MODULE] DOC [NODES]  find writers and an order that make a log allowed, or show that none do
     rules DOC                     judge a log by the memory rules alone, over 16 pages of zeros
     complete MODULE DOC           print a log with the steps and ends that its module gives it
     verify MODULE DOC             complete a log, and check it
@@ -38,12 +39,14 @@ ARGUMENTS
     TURNS     items joined by commas: N is a step of thread N, dN publishes its oldest pending
               store, dN/I the store with I older ones, and *K after an item repeats it K times
     ROUNDS    how many rounds to run, from 1 to 10,000
+    NODES     how many nodes a search may take, from 1 to 4,294,967,295; without it 100,000
 
 EXAMPLES
     wmlab check store-buffering.wasm store-buffering.json
     wmlab explain store-buffering.wasm store-buffering.json
     wmlab graph store-buffering.wasm store-buffering.json | dot -Tsvg > store-buffering.svg
     wmlab races store-buffering.wasm store-buffering.json
+    wmlab witness store-buffering.wasm store-buffering.json
     wmlab rules - < store-buffering.json
     wmlab complete store-buffering.wasm recorded.json > completed.json
     wmlab verify store-buffering.wasm recorded.json
@@ -59,7 +62,9 @@ EXIT STATUS
     0    the execution is allowed, or the requested text was printed
     1    the execution is broken: the module does not perform it, or a memory rule forbids it;
          of races: it is allowed, and has a data race
+         of witness: no writers and no order make it allowed
     2    the command line, the module or the log is refused
+         of witness: the search took its number of nodes
     3    out of memory, or a file could not be read or the answer not written (see stderr)
 
 DOCUMENTATION

@@ -8,6 +8,9 @@
 //! | a thread's log isn't its run | `broken replay thread 0 event 0` | 1 |
 //! | the document in version 2 | `["wasm-litmus-log",2,[["a",[],["cut"],0,[]]],[]]` | 0 |
 //! | the same with its steps and ends | `["wasm-litmus-log",2,[["a",[],["done",[]],1,[]]],[]]` | 0 |
+//! | a witness of the log that makes it allowed | `["wasm-litmus-log",2,[["a",[],["cut"],0,[]]],[]]` | 0 |
+//! | there is none | `no witness threads=2 events=4` | 1 |
+//! | the search for one took its number of nodes | `gave up nodes=100000` | 2 |
 //! | the bytes are not a module | `refused decode Truncated at 42` | 2 |
 //! | the module isn't valid | `refused valid Alignment in function 0 instruction 2` | 2 |
 //! | the document is refused | `refused document BadShape at /2/0/1` | 2 |
@@ -42,6 +45,8 @@ mod stream;
 mod table;
 mod task;
 mod trace;
+mod witness;
+mod witness_task;
 
 pub use files::{FileFault, Files};
 pub use input::read_limited;

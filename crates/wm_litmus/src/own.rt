@@ -38,6 +38,6 @@ pub(crate) fn check_own<R: AllocGlobal + Threads + Sync>(
     let checked = check_log(rt, module, document.as_bytes())?;
     Ok(Checked {
         document,
-        verdict: checked.verdict,
+        verdict: checked.into_verdict(),
     })
 }

@@ -1,7 +1,7 @@
 //! The whole program.
 ghost use Rattle.std.specs.Prelude.{◌≡◌, ◌+◌, ◌^◌, ◌≤◌, ◌<◌, IfErr, IfOk, OnErr, OnOk, List, ℕ, drop};
 ghost use Rattle.wm_decode.specs.Bounds.{max_module_bytes};
-ghost use Rattle.wm_litmus.specs.Replies.{IsDocumentAnswer, IsRunAnswer, Serves, StopsAt3, given, words_of};
+ghost use Rattle.wm_litmus.specs.Replies.{IsDocumentAnswer, IsRunAnswer, IsWitnessAnswer, Serves, StopsAt3, given, words_of};
 ghost use Rattle.wm_litmus.specs.Prints.{Gives};
 ghost use Rattle.wm_litmus.specs.Serving.{IsOfLines, IsReply, StreamsAll, StreamsFront};
 ghost use Rattle.wm_litmus.specs.Drive.{AnswersDrive, IsScriptAnswer};
@@ -21,11 +21,13 @@ use crate::rounds::rounds_answer;
 use crate::stream::judge_of;
 use crate::task::{document_task_answer, run_task_answer};
 use crate::trace::trace_answer;
+use crate::witness::{event_witness_answer, witness_answer};
+use crate::witness_task::{WitnessTask, witness_task};
 use std::alloc::{AllocError, Global};
 use std::io::{Read, Write};
 use std::sync::Wait;
 use std::thread::Threads;
-use wm_command::{Command, CommandFault, DocumentTask, RunTask, read_command};
+use wm_command::{Command, CommandFault, DocumentTask, RunTask, WitnessWords, read_command};
 use wm_decode::MAX_MODULE_BYTES;
 use wm_logfile::MAX_DOCUMENT_BYTES;
 use wm_stream::{StreamFault, answer_lines, write_text};
@@ -180,6 +182,42 @@ fn document_task_of<'a, R: AllocGlobal + Threads + Sync, F: Files, I: Read>(
     Ok(answer)
 }
 
+/// The answer to a search for a witness, over the module and the document, or the document alone, that the words name.
+fn witness_of<'a, R: AllocGlobal + Threads + Sync, F: Files, I: Read>(
+    rt: &R,
+    files: &mut F,
+    input: &mut I,
+    words: WitnessWords<'a>,
+) -> Result<Answer, Failure<'a>>
+    requires { F.failures_of files.old + 1 < 2 ^ 64 }
+    ensures answers { IfOk result (Gives (IsWitnessAnswer words.entry (F.content_of files.old) (I.remaining input.old))) }
+    ensures unread { IfErr result (λ stop. IsUnreadFile stop
+        → F.failures_of files.old < F.failures_of files.new) }
+{
+    match witness_task(words) {
+        Ok(
+            WitnessTask::OfRun {
+                module,
+                document,
+                nodes,
+            },
+        ) => {
+            let read = read_run(rt, files, input, module, document)?;
+            let answer = witness_answer(rt, read.0.as_slice(), read.1.as_slice(), nodes)?;
+            Ok(answer)
+        }
+        Ok(WitnessTask::OfDocument { document, nodes }) => {
+            let bytes = read_document_bytes(rt, files, input, document)?;
+            let answer = event_witness_answer(rt.alloc(), bytes.as_slice(), nodes)?;
+            Ok(answer)
+        }
+        Err(fault) => {
+            let answer = Answer::refused_word(rt.alloc(), fault)?;
+            Ok(answer)
+        }
+    }
+}
+
 /// The words with the starts of the threads: those after the command, the module, and the turns or rounds.
 fn starts_of<'a>(words: &'a [&'a str]) -> &'a [&'a str]
     ensures { words_of result.now ≡ drop 3 (words_of words.now) }
@@ -328,6 +366,10 @@ fn reply_to<'a, R: AllocGlobal + Threads + Wait + Sync, F: Files, I: Read>(
             let answer = document_task_of(rt, files, input, task, document)?;
             Ok(Reply::Answer(answer))
         }
+        Ok(Command::Witness { words }) => {
+            let answer = witness_of(rt, files, input, words)?;
+            Ok(Reply::Answer(answer))
+        }
         Ok(Command::Stream { module }) => Ok(Reply::Lines(module)),
         Ok(Command::Drive { module, turns }) => {
             let answer = script_of(rt, files, module, turns, starts)?;
@@ -397,7 +439,9 @@ fn report<E: Write>(err: &mut E, failure: Failure) -> u8
 /// verdict on the log, and its document. `trace MODULE TURNS START..` also plays a script, and prints a line for each
 /// turn, and then the outcome. `run MODULE ROUNDS START..` lets the threads run at the same time, ROUNDS times, checks
 /// each log, and prints how often each outcome occurred; it is the only command that may wait for other threads. `help`
-/// and `version` print fixed texts, and read nothing.
+/// and `version` print fixed texts, and read nothing. `witness [MODULE] DOC [NODES]` ignores the writers and the order of
+/// the document, and prints it with others that make its log allowed, or that there are none, or that a search of NODES
+/// nodes did not tell.
 ///
 /// TURNS has items separated by commas: `N` is a step of thread N, `dN` lets its oldest store leave its buffer, `dN/I`
 /// the store with I older ones, and `*K` after an item repeats it. START is the name of an exported function and its

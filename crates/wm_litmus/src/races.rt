@@ -1,72 +1,39 @@
 //! The command `races`: the data races of an allowed run, by instructions or by events.
-ghost use Rattle.std.specs.Prelude.{◌≡◌, ◌≤◌, ℕ, IfOk, IfSome, List, Some, string_bytes};
-ghost use Rattle.wm_check.specs.Reading.{HasCandidate, IsCertified, IsRecordedOver, SaysOver};
+ghost use Rattle.std.specs.Prelude.{◌≡◌, ℕ, IfOk, List, Some, string_bytes};
+ghost use Rattle.wm_check.specs.Checked.{IsCheckOf, verdict_of};
+ghost use Rattle.wm_check.specs.Judged.{IsJudgedDocument};
+ghost use Rattle.wm_check.specs.Reading.{SaysOver};
 ghost use Rattle.wm_event.specs.LoggedRun.{execution};
-ghost use Rattle.wm_event.specs.Rules.{IsValid, KeepsOrder};
-ghost use Rattle.wm_event.specs.Shape.{IsWellShaped};
-ghost use Rattle.wm_litmus.specs.Races.{AnswersEventRaces, AnswersRaces, AnswersRunRaces, ListsFirst, RacesOver, ReportsOwnRaces, ReportsRaces, more_text, pair_text, shown_text, site_text, sites_text};
+ghost use Rattle.wm_event.specs.Rules.{IsValid};
+ghost use Rattle.wm_hb.specs.Steps.{IsHappensBefore};
+ghost use Rattle.wm_litmus.specs.Races.{AnswersEventRaces, AnswersRaces, ListsFirst, RacesOver, ReportsOwnRaces, ReportsRaces, more_text, pair_text, shown_text, site_text, sites_text};
 ghost use Rattle.wm_litmus.specs.Prints.{Gives, ended};
-ghost use Rattle.wm_litmus.specs.Rules.{run_over};
-ghost use Rattle.wm_races.specs.First.{AreFirstRaces};
-ghost use Rattle.wm_races.specs.Report.{HasSites, IsRaceReport};
+ghost use Rattle.wm_litmus.specs.Rules.{zeros};
+ghost use Rattle.wm_replay.specs.Positions.{AreLogPositions};
 ghost use Rattle.wm_sites.specs.Sites.{code_in};
 
 use crate::INITIAL_PAGES;
 use crate::answer::Answer;
+use crate::rules::zero_memory;
 use std::alloc::{AllocError, Global};
 use std::fmt;
 use std::thread::Threads;
-use wm_check::{Certificate, CheckedLog, Verdict, check_log, count_events, read_module};
-use wm_event::{Candidate, Initial, Judgement, Log, Witness};
-use wm_hb::{HappensBefore, Ordered};
+use wm_check::{
+    Breach, CheckedLog, JudgedDocument, Refusal, Verdict, check_log, count_events, judge_document,
+    read_module,
+};
+use wm_closure::Closure;
+use wm_event::{Candidate, Judgement};
+use wm_hb::HappensBefore;
 use wm_list::List;
-use wm_logfile::read_document;
-use wm_races::{FirstRaces, RacingPair, Site, SiteRace, first_races, races};
-use wm_rules::judge;
+use wm_machine::CodePosition;
+use wm_races::{RacingPair, Site, SiteRace, first_races, races};
+use wm_rules::Finding;
+use wm_sequential::race_free_runs_are_sequential;
 use wm_sites::{ModuleCode, event_sites};
 
 /// The most lines that are printed.
 const MAX_LINES: usize = 1000;
-
-/// Happens-before of a candidate whose order agrees with it.
-fn relation_of<'c, 'i>(
-    alloc: Global,
-    candidate: &'c Candidate<'i>,
-) -> Result<HappensBefore<'c, 'i>, AllocError>
-    requires { KeepsOrder (execution candidate.now) }
-    ensures { IfOk result (λ before. before ≡ candidate.now) }
-{
-    let Ok(ordered) = Ordered::of(candidate) else {
-        unreachable!()
-    };
-    HappensBefore::of(alloc, &ordered)
-}
-
-/// The races of a candidate whose order agrees with happens-before, by the sites of their events.
-fn report_of<R: AllocGlobal + Threads + Sync>(
-    rt: &R,
-    candidate: &Candidate,
-    sites: &[List<Site>],
-) -> Result<List<SiteRace>, AllocError>
-    requires order { KeepsOrder (execution candidate.now) }
-    requires sites { HasSites candidate.now.log sites.now }
-    ensures { IfOk result (IsRaceReport (execution candidate.now) sites.now) }
-{
-    let before = relation_of(rt.alloc(), candidate)?;
-    races(rt, rt.alloc(), &before, sites)
-}
-
-/// The first races of a candidate whose order agrees with happens-before, and how many there are.
-fn first_of<R: AllocGlobal + Threads + Sync>(
-    rt: &R,
-    candidate: &Candidate,
-) -> Result<FirstRaces, AllocError>
-    requires { KeepsOrder (execution candidate.now) }
-    ensures { IfOk result (AreFirstRaces (execution candidate.now) 1000) }
-{
-    let before = relation_of(rt.alloc(), candidate)?;
-    first_races(rt, rt.alloc(), &before, MAX_LINES)
-}
 
 /// An instruction, as it prints after its access.
 #[derive(Clone, Copy)]
@@ -157,7 +124,9 @@ fn listed<L: RaceLine>(
     ensures { IfOk result (ListsFirst L.text threads events shown.now total) }
 {
     if total == 0 {
-        let text = format!(in alloc; "no races threads={threads} events={events}\n")?;
+        let text = format!(in alloc;
+            "no races threads={threads} events={events}\nsequentially consistent in the order of the log\n"
+        )?;
         return Ok(Answer { text, status: 0 });
     }
     let mut text = shown_lines(alloc, shown)?;
@@ -166,51 +135,65 @@ fn listed<L: RaceLine>(
     Ok(Answer { text, status: 1 })
 }
 
-/// The answer to an allowed run.
+/// The answer to an allowed run, whose threads make its events at these positions, by the closure of its happens-before.
 fn list_allowed<R: AllocGlobal + Threads + Sync>(
     rt: &R,
     code: ModuleCode,
-    certificate: Certificate,
     candidate: &Candidate,
+    positions: Vec<List<CodePosition>>,
+    closure: Closure,
 ) -> Result<Answer, AllocError>
-    requires { KeepsOrder (execution candidate.now) }
-    ensures { IfOk result (Gives (ReportsRaces (code_in code.exit) candidate.now certificate)) }
+    requires positions { AreLogPositions (code_in code).module candidate.now.log positions.items }
+    requires closure { IsHappensBefore candidate.now closure }
+    requires valid { IsValid (execution candidate.now) }
+    ensures { IfOk result (Gives (ReportsRaces (code_in code.exit) candidate.now)) }
 {
-    let sites = event_sites(rt.alloc(), code, candidate.log())?;
-    let races = report_of(rt, candidate, sites.as_slice())?;
-    let Certificate { threads, events } = certificate;
+    race_free_runs_are_sequential();
+    let threads = candidate.log().threads();
+    let sites = event_sites(rt.alloc(), code, candidate.log(), positions)?;
+    let before = HappensBefore::over(candidate, closure);
+    let races = races(rt, rt.alloc(), &before, sites.as_slice())?;
     let shown = races.len().min(MAX_LINES);
     listed(
         rt.alloc(),
-        threads,
-        events,
+        threads.len(),
+        count_events(threads),
         &races.as_slice()[..shown],
         races.len() as u64,
     )
 }
 
-/// The answer to a module's code and a document whose verdict and candidate these are.
+/// The answer to a module's code and what a check of a document over it found.
 fn races_of_checked<R: AllocGlobal + Threads + Sync>(
     rt: &R,
     code: ModuleCode,
-    checked: &CheckedLog,
+    checked: CheckedLog,
     document_bytes: &[u8],
 ) -> Result<Answer, AllocError>
-    requires verdict { SaysOver (code_in code).module document_bytes.now checked.now.verdict }
-    requires candidate { IfSome checked.now.candidate (IsRecordedOver (code_in code).module document_bytes.now) }
-    requires certified { IfSome checked.now.candidate (λ run. IsCertified run checked.now.verdict) }
-    requires refused { HasCandidate checked.now.verdict checked.now.candidate }
+    requires verdict { SaysOver (code_in code).module document_bytes.now (verdict_of checked) }
+    requires kept { IsCheckOf (code_in code).module document_bytes.now checked }
     ensures { IfOk result (RacesOver (code_in code.exit) document_bytes.now) }
 {
-    match &checked.verdict {
-        Verdict::Allowed(certificate) => {
-            let Some(candidate) = &checked.candidate else {
-                unreachable!()
-            };
-            list_allowed(rt, code, *certificate, candidate)
+    let alloc = rt.alloc();
+    match checked {
+        CheckedLog::Refused(refusal) => Answer::of_verdict(alloc, &Verdict::Refused(refusal)),
+        CheckedLog::Misshapen(misshapen) => {
+            Answer::of_verdict(alloc, &Verdict::Refused(Refusal::Shape(misshapen.fault)))
         }
-        Verdict::Refused(_) => Answer::of_verdict(rt.alloc(), &checked.verdict),
-        Verdict::Broken(_) => Answer::of_verdict(rt.alloc(), &checked.verdict),
+        CheckedLog::Differs {
+            candidate: _candidate,
+            answer,
+        } => Answer::of_verdict(alloc, &Verdict::Broken(Breach::Replay(answer))),
+        CheckedLog::Judged {
+            candidate,
+            positions,
+            finding,
+        } => match finding {
+            Finding::Valid(closure) => list_allowed(rt, code, &candidate, positions, closure),
+            Finding::Broken(fault) => {
+                Answer::of_verdict(alloc, &Verdict::Broken(Breach::Rule(fault)))
+            }
+        },
     }
 }
 
@@ -223,7 +206,7 @@ fn races_of_log<R: AllocGlobal + Threads + Sync>(
     ensures { IfOk result (RacesOver (code_in code.exit) document_bytes.now) }
 {
     let checked = check_log(rt, code.module, document_bytes)?;
-    races_of_checked(rt, code, &checked, document_bytes)
+    races_of_checked(rt, code, checked, document_bytes)
 }
 
 /// The data races of the run that these bytes record, by the instructions that make their events; if the run isn't
@@ -251,16 +234,20 @@ pub(crate) fn races_answer<R: AllocGlobal + Threads + Sync>(
     }
 }
 
-/// The answer to a valid run over pages of zeros.
+/// The answer to a valid run over pages of zeros, by the closure of its happens-before.
 fn list_valid<R: AllocGlobal + Threads + Sync>(
     rt: &R,
     candidate: &Candidate,
+    closure: Closure,
 ) -> Result<Answer, AllocError>
-    requires { IsValid (execution candidate.now) }
+    requires closure { IsHappensBefore candidate.now closure }
+    requires valid { IsValid (execution candidate.now) }
     ensures { IfOk result (Gives (ReportsOwnRaces candidate.now)) }
 {
+    race_free_runs_are_sequential();
     let threads = candidate.log().threads();
-    let found = first_of(rt, candidate)?;
+    let before = HappensBefore::over(candidate, closure);
+    let found = first_races(rt, rt.alloc(), &before, MAX_LINES)?;
     listed(
         rt.alloc(),
         threads.len(),
@@ -270,34 +257,24 @@ fn list_valid<R: AllocGlobal + Threads + Sync>(
     )
 }
 
-/// The answer to a candidate.
-fn races_of_candidate<R: AllocGlobal + Threads + Sync>(
+/// The answer to what a judgement of a document found.
+fn races_of_judged<R: AllocGlobal + Threads + Sync>(
     rt: &R,
-    candidate: &Candidate,
+    judged: JudgedDocument,
+    bytes: &[u8],
 ) -> Result<Answer, AllocError>
-    requires { IsWellShaped candidate.now }
-    ensures { IfOk result (Gives (AnswersRunRaces candidate.now)) }
+    requires { IsJudgedDocument bytes.now (zeros 16) judged }
+    ensures { IfOk result (Gives (AnswersEventRaces bytes.now)) }
 {
-    match judge(rt, candidate)? {
-        Judgement::Valid => list_valid(rt, candidate),
-        Judgement::Broken(fault) => Answer::judged(rt.alloc(), &Judgement::Broken(fault)),
-    }
-}
-
-/// The answer to a log with a witness, over this number of pages of zeros.
-fn races_of_run<R: AllocGlobal + Threads + Sync>(
-    rt: &R,
-    log: Log,
-    witness: Witness,
-    pages: usize,
-) -> Result<Answer, AllocError>
-    requires { pages ≤ 65536 }
-    ensures { IfOk result (Gives (AnswersRunRaces (run_over pages log witness))) }
-{
-    let initial = Initial::zeros(rt.alloc(), pages);
-    match Candidate::new(rt.alloc(), log, witness, &initial) {
-        Ok(candidate) => races_of_candidate(rt, &candidate),
-        Err(fault) => Answer::refused_shape(rt.alloc(), fault),
+    match judged {
+        JudgedDocument::Refused(fault) => Answer::refused_document(rt.alloc(), &fault),
+        JudgedDocument::Misshapen(misshapen) => {
+            Answer::refused_shape(rt.alloc(), misshapen.fault)
+        }
+        JudgedDocument::Judged { candidate, finding } => match finding {
+            Finding::Valid(closure) => list_valid(rt, &candidate, closure),
+            Finding::Broken(fault) => Answer::judged(rt.alloc(), &Judgement::Broken(fault)),
+        },
     }
 }
 
@@ -313,8 +290,7 @@ pub(crate) fn event_races_answer<R: AllocGlobal + Threads + Sync>(
 ) -> Result<Answer, AllocError>
     ensures { IfOk result (Gives (AnswersEventRaces bytes.now)) }
 {
-    match read_document(rt.alloc(), bytes) {
-        Ok((log, witness)) => races_of_run(rt, log, witness, INITIAL_PAGES),
-        Err(fault) => Answer::refused_document(rt.alloc(), &fault),
-    }
+    let initial = zero_memory(rt.alloc(), INITIAL_PAGES);
+    let judged = judge_document(rt, bytes, &initial)?;
+    races_of_judged(rt, judged, bytes)
 }

@@ -1,43 +1,38 @@
 //! The command `rules`: a document is judged by the memory rules, over pages of zeros.
-ghost use Rattle.std.specs.Prelude.{◌≤◌, IfOk};
-ghost use Rattle.wm_event.specs.Shape.{IsWellShaped};
-ghost use Rattle.wm_litmus.specs.Prints.{Gives};
-ghost use Rattle.wm_litmus.specs.Rules.{AnswersRules, AnswersRun, run_over};
+ghost use Rattle.std.specs.Prelude.{◌≡◌, ◌≤◌, IfOk};
+ghost use Rattle.wm_litmus.specs.Prints.{Gives, Prints};
+ghost use Rattle.wm_litmus.specs.Rules.{AnswersRules, judged_status, judged_text, zeros};
 
 use crate::INITIAL_PAGES;
 use crate::answer::Answer;
-use std::alloc::AllocError;
+use std::alloc::{AllocError, Global};
 use std::thread::Threads;
-use wm_event::{Candidate, Initial, Log, Witness};
-use wm_logfile::read_document;
-use wm_rules::judge;
+use wm_check::{JudgedDocument, judge_document};
+use wm_event::Initial;
 
-/// The answer to a candidate.
-fn judged_answer<R: AllocGlobal + Threads + Sync>(
-    rt: &R,
-    candidate: &Candidate,
-) -> Result<Answer, AllocError>
-    requires { IsWellShaped candidate.now }
-    ensures { IfOk result (Gives (AnswersRun candidate.now)) }
+/// The initial memory of a document without a module: this number of pages of zeros.
+pub(crate) fn zero_memory(alloc: Global, pages: usize) -> Initial
+    requires { pages ≤ 65536 }
+    ensures { result ≡ zeros pages }
 {
-    let judgement = judge(rt, candidate)?;
-    Answer::judged(rt.alloc(), &judgement)
+    Initial::zeros(alloc, pages)
 }
 
-/// The answer to a log with a witness, over this number of pages of zeros.
-fn run_answer<R: AllocGlobal + Threads + Sync>(
-    rt: &R,
-    log: Log,
-    witness: Witness,
-    pages: usize,
-) -> Result<Answer, AllocError>
-    requires { pages ≤ 65536 }
-    ensures { IfOk result (Gives (AnswersRun (run_over pages log witness))) }
+/// The line of what a judgement of a document found.
+///
+/// # Errors
+///
+/// Only if an allocation fails.
+pub(crate) fn judged_line(alloc: Global, judged: &JudgedDocument) -> Result<Answer, AllocError>
+    ensures { IfOk result (Prints (judged_status judged.now) (judged_text judged.now)) }
 {
-    let initial = Initial::zeros(rt.alloc(), pages);
-    match Candidate::new(rt.alloc(), log, witness, &initial) {
-        Ok(candidate) => judged_answer(rt, &candidate),
-        Err(fault) => Answer::refused_shape(rt.alloc(), fault),
+    match judged {
+        JudgedDocument::Refused(fault) => Answer::refused_document(alloc, fault),
+        JudgedDocument::Misshapen(misshapen) => Answer::refused_shape(alloc, misshapen.fault),
+        JudgedDocument::Judged {
+            candidate: _candidate,
+            finding,
+        } => Answer::judged(alloc, &finding.judgement()),
     }
 }
 
@@ -52,8 +47,7 @@ pub(crate) fn rules_answer<R: AllocGlobal + Threads + Sync>(
 ) -> Result<Answer, AllocError>
     ensures { IfOk result (Gives (AnswersRules bytes.now)) }
 {
-    match read_document(rt.alloc(), bytes) {
-        Ok((log, witness)) => run_answer(rt, log, witness, INITIAL_PAGES),
-        Err(fault) => Answer::refused_document(rt.alloc(), &fault),
-    }
+    let initial = zero_memory(rt.alloc(), INITIAL_PAGES);
+    let judged = judge_document(rt, bytes, &initial)?;
+    judged_line(rt.alloc(), &judged)
 }

@@ -7,4 +7,4 @@ mod writing;
 
 pub use json_text::{JsonText, ShortText};
 pub use phrase::{AndEndPhrase, Count, EndPhrase, EventPhrase, OpPhrase, ValueForm, WritersPhrase};
-pub use writing::{write_id, write_key, write_number};
+pub use writing::{write_id, write_key};

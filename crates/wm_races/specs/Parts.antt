@@ -32,6 +32,10 @@ pub record AreInSequenceAt (run : LoggedRun) (places : List ℕ) : Type 0 where
 abbrev pub IsWeakWith : Event → Kind → Type 0
 IsWeakWith e kind = (is_atomic e ≡ false) ⊎ ((kind.atomic ≡ false) ⊎ (range_of e ≢ kind.range))
 
+-- P holds of the place at an index
+abbrev pub AtIndex : (ℕ → Type 0) → List ℕ → ℕ → Type 0
+AtIndex P places i = (o : ℕ) → slice_get places i ≡ Some o → P o
+
 -- P holds of the first of the places, up to this number, and Q of the others
 pub record AreParted (P Q : ℕ → Type 0) (places : List ℕ) (count : ℕ) : Type 0 where
   pub bound : count ≤ length places

@@ -9,7 +9,29 @@ ghost use Rattle.wm_hb.specs.Sequence.{AreInSequence};
 ghost use Rattle.wm_races.specs.Bounds.{IsEnd, IsStart};
 
 use wm_event::{Candidate, EventId};
-use wm_hb::HappensBefore;
+use wm_hb::{HappensBefore, Turning, turn_of};
+
+/// Writes in sequence, of which the early ones happen before an event.
+#[derive(Clone, Copy)]
+struct WriteRow<'r, 'c, 'i> {
+    before: &'r HappensBefore<'c, 'i>,
+    writes: &'r [EventId],
+    event: EventId,
+}
+
+impl Turning for WriteRow<'_, '_, '_> {
+    ghost use Rattle.wm_hb.specs.Sequence.{HasInRow, NoneInRow};
+
+    ghost ready = { λ row i. i < length row.writes.now };
+
+    ghost early = { λ row. HasInRow (λ v. IsBefore (execution row.before.now) v row.event) row.writes.now };
+
+    ghost late = { λ row. NoneInRow (λ v. IsBefore (execution row.before.now) v row.event) row.writes.now };
+
+    fn is_late(&self, index: usize) -> bool {
+        !self.before.before(self.writes[index], self.event)
+    }
+}
 
 /// How many of a thread's writes, a prefix of them, happen before an event.
 fn count_before(before: &HappensBefore, writes: &[EventId], event: EventId) -> usize
@@ -17,17 +39,12 @@ fn count_before(before: &HappensBefore, writes: &[EventId], event: EventId) -> u
     ensures bound { result ≤ length writes.now }
     ensures before { (i : ℕ) (v : EventId) → i < result → slice_get writes.now i ≡ Some v → IsBefore (execution before.now) v event }
 {
-    let mut low = 0usize;
-    let mut high = writes.len();
-    while low < high {
-        let middle = low + (high - low) / 2;
-        if before.before(writes[middle], event) {
-            low = middle + 1;
-        } else {
-            high = middle;
-        }
-    }
-    low
+    let row = WriteRow {
+        before,
+        writes,
+        event,
+    };
+    turn_of(&row, writes.len())
 }
 
 /// The place of an event, 0 if it isn't listed.

@@ -1,5 +1,5 @@
 //! The part of a class of writes that races with an event.
-ghost use Rattle.std.specs.Prelude.{◌≡◌, ◌↔◌, ◌<◌, ◌≤◌, Some, IsTrue, slice_get};
+ghost use Rattle.std.specs.Prelude.{◌≡◌, ◌↔◌, ◌<◌, ◌≤◌, Some, IsTrue, length, ltb, slice_get};
 ghost use Rattle.wm_event.specs.Event.{key_of};
 ghost use Rattle.wm_event.specs.LoggedRun.{execution};
 ghost use Rattle.wm_hb.specs.Scan.{IsEventOf};
@@ -11,24 +11,63 @@ use crate::classes::{Class, Kind};
 use crate::group::Group;
 use crate::pair::{RacingPair, key_at};
 use wm_event::Event;
-use wm_hb::HappensBefore;
+use wm_hb::{HappensBefore, Turning, turn_of};
+
+/// Events in sequence, of which the early ones happen before the event at a place.
+#[derive(Clone, Copy)]
+struct BeforeRow<'r, 'c, 'i> {
+    before: &'r HappensBefore<'c, 'i>,
+    places: &'r [usize],
+    place: usize,
+}
+
+impl Turning for BeforeRow<'_, '_, '_> {
+    ghost use Rattle.wm_races.specs.Parts.{AtIndex};
+
+    ghost ready = { λ row i. i < length row.places.now };
+
+    ghost early = { λ row. AtIndex (λ o. IsBeforeAt row.before.now o row.place) row.places.now };
+
+    ghost late = { λ row. AtIndex (λ o. IsNotBeforeAt row.before.now o row.place) row.places.now };
+
+    fn is_late(&self, index: usize) -> bool {
+        !self.before.before_at(self.places[index], self.place)
+    }
+}
 
 /// How many of the events at some places, a prefix of them, happen before the event at another place.
 fn count_before(before: &HappensBefore, places: &[usize], place: usize) -> usize
     requires { AreInSequenceAt before.now places.now }
     ensures { AreParted (λ o. IsBeforeAt before.now o place) (λ o. IsNotBeforeAt before.now o place) places.now result }
 {
-    let mut low = 0usize;
-    let mut high = places.len();
-    while low < high {
-        let middle = low + (high - low) / 2;
-        if before.before_at(places[middle], place) {
-            low = middle + 1;
-        } else {
-            high = middle;
-        }
+    let row = BeforeRow {
+        before,
+        places,
+        place,
+    };
+    turn_of(&row, places.len())
+}
+
+/// Events in sequence, of which the late ones are those that the event at a place happens before.
+#[derive(Clone, Copy)]
+struct AfterRow<'r, 'c, 'i> {
+    before: &'r HappensBefore<'c, 'i>,
+    places: &'r [usize],
+    place: usize,
+}
+
+impl Turning for AfterRow<'_, '_, '_> {
+    ghost use Rattle.wm_races.specs.Parts.{AtIndex};
+
+    ghost ready = { λ row i. i < length row.places.now };
+
+    ghost early = { λ row. AtIndex (λ o. IsNotBeforeAt row.before.now row.place o) row.places.now };
+
+    ghost late = { λ row. AtIndex (λ o. IsBeforeAt row.before.now row.place o) row.places.now };
+
+    fn is_late(&self, index: usize) -> bool {
+        self.before.before_at(self.place, self.places[index])
     }
-    low
 }
 
 /// How many of the events at some places, a prefix of them, the event at another place does not happen before.
@@ -36,17 +75,12 @@ fn count_not_after(before: &HappensBefore, places: &[usize], place: usize) -> us
     requires { AreInSequenceAt before.now places.now }
     ensures { AreParted (λ o. IsNotBeforeAt before.now place o) (λ o. IsBeforeAt before.now place o) places.now result }
 {
-    let mut low = 0usize;
-    let mut high = places.len();
-    while low < high {
-        let middle = low + (high - low) / 2;
-        if before.before_at(place, places[middle]) {
-            high = middle;
-        } else {
-            low = middle + 1;
-        }
-    }
-    low
+    let row = AfterRow {
+        before,
+        places,
+        place,
+    };
+    turn_of(&row, places.len())
 }
 
 /// How many of the places, a prefix of them, are before another place.
@@ -54,17 +88,11 @@ fn count_below(places: &[usize], place: usize) -> usize
     requires { RisePlaces places.now }
     ensures { AreParted (λ o. o < place) (λ o. place ≤ o) places.now result }
 {
-    let mut low = 0usize;
-    let mut high = places.len();
-    while low < high {
-        let middle = low + (high - low) / 2;
-        if places[middle] < place {
-            low = middle + 1;
-        } else {
-            high = middle;
-        }
-    }
-    low
+    places.partition_point(
+        |other: &usize| -> bool
+            ensures { result ≡ ltb other.now place }
+        { *other < place },
+    )
 }
 
 /// The start and the end of the part of a class that races with the event at a place.

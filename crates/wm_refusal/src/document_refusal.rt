@@ -54,7 +54,7 @@ impl fmt::Display for TooLargeSentence<'_> {
     }
 }
 
-/// A byte of a text, by its offset and by its line and column, counted from 1.
+/// A byte of a text, by its offset and by its line and column, counted from 1. Columns count characters.
 #[derive(Clone, Copy)]
 pub(crate) struct TextPosition {
     pub offset: usize,
@@ -71,7 +71,7 @@ impl TextPosition {
             if *byte == b'\n' {
                 line = line.saturating_add(1);
                 column = 1;
-            } else {
+            } else if *byte & 0xC0 != 0x80 {
                 column = column.saturating_add(1);
             }
         }
@@ -163,9 +163,53 @@ fn expected_at(bytes: &[u8], offset: usize) -> &'static str {
     }
 }
 
+/// How many commas, colons and brackets before the place that the reader names are looked at.
+const LOOKED_BACK: usize = 8;
+
+/// Whether no JSON text begins with these bytes.
+fn is_fault(alloc: Global, front: &[u8]) -> Result<bool, AllocError> {
+    match Value::from_slice(alloc, front) {
+        Ok(_) => Ok(false),
+        Err(fault) => match fault.classify() {
+            Category::Memory => Err(AllocError),
+            Category::Eof => Ok(false),
+            _ => Ok(true),
+        },
+    }
+}
+
+/// The offset of the last byte before another one that isn't white space, if it is a comma, a colon or a closing bracket.
+fn mark_before(bytes: &[u8], offset: usize) -> Option<usize> {
+    let mut found = None;
+    for (place, byte) in bytes.iter().take(offset).enumerate() {
+        match *byte {
+            b' ' | b'\t' | b'\n' | b'\r' => {}
+            b',' | b':' | b']' | b'}' => found = Some(place),
+            _ => found = None,
+        }
+    }
+    found
+}
+
+/// The offset of the first byte at fault. After a whole value the reader names a place after the comma, colon or bracket
+/// that is wrong there.
+fn first_fault(alloc: Global, bytes: &[u8], named: usize) -> Result<usize, AllocError> {
+    let mut offset = named;
+    for _ in 0..LOOKED_BACK {
+        match mark_before(bytes, offset) {
+            Some(mark) if is_fault(alloc, &bytes[..mark.saturating_add(1).min(bytes.len())])? => {
+                offset = mark;
+            }
+            _ => return Ok(offset),
+        }
+    }
+    Ok(offset)
+}
+
 /// Why a text is not JSON, if a fault was found before its end.
 fn fault_inside(alloc: Global, bytes: &[u8], fault: &Error) -> Result<String, AllocError> {
-    let offset = offset_of(bytes, fault.line(), fault.column());
+    let named = offset_of(bytes, fault.line(), fault.column());
+    let offset = first_fault(alloc, bytes, named)?.min(bytes.len());
     let position = TextPosition::of(bytes, offset);
     let words = format!(in alloc; "{fault}")?;
     if words.as_str().starts_with("number out of range") {

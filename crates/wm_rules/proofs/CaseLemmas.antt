@@ -16,6 +16,8 @@ use Rattle.wm_event.specs.Shape.{ListsEachOnce}
 use Rattle.wm_event.proofs.PlaceLemmas.{position_listed}
 use Rattle.wm_event.proofs.Scan.{NoneBelow, none-found, scan-found, scan-more}
 use Rattle.wm_rules.specs.declared.scan.LateRule.TheVariants.{Coherence, NoTearing, SequentialConsistency}
+use Rattle.wm_rules.specs.declared.cases.OvertakingCase.TheVariants.{Synchronized, WrittenOver, ReadPast}
+use Rattle.wm_rules.specs.Cases.{overtaking_number}
 use Rattle.wm_rules.specs.Late.{late_number}
 use Rattle.wm_rules.specs.Others.{FindsListed}
 use Rattle.wm_hb.specs.Scan.{Finds}
@@ -89,6 +91,13 @@ late_at zero l = refl
 late_at (suc zero) l = refl
 late_at (suc (suc zero)) l = refl
 late_at (suc (suc (suc i))) l = absurd (omega arith)
+
+-- the cases of V5 are looked at in the order of their numbers
+pub overtaking_at : (i : ℕ) → i < 3 → overtaking_number (get_or (Synchronized ∷ WrittenOver ∷ ReadPast ∷ []) i Synchronized) ≡ i + 1
+overtaking_at zero l = refl
+overtaking_at (suc zero) l = refl
+overtaking_at (suc (suc zero)) l = refl
+overtaking_at (suc (suc (suc i))) l = absurd (omega arith)
 
 -- where none of the bytes so far has a fault, nor the next one
 pub byte_more : (x : Execution) (a t i k : ℕ) (r : Option RuleFault) → is_some r ≡ false → Finds x (a ∷ t ∷ i ∷ k ∷ []) r → NoneBelow (rank x) (Breaks x) (a ∷ t ∷ i ∷ []) k

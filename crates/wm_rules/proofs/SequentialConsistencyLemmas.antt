@@ -24,8 +24,11 @@ use Rattle.wm_event.specs.LoggedRun.{LoggedRun, execution}
 use Rattle.wm_event.specs.Log.{event_in}
 use Rattle.wm_event.specs.Rules.{HasRange, IsAtomicWrite, KeepsOrder, Overtakes, synchronized, written_over, read_past}
 use Rattle.wm_event.specs.Shape.{ListsEachOnce}
+use Rattle.wm_rules.specs.declared.cases.OvertakingCase.{OvertakingCase}
+use Rattle.wm_rules.specs.declared.cases.OvertakingCase.TheVariants.{Synchronized, WrittenOver, ReadPast}
+use Rattle.wm_rules.specs.Cases.{overtaking_number}
 use Rattle.wm_rules.specs.Others.{FindsListed, IsOutOfOrder}
-use Rattle.wm_rules.specs.Overtaking.{IsPast}
+use Rattle.wm_rules.specs.Overtaking.{IsPast, IsRangeBy}
 use Rattle.wm_hb.proofs.SequenceLemmas.{before_join}
 use Rattle.wm_rules.proofs.ThreadLemmas.{HoldsSooner}
 use Rattle.wm_hb.specs.Scan.{Finds, IsEventOf}
@@ -170,10 +173,20 @@ third_after x w v r e c three (synchronized one t at s range) = absurd (omega ar
 third_after x w v r e c three (written_over two f at atomic wr vr range) = absurd (omega arith)
 third_after x w v r e c three (read_past is atomic wr wv range) = wv
 
+written_over_is : (case : OvertakingCase) → overtaking_number case ≡ 2 → case ≡ WrittenOver
+written_over_is Synchronized is = absurd (omega (arith, is))
+written_over_is WrittenOver is = refl
+written_over_is ReadPast is = absurd (omega (arith, is))
+
+read_past_is : (case : OvertakingCase) → overtaking_number case ≡ 3 → case ≡ ReadPast
+read_past_is Synchronized is = absurd (omega (arith, is))
+read_past_is WrittenOver is = absurd (omega (arith, is))
+read_past_is ReadPast is = refl
+
 -- an atomic write of the range of the case that is past the writer breaks V5 as soon as a write does that it happens before
-breaks_sooner : (run : LoggedRun) → KeepsOrder (execution run) → (e : Event) (w : EventId) (c : ℕ) (range : Range) → (c ≡ 2 → (f : Event) → event_at (execution run) w ≡ Some f → range ≡ range_of f) → (c ≢ 2 → range ≡ range_of e)
-    → (u v : EventKey) → begins_atomic run.log range.width range.address u ≡ true → IsPast (execution run) w c (At u) → HappensBefore (execution run) (At u) (At v) → IsOutOfOrder run e w c v → IsOutOfOrder run e w c u
-breaks_sooner run agrees e w c range second others u v is past b h =
+breaks_sooner : (run : LoggedRun) → KeepsOrder (execution run) → (e : Event) (w : EventId) (case : OvertakingCase) (c : ℕ) → c ≡ overtaking_number case → (range : Range) → (c ≡ 2 → (f : Event) → event_at (execution run) w ≡ Some f → range ≡ range_of f) → (c ≢ 2 → range ≡ range_of e)
+    → (u v : EventKey) → begins_atomic run.log range.width range.address u ≡ true → IsPast (execution run) w case (At u) → HappensBefore (execution run) (At u) (At v) → IsOutOfOrder run e w c v → IsOutOfOrder run e w c u
+breaks_sooner run agrees e w case c same range second others u v is past b h =
     let x = execution run in
     let write = write_of_range run range u is in
     let o = agrees (At u) (At v) b in
@@ -188,23 +201,28 @@ breaks_sooner run agrees e w c range second others u v is past b h =
     over (synchronized one t at s has) = let write = write_of_range run range u is in synchronized one t at s (write.0, write.1, write.4 ∙ others (λ t. absurd (omega arith)))
     over (written_over two f at atomic wr vr has) = let write = write_of_range run range u is in
         written_over two f at atomic wr (before_join (execution run) (At u) (At v) (At (key_of e)) b vr) (write.0, write.1, write.4 ∙ second two f at)
-    over (read_past three atomic wr wv has) = let write = write_of_range run range u is in read_past three atomic wr (past.1 three) (write.0, write.1, write.4 ∙ others (λ t. absurd (omega arith)))
+    over (read_past three atomic wr wv has) = let write = write_of_range run range u is in read_past three atomic wr (past.1 (read_past_is case (sym same ∙ three))) (write.0, write.1, write.4 ∙ others (λ t. absurd (omega arith)))
 
-pub overtaking_sooner : (run : LoggedRun) → KeepsOrder (execution run) → (e : Event) (w : EventId) (c : ℕ) (range : Range) → (c ≡ 2 → (f : Event) → event_at (execution run) w ≡ Some f → range ≡ range_of f) → (c ≢ 2 → range ≡ range_of e)
-    → HoldsSooner run (begins_atomic run.log range.width range.address) (λ v. IsPast (execution run) w c v) (IsOutOfOrder run e w c)
-overtaking_sooner run agrees e w c range second others = record {
-  there = λ v h. breaking_there run (key_of e) e w v c h;
-  passes = λ v h. overtaken_listed run w v (key_of e) e c range second others h.write h.overtakes;
-  holds = λ v h. (h.between.0, λ three. third_after (execution run) w (At v) (key_of e) e c three h.overtakes);
-  sooner = λ u v is past b h. breaks_sooner run agrees e w c range second others u v is past b h;
-}
+pub overtaking_sooner : (run : LoggedRun) → KeepsOrder (execution run) → (e : Event) (w : EventId) (case : OvertakingCase) (range : Range) → IsRangeBy (execution run) e w case range
+    → HoldsSooner run (begins_atomic run.log range.width range.address) (λ v. IsPast (execution run) w case v) (IsOutOfOrder run e w (overtaking_number case))
+overtaking_sooner run agrees e w case range by =
+    let c = overtaking_number case in
+    let second : c ≡ 2 → (f : Event) → event_at (execution run) w ≡ Some f → range ≡ range_of f = λ two. by.second (written_over_is case two) in
+    let others : c ≢ 2 → range ≡ range_of e = λ other. by.others (λ over. other (ap overtaking_number over)) in
+    record {
+      there = λ v h. breaking_there run (key_of e) e w v c h;
+      passes = λ v h. overtaken_listed run w v (key_of e) e c range second others h.write h.overtakes;
+      holds = λ v h. (h.between.0, λ past. third_after (execution run) w (At v) (key_of e) e c (ap overtaking_number past) h.overtakes);
+      sooner = λ u v is past b h. breaks_sooner run agrees e w case c refl range second others u v is past b h;
+    }
 
 -- what is past a writer is so of all that it happens before
-pub past_onward : (run : LoggedRun) → KeepsOrder (execution run) → (w : EventId) (c : ℕ) (u v : EventId) → HappensBefore (execution run) u v → IsPast (execution run) w c u → IsPast (execution run) w c v
-past_onward run agrees w c u v b past =
+pub past_onward : (run : LoggedRun) → KeepsOrder (execution run) → (w : EventId) (case : OvertakingCase) (u v : EventId) → HappensBefore (execution run) u v
+    → IsPast (execution run) w case u → IsPast (execution run) w case v
+past_onward run agrees w case u v b past =
     let o = agrees u v b in
     let after = past.0 in
-    (omega (arith, o, after), λ three. before_join (execution run) w u v (past.1 three) b)
+    (omega (arith, o, after), λ third. before_join (execution run) w u v (past.1 third) b)
 
 -- a fault of V5 is at one of the bytes that have a writer
 pub consistency_byte : (x : Execution) (t i : ℕ) (writers : List EventId) → writers ≡ x.writers_of (record { thread = t; number = i }) → (f : RuleFault)

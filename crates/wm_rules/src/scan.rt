@@ -5,7 +5,7 @@ ghost use Rattle.rayon.specs.Lists.{first_true};
 ghost use Rattle.wm_event.specs.declared.rule.RuleFault.{RuleFault};
 ghost use Rattle.wm_event.specs.Faults.{Breaks, Judges, rule_number};
 ghost use Rattle.wm_event.specs.LoggedRun.{execution};
-ghost use Rattle.wm_hb.specs.Edges.{fault_of};
+ghost use Rattle.wm_rules.specs.Finding.{HasClosure, judgement_of};
 ghost use Rattle.wm_rules.specs.Late.{IsFaulty, late_number};
 ghost use Rattle.wm_hb.specs.Scan.{Finds, IsEventOf};
 
@@ -16,8 +16,9 @@ use crate::written_values::value_fault;
 use rayon::prelude::*;
 use std::alloc::AllocError;
 use std::thread::Threads;
-use wm_event::{Candidate, Event, Judgement, Rule, RuleFault};
-use wm_hb::{Edge, HappensBefore, Ordered};
+use wm_closure::Closure;
+use wm_event::{Candidate, Event, Judgement, RuleFault};
+use wm_hb::{HappensBefore, Ordered};
 
 /// The first fault of a thread by V1.
 fn value_fault_in_thread(candidate: &Candidate, thread: usize) -> Option<RuleFault>
@@ -168,17 +169,51 @@ fn first_fault(rt: &(impl Threads + Sync), relation: &HappensBefore) -> Option<R
     None
 }
 
-/// The fault of an edge that the order doesn't agree with.
-pub(crate) fn fault_of_edge(edge: Edge) -> RuleFault
-    ensures { result ≡ fault_of edge }
+/// A judgement with what it found of happens-before.
+#[derive(Drop)]
+pub enum Finding {
+    /// All five rules hold. [`HappensBefore::over`] takes the closure of happens-before.
+    Valid(Closure),
+    /// The first fault.
+    Broken(RuleFault),
+}
+
+impl Finding {
+    /// The judgement alone.
+    pub fn judgement(&self) -> Judgement
+        ensures { result ≡ judgement_of self.now }
+    {
+        match self {
+            Finding::Valid(_) => Judgement::Valid,
+            Finding::Broken(fault) => Judgement::Broken(*fault),
+        }
+    }
+}
+
+/// Judges a run as [`judge`] does, and keeps the closure of happens-before of a valid one.
+///
+/// # Errors
+///
+/// Only if an allocation fails.
+pub fn judge_and_close(
+    rt: &(impl AllocGlobal + Threads + Sync),
+    candidate: &Candidate,
+) -> Result<Finding, AllocError>
+    ensures judged { IfOk result (λ finding. Judges (execution candidate.now) (judgement_of finding)) }
+    ensures closed { IfOk result (HasClosure candidate.now) }
 {
-    RuleFault {
-        rule: Rule::Order,
-        case: edge.case,
-        event: edge.event,
-        byte: edge.byte,
-        writer: edge.writer,
-        other: None,
+    if let Some(fault) = first_value_fault(candidate) {
+        return Ok(Finding::Broken(fault));
+    }
+    match Ordered::of(candidate) {
+        Err(fault) => Ok(Finding::Broken(fault)),
+        Ok(ordered) => {
+            let relation = HappensBefore::of(rt.alloc(), &ordered)?;
+            match first_fault(rt, &relation) {
+                Some(fault) => Ok(Finding::Broken(fault)),
+                None => Ok(Finding::Valid(relation.into_closure())),
+            }
+        }
     }
 }
 
@@ -192,17 +227,6 @@ pub fn judge(
 ) -> Result<Judgement, AllocError>
     ensures judged { IfOk result (λ judgement. Judges (execution candidate.now) judgement) }
 {
-    if let Some(fault) = first_value_fault(candidate) {
-        return Ok(Judgement::Broken(fault));
-    }
-    match Ordered::of(candidate) {
-        Err(edge) => Ok(Judgement::Broken(fault_of_edge(edge))),
-        Ok(ordered) => {
-            let relation = HappensBefore::of(rt.alloc(), &ordered)?;
-            match first_fault(rt, &relation) {
-                Some(fault) => Ok(Judgement::Broken(fault)),
-                None => Ok(Judgement::Valid),
-            }
-        }
-    }
+    let finding = judge_and_close(rt, candidate)?;
+    Ok(finding.judgement())
 }

@@ -6,7 +6,7 @@ ghost use Rattle.wm_event.specs.LoggedRun.{execution};
 ghost use Rattle.wm_rules.specs.Late.{late_number};
 ghost use Rattle.wm_hb.specs.Scan.{Finds};
 
-use crate::scan::{LATE_RULES, LateRule, fault_in_thread, fault_of_edge, first_value_fault};
+use crate::scan::{LATE_RULES, LateRule, fault_in_thread, first_value_fault};
 use std::alloc::{AllocError, Global};
 use wm_event::{Candidate, Judgement, RuleFault};
 use wm_hb::{HappensBefore, Ordered};
@@ -50,7 +50,7 @@ pub fn judge_sequentially(alloc: Global, candidate: &Candidate) -> Result<Judgem
         return Ok(Judgement::Broken(fault));
     }
     match Ordered::of(candidate) {
-        Err(edge) => Ok(Judgement::Broken(fault_of_edge(edge))),
+        Err(fault) => Ok(Judgement::Broken(fault)),
         Ok(ordered) => {
             let relation = HappensBefore::of(alloc, &ordered)?;
             match first_fault(&relation) {

@@ -1,6 +1,5 @@
 //! V5: in three cases no atomic write is between a read and its writer in the order.
-ghost use Rattle.std.specs.Prelude.{◌≡◌, ◌≢◌, ◌<◌, ◌↔◌, [], ◌∷◌, ℕ, IsTrue, None, Some};
-ghost use Rattle.wm_event.specs.declared.event.Event.{Event};
+ghost use Rattle.std.specs.Prelude.{◌≡◌, ◌<◌, ◌↔◌, [], ◌∷◌, ℕ, IsTrue, None, Some};
 ghost use Rattle.wm_event.specs.declared.event.EventId.{EventId};
 ghost use Rattle.wm_event.specs.Execution.{event_at};
 ghost use Rattle.wm_event.specs.declared.event.EventId.TheVariants.{At};
@@ -10,19 +9,19 @@ ghost use Rattle.wm_event.specs.Faults.{BreaksSequentialConsistency};
 ghost use Rattle.wm_event.specs.LoggedRun.{execution};
 ghost use Rattle.wm_event.specs.Rules.{HasRange, IsAtomicWrite, Overtakes};
 ghost use Rattle.wm_event.specs.Shape.{IsThere, ListsEachOnce};
+ghost use Rattle.wm_rules.specs.Cases.{overtaking_number};
 ghost use Rattle.wm_rules.specs.Near.{IsTrueIfInconsistent};
 ghost use Rattle.wm_rules.specs.Others.{FindsListed, IsOutOfOrder};
+ghost use Rattle.wm_rules.specs.Overtaking.{IsRangeBy};
 ghost use Rattle.wm_hb.specs.Scan.{Finds, IsEventOf};
 
+use crate::cases::{OVERTAKING_CASES, OvertakingCase};
 use crate::near::place_after;
 use crate::no_tearing::has_earlier;
 use crate::overtaking::earliest_out_of_order;
 use crate::writers::only_writer;
 use wm_event::{Candidate, Event, EventId, EventKey, Range, Rule, RuleFault};
 use wm_hb::{HappensBefore, part_between, stands_before, synchronizes};
-
-/// How many cases the rule has.
-const CASES: u8 = 3;
 
 /// Whether an id is an event that is atomic and writes.
 fn is_atomic_write(candidate: &Candidate, id: EventId) -> bool
@@ -87,15 +86,16 @@ fn overtakes(
     event: &Event,
     writer: EventId,
     other: EventId,
-    case: u8,
+    case: OvertakingCase,
 ) -> bool
-    ensures { IsTrue result ↔ Overtakes (execution relation.now) writer other (key_of event.now) event.now case }
+    ensures { IsTrue result ↔ Overtakes (execution relation.now) writer other (key_of event.now) event.now (overtaking_number case) }
 {
     match case {
-        1 => is_synchronized(relation.candidate(), event, writer, other),
-        2 => is_written_over(relation, event, writer, other),
-        3 => is_read_past(relation, event, writer, other),
-        _ => false,
+        OvertakingCase::Synchronized => {
+            is_synchronized(relation.candidate(), event, writer, other)
+        }
+        OvertakingCase::WrittenOver => is_written_over(relation, event, writer, other),
+        OvertakingCase::ReadPast => is_read_past(relation, event, writer, other),
     }
 }
 
@@ -105,12 +105,13 @@ pub fn is_out_of_order(
     event: &Event,
     writer: EventId,
     other: EventId,
-    case: u8,
+    case: OvertakingCase,
 ) -> bool
     requires listed { IsEventOf (execution relation.now) event.now }
     requires writer { IsThere relation.now.log writer }
     requires other { IsThere relation.now.log other }
-    ensures { IsTrue result ↔ BreaksSequentialConsistency (execution relation.now) (key_of event.now) event.now writer other case }
+    ensures { IsTrue result
+        ↔ BreaksSequentialConsistency (execution relation.now) (key_of event.now) event.now writer other (overtaking_number case) }
 {
     is_atomic_write(relation.candidate(), other)
         && stands_before(relation.candidate(), writer, other)
@@ -119,31 +120,42 @@ pub fn is_out_of_order(
 }
 
 /// Whether a writer of a read can be overtaken by a case of the rule.
-fn may_be_overtaken(relation: &HappensBefore, event: &Event, writer: EventId, case: u8) -> bool
-    ensures { (v : EventId) → Overtakes (execution relation.now) writer v (key_of event.now) event.now case → IsTrue result }
+fn may_be_overtaken(
+    relation: &HappensBefore,
+    event: &Event,
+    writer: EventId,
+    case: OvertakingCase,
+) -> bool
+    ensures { (v : EventId) → Overtakes (execution relation.now) writer v (key_of event.now) event.now (overtaking_number case)
+        → IsTrue result }
 {
     match case {
-        1 => match writer {
+        OvertakingCase::Synchronized => match writer {
             EventId::Init => false,
             EventId::At(key) => synchronizes(relation.candidate(), key, event.key()),
         },
-        2 => match relation.candidate().event(writer) {
+        OvertakingCase::WrittenOver => match relation.candidate().event(writer) {
             None => false,
             Some(written) => {
                 written.is_atomic() && relation.before(writer, EventId::At(event.key()))
             }
         },
-        3 => event.is_atomic() && relation.before(writer, EventId::At(event.key())),
-        _ => false,
+        OvertakingCase::ReadPast => {
+            event.is_atomic() && relation.before(writer, EventId::At(event.key()))
+        }
     }
 }
 
 /// The range that the other write has in a case of the rule.
-pub fn range_by_case(candidate: &Candidate, event: &Event, writer: EventId, case: u8) -> Range
-    ensures second { case ≡ 2 → (f : Event) → event_at (execution candidate.now) writer ≡ Some f → result ≡ range_of f }
-    ensures others { case ≢ 2 → result ≡ range_of event.now }
+pub fn range_by_case(
+    candidate: &Candidate,
+    event: &Event,
+    writer: EventId,
+    case: OvertakingCase,
+) -> Range
+    ensures { IsRangeBy (execution candidate.now) event.now writer case result }
 {
-    if case != 2 {
+    if case != OvertakingCase::WrittenOver {
         return event.range();
     }
     match candidate.event(writer) {
@@ -157,11 +169,11 @@ fn first_out_of_order(
     relation: &HappensBefore,
     event: &Event,
     writer: EventId,
-    case: u8,
+    case: OvertakingCase,
 ) -> Option<EventKey>
     requires listed { IsEventOf (execution relation.now) event.now }
     requires writer { IsThere relation.now.log writer }
-    ensures first { FindsListed relation.now.witness.order (IsOutOfOrder relation.now event.now writer case) result }
+    ensures first { FindsListed relation.now.witness.order (IsOutOfOrder relation.now event.now writer (overtaking_number case)) result }
     ensures order { ListsEachOnce relation.now.log relation.now.witness.order }
 {
     let candidate = relation.candidate();
@@ -178,19 +190,19 @@ fn fault_of_case(
     event: &Event,
     byte: u8,
     writer: EventId,
-    case: u8,
+    case: OvertakingCase,
 ) -> Option<RuleFault>
     requires listed { IsEventOf (execution relation.now) event.now }
     requires writer { ReadsFrom (execution relation.now) (key_of event.now) byte writer }
     requires there { IsThere relation.now.log writer }
-    ensures { Finds (execution relation.now) (5 ∷ event.now.thread ∷ event.now.number ∷ byte ∷ case ∷ []) result }
+    ensures { Finds (execution relation.now) (5 ∷ event.now.thread ∷ event.now.number ∷ byte ∷ overtaking_number case ∷ []) result }
 {
     let Some(other) = first_out_of_order(relation, event, writer, case) else {
         return None;
     };
     Some(RuleFault {
         rule: Rule::SequentialConsistency,
-        case,
+        case: case.number(),
         event: event.key(),
         byte,
         writer,
@@ -210,7 +222,7 @@ fn consistency_fault_at(
     requires there { IsThere relation.now.log writer }
     ensures { Finds (execution relation.now) (5 ∷ event.now.thread ∷ event.now.number ∷ byte ∷ []) result }
 {
-    for case in 1..CASES + 1 {
+    for case in OVERTAKING_CASES {
         let fault = fault_of_case(relation, event, byte, writer, case);
         if fault.is_some() {
             return fault;

@@ -6,20 +6,24 @@ ghost use Rattle.wm_event.specs.Execution.{ReadsFrom};
 ghost use Rattle.wm_event.specs.Faults.{BreaksWrittenValues};
 ghost use Rattle.wm_event.specs.LoggedRun.{execution};
 ghost use Rattle.wm_hb.specs.Scan.{Finds, IsEventOf};
+ghost use Rattle.wm_rules.specs.Cases.{value_number};
+ghost use Rattle.std.specs.Option.{option_map};
 
+use crate::cases::ValueCase;
 use wm_event::{Candidate, Event, EventId, Rule, RuleFault, byte_of};
 
 /// The first case in which a byte of a read breaks the rule.
-fn value_case(candidate: &Candidate, event: &Event, byte: u8, writer: EventId) -> Option<u8>
+fn value_case(candidate: &Candidate, event: &Event, byte: u8, writer: EventId) -> Option<ValueCase>
     requires { byte < 8 }
-    ensures { FindsFirst (λ c. c ∷ []) (BreaksWrittenValues (execution candidate.now) (key_of event.now) event.now byte writer) result }
+    ensures { FindsFirst (λ c. c ∷ []) (BreaksWrittenValues (execution candidate.now) (key_of event.now) event.now byte writer)
+        (option_map value_number result) }
 {
     if writer == EventId::At(event.key()) {
-        return Some(1);
+        return Some(ValueCase::OwnWrite);
     }
     match candidate.byte_by(writer, u64::from(event.address) + u64::from(byte)) {
-        None => Some(2),
-        Some(written) if written != byte_of(event.read, byte) => Some(3),
+        None => Some(ValueCase::NotWritten),
+        Some(written) if written != byte_of(event.read, byte) => Some(ValueCase::OtherValue),
         Some(_) => None,
     }
 }
@@ -41,7 +45,7 @@ fn value_fault_at(
     };
     Some(RuleFault {
         rule: Rule::WrittenValues,
-        case,
+        case: case.number(),
         event: event.key(),
         byte,
         writer,

@@ -1,9 +1,7 @@
 -- The positions and the sites of a log's events, thread by thread.
-use Rattle.std.proofs.Common.{◌≡◌, ℕ, ◌+◌, ◌<◌, List, [], ◌∷◌, ◌++◌, length, get_or, map, Option, Some, None, option_map, Result, Ok, refl, sym, ap, subst, ◌∙◌, inl, inr}
-use Rattle.std.proofs.lemmas.List.{length-map}
+use Rattle.std.proofs.Common.{◌≡◌, ℕ, ◌+◌, ◌<◌, List, [], ◌∷◌, ◌++◌, length, get_or, Option, Some, None, refl, sym, ap, subst, ◌∙◌, inl, inr}
 use Rattle.std.specs.Prelude.{IfSome, slice_get, unwrap_or}
-use Rattle.std.proofs.lemmas.Option.{option_and_then_some, same_Some, slice_get-get_or, slice_get-map}
-use Rattle.wm_ast.specs.declared.module.Module.{Module}
+use Rattle.std.proofs.lemmas.Option.{option_and_then_some, same_Some, slice_get-get_or}
 use Rattle.wm_event.specs.declared.event.Event.{Event}
 use Rattle.wm_event.specs.declared.event.EventKey.{EventKey}
 use Rattle.wm_event.specs.declared.log.ThreadLog.{ThreadLog}
@@ -13,9 +11,8 @@ use Rattle.wm_event.proofs.WritesLemmas.{each_more}
 use Rattle.wm_machine.specs.declared.thread.CodePosition.{CodePosition}
 use Rattle.wm_races.specs.declared.site.Site.{Site}
 use Rattle.wm_races.specs.Report.{site_in}
-use Rattle.wm_sites.specs.Sites.{AreFollowed, Code, AreSitesOf, AreThreadSites, IsMadeNowhere, IsNoOpcode, IsSiteAt, IsSiteMade, IsSiteOf, IsSiteOrFirst, first_site, position_in}
+use Rattle.wm_sites.specs.Sites.{Code, AreSitesOf, AreThreadSites, IsMadeNowhere, IsNoOpcode, IsSiteAt, IsSiteMade, IsSiteOf, IsSiteOrFirst, first_site, position_in}
 use Rattle.wm_replay.proofs.LogPositions.{one_more}
-use Rattle.wm_replay.specs.Positions.{AreLogPositions}
 
 -- the sites of the first threads
 abbrev pub AreSitesIn : Code → List (List CodePosition) → List ThreadLog → List (List Site) → Type 0
@@ -75,10 +72,3 @@ event_site c table log sites keys each key e site at is =
 pub event_at : (events items : List Event) (n : ℕ) (d : Event) (key : EventKey) → items ≡ events → n < length items → key ≡ key_of (get_or items n d) → (e : Event) × (slice_get events n ≡ Some e) × (key ≡ key_of e)
 event_at events items n d key is within same =
     (get_or items n d, subst (λ (xs : List Event). slice_get xs n ≡ Some (get_or items n d)) is (slice_get-get_or items n d within), same)
-
--- answers without a refusal are where the threads make their events
-pub none_refused : {E : Type 0} (m : Module) (log : List ThreadLog) (answers : List (Result (List CodePosition) E)) (table : List (List CodePosition)) → map Ok table ≡ answers → AreFollowed m log answers → AreLogPositions m log table
-none_refused m log answers table all followed = record {
-  count = sym (length-map table Ok) ∙ ap length all ∙ followed.count;
-  each = λ k positions is. followed.each k positions (ap (λ xs. slice_get xs k) (sym all) ∙ slice_get-map Ok table k ∙ ap (option_map Ok) is);
-}

@@ -1,6 +1,6 @@
 -- Which instruction a site names.
 use Rattle.std.specs.Option.{option_flatten}
-use Rattle.std.specs.Prelude.{◌≡◌, ◌⊎◌, ◌-◌, ◌^◌, ◌<◌, ℕ, min, List, Option, Some, None, Result, Ok, length, option_and_then, slice_get}
+use Rattle.std.specs.Prelude.{◌≡◌, ◌⊎◌, ◌-◌, ◌^◌, ◌<◌, ℕ, min, List, Option, Some, None, length, option_and_then, slice_get}
 use Rattle.wm_ast.specs.declared.module.Func.{Func}
 use Rattle.wm_ast.specs.declared.module.Module.{Module}
 use Rattle.wm_event.specs.declared.event.Event.{Event}
@@ -12,7 +12,7 @@ use Rattle.wm_decode.specs.Bounds.{max_module_bytes}
 use Rattle.wm_machine.specs.declared.thread.CodePosition.{CodePosition}
 use Rattle.wm_races.specs.declared.site.Site.{Site}
 use Rattle.wm_races.specs.Report.{site_in}
-use Rattle.wm_replay.specs.Positions.{ArePositionsAt, AreLogPositions}
+use Rattle.wm_replay.specs.Positions.{AreLogPositions}
 use Rattle.wm_sites.specs.declared.code_map.FunctionMap.{FunctionMap}
 use Rattle.wm_sites.specs.declared.code_map.FunctionReader.{FunctionReader}
 use Rattle.wm_sites.specs.declared.module_code.ModuleCode.{ModuleCode}
@@ -117,11 +117,6 @@ pub record PutsMap (old new : List (Option FunctionMap)) (f : ℕ) (read : Optio
   pub puts : f < length old → slice_get new f ≡ Some read
 
 -- ---- the positions of a log's events
-
--- the positions of each thread of the log, unless an allocation fails
-pub record AreFollowed {E : Type 0} (m : Module) (log : List ThreadLog) (answers : List (Result (List CodePosition) E)) : Type 0 where
-  pub count : length answers ≡ length log
-  pub each : (k : ℕ) (positions : List CodePosition) → slice_get answers k ≡ Some (Ok positions) → ArePositionsAt m log k positions
 
 -- the position at which an event is made, by its thread and its number
 abbrev pub position_in : List (List CodePosition) → EventKey → Option CodePosition

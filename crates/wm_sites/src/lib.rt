@@ -3,7 +3,6 @@
 #![tactic(auto)]
 
 mod code_map;
-mod event_positions;
 mod law;
 mod module_code;
 mod opcode_numbers;

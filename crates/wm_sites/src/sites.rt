@@ -5,10 +5,8 @@ ghost use Rattle.wm_replay.specs.Positions.{AreLogPositions};
 ghost use Rattle.wm_races.specs.Report.{HasSites};
 
 use crate::code_map::CodeMap;
-use crate::event_positions::{log_positions, positions_in_order};
 use crate::module_code::ModuleCode;
 use std::alloc::{AllocError, Global};
-use std::thread::Threads;
 use wm_event::{EventKey, Log, ThreadLog};
 use wm_list::List;
 use wm_machine::CodePosition;
@@ -24,23 +22,6 @@ pub struct RunSites<'m> {
 }
 
 impl<'m> RunSites<'m> {
-    /// The instructions that make the events of a log. Its threads are followed at the same time if one of them is long.
-    ///
-    /// # Errors
-    ///
-    /// Only if an allocation fails.
-    pub fn of<R: AllocGlobal + Threads + Sync>(
-        rt: &R,
-        code: ModuleCode<'m>,
-        log: &Log,
-    ) -> Result<Self, AllocError>
-        ensures map { IfOk result (λ run. run.map ≡ code_in code.exit) }
-        ensures positions { IfOk result (λ run. AreLogPositions code.exit.module.now log.now run.positions.items) }
-    {
-        let positions = log_positions(rt, code.module, log)?;
-        RunSites::at(rt.alloc(), code, positions)
-    }
-
     /// The instructions of a module at the positions at which the threads of a log make its events.
     ///
     /// # Errors
@@ -109,8 +90,8 @@ fn thread_sites(
     Ok(sites)
 }
 
-/// For each event of a log, by thread and number, the instruction of the module that makes it, if the threads of the
-/// log are runs of the module.
+/// For each event of a log, by thread and number, the instruction of the module that makes it. The threads of the log are
+/// runs of the module that make its events at these positions.
 ///
 /// # Errors
 ///
@@ -119,11 +100,12 @@ pub fn event_sites(
     alloc: Global,
     code: ModuleCode,
     log: &Log,
+    positions: Vec<List<CodePosition>>,
 ) -> Result<Vec<List<Site>>, AllocError>
+    requires { AreLogPositions (code_in code).module log.now positions.items }
     ensures has { IfOk result (λ sites. HasSites log.now sites.items) }
     ensures sites { IfOk result (λ sites. AreEventSites (code_in code.exit) log.now sites.items) }
 {
-    let positions = positions_in_order(alloc, code.module, log)?;
     let mut run = RunSites::at(alloc, code, positions)?;
     let mut sites = Vec::new(alloc);
     for thread in log.threads() {

@@ -38,23 +38,8 @@ fn is_late(
     can_synchronize(start, pair) && !node.stands_open(start, assumed, back)
 }
 
-/// Whether a writer can be that of a byte of a read, as far as it is known.
-fn is_left(
-    start: &Candidate,
-    assumed: &[Assumption],
-    node: &Node,
-    event: &Event,
-    byte: u8,
-    writer: EventId,
-) -> bool
-    requires node { IsNode start.now assumed.now node.now }
-    requires event { IsEventOf start.now event.now }
-{
-    !is_excluded(start, assumed, &node.happens, event, byte, writer)
-        && !is_late(start, assumed, node, event.key(), writer)
-}
-
-/// How good a writer is for a read: one that is known to come before it, better one that an assumption names.
+/// How good a writer is for a read: worst one that would have to come after it, better one that is known to come before
+/// it, best one that an assumption names.
 fn merit(
     start: &Candidate,
     assumed: &[Assumption],
@@ -72,6 +57,9 @@ fn merit(
             return 8;
         }
     }
+    if is_late(start, assumed, node, event.key(), writer) {
+        return 0;
+    }
     let before = Pair {
         first: key,
         second: event.key(),
@@ -86,7 +74,7 @@ fn merit(
     }
 }
 
-/// The best writer of a byte of a read, one of those that are left; None if there is none.
+/// The best writer of a byte of a read, one of those that aren't known to be another's; None if there is none.
 fn best_writer(
     alloc: Global,
     start: &Candidate,
@@ -104,7 +92,7 @@ fn best_writer(
     let mut best = None;
     let mut best_merit = 0;
     for id in fit.as_slice() {
-        if !is_left(start, assumed, node, event, byte, *id) {
+        if is_excluded(start, assumed, &node.happens, event, byte, *id) {
             continue;
         }
         let merit = if liked == Some(*id) {

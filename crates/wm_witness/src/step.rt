@@ -83,6 +83,38 @@ fn split_on_byte(
     None
 }
 
+/// A split on the order of two events that isn't known, of which the one is that of a row.
+fn split_on_order_of(
+    start: &Candidate,
+    assumed: &[Assumption],
+    node: &Node,
+    key: EventKey,
+) -> Option<Split>
+    requires { IsNode start.now assumed.now node.now }
+    ensures { IfSome result (IsSplit start.now.log) }
+{
+    for row in node.happens.rows.iter() {
+        let ground = Assumption::Before(key, row.key);
+        if key != row.key && is_open(start, assumed, node, ground) {
+            return split_on(start, ground);
+        }
+    }
+    None
+}
+
+/// A split on the order of two events that isn't known.
+fn split_on_order(start: &Candidate, assumed: &[Assumption], node: &Node) -> Option<Split>
+    requires { IsNode start.now assumed.now node.now }
+    ensures { IfSome result (IsSplit start.now.log) }
+{
+    for row in node.happens.rows.iter() {
+        if let Some(split) = split_on_order_of(start, assumed, node, row.key) {
+            return Some(split);
+        }
+    }
+    None
+}
+
 /// A split that tells nothing new, where no other is found.
 fn any_split(start: &Candidate) -> Split
     ensures { IsSplit start.now.log result }
@@ -97,7 +129,7 @@ fn any_split(start: &Candidate) -> Split
     }
 }
 
-/// A split on one of some assumptions if one is open, otherwise on the writer of a byte.
+/// A split on one of some assumptions if one is open, otherwise on the writer of a byte, otherwise on an order.
 fn some_split(
     start: &Candidate,
     assumed: &[Assumption],
@@ -111,7 +143,10 @@ fn some_split(
     if let Some(split) = split_on_open(start, assumed, node, grounds) {
         return split;
     }
-    match split_on_byte(start, assumed, node, writers) {
+    if let Some(split) = split_on_byte(start, assumed, node, writers) {
+        return split;
+    }
+    match split_on_order(start, assumed, node) {
         Some(split) => split,
         None => any_split(start),
     }

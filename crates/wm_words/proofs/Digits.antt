@@ -93,3 +93,12 @@ counted (suc n) some most = ap not_zero (below_yes 10001 (suc n) (omega arith))
 pub uncounted : (n : ℕ) → (1 ≤ n → n ≤ 10000 → ⊥) → not_zero (below 10001 (Some n)) ≡ None
 uncounted zero out = ap not_zero (below_yes 10001 zero (omega arith))
 uncounted (suc n) out = ap not_zero (below_no 10001 (suc n) (λ less. out (omega arith) (omega arith)))
+
+-- the number of nodes
+pub some_nodes : (n : ℕ) → 1 ≤ n → not_zero (Some n) ≡ Some n
+some_nodes zero some = absurd (omega arith)
+some_nodes (suc n) some = refl
+
+pub no_nodes : (n : ℕ) → (1 ≤ n → ⊥) → not_zero (Some n) ≡ None
+no_nodes zero none = refl
+no_nodes (suc n) none = absurd (none (omega arith))

@@ -2,7 +2,7 @@
 use Rattle.std.proofs.Common.{◌≡◌, ◌∙◌, Option, None, sym, subst}
 use Rattle.std.specs.Prelude.{IfErr, IsErrAnd, OnOk, Result, Ok, Err, is_ok, if◌then◌else◌, List}
 use Rattle.wm_words.specs.declared.fault.WordFault.{WordFault}
-use Rattle.wm_words.specs.declared.fault.WordFault.TheVariants.{Turns, Rounds, Start, OutOfMemory}
+use Rattle.wm_words.specs.declared.fault.WordFault.TheVariants.{Turns, Rounds, Start, Nodes, OutOfMemory}
 use Rattle.wm_words.specs.Faults.{Misses}
 
 -- where the one value is missing, the other is
@@ -10,6 +10,7 @@ pub misses_on : {A B : Type 0} (cause : WordFault) (a : Option A) (b : Option B)
 misses_on cause a b Turns on h = (h.0, on h.1)
 misses_on cause a b Rounds on h = (h.0, on h.1)
 misses_on cause a b Start on h = (h.0, on h.1)
+misses_on cause a b Nodes on h = (h.0, on h.1)
 misses_on cause a b OutOfMemory on h = tt
 
 -- an error that is handed on

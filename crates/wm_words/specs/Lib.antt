@@ -5,3 +5,4 @@ pub mod Numbers
 pub mod Starts
 pub mod Turns
 pub mod Words
+pub mod Nodes

@@ -41,12 +41,14 @@ pub record IsRoundsOf (count : List ℕ) (starts : List (List ℕ)) (rounds : Ro
 abbrev pub SpellNoScript : List ℕ → List (List ℕ) → WordFault → Type 0
 SpellNoScript turns starts fault.Turns = turns_of turns ≡ None
 SpellNoScript turns starts fault.Rounds = ⊥
+SpellNoScript turns starts fault.Nodes = ⊥
 SpellNoScript turns starts fault.Start = IsSome (turns_of turns) × (starts_of starts ≡ None)
 SpellNoScript turns starts fault.OutOfMemory = ⊤
 
 -- the same for rounds
 abbrev pub SpellNoRounds : List ℕ → List (List ℕ) → WordFault → Type 0
 SpellNoRounds count starts fault.Turns = ⊥
+SpellNoRounds count starts fault.Nodes = ⊥
 SpellNoRounds count starts fault.Rounds = rounds_of count ≡ None
 SpellNoRounds count starts fault.Start = IsSome (rounds_of count) × (starts_of starts ≡ None)
 SpellNoRounds count starts fault.OutOfMemory = ⊤

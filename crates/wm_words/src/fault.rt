@@ -1,4 +1,4 @@
-//! Why words are neither a script nor rounds.
+//! Why words spell nothing.
 ghost use Rattle.std.specs.Prelude.{◌≡◌};
 
 use std::alloc::{AllocError, AllocFailed};
@@ -10,6 +10,8 @@ pub enum WordFault {
     Turns,
     /// The number of rounds.
     Rounds,
+    /// The number of nodes of a search.
+    Nodes,
     /// The start of a thread.
     Start,
     /// An allocation failed.

@@ -11,6 +11,13 @@ fn is_digits(word: &str) -> bool
     word.bytes().all(|byte| byte.is_ascii_digit())
 }
 
+/// Whether a word can only be a number: it has decimal digits alone.
+pub fn is_number(word: &str) -> bool
+    ensures { result ≡ list_all is_ascii_digit word.now }
+{
+    is_digits(word)
+}
+
 /// The 64-bit integer that a word spells in decimal digits; they may begin with zeros and have no sign.
 pub(crate) fn decimal(word: &str) -> Option<u64>
     ensures { result ≡ number_below (2 ^ 64) word.now }

@@ -1,18 +1,19 @@
-use Rattle.std.proofs.Common.{◌≡◌, ℕ, List, Option, None, ap, length, subst, ◌∙◌}
+use Rattle.std.proofs.Common.{◌≡◌, ℕ, List, Option, None, subst, sym}
 use Rattle.wm_ast.specs.declared.module.Module.{Module}
 use Rattle.wm_event.specs.declared.log.ThreadLog.{ThreadLog}
-use Rattle.wm_event.specs.Faults.{Judges}
-use Rattle.wm_event.specs.LoggedRun.{LoggedRun, execution}
-use Rattle.wm_event.specs.Shape.{IsWellShaped, event_count}
+use Rattle.wm_event.specs.declared.rule.Judgement.{Judgement}
+use Rattle.wm_event.specs.declared.rule.Judgement.TheVariants as judgement
+use Rattle.wm_event.specs.LoggedRun.{LoggedRun}
+use Rattle.wm_event.specs.Shape.{IsWellShaped}
 use Rattle.wm_logfile.specs.DocumentBytes.{IsDocumentOf}
 use Rattle.wm_replay.specs.declared.answer.ReplayAnswer.{ReplayAnswer}
 use Rattle.wm_replay.specs.Complete.{HasCompletion, IsCompletion}
 use Rattle.wm_valid.specs.Valid.{IsInit}
-use Rattle.wm_check.specs.declared.verdict.Breach.TheVariants.{Rule}
 use Rattle.wm_check.specs.declared.verdict.Verdict.{Verdict}
-use Rattle.wm_check.specs.declared.verdict.Verdict.TheVariants.{Broken}
 use Rattle.wm_check.specs.Run.{IsModuleOf}
-use Rattle.wm_check.specs.Verified.{IsJudgedCompleted, JudgesRun}
+use Rattle.wm_check.specs.Checked.{verdict_by}
+use Rattle.wm_check.specs.Verified.{IsJudgedCompleted, JudgesRun, Verifies}
+use Rattle.wm_check.proofs.JudgedRuns.{judges_run}
 use Rattle.wm_check.proofs.SameEvents.{judged_completed}
 use Rattle.wm_check.proofs.verified.verify_candidate.Goals as goal
 
@@ -35,13 +36,15 @@ judged m run log answer verdict same completes is judges mb db modules document 
       judged = judged_completed m run completed verdict completion judges;
     }
 
-pub returns-in-Broken : goal.returns-in-Broken
-returns-in-Broken c =
-    judged c.args.module.now c.args.candidate.now c.log.result.now c.in_ok-answer.field-0 (Broken (Rule c.in-Broken.fault)) c.log.ensures.value c.in_ok-answer.ensures
-    c.in-None.is (subst (Judges (execution c.args.candidate.now)) c.in-Broken.is c.in_ok-fault-in-None.ensures.judged)
+-- what completes a candidate with the verdict by its judgement verifies it
+verifies : (mb db : List ℕ) (log : List ThreadLog) (j : Judgement) → IsJudgedCompleted mb db (verdict_by log j) → Verifies mb db (verdict_by log j)
+verifies mb db log judgement.Valid is = is
+verifies mb db log (judgement.Broken fault) is = is
 
-pub returns-in-Valid : goal.returns-in-Valid
-returns-in-Valid c =
-    let threads : c.threads-threads.result.now ≡ c.args.candidate.now.log = c.threads-threads.ensures.value ∙ c.log-in-Valid.ensures.value in
-    judged c.args.module.now c.args.candidate.now c.log.result.now c.in_ok-answer.field-0 _ c.log.ensures.value c.in_ok-answer.ensures
-    c.in-None.is (subst (Judges (execution c.args.candidate.now)) c.in-Valid.is c.in_ok-fault-in-None.ensures.judged, (ap length threads, c.count_events.ensures ∙ ap event_count threads))
+pub returns-in_ok-judgement-in-None : goal.returns-in_ok-judgement-in-None
+returns-in_ok-judgement-in-None c = λ mb db is_module is_document is_init shape.
+    let run = c.args.candidate.now in
+    let j = c.in_ok-judgement-in-None.judgement in
+    subst (Verifies mb db) (sym c.judged_verdict.ensures) (verifies mb db run.log j
+    (judged c.args.module.now run c.log.result.now c.in_ok-answer.field-0 (verdict_by run.log j) c.log.ensures.value c.in_ok-answer.ensures
+    c.in-None.is (judges_run run j c.in_ok-judgement-in-None.ensures.judged) mb db is_module is_document is_init shape))

@@ -83,6 +83,18 @@ log_command-requires-in-graph-clause-document_named c = c.in-graph.is
 pub log_command-requires-in-graph-clause-file : goal.log_command-requires-in-graph-clause-file
 log_command-requires-in-graph-clause-file c = ap required_of c.in-graph.is
 
+pub witness_command-requires-clause-named : goal.witness_command-requires-clause-named
+witness_command-requires-clause-named c = c.in-witness.is
+
+pub witness_command-requires-clause-file : goal.witness_command-requires-clause-file
+witness_command-requires-clause-file c = ap required_of c.in-witness.is
+
+pub returns-in-witness-clause-some : goal.returns-in-witness-clause-some
+returns-in-witness-clause-some c = c.witness_command.ensures.some
+
+pub returns-in-witness-clause-none : goal.returns-in-witness-clause-none
+returns-in-witness-clause-none c = c.witness_command.ensures.none
+
 pub returns-in-rules-clause-some : goal.returns-in-rules-clause-some
 returns-in-rules-clause-some c = c.document_command.ensures.some
 

@@ -19,6 +19,6 @@ loop-event-preserved c =
     record {
       events = subst (λ (nodes : List Node). map (λ (node : Node). node.event) nodes ++ drop (i + 1) events ≡ events) (sym c.in_ok-push.ensures.ok)
           (taken_one (λ (node : Node). node.event) nodes node events i c.loop-event.invariant.events here);
-      marks = subst (All (IsMarkedBy c.args.verdict.now)) (sym c.in_ok-push.ensures.ok)
-          (All-push (IsMarkedBy c.args.verdict.now) nodes node c.loop-event.invariant.marks c.node_of.ensures.marked);
+      marks = subst (All (IsMarkedBy c.args.breach)) (sym c.in_ok-push.ensures.ok)
+          (All-push (IsMarkedBy c.args.breach) nodes node c.loop-event.invariant.marks c.node_of.ensures.marked);
     }

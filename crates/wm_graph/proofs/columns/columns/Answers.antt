@@ -18,7 +18,7 @@ loop-thread-preserved c =
     let item : slice_get c.args.log.now i ≡ Some c.thread-item.result = subst (λ items. slice_get items i ≡ Some c.thread-item.result) c.threads-thread-items.ensures.value
     (slice_get-get_or c.threads-thread-items.result.now i c.thread-item.result (omega (arith, c.loop-thread-test.true)) ∙ ap Some (sym c.thread-item.is)) in
     let here : slice_get all i ≡ Some (events_of column) = slice_get-map events c.args.log.now i ∙ ap (option_map events) item ∙ ap Some (sym c.in_ok-column_of.ensures.events) in
-    let marked = λ (column : Column). All (IsMarkedBy c.args.verdict.now) column.nodes in
+    let marked = λ (column : Column). All (IsMarkedBy c.args.breach) column.nodes in
     record {
       columns = subst (λ (columns : List Column). map events_of columns ++ drop (i + 1) all ≡ all) (sym c.in_ok-push.ensures.ok)
           (taken_one events_of columns column all i c.loop-thread.invariant.columns here);

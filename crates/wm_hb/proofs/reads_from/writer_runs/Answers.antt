@@ -16,9 +16,9 @@ loop-last-preserved c =
     let here : slice_get writers n ≡ Some (get_or writers n Init) = slice_get-get_or writers n Init c.loop-last-test.true in
     elim c.if-is_last.branch [
       | then-is_last+in_ok-push w ↦ subst (λ so_far. HasRunsTo writers so_far c.if-is_last.first (n + 1)) (sym (w.runs-is ∙ w.in_ok-push.ensures.ok))
-          (subst (λ f. HasRunsTo writers (runs ++ next ∷ []) f (n + 1)) (sym w.first-is) (runs_next writers runs next c.loop-last.invariant here))
+          (subst (λ f. HasRunsTo writers (runs ++ next ∷ []) f (n + 1)) (sym w.first-is) (runs_next writers runs next c.loop-last.invariant here (w.if-is_last.ensures.ended refl)))
       | else-is_last w ↦ subst (λ so_far. HasRunsTo writers so_far c.if-is_last.first (n + 1)) (sym w.runs-is)
-          (subst (λ f. HasRunsTo writers runs f (n + 1)) (sym w.first-is) (runs_on writers runs c.loop-last.first n c.loop-last.invariant (w.if-is_last.ensures refl)))
+          (subst (λ f. HasRunsTo writers runs f (n + 1)) (sym w.first-is) (runs_on writers runs c.loop-last.first n c.loop-last.invariant (w.if-is_last.ensures.same refl)))
     ]
 
 pub returns : goal.returns

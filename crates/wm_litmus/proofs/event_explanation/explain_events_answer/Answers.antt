@@ -1,20 +1,20 @@
+use Rattle.std.proofs.Common.{List, ℕ, subst, string_bytes, ◌∙◌}
 use Rattle.std.proofs.lemmas.Result.{IfOk-weaker}
-use Rattle.wm_logfile.specs.DocumentBytes.{IsDocumentOf}
-use Rattle.wm_litmus.proofs.EventExplaining.{answers_fault, answers_run}
+use Rattle.wm_check.specs.Judged.{IsJudgedDocument}
+use Rattle.wm_litmus.proofs.JudgedDocuments.{answers_rules}
 use Rattle.wm_litmus.proofs.event_explanation.explain_events_answer.Goals as goal
 
-pub returns-in-Ok : goal.returns-in-Ok
-returns-in-Ok g c =
-    let document : IsDocumentOf c.args.bytes.now c.in-Ok.log c.in-Ok.witness = record {
-      small = c.in-Ok.ensures.within.0;
-      spelled = c.in-Ok.ensures.spelled;
-      is_log = c.in-Ok.ensures.within.1;
-      limits = c.in-Ok.ensures.within.2;
-    } in
-    IfOk-weaker c.explain_log.result _ _ (λ answer explains. answers_run c.args.bytes.now c.in-Ok.log c.in-Ok.witness answer document explains) c.explain_log.ensures
-
-pub returns-in-Err : goal.returns-in-Err
-returns-in-Err g c =
-    IfOk-weaker c.explain_fault.result _ _
-    (λ answer explains. answers_fault c.args.bytes.now c.in-Err.fault answer c.in-Err.ensures.refused explains)
-    c.explain_fault.ensures
+pub returns : goal.returns
+returns g c =
+    let bytes = c.args.bytes.now in
+    let found = c.in_ok-judged.judged in
+    let is = subst (λ (initial : List ℕ). IsJudgedDocument bytes initial found) c.zero_memory-initial.ensures c.in_ok-judged.ensures in
+    let told = c.in_ok-answer.answer in
+    IfOk-weaker c.with_reasons.result _ _
+    (λ answer gains. record {
+      line = string_bytes told.text;
+      reasons = c.as_str.result.now;
+      rules = answers_rules bytes found answer.status (string_bytes told.text) is (gains.status_is ∙ c.in_ok-answer.ensures.status_is) c.in_ok-answer.ensures.text_is;
+      text_is = gains.text_is;
+    })
+    c.with_reasons.ensures

@@ -13,6 +13,6 @@ returns-in-Err-Refused g c =
     let db = c.args.document_bytes.now in
     let refused = rw c.in-Err-Refused.field-0-is at c.in-Err-Refused.ensures.refused in
     let r = c.in-Err-Refused.refusal in
-    IfOk-weaker c.explain_unread.result _ _
+    IfOk-weaker c.explain_refused.result _ _
     (λ answer explains. answers_explain mb db (Refused r) answer (refused_for mb db r refused) explains)
-    c.explain_unread.ensures
+    c.explain_refused.ensures

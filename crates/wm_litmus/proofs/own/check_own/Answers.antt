@@ -1,4 +1,4 @@
-use Rattle.std.proofs.Common.{◌≡◌, ◌∙◌, subst}
+use Rattle.std.proofs.Common.{◌≡◌, ◌∙◌, subst, sym}
 use Rattle.wm_check.specs.Reading.{SaysOver}
 use Rattle.wm_litmus.specs.Own.{run_text}
 use Rattle.wm_litmus.proofs.OwnVerdicts.{IsReadAgain, OwnLaws, own_verdict}
@@ -7,14 +7,15 @@ use Rattle.wm_litmus.proofs.own.check_own.Goals as goal
 pub returns-clause-says : goal.returns-clause-says
 returns-clause-says g c =
     let bytes : c.as_bytes.result.now ≡ run_text c.args.run.now = c.as_bytes.ensures.value ∙ c.in_ok-document.ensures.text in
-    subst (λ d. SaysOver c.args.module.now d c.in_ok-checked.checked.verdict) bytes c.in_ok-checked.ensures.verdict
+    subst (λ d. SaysOver c.args.module.now d c.into_verdict.result) bytes
+    (subst (SaysOver c.args.module.now c.as_bytes.result.now) (sym c.into_verdict.ensures) c.in_ok-checked.ensures.verdict)
 
 pub returns-clause-own : goal.returns-clause-own
 returns-clause-own g c = λ module_bytes made.
     let run = c.args.run.now in
     let bytes : c.as_bytes.result.now ≡ run_text run = c.as_bytes.ensures.value ∙ c.in_ok-document.ensures.text in
-    let v = c.in_ok-checked.checked.verdict in
-    let said = subst (λ d. SaysOver c.args.module.now d v) bytes c.in_ok-checked.ensures.verdict in
+    let v = c.into_verdict.result in
+    let said = subst (λ d. SaysOver c.args.module.now d v) bytes (subst (SaysOver c.args.module.now c.as_bytes.result.now) (sym c.into_verdict.ensures) c.in_ok-checked.ensures.verdict) in
     let laws : OwnLaws = record {
       allowed = c.own_runs_are_allowed.ensures;
       limits = c.own_runs_are_within_limits.ensures;

@@ -1,14 +1,14 @@
 use Rattle.std.proofs.Common.{◌≡◌, ℕ, ◌-◌, ◌++◌, codes, length, string_bytes, sym, ap, ap₂, ◌∙◌}
 use Rattle.std.specs.Fmt.{decimal}
-use Rattle.wm_litmus.specs.Races.{more_text, shown_text}
-use Rattle.wm_litmus.proofs.RaceTexts.{ended_4, left_out, lists_none, lists_some}
+use Rattle.wm_litmus.specs.Races.{more_text, sequential_text, shown_text}
+use Rattle.wm_litmus.proofs.RaceTexts.{ended_none, left_out, lists_none, lists_some}
 use Rattle.wm_litmus.proofs.races.listed.Goals as goal
 
 pub returns-then-total-eq0 : goal.returns-then-total-eq0
 returns-then-total-eq0 g c races first total =
     let none : length races ≡ 0 = sym total ∙ c.if-total-eq0.true in
     lists_none g.L.RaceLine.text c.args.threads c.args.events races (string_bytes c.in_ok-text.text) none
-    (c.in_ok-text.ensures.ok ∙ sym (ended_4 (codes "no races threads=") (decimal c.args.threads) (codes " events=") (decimal c.args.events)))
+    (c.in_ok-text.ensures.ok ∙ sym (ended_none (codes "no races threads=") (decimal c.args.threads) (codes " events=") (decimal c.args.events) sequential_text))
 
 pub returns : goal.returns
 returns g c races first total =

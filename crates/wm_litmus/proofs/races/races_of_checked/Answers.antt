@@ -1,39 +1,76 @@
 use Rattle.std.proofs.Common.{subst}
 use Rattle.std.proofs.lemmas.Result.{IfOk-weaker}
-use Rattle.wm_check.specs.Reading.{IsCertified, IsRecordedOver}
-use Rattle.wm_check.specs.Verdicts.{Says}
-use Rattle.wm_litmus.specs.Races.AnswersRaces.{listed, told}
-use Rattle.wm_litmus.proofs.RaceAnswers.{broken_not_allowed, certified_by, refused_not_allowed, said_of_some}
+use Rattle.wm_check.specs.declared.verdict.Breach.TheVariants.{Replay, Rule}
+use Rattle.wm_check.specs.declared.verdict.Refusal.TheVariants.{Shape}
+use Rattle.wm_check.specs.declared.verdict.Verdict.TheVariants.{Refused, Broken}
+use Rattle.wm_check.specs.Checked.{IsCheckOf, verdict_by, verdict_of}
+use Rattle.wm_check.specs.Reading.{SaysOver}
+use Rattle.wm_event.specs.Faults.{Judges}
+use Rattle.wm_event.specs.LoggedRun.{execution}
+use Rattle.wm_rules.specs.Finding.{HasClosure, judgement_of}
+use Rattle.wm_sites.specs.Sites.{code_in}
+use Rattle.wm_litmus.specs.Races.AnswersRaces.{listed}
+use Rattle.wm_litmus.proofs.RaceAnswers.{told_over}
 use Rattle.wm_litmus.proofs.races.races_of_checked.Goals as goal
 
-pub returns-in-Some : goal.returns-in-Some
-returns-in-Some g c =
+pub list_allowed-requires-clause-positions : goal.list_allowed-requires-clause-positions
+list_allowed-requires-clause-positions g c =
+    let is = subst (IsCheckOf c.args.code.module.now c.args.document_bytes.now) c.in-Judged.is c.requires.kept in
+    is.1.made_at
+
+pub list_allowed-requires-clause-closure : goal.list_allowed-requires-clause-closure
+list_allowed-requires-clause-closure g c =
+    let is = subst (IsCheckOf c.args.code.module.now c.args.document_bytes.now) c.in-Judged.is c.requires.kept in
+    subst (HasClosure c.in-Judged.candidate) c.in-Valid.is is.1.closed
+
+pub list_allowed-requires-clause-valid : goal.list_allowed-requires-clause-valid
+list_allowed-requires-clause-valid g c =
+    let is = subst (IsCheckOf c.args.code.module.now c.args.document_bytes.now) c.in-Judged.is c.requires.kept in
+    subst (λ f. Judges (execution c.in-Judged.candidate) (judgement_of f)) c.in-Valid.is is.1.judged
+
+pub returns-in-Judged-in-Valid : goal.returns-in-Judged-in-Valid
+returns-in-Judged-in-Valid g c =
     let m = c.args.code.module.now in
     let mb = c.args.code.bytes.now in
     let db = c.args.document_bytes.now in
-    let v = c.args.checked.now.verdict in
-    let o = c.args.checked.now.candidate in
-    let run = c.in-Some.candidate in
-    let certificate = c.in-Allowed.certificate in
-    let recorded = said_of_some o run (IsRecordedOver m db) c.in-Some.is c.requires.candidate in
-    let certified = certified_by v certificate run c.in-Allowed.is (said_of_some o run (λ r. IsCertified r v) c.in-Some.is c.requires.certified) in
-    IfOk-weaker c.list_allowed.result _ _
-    (λ answer reports is_module. listed m run certificate (recorded mb is_module)
-    (subst (Says mb db) c.in-Allowed.is (c.requires.verdict mb is_module)) certified.valid reports)
-    c.list_allowed.ensures
+    let run = c.in-Judged.candidate in
+    let is = subst (IsCheckOf m db) c.in-Judged.is c.requires.kept in
+    let says = subst (λ f. SaysOver m db (verdict_by run.log (judgement_of f))) c.in-Valid.is (subst (λ k. SaysOver m db (verdict_of k)) c.in-Judged.is c.requires.verdict) in
+    let valid = subst (λ f. Judges (execution run) (judgement_of f)) c.in-Valid.is is.1.judged in
+    IfOk-weaker c.list_allowed.result _ _ (λ answer reports. λ is_module. listed m run (is.0 mb is_module) (says mb is_module) valid reports) c.list_allowed.ensures
 
 pub returns-in-Refused : goal.returns-in-Refused
 returns-in-Refused g c =
-    let v = c.args.checked.now.verdict in
+    let m = c.args.code.module.now in
+    let db = c.args.document_bytes.now in
     IfOk-weaker c.of_verdict.result _ _
-    (λ answer prints is_module. told v (c.requires.verdict c.args.code.bytes.now is_module)
-    (refused_not_allowed v c.in-Refused.field-0 c.in-Refused.is) prints.status_is prints.text_is)
+    (λ answer prints.
+    told_over (code_in c.args.code) db (Refused c.in-Refused.refusal) answer (subst (λ k. SaysOver m db (verdict_of k)) c.in-Refused.is c.requires.verdict) tt prints)
     c.of_verdict.ensures
 
-pub returns-in-Broken : goal.returns-in-Broken
-returns-in-Broken g c =
-    let v = c.args.checked.now.verdict in
-    IfOk-weaker c.of_verdict-in-Broken.result _ _
-    (λ answer prints is_module. told v (c.requires.verdict c.args.code.bytes.now is_module)
-    (broken_not_allowed v c.in-Broken.field-0 c.in-Broken.is) prints.status_is prints.text_is)
-    c.of_verdict-in-Broken.ensures
+pub returns-in-Misshapen : goal.returns-in-Misshapen
+returns-in-Misshapen g c =
+    let m = c.args.code.module.now in
+    let db = c.args.document_bytes.now in
+    IfOk-weaker c.of_verdict-in-Misshapen.result _ _
+    (λ answer prints.
+    told_over (code_in c.args.code) db (Refused (Shape c.in-Misshapen.misshapen.fault)) answer
+    (subst (λ k. SaysOver m db (verdict_of k)) c.in-Misshapen.is c.requires.verdict) tt prints)
+    c.of_verdict-in-Misshapen.ensures
+
+pub returns-in-Differs : goal.returns-in-Differs
+returns-in-Differs g c =
+    let m = c.args.code.module.now in
+    let db = c.args.document_bytes.now in
+    IfOk-weaker c.of_verdict-in-Differs.result _ _
+    (λ answer prints.
+    told_over (code_in c.args.code) db (Broken (Replay c.in-Differs.answer)) answer (subst (λ k. SaysOver m db (verdict_of k)) c.in-Differs.is c.requires.verdict) tt prints)
+    c.of_verdict-in-Differs.ensures
+
+pub returns-in-Judged-in-Broken : goal.returns-in-Judged-in-Broken
+returns-in-Judged-in-Broken g c =
+    let m = c.args.code.module.now in
+    let db = c.args.document_bytes.now in
+    let run = c.in-Judged.candidate in
+    let says = subst (λ f. SaysOver m db (verdict_by run.log (judgement_of f))) c.in-Broken.is (subst (λ k. SaysOver m db (verdict_of k)) c.in-Judged.is c.requires.verdict) in
+    IfOk-weaker c.of_verdict-in-Broken.result _ _ (λ answer prints. told_over (code_in c.args.code) db (Broken (Rule c.in-Broken.fault)) answer says tt prints) c.of_verdict-in-Broken.ensures

@@ -1,20 +1,12 @@
 use Rattle.std.proofs.lemmas.Result.{IfOk-weaker}
-use Rattle.wm_logfile.specs.DocumentBytes.{IsDocumentOf}
-use Rattle.wm_litmus.specs.Rules.AnswersRules.{read, refused}
+use Rattle.std.proofs.Common.{List, ℕ, subst}
+use Rattle.wm_check.specs.Judged.{IsJudgedDocument}
+use Rattle.wm_litmus.proofs.JudgedDocuments.{answers_rules}
 use Rattle.wm_litmus.proofs.rules.rules_answer.Goals as goal
 
-pub returns-in-Ok : goal.returns-in-Ok
-returns-in-Ok g c =
-    let document : IsDocumentOf c.args.bytes.now c.in-Ok.log c.in-Ok.witness = record {
-      small = c.in-Ok.ensures.within.0;
-      spelled = c.in-Ok.ensures.spelled;
-      is_log = c.in-Ok.ensures.within.1;
-      limits = c.in-Ok.ensures.within.2;
-    } in
-    IfOk-weaker c.run_answer.result _ _ (λ answer answers. read c.in-Ok.log c.in-Ok.witness document answers) c.run_answer.ensures
-
-pub returns-in-Err : goal.returns-in-Err
-returns-in-Err g c =
-    IfOk-weaker c.refused_document.result _ _
-    (λ answer prints. refused c.in-Err.fault (c.in-Err.ensures.refused prints.0) prints.1.status_is prints.1.text_is)
-    c.refused_document.ensures
+pub returns : goal.returns
+returns g c =
+    let bytes = c.args.bytes.now in
+    let found = c.in_ok-judged.judged in
+    let is = subst (λ (initial : List ℕ). IsJudgedDocument bytes initial found) c.zero_memory-initial.ensures c.in_ok-judged.ensures in
+    IfOk-weaker c.judged_line.result _ _ (λ answer prints. answers_rules bytes found answer.status _ is prints.status_is prints.text_is) c.judged_line.ensures

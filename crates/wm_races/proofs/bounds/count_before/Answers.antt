@@ -1,42 +1,25 @@
-use Rattle.std.proofs.Common.{◌≡◌, ◌<◌, ◌≤◌, ◌+◌, ◌-◌, ◌/◌, Some, get_or, slice_get, arith, sym, ap, ◌∙◌, subst, ⊎_elim}
-use Rattle.std.proofs.lemmas.Bool.{cases_lt}
-use Rattle.std.proofs.lemmas.Option.{same_Some, slice_get-get_or}
-use Rattle.wm_event.specs.declared.event.EventId.{EventId}
+use Rattle.std.proofs.Common.{get_or, slice_get, arith}
+use Rattle.std.proofs.lemmas.Option.{slice_get-get_or}
 use Rattle.wm_event.specs.declared.event.EventId.TheVariants.{Init}
-use Rattle.wm_event.specs.HappensBefore.{HappensBefore}
 use Rattle.wm_event.specs.LoggedRun.{execution}
 use Rattle.wm_hb.proofs.SequenceLemmas.{before_join}
 use Rattle.wm_races.proofs.bounds.count_before.Goals as goal
 
-pub loop-low-preserved-then-before : goal.loop-low-preserved-then-before
-loop-low-preserved-then-before c =
+pub turn_of-requires-clause-turns : goal.turn_of-requires-clause-turns
+turn_of-requires-clause-turns c =
     let x = execution c.args.before.now in
     let xs = c.args.writes.now in
     let w = c.args.event in
-    let m = c.loop-low.low + (c.loop-low.high - c.loop-low.low) / 2 in
-    let u = get_or xs m Init in
-    let order = c.loop-low.invariant.order in
-    let bound = c.loop-low.invariant.bound in
-    let less = c.loop-low-test.true in
-    let here : HappensBefore x u w = c.before-in-loop-low.ensures.0 c.if-before.true in
-    let at : slice_get xs m ≡ Some u = slice_get-get_or xs m Init (omega arith) in
     record {
-      order = omega arith;
-      bound = omega arith;
-      earlier = λ i v l at_v. ⊎_elim
-          (λ (h : i < m). before_join x v u w (c.requires i m v u h at_v at) here)
-          (λ (h : m ≤ i). let e : m ≡ i = omega (arith, l, h) in
-          subst (λ (z : EventId). HappensBefore x z w) (same_Some u v (sym at ∙ ap (slice_get xs) e ∙ at_v)) here)
-          (cases_lt i m);
+      falls = λ i j l within early v at.
+          let u = get_or xs j Init in
+          let at_u = slice_get-get_or xs j Init within in
+          before_join x v u w (c.requires i j v u l at at_u) (early u at_u);
+      rises = λ i j l within late v at here.
+          let u = get_or xs i Init in
+          let at_u = slice_get-get_or xs i Init (omega (arith, l, within)) in
+          late u at_u (before_join x u v w (c.requires i j u v l at_u at) here);
     }
 
-pub loop-low-preserved : goal.loop-low-preserved
-loop-low-preserved c =
-    let order = c.loop-low.invariant.order in
-    let bound = c.loop-low.invariant.bound in
-    let less = c.loop-low-test.true in
-    record {
-      order = omega arith;
-      bound = omega arith;
-      earlier = c.loop-low.invariant.earlier;
-    }
+pub returns-clause-before : goal.returns-clause-before
+returns-clause-before c = λ i v l at. c.turn_of.ensures.first i l v at

@@ -7,14 +7,14 @@ use Rattle.wm_event.specs.declared.event.EventKey.{EventKey}
 use Rattle.wm_event.specs.declared.event.EventId.{EventId}
 use Rattle.wm_event.specs.declared.writes.ByteWrite.{ByteWrite}
 use Rattle.wm_event.specs.AtomicWrites.{begins_atomic}
-use Rattle.wm_event.specs.Execution.{event_at}
 use Rattle.wm_event.specs.Log.{HasKeys}
 use Rattle.wm_event.specs.LoggedRun.{LoggedRun, execution}
 use Rattle.wm_event.specs.Writes.{id_in, listed_from, thread_keys}
 use Rattle.wm_event.proofs.WritesLemmas.{names_from}
 use Rattle.wm_hb.specs.Sequence.{AreInSequence, HoldsFrom}
 use Rattle.wm_rules.specs.Others.{IsOutOfOrder}
-use Rattle.wm_rules.specs.Overtaking.{IsPast, ids_in_thread}
+use Rattle.wm_rules.specs.Cases.{overtaking_number}
+use Rattle.wm_rules.specs.Overtaking.{IsPast, IsRangeBy, ids_in_thread}
 use Rattle.wm_rules.proofs.SequentialConsistencyLemmas.{overtaking_sooner}
 use Rattle.wm_hb.proofs.ThreadLemmas.{in_sequence, thread_ids}
 use Rattle.wm_rules.proofs.ThreadLemmas.{HoldsSooner, fails_in_thread, no_init, none_in_thread, some_in_thread}
@@ -40,10 +40,9 @@ pub count_not_past-requires-clause-sequence : goal.count_not_past-requires-claus
 count_not_past-requires-clause-sequence c =
     subst (λ (ids : List EventId). AreInSequence (execution c.args.relation.now) ids) (sym (same c)) (in_sequence c.args.relation.now (keys c) c.args.thread (test c))
 
-says : (c : After-thread_atomic_writes-writes) → HoldsSooner c.args.relation.now (test c) (λ v. IsPast (execution c.args.relation.now) c.args.writer c.args.case v) (IsOutOfOrder c.args.relation.now c.args.event.now c.args.writer c.args.case)
+says : (c : After-thread_atomic_writes-writes) → HoldsSooner c.args.relation.now (test c) (λ v. IsPast (execution c.args.relation.now) c.args.writer c.args.case v) (IsOutOfOrder c.args.relation.now c.args.event.now c.args.writer (overtaking_number c.args.case))
 says c = overtaking_sooner c.args.relation.now c.candidate-candidate.ensures.agrees c.args.event.now c.args.writer c.args.case c.range_by_case-range.result
-    (λ two f h. c.range_by_case-range.ensures.second two f (subst (λ (run : LoggedRun). event_at (execution run) c.args.writer ≡ Some f) (sym c.candidate-candidate.ensures.value) h))
-    (λ other. c.range_by_case-range.ensures.others other)
+    (subst (λ (run : LoggedRun). IsRangeBy (execution run) c.args.event.now c.args.writer c.args.case c.range_by_case-range.result) c.candidate-candidate.ensures.value c.range_by_case-range.ensures)
 
 abbrev ids : (c : After-count_not_past) → List EventId
 ids c = thread_ids c.args.relation.now (keys (goal.at.After-count_not_past c).After-thread_atomic_writes-writes) c.args.thread (test (goal.at.After-count_not_past c).After-thread_atomic_writes-writes)
@@ -65,7 +64,7 @@ returns-in_default c =
     let d = (goal.at.returns-in_default c).After-count_not_past in
     let past : slice_get c.thread_atomic_writes-writes.result.now c.count_not_past.result ≡ None = slice_get_past c.thread_atomic_writes-writes.result.now c.count_not_past.result c.in_default.ensures.lookup.3 in
     none_in_thread c.args.relation.now (keys a) c.candidate-candidate.ensures.agrees c.args.thread (test a) (λ v. IsPast (execution c.args.relation.now) c.args.writer c.args.case v)
-    (IsOutOfOrder c.args.relation.now c.args.event.now c.args.writer c.args.case) (says a) c.count_not_past.result (turn d) (listed d None past)
+    (IsOutOfOrder c.args.relation.now c.args.event.now c.args.writer (overtaking_number c.args.case)) (says a) c.count_not_past.result (turn d) (listed d None past)
 
 -- the name that is found
 found : (c : After-id_in_thread) → slice_get (ids (goal.at.After-id_in_thread c).After-count_not_past) c.count_not_past.result ≡ Some c.id_in_thread.result
@@ -90,7 +89,7 @@ returns-then-is_out_of_order c =
     let d = (goal.at.returns-then-is_out_of_order c).After-count_not_past in
     let i = (goal.at.returns-then-is_out_of_order c).After-id_in_thread in
     some_in_thread c.args.relation.now (keys a) c.candidate-candidate.ensures.agrees c.args.thread (test a) (λ v. IsPast (execution c.args.relation.now) c.args.writer c.args.case v)
-    (IsOutOfOrder c.args.relation.now c.args.event.now c.args.writer c.args.case) (says a) c.count_not_past.result (turn d) c.in-At.key (found i ∙ ap Some c.in-At.is) (c.is_out_of_order.ensures.0 c.if-is_out_of_order.true)
+    (IsOutOfOrder c.args.relation.now c.args.event.now c.args.writer (overtaking_number c.args.case)) (says a) c.count_not_past.result (turn d) c.in-At.key (found i ∙ ap Some c.in-At.is) (c.is_out_of_order.ensures.0 c.if-is_out_of_order.true)
 
 pub returns-else-is_out_of_order : goal.returns-else-is_out_of_order
 returns-else-is_out_of_order c =
@@ -98,5 +97,5 @@ returns-else-is_out_of_order c =
     let d = (goal.at.returns-else-is_out_of_order c).After-count_not_past in
     let i = (goal.at.returns-else-is_out_of_order c).After-id_in_thread in
     fails_in_thread c.args.relation.now (keys a) c.candidate-candidate.ensures.agrees c.args.thread (test a) (λ v. IsPast (execution c.args.relation.now) c.args.writer c.args.case v)
-    (IsOutOfOrder c.args.relation.now c.args.event.now c.args.writer c.args.case) (says a) c.count_not_past.result (turn d) c.in-At.key (found i ∙ ap Some c.in-At.is)
+    (IsOutOfOrder c.args.relation.now c.args.event.now c.args.writer (overtaking_number c.args.case)) (says a) c.count_not_past.result (turn d) c.in-At.key (found i ∙ ap Some c.in-At.is)
     (λ h. both_ways c.is_out_of_order.result c.if-is_out_of_order.false (c.is_out_of_order.ensures.1 h))

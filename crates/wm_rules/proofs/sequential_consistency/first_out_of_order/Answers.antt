@@ -4,6 +4,7 @@ use Rattle.wm_event.specs.declared.event.EventId.TheVariants.{At}
 use Rattle.wm_event.specs.Event.{key_of}
 use Rattle.wm_event.specs.Shape.{ListsEachOnce}
 use Rattle.wm_rules.specs.Others.{IsOutOfOrder}
+use Rattle.wm_rules.specs.Cases.{overtaking_number}
 use Rattle.wm_rules.proofs.SequentialConsistencyLemmas.{breaking_there}
 use Rattle.wm_rules.proofs.ThreadLemmas.{earliest_listed}
 use Rattle.wm_rules.proofs.sequential_consistency.first_out_of_order.Goals as goal
@@ -15,4 +16,4 @@ pub returns-clause-first : goal.returns-clause-first
 returns-clause-first c =
     let run = c.args.relation.now in
     let once : ListsEachOnce run.log run.witness.order = search rules in
-    earliest_listed run once (IsOutOfOrder run c.args.event.now c.args.writer c.args.case) (λ v h. breaking_there run (key_of c.args.event.now) c.args.event.now c.args.writer v c.args.case h) c.earliest_out_of_order.result c.earliest_out_of_order.ensures
+    earliest_listed run once (IsOutOfOrder run c.args.event.now c.args.writer (overtaking_number c.args.case)) (λ v h. breaking_there run (key_of c.args.event.now) c.args.event.now c.args.writer v (overtaking_number c.args.case) h) c.earliest_out_of_order.result c.earliest_out_of_order.ensures

@@ -49,12 +49,12 @@ returns c =
     let n = c.loop-thread.thread-index in
     let sites = c.loop-thread.sites.items in
     let run = c.in_ok-run.run' in
-    let table = c.in_ok-positions.positions.items in
+    let table = c.args.positions.items in
     let all : length log ≤ n = subst (λ (items : List ThreadLog). length items ≤ n) c.threads-thread-items.ensures.value c.loop-thread-test.false in
     let each = subst (λ (r : RunSites). AreSitesIn r.map r.positions.items log sites) c.loop-thread.invariant.same c.loop-thread.invariant.sites in
     let of_module = subst (λ (code : Code). AreSitesIn code run.positions.items log sites) c.in_ok-run.ensures.map each in
     let of_table = subst (λ (t : List (List CodePosition)). AreSitesIn (code_in c.args.code) t log sites) c.in_ok-run.ensures.positions of_module in
     record {
       has = sites-of-shape log sites (whole_shape log sites n all c.loop-thread.invariant.shape);
-      sites = record { table = table; positions = c.in_ok-positions.ensures; each = event_site (code_in c.args.code) table log sites c.threads-thread-items.ensures.keys of_table };
+      sites = record { table = table; positions = c.requires; each = event_site (code_in c.args.code) table log sites c.threads-thread-items.ensures.keys of_table };
     }

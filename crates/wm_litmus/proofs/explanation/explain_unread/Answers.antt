@@ -1,5 +1,0 @@
-use Rattle.std.proofs.lemmas.Result.{IfOk-weaker}
-use Rattle.wm_litmus.proofs.explanation.explain_unread.Goals as goal
-
-pub returns : goal.returns
-returns c = IfOk-weaker c.explained.result _ _ (λ answer prints. (_, prints)) c.explained.ensures
