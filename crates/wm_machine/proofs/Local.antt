@@ -7,6 +7,7 @@ use Rattle.wm_event.specs.declared.op.OpFields.{OpFields}
 use Rattle.wm_machine.specs.declared.thread.Need.{Need}
 use Rattle.wm_machine.specs.declared.thread.Need.TheVariants as need
 use Rattle.wm_machine.specs.Local.{after_local, local_steps}
+use Rattle.wm_machine.specs.Paths.{LocalPath, Moves, on}
 use Rattle.wm_machine.specs.Stepping.{HasNoLocalStep}
 use Rattle.wm_machine.specs.State.{State, as_need, config_of, need_in, need_of}
 use Rattle.wm_machine.specs.Step.{access_of, next_config, step}
@@ -44,3 +45,8 @@ one_more m k start old new n same so made next =
     let last = subst (λ (j : Module). after_local (step j 0 old) ≡ Some new) same (after_is (step k 0 old) new made next) in
     let e : suc n ≡ n + 1 = omega arith in
     subst (λ (j : ℕ). local_steps m start j ≡ Some new) e (ap (option_and_then (λ (b : Config). after_local (step m 0 b))) so ∙ last)
+
+-- and a step further on its path
+pub path_more : (start s t : State) (n : ℕ) → LocalPath start n s → access_of (step s.module 0 (config_of s)) ≡ None → next_config (step s.module 0 (config_of s)) ≡ Some (config_of t) → Moves s t
+    → LocalPath start (n + 1) t
+path_more start s t n path made next moves = on path (after_is (step s.module 0 (config_of s)) (config_of t) made next) moves

@@ -10,11 +10,13 @@ use Rattle.wm_machine.specs.declared.value.TypedValue.{TypedValue}
 use Rattle.wm_machine.specs.declared.call_frame.CallFrame.{CallFrame}
 use Rattle.wm_machine.specs.declared.thread.Need.{Need}
 use Rattle.wm_machine.specs.declared.thread.Need.TheVariants as need
+use Rattle.wm_machine.specs.declared.place.Place.{Place}
 use Rattle.wm_machine.specs.declared.thread.CodePosition.{CodePosition}
 use Rattle.wm_machine.specs.Term.{Config, Over}
 use Rattle.wm_machine.specs.Step.{step, access_of}
 use Rattle.wm_machine.specs.Configuration.{left_of, under}
 use Rattle.wm_machine.specs.Inside.{vars_of}
+use Rattle.wm_machine.specs.Places.{place_of}
 use Rattle.wm_machine.specs.Fits.{FitsConfig}
 use Rattle.wm_valid.specs.Valid.{Valid}
 
@@ -45,9 +47,13 @@ pub record Sound (s : State) : Type 0 where
   pub valid : Valid s.module
   pub fits : FitsConfig s.module (config_of s)
 
--- the position of the innermost call: its remaining code there is `continuation` of these
+-- the position of a place in a function
+abbrev pub position_in : ℕ → Place → CodePosition
+position_in func place = record { func = func; block = place.block; at = place.at }
+
+-- the position of the innermost call
 abbrev pub position_of : State → CodePosition
-position_of s = record { func = s.running.func; block = s.running.control_stack.block; at = s.running.control_stack.at }
+position_of s = position_in s.running.func (place_of s.module s.running.func s.running.control_stack)
 
 -- what a thread needs for its next step
 abbrev pub as_need : Option OpFields → Need

@@ -24,6 +24,7 @@ use Rattle.wm_machine.specs.Code.{FunctionCode}
 use Rattle.wm_machine.specs.Inside.{StepsTo, asks_value, call_step, made_of, unanswered, waits}
 use Rattle.wm_machine.specs.Local.{local_steps}
 use Rattle.wm_machine.specs.Nest.{carried_top}
+use Rattle.wm_machine.specs.Paths.{MovesOn}
 use Rattle.wm_machine.specs.State.{State, config_of, need_of, value_or_zero}
 use Rattle.wm_machine.specs.Step.{access_of, branch_to, next_config, push_optional, continue_with, step}
 use Rattle.wm_machine.specs.Term.{Config, Stuck, Vars}
@@ -91,7 +92,7 @@ KeepsThread old new o = waits o ≡ true → new ≡ old
 
 -- a step with the value that its access reads, if it was made
 abbrev pub IsStepWith : Option ℕ → State → State → StepOutcome → Type 0
-IsStepWith given old new o = WaitsForAccess given old o × MakesStep given old new o × KeepsThread old new o
+IsStepWith given old new o = WaitsForAccess given old o × MakesStep given old new o × KeepsThread old new o × MovesOn old new o
 
 -- the thread hasn't ended, and this is the code of its running call
 abbrev pub RunsOn : FunctionCode → State → StepOutcome → Type 0

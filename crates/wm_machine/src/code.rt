@@ -3,6 +3,7 @@ ghost use Rattle.std.specs.Prelude.{◌^◌, ◌≡◌, ◌<◌, ◌+◌, [], No
 ghost use Rattle.wm_ast.specs.Module.{block_in};
 ghost use Rattle.wm_machine.specs.Code.{IsInstrAt};
 ghost use Rattle.wm_machine.specs.Functions.{continuation};
+ghost use Rattle.wm_machine.specs.Places.{IsTargetAt};
 ghost use Rattle.wm_machine.specs.Stepping.{BranchContinuesAt, IsNoBranchTarget, BranchNeedsOperand};
 
 use std::marker::Model;
@@ -83,6 +84,7 @@ impl<'m> Code<'m> {
     #[inline(always)]
     pub fn target(&self, block: usize, at: usize) -> Option<(bool, usize)>
         ensures some { IfSome result (λ r. BranchContinuesAt self.now.module self.now.func block at r.0 r.1) }
+        ensures place { IfSome result (λ r. IsTargetAt self.now.module self.now.func block at r.1) }
         ensures empty { IfSome result (λ r. BranchNeedsOperand self.now.module self.now.func block at r.0) }
         ensures none { result ≡ None → IsNoBranchTarget self.now.module self.now.func block at }
     {

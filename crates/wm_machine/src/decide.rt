@@ -1,5 +1,5 @@
 //! The effect of an instruction, decided from its operands before anything changes (Core 1.0, section 4.4).
-ghost use Rattle.std.specs.Prelude.{◌≡◌, ◌≤◌, List, false, length};
+ghost use Rattle.std.specs.Prelude.{◌≡◌, ◌≤◌, List, false, length, slice_get};
 ghost use Rattle.wm_ast.specs.declared.module.Module.{Module};
 ghost use Rattle.wm_ast.specs.declared.instr.Instr.{Instr};
 ghost use Rattle.wm_ast.specs.Module.{pages_of};
@@ -7,6 +7,7 @@ ghost use Rattle.wm_machine.specs.declared.value.TypedValue.{TypedValue};
 ghost use Rattle.wm_machine.specs.Term.{Vars};
 ghost use Rattle.wm_machine.specs.Action.{Acts, GetsGlobal, SetsGlobal, SetsNothing, SetsWithin, popped_by};
 ghost use Rattle.wm_machine.specs.AtOnce.{is_at_once};
+ghost use Rattle.wm_machine.specs.Places.{LeadsAs, enters_block};
 
 use crate::action::Action;
 use crate::control_stack::ControlStack;
@@ -27,6 +28,7 @@ fn entered(
 ) -> Action
     ensures means { (m : Module) (vars : Vars) → Acts m (Instr.If ty first second other) vars control_stack.now.operands result }
     ensures room { popped_by result ≤ length control_stack.now.operands }
+    ensures leads { LeadsAs (Instr.If ty first second other) control_stack.now.operands result }
     ensures sets { SetsNothing result }
 {
     match number(control_stack, 0, Width::W32) {
@@ -46,6 +48,7 @@ fn entered(
 fn dropped(control_stack: &ControlStack) -> Action
     ensures means { (m : Module) (vars : Vars) → Acts m Instr.Drop vars control_stack.now.operands result }
     ensures room { popped_by result ≤ length control_stack.now.operands }
+    ensures stays { enters_block result ≡ false }
     ensures sets { SetsNothing result }
 {
     match control_stack.operand(0) {
@@ -58,6 +61,7 @@ fn dropped(control_stack: &ControlStack) -> Action
 fn selected(control_stack: &ControlStack) -> Action
     ensures means { (m : Module) (vars : Vars) → Acts m Instr.Select vars control_stack.now.operands result }
     ensures room { popped_by result ≤ length control_stack.now.operands }
+    ensures stays { enters_block result ≡ false }
     ensures sets { SetsNothing result }
 {
     let (Some(first), Some(second)) = (control_stack.operand(2), control_stack.operand(1)) else {
@@ -70,10 +74,18 @@ fn selected(control_stack: &ControlStack) -> Action
     }
 }
 
+/// The value of a global, if it exists.
+fn global_at(globals: &[TypedValue], index: u32) -> Option<TypedValue>
+    ensures { result ≡ slice_get globals.now index }
+{
+    globals.get(index as usize).copied()
+}
+
 /// `global.get` of this variable, if it exists.
 fn got(variable: Option<TypedValue>) -> Action
     ensures means { GetsGlobal variable result }
     ensures room { popped_by result ≡ 0 }
+    ensures stays { enters_block result ≡ false }
     ensures sets { SetsNothing result }
 {
     match variable {
@@ -86,6 +98,7 @@ fn got(variable: Option<TypedValue>) -> Action
 fn set_global(control_stack: &ControlStack, globals: &[TypedValue], index: u32) -> Action
     ensures means { SetsGlobal index globals.now control_stack.now.operands result }
     ensures room { popped_by result ≤ length control_stack.now.operands }
+    ensures stays { enters_block result ≡ false }
     ensures sets { SetsWithin result globals.now }
 {
     match control_stack.operand(0) {
@@ -107,6 +120,7 @@ pub fn decide(
     ensures means { (locals : List TypedValue)
         → Acts «module».now instr.now record { locals = locals; globals = globals.now } control_stack.now.operands result }
     ensures room { popped_by result ≤ length control_stack.now.operands }
+    ensures leads { LeadsAs instr.now control_stack.now.operands result }
     ensures sets { SetsWithin result globals.now }
 {
     match instr {
@@ -126,7 +140,7 @@ pub fn decide(
         Instr::Call(func) => Action::Call(*func),
         Instr::Drop => dropped(control_stack),
         Instr::Select => selected(control_stack),
-        Instr::GlobalGet(index) => got(globals.get(*index as usize).copied()),
+        Instr::GlobalGet(index) => got(global_at(globals, *index)),
         Instr::GlobalSet(index) => set_global(control_stack, globals, *index),
         Instr::Access(kind, operands) => access(module, control_stack, *kind, *operands),
         Instr::MemorySize => Action::Replace(0, Some(TypedValue::I32(module.pages()))),

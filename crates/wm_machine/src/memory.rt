@@ -1,5 +1,5 @@
 //! The effects of the memory instructions (Core 1.0, section 4.4.4, and the threads proposal).
-ghost use Rattle.std.specs.Prelude.{◌≡◌, ◌≤◌, ◌<◌, ◌+◌, ◌^◌, IfSome, None, length, option_map};
+ghost use Rattle.std.specs.Prelude.{◌≡◌, ◌≤◌, ◌<◌, ◌+◌, ◌^◌, IfSome, None, false, length, option_map};
 ghost use Rattle.wm_access.specs.AccessWidth.{bytes_of, Fits};
 ghost use Rattle.wm_num.specs.declared.operator.Width.TheVariants.{W32};
 ghost use Rattle.wm_ast.specs.Access.{access_order, access_width, storage_width, whole};
@@ -10,6 +10,7 @@ ghost use Rattle.wm_machine.specs.Accesses.{asked, loaded, extended, access_trap
 ghost use Rattle.wm_machine.specs.Request.{asked_by};
 ghost use Rattle.wm_machine.specs.Term.{Vars};
 ghost use Rattle.wm_machine.specs.Action.{Acts, popped_by, SetsNothing};
+ghost use Rattle.wm_machine.specs.Places.{enters_block};
 ghost use Rattle.wm_machine.specs.Stepping.{low_operand_of};
 
 use crate::action::Action;
@@ -147,6 +148,7 @@ pub fn access(
     requires { pages_of «module».now.memory ≤ 65536 }
     ensures means { (vars : Vars) → Acts «module».now (Instr.Access kind operands) vars control_stack.now.operands result }
     ensures room { popped_by result ≤ length control_stack.now.operands }
+    ensures stays { enters_block result ≡ false }
     ensures sets { SetsNothing result }
 {
     let Some(request) = requested(control_stack, kind) else {

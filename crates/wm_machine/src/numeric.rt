@@ -1,5 +1,5 @@
 //! What the numeric instructions do (Core 1.0, section 4.4.1).
-ghost use Rattle.std.specs.Prelude.{◌≡◌, ◌≤◌, IfSome, length, ◌+◌};
+ghost use Rattle.std.specs.Prelude.{◌≡◌, ◌≤◌, IfSome, false, length, ◌+◌};
 ghost use Rattle.wm_num.specs.Number.{IsOperand};
 ghost use Rattle.wm_num.specs.Conversion.{source_of, target_of};
 ghost use Rattle.wm_ast.specs.declared.module.Module.{Module};
@@ -8,6 +8,7 @@ ghost use Rattle.wm_machine.specs.Values.{number_at};
 ghost use Rattle.wm_machine.specs.Step.{trap_of, truth};
 ghost use Rattle.wm_machine.specs.Term.{Vars};
 ghost use Rattle.wm_machine.specs.Action.{Acts, popped_by, SetsNothing};
+ghost use Rattle.wm_machine.specs.Places.{enters_block};
 
 use crate::action::Action;
 use crate::control_stack::ControlStack;
@@ -51,6 +52,7 @@ pub fn truth(holds: bool) -> TypedValue
 pub fn counted(control_stack: &ControlStack, op: UnaryOperator, width: Width) -> Action
     ensures means { (m : Module) (vars : Vars) → Acts m (Instr.Unary op width) vars control_stack.now.operands result }
     ensures room { popped_by result ≤ length control_stack.now.operands }
+    ensures stays { enters_block result ≡ false }
     ensures sets { SetsNothing result }
 {
     match number(control_stack, 0, width) {
@@ -63,6 +65,7 @@ pub fn counted(control_stack: &ControlStack, op: UnaryOperator, width: Width) ->
 pub fn converted(control_stack: &ControlStack, op: Conversion) -> Action
     ensures means { (m : Module) (vars : Vars) → Acts m (Instr.Convert op) vars control_stack.now.operands result }
     ensures room { popped_by result ≤ length control_stack.now.operands }
+    ensures stays { enters_block result ≡ false }
     ensures sets { SetsNothing result }
 {
     let (source, target) = widths(op);

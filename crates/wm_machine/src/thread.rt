@@ -6,6 +6,7 @@ ghost use Rattle.wm_machine.specs.Step.{next_config, result_of, step};
 ghost use Rattle.wm_machine.specs.Start.{started, started_in};
 ghost use Rattle.wm_machine.specs.Functions.{callable as callable_in};
 ghost use Rattle.wm_machine.specs.Inside.{as_list};
+ghost use Rattle.wm_machine.specs.Paths.{IsAtStart, LocalPath, Moves, MovesOn};
 ghost use Rattle.wm_machine.specs.Stepping.{EndsAtLast, HasEnded, HasStep, IsIn, IsStartFault, KeepsThread, HasNoLocalStep, IsRunningCode, IsStepWith, MakesStep, NeedsAccess, RunsLocally, RunsOn, WaitsForAccess};
 
 use crate::call::{call, returned};
@@ -16,6 +17,7 @@ use crate::control_stack::ControlStack;
 use crate::fault::{AdvanceFault, StartFault, StepFault};
 use crate::functions::callable;
 use crate::perform::{next_op, step_in_frame};
+use crate::place::{Place, place_of};
 use crate::start::{any_past, first_globals, first_locals, func_of};
 use crate::value::TypedValue;
 use std::alloc::Global;
@@ -104,6 +106,7 @@ impl<'m> Thread<'m> {
     ) -> Result<Thread<'m>, StartFault>
         requires { Valid «module».now }
         ensures ok { IfOk result (IsIn «module».now (started_in «module».now func (callable_in «module».now func) args.now)) }
+        ensures at_start { IfOk result IsAtStart }
         ensures fault { IfErr result (IsStartFault (started_in «module».now func (callable_in «module».now func) args.now)) }
     {
         let Some(types) = callable(module, func) else {
@@ -150,6 +153,7 @@ impl<'m> Thread<'m> {
         args: &[u64],
     ) -> Result<Thread<'m>, StartFault>
         ensures ok { IfOk result (IsIn «module».now (started «module».now name.now args.now)) }
+        ensures at_start { IfOk result IsAtStart }
         ensures fault { IfErr result (IsStartFault (started «module».now name.now args.now)) }
     {
         let module = module.module();
@@ -175,16 +179,18 @@ impl<'m> Thread<'m> {
         }
     }
 
-    /// The position of the next step: the next instruction of the innermost call, or the end of its innermost block.
-    /// The position of a thread that has ended is that of its last step.
+    /// The position of the next step: the next instruction of the innermost call, or the end of its innermost block. An
+    /// `if` without `else` has one end, that of its first block. The position of a thread that has ended is that of its
+    /// last step.
     pub fn position(&self) -> CodePosition
         ensures { result ≡ position_of self.now }
     {
-        CodePosition {
-            func: self.running.func,
-            block: self.running.control_stack.block(),
-            at: self.running.control_stack.at(),
-        }
+        let func = self.running.func;
+        let Place { block, at } = place_of(
+            &Code::of(self.module, func),
+            &self.running.control_stack,
+        );
+        CodePosition { func, block, at }
     }
 
     /// Makes a step of a thread that hasn't ended, with the value that its access reads. Without a value, an access
@@ -202,6 +208,7 @@ impl<'m> Thread<'m> {
         ensures kept { IfOk result (KeepsThread self.old self.new) }
         ensures runs_on { IfOk result (RunsOn code.new self.new) }
         ensures last { IfOk result (EndsAtLast self.new) }
+        ensures moves { IfOk result (MovesOn self.old self.new) }
         ensures err { OnErr result (self.new ≡ self.old) }
         ensures same { self.new.module ≡ self.old.module }
     {
@@ -264,6 +271,7 @@ impl<'m> Thread<'m> {
         requires { self.old.ended ≡ None }
         ensures one { most ≡ 1 → IfOk result (λ progress. IsStepWith given self.old self.new progress.last) }
         ensures locally { given ≡ None → IfOk result (λ progress. RunsLocally progress.made self.old self.new) }
+        ensures path { given ≡ None → IfOk result (λ progress. LocalPath self.old progress.made self.new) }
         ensures most { IfOk result (λ progress. progress.made ≤ most) }
         ensures stops { IfOk result (λ progress. progress.made < most → (read : ℕ) → HasNoLocalStep (need_of read self.new)) }
         ensures one_err { most ≡ 1 → OnErr result (self.new ≡ self.old) }
@@ -297,6 +305,7 @@ impl<'m> Thread<'m> {
         ensures asks { IfOk result (WaitsForAccess given self.old) }
         ensures made { IfOk result (MakesStep given self.old self.new) }
         ensures kept { IfOk result (KeepsThread self.old self.new) }
+        ensures moves { IfOk result (MovesOn self.old self.new) }
         ensures err { OnErr result (self.new ≡ self.old) }
         ensures same { self.new.module ≡ self.old.module }
     {
@@ -314,6 +323,7 @@ impl<'m> Thread<'m> {
     /// `OutOfMemory` if an allocation fails. A thread that needs nothing always has a step, since its module is valid.
     pub fn step(&mut self) -> Result<Stepped, AdvanceFault>
         ensures local { result ≡ Ok Stepped.Local → next_config (step self.old.module 0 (config_of self.old)) ≡ Some (config_of self.new) }
+        ensures moves { result ≡ Ok Stepped.Local → Moves self.old self.new }
         ensures needs_nothing { result ≡ Ok Stepped.Local → (read : ℕ) → need_of read self.old ≡ Need.Local }
         ensures access { IfOk result (NeedsAccess self.old self.new) }
         ensures ended { IfOk result (HasEnded self.old self.new) }
@@ -343,6 +353,7 @@ impl<'m> Thread<'m> {
     /// `OutOfMemory` if an allocation fails. A thread that needs nothing always has a step, since its module is valid.
     pub fn run(&mut self, most: u32) -> Result<u32, AdvanceFault>
         ensures made { IfOk result (λ count. RunsLocally count self.old self.new) }
+        ensures path { IfOk result (λ count. LocalPath self.old count self.new) }
         ensures most { IfOk result (λ count. count ≤ most) }
         ensures stops { IfOk result (λ count. count < most → (read : ℕ) → HasNoLocalStep (need_of read self.new)) }
         ensures err { OnErr result ((count : ℕ) × RunsLocally count self.old self.new) }
@@ -366,6 +377,7 @@ impl<'m> Thread<'m> {
     pub fn advance(&mut self, reply: Option<Reply>) -> Result<(), AdvanceFault>
         requires { RepliesTo (need_of 0 self.old) reply }
         ensures ok { OnOk result (next_config (step self.old.module (read_in reply) (config_of self.old)) ≡ Some (config_of self.new)) }
+        ensures moves { OnOk result (Moves self.old self.new) }
         ensures never_stuck { (read : ℕ) → HasStep self.old read }
         ensures err { OnErr result (self.new ≡ self.old) }
         ensures same { self.new.module ≡ self.old.module }

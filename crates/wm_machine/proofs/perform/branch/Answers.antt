@@ -1,6 +1,7 @@
 use Rattle.std.proofs.Common.{arith, refl, ◌≡◌, ◌<◌, length, drop, [], Some, true, false, ◌∙◌, length-drop, sym}
 use Rattle.wm_machine.specs.Inside.{vars_of}
 use Rattle.wm_machine.proofs.Lift.{branches_to, branches_stuck, branches_past, branches_out}
+use Rattle.wm_machine.proofs.Leading.{left_for}
 use Rattle.wm_machine.proofs.Continuations.{drop_past}
 use Rattle.wm_machine.specs.Nest.{after_branch, carried_top}
 use Rattle.wm_machine.proofs.perform.branch.Goals as goal
@@ -41,3 +42,11 @@ returns-else-carry-clause-leads c = λ depth globals.
     let u : after_branch c.args.label (carried_top c.in-Some.carry ops) a.control_stack.outer ≡ Some c.unwind.new.self = rw c.pop.ensures at c.unwind.ensures in
     let e = branches_to c.args.code.now.module a.func (vars_of a globals) ops a.control_stack.outer c.args.label _ _ c.in-Some.next c.in-Some.carry c.unwind.new.self lt c.place-block.ensures.place u (λ operands. rw c.requires.here at (c.in-Some.ensures.some (vars_of a globals) operands ops pos)) in
     rw c.set_at.ensures (e, refl)
+
+pub returns-else-carry-clause-moves : goal.returns-else-carry-clause-moves
+returns-else-carry-clause-moves c _ =
+    let a = c.args.running.now in
+    let ops = drop c.args.popped a.control_stack.operands in
+    let u : after_branch c.args.label (carried_top c.in-Some.carry ops) a.control_stack.outer ≡ Some c.unwind.new.self = rw c.pop.ensures at c.unwind.ensures in
+    let leads = left_for c.args.code.now.module a.func c.args.label a.control_stack.outer (carried_top c.in-Some.carry ops) c.unwind.new.self _ _ c.in-Some.next u c.place-block.ensures.place (rw c.requires.here at c.in-Some.ensures.place) in
+    rw c.set_at.ensures leads

@@ -7,6 +7,8 @@ use Rattle.wm_machine.specs.Functions.{continuation}
 use Rattle.wm_machine.specs.Inside.{StepsTo, out_of_labels, vars_of}
 use Rattle.wm_machine.specs.State.{value_or_zero}
 use Rattle.wm_machine.specs.Term.{Reduced}
+use Rattle.wm_machine.specs.Places.{outer_places}
+use Rattle.wm_machine.proofs.Leading.{moved_at, passes, taken}
 use Rattle.wm_machine.proofs.AtOnce.{at_once_asks, branch_is_at_once, effect_steps, goes_on, lacks_operand, steps_by_act}
 use Rattle.wm_machine.proofs.perform.branch_by.Goals as goal
 
@@ -49,3 +51,23 @@ pub returns-in-To-clause-asks : goal.returns-in-To-clause-asks
 returns-in-To-clause-asks c = λ given globals.
     let i = c.args.instr.now in
     at_once_asks c.args.code.now.module i given globals c.args.running.now c.branch-code.result c.requires.stands (branch_is_at_once i c.requires.branches) c.branch-code.ensures.asks
+
+pub returns-in-NotTaken-clause-moves : goal.returns-in-NotTaken-clause-moves
+returns-in-NotTaken-clause-moves c _ =
+    let m = c.args.code.now.module in
+    let a = c.args.running.now in
+    let i = c.args.instr.now in
+    let n = a.control_stack in
+    let means = rw c.in-NotTaken.is at c.branching_of.ensures.means in
+    let leads = moved_at m a i c.requires.stands ∙ passes m a.func n.operands (continuation m a.func n.block (n.at + 1)) record { block = n.block; at = n.at } (outer_places n.outer) i c.requires.branches means in
+    rw (c.set_at.ensures, c.pop.ensures, c.at-next.ensures) (sym leads)
+
+pub returns-in-To-clause-moves : goal.returns-in-To-clause-moves
+returns-in-To-clause-moves c within =
+    let m = c.args.code.now.module in
+    let a = c.args.running.now in
+    let i = c.args.instr.now in
+    let n = a.control_stack in
+    let means = rw c.in-To.is at c.branching_of.ensures.means in
+    let leads = moved_at m a i c.requires.stands ∙ taken m a.func n.operands (continuation m a.func n.block (n.at + 1)) record { block = n.block; at = n.at } (outer_places n.outer) i c.in-To.label c.in-To.popped c.requires.branches means in
+    c.branch-code.ensures.moves within ∙ sym leads

@@ -21,3 +21,9 @@ unreachable-requires c =
     let same = c.in-Ok-NeedsReply.ensures.kept asks in
     let runs : old.ended ≡ None = sym (ap (λ (x : State). x.ended) c.self.view_is) ∙ c.in_default.is in
     waits_for_access old runs (sym asks ∙ c.in-Ok-NeedsReply.ensures.asks 0) c.next.result (c.next.ensures 0 ∙ ap (need_of 0) same) c.in-Local.is
+
+pub returns-in-Ok-Made-clause-moves : goal.returns-in-Ok-Made-clause-moves
+returns-in-Ok-Made-clause-moves c _ = c.in-Ok-Made.ensures.moves (ap waits c.in-Ok-Made.field-0-is)
+
+pub returns-in-Ok-Last-clause-moves : goal.returns-in-Ok-Last-clause-moves
+returns-in-Ok-Last-clause-moves c _ = c.in-Ok-Last.ensures.moves (ap waits c.in-Ok-Last.field-0-is)

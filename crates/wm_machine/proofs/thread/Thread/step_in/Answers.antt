@@ -1,4 +1,5 @@
-use Rattle.std.proofs.Common.{arith, ap, sym, ◌≡◌, ◌+◌, suc, length, ℕ, None, ◌∙◌, true, false}
+use Rattle.std.specs.Prelude.{Ok, map}
+use Rattle.std.proofs.Common.{arith, ap, sym, ◌≡◌, ◌+◌, suc, length, ℕ, None, ◌∙◌, true, false, refl}
 use Rattle.wm_machine.specs.Code.{FunctionCode}
 use Rattle.wm_ast.specs.declared.module.Module.{Module}
 use Rattle.wm_machine.specs.State.{State, Sound, value_or_zero}
@@ -8,6 +9,10 @@ use Rattle.wm_machine.specs.Inside.{back, call_step, vars_of}
 use Rattle.wm_machine.proofs.NeverStuck.{has_step, sound_after}
 use Rattle.wm_machine.proofs.Made.{waits_as}
 use Rattle.wm_machine.proofs.Calls.{thread_within, thread_trapped, thread_stuck, thread_done, thread_back, refuses_same, thread_called, thread_exhausted, thread_uncalled, called_same}
+use Rattle.wm_event.specs.declared.log.End.TheVariants.{Done, Trap}
+use Rattle.wm_event.specs.declared.log.TrapKind.TheVariants.{Exhausted}
+use Rattle.wm_machine.specs.Paths.{call_places, calls, ends}
+use Rattle.wm_machine.proofs.Leading.{returned_to}
 use Rattle.wm_machine.proofs.thread.Thread.step_in.Goals as goal
 
 pub returns-in-Within-clause-made : goal.returns-in-Within-clause-made
@@ -69,7 +74,7 @@ returns-in-Ok-Entered-clause-made c =
     let dq : d ≡ suc (length cs) = omega arith in
     let k = c.in-Calling.callee in
     let h = rw (c.in-Calling.is, q, c.deref_mut.ensures.value) at (c.in-Ok.ensures.stepped d) in
-    let g = rw (c.in-Ok-Entered.field-0-is, h.1.0) at (c.in-Ok-Entered.ensures s.globals) in
+    let g = rw (c.in-Ok-Entered.field-0-is, h.1.0) at (c.in-Ok-Entered.ensures.calls s.globals) in
     let t = thread_called s.module.now (value_or_zero c.args.given) s.globals cs s.running.value d k dq (invoke (callable s.module.now k) d k (vars_of s.running.value s.globals) s.running.value.control_stack.operands (continuation s.module.now s.running.value.func s.running.value.control_stack.block (s.running.value.control_stack.at + 1))) c.call.new.running.value c.call.new.call_stack h.0 g in
     rw (← c.self.view_is, e, h.1.1) (λ _. t)
 
@@ -83,7 +88,7 @@ returns-in-Ok-TooDeep-clause-made c =
     let dq : d ≡ suc (length cs) = omega arith in
     let k = c.in-Calling.callee in
     let h = rw (c.in-Calling.is, q, c.deref_mut.ensures.value) at (c.in-Ok.ensures.stepped d) in
-    let g = rw (c.in-Ok-TooDeep.field-0-is, h.1.0) at (c.in-Ok-TooDeep.ensures s.globals) in
+    let g = rw (c.in-Ok-TooDeep.field-0-is, h.1.0) at (c.in-Ok-TooDeep.ensures.calls s.globals) in
     let t = thread_exhausted s.module.now (value_or_zero c.args.given) s.globals cs s.running.value d k dq (invoke (callable s.module.now k) d k (vars_of s.running.value s.globals) s.running.value.control_stack.operands (continuation s.module.now s.running.value.func s.running.value.control_stack.block (s.running.value.control_stack.at + 1))) c.call.new.running.value c.call.new.call_stack h.0 g in
     rw (← c.self.view_is, e) (λ _. t)
 
@@ -106,7 +111,7 @@ unreachable-requires-in-Err-Stuck-call c =
     let dq : d ≡ suc (length cs) = omega arith in
     let k = c.in-Calling.callee in
     let h = rw (c.in-Calling.is, q, c.deref_mut.ensures.value) at (c.in-Ok.ensures.stepped d) in
-    let g = rw (c.in-Err-Stuck-call.field-0-is, h.1.0) at (c.in-Err-Stuck-call.ensures s.globals) in
+    let g = rw (c.in-Err-Stuck-call.field-0-is, h.1.0) at (c.in-Err-Stuck-call.ensures.calls s.globals) in
     has_step s.module.now (value_or_zero c.args.given) s.running.value cs s.globals s.end e c.self.invariant
     (thread_uncalled s.module.now (value_or_zero c.args.given) s.globals cs s.running.value d k dq (invoke (callable s.module.now k) d k (vars_of s.running.value s.globals) s.running.value.control_stack.operands (continuation s.module.now s.running.value.func s.running.value.control_stack.block (s.running.value.control_stack.at + 1))) c.call.new.running.value c.call.new.call_stack h.0 g)
 
@@ -168,7 +173,7 @@ invariant_of-self-in-Err-OutOfMemory-call c =
     let k = c.in-Calling.callee in
     let b = c.step_in_frame.new.running in
     let h = rw (c.in-Calling.is, q, c.deref_mut.ensures.value) at (c.in-Ok.ensures.stepped 0) in
-    let n = called_same m k (invoke (callable m k) (1 + length s.call_stack) k (vars_of b s.globals) b.control_stack.operands (continuation m b.func b.control_stack.block (b.control_stack.at + 1))) b s.globals c.call.new.running.value s.call_stack c.call.new.call_stack c.in-Err-OutOfMemory-call.field-0 (c.in-Err-OutOfMemory-call.ensures s.globals) in
+    let n = called_same m k (invoke (callable m k) (1 + length s.call_stack) k (vars_of b s.globals) b.control_stack.operands (continuation m b.func b.control_stack.block (b.control_stack.at + 1))) b s.globals c.call.new.running.value s.call_stack c.call.new.call_stack c.in-Err-OutOfMemory-call.field-0 (c.in-Err-OutOfMemory-call.ensures.calls s.globals) in
     rw (n.0, h.1.0, h.1.1, n.1) c.self.invariant
 
 pub returns-in-Err-OutOfMemory-call-clause-err : goal.returns-in-Err-OutOfMemory-call-clause-err
@@ -179,7 +184,7 @@ returns-in-Err-OutOfMemory-call-clause-err c =
     let k = c.in-Calling.callee in
     let b = c.step_in_frame.new.running in
     let h = rw (c.in-Calling.is, q, c.deref_mut.ensures.value) at (c.in-Ok.ensures.stepped 0) in
-    let n = called_same m k (invoke (callable m k) (1 + length s.call_stack) k (vars_of b s.globals) b.control_stack.operands (continuation m b.func b.control_stack.block (b.control_stack.at + 1))) b s.globals c.call.new.running.value s.call_stack c.call.new.call_stack c.in-Err-OutOfMemory-call.field-0 (c.in-Err-OutOfMemory-call.ensures s.globals) in
+    let n = called_same m k (invoke (callable m k) (1 + length s.call_stack) k (vars_of b s.globals) b.control_stack.operands (continuation m b.func b.control_stack.block (b.control_stack.at + 1))) b s.globals c.call.new.running.value s.call_stack c.call.new.call_stack c.in-Err-OutOfMemory-call.field-0 (c.in-Err-OutOfMemory-call.ensures.calls s.globals) in
     rw (n.0, h.1.0, h.1.1, n.1) c.self.view_is
 
 pub invariant_of-self-in-Ok-Entered : goal.invariant_of-self-in-Ok-Entered
@@ -192,7 +197,7 @@ invariant_of-self-in-Ok-Entered c =
     let dq : d ≡ suc (length cs) = omega arith in
     let k = c.in-Calling.callee in
     let h = rw (c.in-Calling.is, q, c.deref_mut.ensures.value) at (c.in-Ok.ensures.stepped d) in
-    let g = rw (c.in-Ok-Entered.field-0-is, h.1.0) at (c.in-Ok-Entered.ensures s.globals) in
+    let g = rw (c.in-Ok-Entered.field-0-is, h.1.0) at (c.in-Ok-Entered.ensures.calls s.globals) in
     let t = thread_called s.module.now (value_or_zero c.args.given) s.globals cs s.running.value d k dq (invoke (callable s.module.now k) d k (vars_of s.running.value s.globals) s.running.value.control_stack.operands (continuation s.module.now s.running.value.func s.running.value.control_stack.block (s.running.value.control_stack.at + 1))) c.call.new.running.value c.call.new.call_stack h.0 g in
     rw h.1.1 (sound_after s.module.now (value_or_zero c.args.given) s.running.value cs s.globals s.end c.call.new.running.value c.call.new.call_stack s.globals e c.self.invariant t)
 
@@ -296,3 +301,24 @@ unreachable-requires-in_default c =
     let h = rw (c.in-Left.is, q, c.deref_mut.ensures.value) at (c.in-Ok.ensures.stepped (suc (length cs))) in
     let stuck = h.0 ∙ ap back (sym (rw (c.module.ensures, q, c.deref.ensures, h.1.0) at c.in_default.ensures)) in
     has_step s.module.now (value_or_zero c.args.given) s.running.value cs s.globals s.end e c.self.invariant (thread_stuck s.module.now (value_or_zero c.args.given) s.globals cs s.running.value c.step_in_frame.new.running c.step_in_frame.new.globals (stuck, h.1))
+
+pub returns-in-Trapped-clause-moves : goal.returns-in-Trapped-clause-moves
+returns-in-Trapped-clause-moves c _ = ends (Trap c.in-Trapped.kind) refl
+
+pub returns-in-Ok-Outside-clause-moves : goal.returns-in-Ok-Outside-clause-moves
+returns-in-Ok-Outside-clause-moves c _ = ends (Done c.bits.result) refl
+
+pub returns-in-Ok-TooDeep-clause-moves : goal.returns-in-Ok-TooDeep-clause-moves
+returns-in-Ok-TooDeep-clause-moves c _ = ends (Trap Exhausted) refl
+
+pub returns-in-Ok-Caller-clause-moves : goal.returns-in-Ok-Caller-clause-moves
+returns-in-Ok-Caller-clause-moves c _ =
+    returned_to c.in-Some.value c.self.inside.call_stack c.args.self.now _ (sym (ap (λ (x : State). x.call_stack) c.self.view_is)) (c.in-Ok-Caller.ensures.ok c.in-Ok-Caller.field-0-is)
+
+pub returns-in-Ok-Entered-clause-moves : goal.returns-in-Ok-Entered-clause-moves
+returns-in-Ok-Entered-clause-moves c _ =
+    let s = c.self.inside in
+    let q : c.args.code.now.module ≡ s.module.now = ap (λ (x : FunctionCode). x.module) c.requires.here ∙ sym (ap (λ (x : State). x.module) c.self.view_is) in
+    let h = rw (c.in-Calling.is, q, c.deref_mut.ensures.value) at (c.in-Ok.ensures.stepped 0) in
+    let g = rw (c.in-Ok-Entered.field-0-is, h.1.0) at (c.in-Ok-Entered.ensures.calls s.globals) in
+    rw (← c.self.view_is) (calls (c.in-Ok-Entered.ensures.at_start (ap Ok c.in-Ok-Entered.field-0-is)) (ap (map call_places) g.0))
