@@ -100,7 +100,7 @@ effect_moves m i old new result passed stands effect within =
 -- ---- calls
 
 -- back to the call that waits
-pub returned_to : (value : Option TypedValue) (calls : List CallFrame) (old new : State) → old.call_stack ≡ calls → ReturnsTo value calls new.running new.call_stack → Moves old new
-returned_to value [] old new stack back = absurd back
-returned_to value (caller ∷ calls) old new stack back =
+pub returned_to : (m : Module) (value : Option TypedValue) (calls : List CallFrame) (old new : State) → old.call_stack ≡ calls → ReturnsTo value calls new.running new.call_stack → Moves m old new
+returned_to m value [] old new stack back = absurd back
+returned_to m value (caller ∷ calls) old new stack back =
     returns caller (stack ∙ ap (λ (cs : List CallFrame). caller ∷ cs) (sym back.1)) (ap call_places back.0)

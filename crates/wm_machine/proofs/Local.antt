@@ -47,6 +47,7 @@ one_more m k start old new n same so made next =
     subst (λ (j : ℕ). local_steps m start j ≡ Some new) e (ap (option_and_then (λ (b : Config). after_local (step m 0 b))) so ∙ last)
 
 -- and a step further on its path
-pub path_more : (start s t : State) (n : ℕ) → LocalPath start n s → access_of (step s.module 0 (config_of s)) ≡ None → next_config (step s.module 0 (config_of s)) ≡ Some (config_of t) → Moves s t
-    → LocalPath start (n + 1) t
-path_more start s t n path made next moves = on path (after_is (step s.module 0 (config_of s)) (config_of t) made next) moves
+pub path_more : (start s t : State) (n : ℕ) → s.module ≡ start.module → LocalPath start n s → access_of (step s.module 0 (config_of s)) ≡ None → next_config (step s.module 0 (config_of s)) ≡ Some (config_of t)
+    → Moves s.module s t → LocalPath start (n + 1) t
+path_more start s t n same path made next moves =
+    on path (subst (λ (m : Module). after_local (step m 0 (config_of s)) ≡ Some (config_of t)) same (after_is (step s.module 0 (config_of s)) (config_of t) made next)) (subst (λ (m : Module). Moves m s t) same moves)

@@ -1,5 +1,6 @@
 -- The path of a thread through its module's code.
 use Rattle.std.specs.Prelude.{◌≡◌, ℕ, ◌+◌, List, [], ◌∷◌, Some, Result, Ok, map, false}
+use Rattle.wm_ast.specs.declared.module.Module.{Module}
 use Rattle.wm_event.specs.declared.log.End.{End}
 use Rattle.wm_machine.specs.declared.call_frame.CallFrame.{CallFrame}
 use Rattle.wm_machine.specs.declared.call_frame.Invocation.{Invocation}
@@ -25,20 +26,20 @@ call_places a = record { func = a.func; places = places_of a.control_stack }
 abbrev pub waiting_places : CallFrame → CallPlaces
 waiting_places a = record { func = a.func; places = past_block (places_of a.control_stack) }
 
--- the thread has made a step: within its running call, into another, or back to the one that waits for it; or it has
+-- a thread of the module has made a step: within its running call, into another, or back to the one that waits for it; or it has
 -- ended
-pub data Moves (old new : State) : Type 0 where
-  within : places_of new.running.control_stack ≡ moved_in old.module old.running.func old.running.control_stack
-      → new.call_stack ≡ old.call_stack → Moves old new
+pub data Moves (m : Module) (old new : State) : Type 0 where
+  within : places_of new.running.control_stack ≡ moved_in m old.running.func old.running.control_stack
+      → new.call_stack ≡ old.call_stack → Moves m old new
   calls : places_of new.running.control_stack ≡ begin_place 0 ∷ []
-      → map call_places new.call_stack ≡ waiting_places old.running ∷ map call_places old.call_stack → Moves old new
+      → map call_places new.call_stack ≡ waiting_places old.running ∷ map call_places old.call_stack → Moves m old new
   returns : (caller : CallFrame) → old.call_stack ≡ caller ∷ new.call_stack
-      → call_places new.running ≡ call_places caller → Moves old new
-  ends : (end : End) → new.ended ≡ Some end → Moves old new
+      → call_places new.running ≡ call_places caller → Moves m old new
+  ends : (end : End) → new.ended ≡ Some end → Moves m old new
 
 -- a step that doesn't wait has moved the thread
 abbrev pub MovesOn : State → State → StepOutcome → Type 0
-MovesOn old new o = waits o ≡ false → Moves old new
+MovesOn old new o = waits o ≡ false → Moves old.module old new
 
 -- the thread is at the start of its function, which nothing waits for
 pub record IsAtStart (s : State) : Type 0 where
@@ -52,5 +53,5 @@ EntersAtStart new result = result ≡ Ok Entered → places_of new.control_stack
 -- the thread has come from one state to another by this number of steps, none of which makes an access
 pub data LocalPath (from : State) : ℕ → State → Type 0 where
   here : LocalPath from 0 from
-  on : {count : ℕ} {s t : State} → LocalPath from count s → after_local (step s.module 0 (config_of s)) ≡ Some (config_of t)
-      → Moves s t → LocalPath from (count + 1) t
+  on : {count : ℕ} {s t : State} → LocalPath from count s → after_local (step from.module 0 (config_of s)) ≡ Some (config_of t)
+      → Moves from.module s t → LocalPath from (count + 1) t

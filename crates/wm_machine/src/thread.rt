@@ -323,7 +323,7 @@ impl<'m> Thread<'m> {
     /// `OutOfMemory` if an allocation fails. A thread that needs nothing always has a step, since its module is valid.
     pub fn step(&mut self) -> Result<Stepped, AdvanceFault>
         ensures local { result ≡ Ok Stepped.Local → next_config (step self.old.module 0 (config_of self.old)) ≡ Some (config_of self.new) }
-        ensures moves { result ≡ Ok Stepped.Local → Moves self.old self.new }
+        ensures moves { result ≡ Ok Stepped.Local → Moves self.old.module self.old self.new }
         ensures needs_nothing { result ≡ Ok Stepped.Local → (read : ℕ) → need_of read self.old ≡ Need.Local }
         ensures access { IfOk result (NeedsAccess self.old self.new) }
         ensures ended { IfOk result (HasEnded self.old self.new) }
@@ -377,7 +377,7 @@ impl<'m> Thread<'m> {
     pub fn advance(&mut self, reply: Option<Reply>) -> Result<(), AdvanceFault>
         requires { RepliesTo (need_of 0 self.old) reply }
         ensures ok { OnOk result (next_config (step self.old.module (read_in reply) (config_of self.old)) ≡ Some (config_of self.new)) }
-        ensures moves { OnOk result (Moves self.old self.new) }
+        ensures moves { OnOk result (Moves self.old.module self.old self.new) }
         ensures never_stuck { (read : ℕ) → HasStep self.old read }
         ensures err { OnErr result (self.new ≡ self.old) }
         ensures same { self.new.module ≡ self.old.module }

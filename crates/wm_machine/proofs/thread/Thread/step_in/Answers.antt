@@ -313,7 +313,7 @@ returns-in-Ok-TooDeep-clause-moves c _ = ends (Trap Exhausted) refl
 
 pub returns-in-Ok-Caller-clause-moves : goal.returns-in-Ok-Caller-clause-moves
 returns-in-Ok-Caller-clause-moves c _ =
-    returned_to c.in-Some.value c.self.inside.call_stack c.args.self.now _ (sym (ap (λ (x : State). x.call_stack) c.self.view_is)) (c.in-Ok-Caller.ensures.ok c.in-Ok-Caller.field-0-is)
+    returned_to _ c.in-Some.value c.self.inside.call_stack c.args.self.now _ (sym (ap (λ (x : State). x.call_stack) c.self.view_is)) (c.in-Ok-Caller.ensures.ok c.in-Ok-Caller.field-0-is)
 
 pub returns-in-Ok-Entered-clause-moves : goal.returns-in-Ok-Entered-clause-moves
 returns-in-Ok-Entered-clause-moves c _ =

@@ -42,7 +42,7 @@ loop-made-preserved c =
       locally = search rules;
       path = λ none.
           let asks = rw (none, c.in-Made.is) at (step.asks 0) in
-          path_more c.args.self.now c.loop-made.self c.step_in.new.self made (c.loop-made.invariant.path none) (makes_none_unasked _ asks) (rw none at (step.made (ap waits c.in-Made.is))) (step.moves (ap waits c.in-Made.is));
+          path_more c.args.self.now c.loop-made.self c.step_in.new.self made c.loop-made.invariant.module (c.loop-made.invariant.path none) (makes_none_unasked _ asks) (rw none at (step.made (ap waits c.in-Made.is))) (step.moves (ap waits c.in-Made.is));
     }
 
 pub returns-in-Last-clause-one : goal.returns-in-Last-clause-one
@@ -56,7 +56,7 @@ pub returns-in-Last-clause-path : goal.returns-in-Last-clause-path
 returns-in-Last-clause-path c none =
     let step = c.in_ok-last.ensures in
     let asks = rw (none, c.in-Last.is) at (step.asks 0) in
-    path_more c.args.self.now c.loop-made.self c.step_in.new.self c.loop-made.made (c.loop-made.invariant.path none) (makes_none_unasked _ asks) (rw none at (step.made (ap waits c.in-Last.is))) (step.moves (ap waits c.in-Last.is))
+    path_more c.args.self.now c.loop-made.self c.step_in.new.self c.loop-made.made c.loop-made.invariant.module (c.loop-made.invariant.path none) (makes_none_unasked _ asks) (rw none at (step.made (ap waits c.in-Last.is))) (step.moves (ap waits c.in-Last.is))
 
 pub returns-clause-one : goal.returns-clause-one
 returns-clause-one c e =
