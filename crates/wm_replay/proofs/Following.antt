@@ -31,7 +31,7 @@ local_step m k ran c e =
     ∙ ap (λ es. Some (record { events = es; config = c; reads = ran.reads })) (append-nil ran.events)
 
 -- what a step without an access is
-after_is : (s : Step) (c : Config) → after_local s ≡ Some c → s ≡ ReducesTo None c
+pub after_is : (s : Step) (c : Config) → after_local s ≡ Some c → s ≡ ReducesTo None c
 after_is NoStep c e = absurd (none-some c e)
 after_is (ReducesTo None b) c e = ap (ReducesTo None) (same_Some b c e)
 after_is (ReducesTo (Some op) b) c e = absurd (none-some c e)

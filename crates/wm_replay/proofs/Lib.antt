@@ -1,6 +1,7 @@
 pub mod Runs
 pub mod Differing
 pub mod Following
+pub mod Reaching
 pub mod Positions
 pub mod Needs
 pub mod Comparing

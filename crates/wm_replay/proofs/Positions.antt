@@ -1,5 +1,5 @@
 -- The positions of the events that a thread makes.
-use Rattle.std.proofs.Common.{◌≡◌, ℕ, ◌+◌, List, [], ◌∷◌, ◌++◌, length, Some, refl, sym, ap, subst, ◌∙◌, length-append}
+use Rattle.std.proofs.Common.{◌≡◌, ℕ, ◌+◌, List, [], ◌∷◌, ◌++◌, Some, refl, sym, ap, subst, ◌∙◌, length-append}
 use Rattle.std.specs.Prelude.{Ok}
 use Rattle.std.proofs.lemmas.Option.{none-some}
 use Rattle.wm_ast.specs.declared.module.Module.{Module}
@@ -10,7 +10,7 @@ use Rattle.wm_machine.specs.Run.{steps}
 use Rattle.wm_machine.specs.State.{State, config_of, position_of}
 use Rattle.wm_machine.specs.Term.{Config}
 use Rattle.wm_replay.specs.Following.{Accesses}
-use Rattle.wm_replay.specs.Positions.{ArePositions, IsMadeAt}
+use Rattle.wm_replay.specs.Positions.{ArePositions, IsMadeAt, IsReached}
 use Rattle.wm_replay.specs.Replay.{reads_of, start_of}
 use Rattle.wm_replay.proofs.Following.{so_far}
 
@@ -24,8 +24,9 @@ module _ (m : Module) (k : ℕ) (t : ThreadLog) (start : Config) (is_start : sta
       → Accesses m (config_of s) new t.events n
       → ps ≡ old ++ position_of s ∷ []
       → s.module ≡ m
+      → IsReached m k t j s
       → ArePositions m k t n old → ArePositions m k t (n + 1) ps
-  positions_on s new j n old ps so made noted of_module are =
+  positions_on s new j n old ps so made noted of_module reached are =
       subst (ArePositions m k t (n + 1)) (sym noted) record {
         count = length-append old (position_of s ∷ []) ∙ ap (λ i. i + 1) are.count;
         each = each_more (IsMadeAt m k t) old (position_of s) are.each
@@ -35,6 +36,7 @@ module _ (m : Module) (k : ℕ) (t : ThreadLog) (start : Config) (is_start : sta
               state = s;
               runs_module = of_module;
               count = j;
+              reached = reached;
               ran_so = so;
               next = new;
               makes = made;

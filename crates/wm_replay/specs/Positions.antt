@@ -1,10 +1,11 @@
 -- The positions in the code at which the threads of a log make its events.
-use Rattle.std.specs.Prelude.{◌≡◌, ℕ, Bool, true, false, List, [], ◌∷◌, ◌++◌, length, take, drop, Some, Result, Ok, Err, slice_get, ⊤}
+use Rattle.std.specs.Prelude.{◌≡◌, ℕ, ◌+◌, Bool, true, false, List, [], ◌∷◌, ◌++◌, length, take, drop, Some, Result, Ok, Err, slice_get, ⊤}
 use Rattle.wm_ast.specs.declared.module.Module.{Module}
 use Rattle.wm_event.specs.declared.log.ThreadLog.{ThreadLog}
 use Rattle.wm_machine.specs.declared.fault.StartFault.{StartFault}
 use Rattle.wm_machine.specs.declared.thread.CodePosition.{CodePosition}
-use Rattle.wm_machine.specs.Run.{steps}
+use Rattle.wm_machine.specs.Paths.{IsAtStart, Moves}
+use Rattle.wm_machine.specs.Run.{Ran, steps}
 use Rattle.wm_machine.specs.State.{State, config_of, position_of}
 use Rattle.wm_machine.specs.Term.{Config}
 use Rattle.wm_replay.specs.declared.by_log.Followed.{Followed}
@@ -12,6 +13,21 @@ use Rattle.wm_replay.specs.declared.answer.ReplayAnswer.{ReplayAnswer}
 use Rattle.wm_replay.specs.declared.answer.ReplayAnswer.TheVariants.{Same, StartRefused, Differs}
 use Rattle.wm_replay.specs.Following.{Accesses, RunsByLog}
 use Rattle.wm_replay.specs.Replay.{reads_of, start_of}
+
+-- thread k is in this configuration after this number of steps of its run by the log
+pub record IsAfter (m : Module) (k : ℕ) (t : ThreadLog) (count : ℕ) (config : Config) : Type 0 where
+  pub start : Config
+  pub is_start : start_of m t ≡ Ok start
+  pub ran : Ran
+  pub ran_so : steps m k start (reads_of t.events) count ≡ Some ran
+  pub is_config : ran.config ≡ config
+
+-- thread k is in this state after this number of steps of its run by the log: it was at the start of its function, and
+-- each step has moved it
+pub data IsReached (m : Module) (k : ℕ) (t : ThreadLog) : ℕ → State → Type 0 where
+  begins : {s : State} → start_of m t ≡ Ok (config_of s) → IsAtStart s → IsReached m k t 0 s
+  goes_on : {count : ℕ} {s u : State} → IsReached m k t count s → IsAfter m k t (count + 1) (config_of u) → Moves m s u
+      → IsReached m k t (count + 1) u
 
 -- thread k makes event n of its log by a step from this position: it is there after some steps, which made the events below n
 -- on the values that they read
@@ -21,6 +37,7 @@ pub record IsMadeAt (m : Module) (k : ℕ) (t : ThreadLog) (n : ℕ) (position :
   pub state : State
   pub runs_module : state.module ≡ m
   pub count : ℕ
+  pub reached : IsReached m k t count state
   pub ran_so : steps m k start (reads_of t.events) count ≡ Some record { events = take n t.events; config = config_of state; reads = reads_of (drop n t.events) }
   pub next : Config
   pub makes : Accesses m (config_of state) next t.events n
@@ -40,6 +57,10 @@ HasPositions m k t (Err fault) = ⊤
 abbrev pub NotesPosition : State → List CodePosition → List CodePosition → Bool → Type 0
 NotesPosition s old new true = new ≡ old ++ position_of s ∷ []
 NotesPosition s old new false = new ≡ old
+
+-- a step that makes the log's next event moves the thread
+abbrev pub MovesIfMade : State → State → Bool → Type 0
+MovesIfMade old new made = made ≡ true → Moves old.module old new
 
 -- ---- the threads of a log
 

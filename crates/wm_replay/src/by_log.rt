@@ -2,11 +2,12 @@
 ghost use Rattle.std.specs.Prelude.{◌≡◌, ℕ, Ok, true, false, IfOk};
 ghost use Rattle.wm_event.specs.Op.{kind_finds};
 ghost use Rattle.wm_event.specs.Reply.{ReadAnswers};
+ghost use Rattle.wm_machine.specs.Paths.{IsAtStart};
 ghost use Rattle.wm_machine.specs.Run.{end_of as config_end};
 ghost use Rattle.wm_machine.specs.State.{config_of, need_of, value_or_zero};
 ghost use Rattle.wm_machine.specs.Stepping.{HasNoLocalStep};
 ghost use Rattle.wm_replay.specs.Following.{FollowsLog, HasPlaces, MakesEvent, MakesNext, MakesNotEvent, RunsByLog};
-ghost use Rattle.wm_replay.specs.Positions.{ArePositions, HasPositions, NotesPosition};
+ghost use Rattle.wm_replay.specs.Positions.{ArePositions, HasPositions, MovesIfMade, NotesPosition};
 ghost use Rattle.wm_replay.specs.Replay.{start_of};
 
 use std::alloc::{AllocError, Global};
@@ -73,6 +74,7 @@ fn event_by_log(
     requires { (read : ℕ) → HasNoLocalStep (need_of read thread.old) }
     ensures made { IfOk result (MakesNext thread.old.module (config_of thread.old) (config_of thread.new) stated.now events) }
     ensures noted { IfOk result (NotesPosition thread.old positions.old.items positions.new.items) }
+    ensures moves { IfOk result (MovesIfMade thread.old thread.new) }
     ensures same { thread.new.module ≡ thread.old.module }
 {
     let Need::Access(op) = thread.next() else {
@@ -112,6 +114,7 @@ fn run_by_log(
     limit: u32,
 ) -> Result<Progress, AllocError>
     requires start { start_of thread.old.module stated.now ≡ Ok (config_of thread.old) }
+    requires at_start { IsAtStart thread.old }
     requires places { HasPlaces number stated.now.events }
     ensures runs { IfOk result (λ p. RunsByLog thread.old.module number stated.now limit (config_of thread.new) p.steps p.events) }
     ensures positions { IfOk result (λ p. ArePositions thread.old.module number stated.now p.events p.positions.items) }

@@ -1,11 +1,14 @@
-use Rattle.std.proofs.Common.{◌≡◌, ◌+◌, ◌∙◌, Some, true, false, sym, subst, arith}
+use Rattle.std.proofs.Common.{◌≡◌, ◌+◌, ◌∙◌, Some, true, false, refl, sym, subst, arith}
+use Rattle.wm_ast.specs.declared.module.Module.{Module}
 use Rattle.wm_machine.specs.Local.{local_steps}
+use Rattle.wm_machine.specs.Paths.{Moves}
 use Rattle.wm_machine.specs.State.{State, config_of}
 use Rattle.wm_replay.specs.Following.{RunsByLog}
 use Rattle.wm_replay.specs.Following.Stops.{at_limit}
-use Rattle.wm_replay.specs.Positions.{NotesPosition}
+use Rattle.wm_replay.specs.Positions.{ArePositions, NotesPosition, begins, goes_on}
 use Rattle.wm_replay.proofs.Comparing.{follows_event, follows_locally, makes_next_in, runs_by_log, runs_no_further}
-use Rattle.wm_replay.proofs.Positions.{positions_on}
+use Rattle.wm_replay.proofs.Positions.{no_positions, positions_on}
+use Rattle.wm_replay.proofs.Reaching.{after_steps, reached_locally}
 use Rattle.wm_replay.proofs.by_log.run_by_log.Goals.{then-steps-limit-via-then-steps-limit, then-steps-limit-via-else-steps-limit+in_ok-event_by_log+then-not-branch}
 use Rattle.wm_replay.proofs.by_log.run_by_log.Goals as goal
 
@@ -53,9 +56,25 @@ loop-local-preserved c =
     let made = makes_next_in m s.module (config_of s) new t.events c.as_slice-stated_events.result.now n true _
     same c.as_slice-stated_events.ensures c.if-not-branch.false c.in_ok-event_by_log.ensures.made in
     let noted = subst (NotesPosition s c.loop-local.positions.items c.event_by_log.new.positions.items) c.if-not-branch.false c.in_ok-event_by_log.ensures.noted in
+    let further = follows_event m k t start (config_of s) new (j + i) n here made in
+    let reached = reached_locally m k t start c.requires.start n j c.loop-local.thread s i c.loop-local.invariant.module c.loop-local.invariant.follows.ran_so c.loop-local.invariant.reached c.in-Ok.ensures.path in
     record {
       within = omega (arith, c.if-steps-limit.false);
       «module» = c.in_ok-event_by_log.ensures.same ∙ same;
-      follows = follows_event m k t start (config_of s) new (j + i) n here made;
-      positions = positions_on m k t start c.requires.start s new (j + i) n c.loop-local.positions.items _ here.ran_so made noted same c.loop-local.invariant.positions;
+      follows = further;
+      reached = goes_on reached (after_steps m k t start c.requires.start (j + i + 1) (n + 1) new further.ran_so) (subst (λ (x : Module). Moves x s c.event_by_log.new.thread) same (c.in_ok-event_by_log.ensures.moves c.if-not-branch.false));
+      positions = positions_on m k t start c.requires.start s new (j + i) n c.loop-local.positions.items _ here.ran_so made noted same reached c.loop-local.invariant.positions;
+    }
+
+pub loop-local-init : goal.loop-local-init
+loop-local-init c =
+    let m = c.args.thread.now.module in
+    let k = c.args.number in
+    let t = c.args.stated.now in
+    record {
+      within = omega arith;
+      «module» = refl;
+      follows = record { is_start = c.requires.start; places = c.requires.places; listed = omega arith; ran_so = refl };
+      reached = begins c.requires.start c.requires.at_start;
+      positions = subst (ArePositions m k t 0) (sym c.new-positions.ensures.items) (no_positions m k t);
     }
