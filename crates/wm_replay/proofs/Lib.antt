@@ -2,6 +2,8 @@ pub mod Runs
 pub mod Differing
 pub mod Following
 pub mod Reaching
+pub mod Configurations
+pub mod OnePosition
 pub mod Positions
 pub mod Needs
 pub mod Comparing

@@ -43,6 +43,10 @@ pub record IsMadeAt (m : Module) (k : ℕ) (t : ThreadLog) (n : ℕ) (position :
   pub makes : Accesses m (config_of state) next t.events n
   pub is_position : position_of state ≡ position
 
+-- a thread makes an event of its log at one position
+abbrev pub OnePosition : Type 0
+OnePosition = (m : Module) (k : ℕ) (t : ThreadLog) (n : ℕ) (p q : CodePosition) → IsMadeAt m k t n p → IsMadeAt m k t n q → p ≡ q
+
 -- these are the positions of thread k's first n events
 pub record ArePositions (m : Module) (k : ℕ) (t : ThreadLog) (n : ℕ) (positions : List CodePosition) : Type 0 where
   pub count : length positions ≡ n
@@ -53,14 +57,20 @@ abbrev pub HasPositions : Module → ℕ → ThreadLog → Result Followed Start
 HasPositions m k t (Ok f) = ArePositions m k t f.events f.positions
 HasPositions m k t (Err fault) = ⊤
 
+-- the state that a thread has reached
+abbrev pub HasReached : Module → ℕ → ThreadLog → Result Followed StartFault → Type 0
+HasReached m k t (Ok f) = IsReached m k t f.steps f.thread
+HasReached m k t (Err fault) = ⊤
+
 -- the position of a thread in this state is noted if it makes its log's next event
 abbrev pub NotesPosition : State → List CodePosition → List CodePosition → Bool → Type 0
 NotesPosition s old new true = new ≡ old ++ position_of s ∷ []
 NotesPosition s old new false = new ≡ old
 
--- a step that makes the log's next event moves the thread
+-- a step that makes the log's next event moves the thread; otherwise it is unchanged
 abbrev pub MovesIfMade : State → State → Bool → Type 0
-MovesIfMade old new made = made ≡ true → Moves old.module old new
+MovesIfMade old new true = Moves old.module old new
+MovesIfMade old new false = new ≡ old
 
 -- ---- the threads of a log
 

@@ -7,7 +7,7 @@ ghost use Rattle.wm_machine.specs.Run.{end_of as config_end};
 ghost use Rattle.wm_machine.specs.State.{config_of, need_of, value_or_zero};
 ghost use Rattle.wm_machine.specs.Stepping.{HasNoLocalStep};
 ghost use Rattle.wm_replay.specs.Following.{FollowsLog, HasPlaces, MakesEvent, MakesNext, MakesNotEvent, RunsByLog};
-ghost use Rattle.wm_replay.specs.Positions.{ArePositions, HasPositions, MovesIfMade, NotesPosition};
+ghost use Rattle.wm_replay.specs.Positions.{ArePositions, HasPositions, HasReached, IsReached, MovesIfMade, NotesPosition};
 ghost use Rattle.wm_replay.specs.Replay.{start_of};
 
 use std::alloc::{AllocError, Global};
@@ -118,6 +118,7 @@ fn run_by_log(
     requires places { HasPlaces number stated.now.events }
     ensures runs { IfOk result (λ p. RunsByLog thread.old.module number stated.now limit (config_of thread.new) p.steps p.events) }
     ensures positions { IfOk result (λ p. ArePositions thread.old.module number stated.now p.events p.positions.items) }
+    ensures reached { IfOk result (λ p. IsReached thread.old.module number stated.now p.steps thread.new) }
     ensures same { thread.new.module ≡ thread.old.module }
 {
     let stated_events = stated.events.as_slice();
@@ -159,6 +160,7 @@ pub fn follow<'m>(
     requires { HasPlaces number stated.now.events }
     ensures runs { IfOk result (FollowsLog «module».now number stated.now limit) }
     ensures positions { IfOk result (HasPositions «module».now number stated.now) }
+    ensures reached { IfOk result (HasReached «module».now number stated.now) }
 {
     let name = stated.start.name.as_str();
     let args = stated.start.args.as_slice();

@@ -6,9 +6,11 @@ mod answer;
 mod by_log;
 mod compare;
 mod completing;
+mod law;
 mod parallel;
 
 pub use answer::{Place, ReplayAnswer};
 pub use by_log::{Followed, end_of, follow};
 pub use compare::{Replayed, replay, replay_with_positions};
 pub use completing::{Completion, complete, without_run};
+pub use law::one_position;

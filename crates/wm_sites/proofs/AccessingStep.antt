@@ -15,8 +15,10 @@ use Rattle.wm_machine.specs.Configuration.{around, under, waiting}
 use Rattle.wm_machine.specs.Functions.{continuation, from_place}
 use Rattle.wm_machine.specs.Inside.{made_of}
 use Rattle.wm_machine.specs.Nest.{Position}
-use Rattle.wm_machine.specs.State.{State, config_from, config_of}
-use Rattle.wm_machine.specs.Step.{access_of, branch_to, ended, out_of_call, out_of_label, out_of_thread, reduce, returned, step}
+use Rattle.wm_machine.specs.declared.place.Place.{Place}
+use Rattle.wm_machine.specs.Places.{next_or_end}
+use Rattle.wm_machine.specs.State.{State, config_from, config_of, position_in, position_of}
+use Rattle.wm_machine.specs.Step.{access_of, branch_to, out_of_call, out_of_label, out_of_thread, reduce, returned, step}
 use Rattle.wm_machine.proofs.Made.{made_ended, made_gives}
 use Rattle.wm_machine.specs.Term.{Vars, Term, Here, Label, Frame, Reduced, Next, Ends, Leaves, Returns, Traps, Stuck}
 
@@ -118,3 +120,15 @@ pub accesses_at : (m : Module) (s : State) (read : ℕ) (op : OpFields) → acce
     → HasInstr s.module s.running.func s.running.control_stack.block s.running.control_stack.at
 accesses_at m s read op makes =
     in_module s.module s.running.func s.running.control_stack.block s.running.control_stack.at (λ none. none-some op (sym (silent_state m s none read) ∙ makes))
+
+next_is : (m : Module) (f : ℕ) (instrs : List Instr) (outer : List Position) (place : Place) → (instrs ≡ [] → ⊥) → next_or_end m f instrs outer place ≡ place
+next_is m f [] outer place some = absurd (some refl)
+next_is m f (i ∷ rest) outer place some = refl
+
+-- and its position is that of the instruction
+pub stands_at : (m : Module) (s : State) (read : ℕ) (op : OpFields) → access_of (step m read (config_of s)) ≡ Some op
+    → position_of s ≡ record { func = s.running.func; block = s.running.control_stack.block; at = s.running.control_stack.at }
+stands_at m s read op makes =
+    ap (position_in s.running.func)
+    (next_is s.module s.running.func (continuation s.module s.running.func s.running.control_stack.block s.running.control_stack.at) s.running.control_stack.outer record { block = s.running.control_stack.block; at = s.running.control_stack.at }
+    (λ none. none-some op (sym (silent_state m s none read) ∙ makes)))

@@ -1,5 +1,5 @@
 -- Each event of a thread is made at an opcode.
-use Rattle.std.proofs.Common.{◌≡◌, ℕ, inl, inr, List, Option, Some, ap, subst}
+use Rattle.std.proofs.Common.{◌≡◌, ◌∙◌, ℕ, inl, inr, List, Option, Some, ap, subst, sym}
 use Rattle.std.specs.Prelude.{slice_get}
 use Rattle.std.proofs.lemmas.Option.{none-some, option_and_then_some}
 use Rattle.wm_ast.specs.declared.module.Module.{Module}
@@ -14,13 +14,14 @@ use Rattle.wm_races.specs.declared.site.Site.{Site}
 use Rattle.wm_replay.specs.Positions.{AreLogPositions, ArePositionsOf, IsMadeAt, unstarted, ran}
 use Rattle.wm_sites.specs.Opcodes.{HasOpcode, HaveOpcodes}
 use Rattle.wm_sites.specs.Sites.{AreEventSites, Code, IsSiteAt, IsSiteOf, IsSiteOrFirst, position_in}
-use Rattle.wm_sites.proofs.AccessingStep.{HasInstr, accesses_at}
+use Rattle.wm_sites.proofs.AccessingStep.{HasInstr, accesses_at, stands_at}
 use Rattle.wm_sites.proofs.NumberedPositions.{opcode_there}
 
 pub made_there : (bytes : List ℕ) (m : Module) (k : ℕ) (t : ThreadLog) (n : ℕ) (p : CodePosition) → SpellsWithin bytes m → IsMadeAt m k t n p → HasOpcode bytes m p
 made_there bytes m k t n p spelled made =
     let accessing = accesses_at m made.state made.makes.event.read made.makes.op (ap access_of made.makes.steps_to) in
-    let at_position = subst (λ (q : CodePosition). HasInstr made.state.module q.func q.block q.at) made.is_position accessing in
+    let stands = sym (stands_at m made.state made.makes.event.read made.makes.op (ap access_of made.makes.steps_to)) ∙ made.is_position in
+    let at_position = subst (λ (q : CodePosition). HasInstr made.state.module q.func q.block q.at) stands accessing in
     opcode_there bytes m p spelled (subst (λ (x : Module). HasInstr x p.func p.block p.at) made.runs_module at_position)
 
 -- an event that is made at a position of these

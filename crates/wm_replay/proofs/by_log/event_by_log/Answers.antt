@@ -12,7 +12,7 @@ returns-in_default c =
     let need : need_of 0 thread ≡ c.next.result = sym (c.next.ensures 0) in record {
       made = (refl, inr (no_step_left thread c.next.result need (subst HasNoLocalStep need (c.requires 0)) c.in_default.not-Access));
       noted = refl;
-      moves = λ e. absurd (cc e);
+      moves = refl;
       same = refl;
     }
 
