@@ -8,6 +8,7 @@ use Rattle.wm_machine.specs.declared.thread.Need.{Need}
 use Rattle.wm_machine.specs.declared.thread.Need.TheVariants as need
 use Rattle.wm_machine.specs.State.{State, config_of, need_of, position_of}
 use Rattle.wm_replay.specs.Following.{RunsByLog}
+use Rattle.wm_replay.specs.Positions.{ArePositions, IsReached}
 use Rattle.wm_explain.specs.declared.compared.Next.{Next}
 use Rattle.wm_explain.specs.declared.compared.Next.TheVariants as next
 use Rattle.wm_explain.specs.declared.compared.Compared.{Compared}
@@ -24,10 +25,13 @@ next_by_module (need.Access op) = next.Access op
 next_by_module (need.Ended end) = next.Ended end
 
 -- thread k makes these steps and these events by its log, and no more within 1,000,000 steps; then the log has its next
--- event, and the module what the thread needs for its next step
+-- event, and the module what the thread needs for its next step. Its position is that of the state that the thread has
+-- reached
 pub record IsCompared (m : Module) (k : ℕ) (t : ThreadLog) (compared : Compared) : Type 0 where
   pub thread : State
   pub runs : RunsByLog m k t max_steps (config_of thread) compared.steps compared.events
   pub logged : compared.logged ≡ next_by_log (slice_get t.events compared.events)
   pub made : (read : ℕ) → compared.made ≡ next_by_module (need_of read thread)
   pub position : compared.position ≡ position_of thread
+  pub reached : IsReached m k t compared.steps thread
+  pub positions : ArePositions m k t compared.events compared.positions.items

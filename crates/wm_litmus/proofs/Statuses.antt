@@ -16,7 +16,7 @@ use Rattle.wm_run.specs.declared.plan.Plan.{Plan}
 use Rattle.wm_run.specs.declared.turn.Turn.{Turn}
 use Rattle.wm_stream.specs.declared.answer.LineStatus.{LineStatus}
 use Rattle.wm_stream.specs.declared.answer.LineStatus.TheVariants as line
-use Rattle.wm_stream.specs.Answers.{overall, status_code}
+use Rattle.wm_stream.specs.Answers.{overall, status_code, worse}
 use Rattle.wm_litmus.specs.Drive.{AnswersDrive, IsScriptAnswer}
 use Rattle.wm_litmus.specs.Drive.AnswersDrive.{no_module as drive_no_module, refused as drive_refused, driven as drive_driven}
 use Rattle.wm_litmus.specs.Drive.IsScriptAnswer.{played as script_played, no_script as script_no_script}
@@ -187,7 +187,7 @@ below_three given status text (no_command none is line) = omega (arith, is)
 below_three given status text (run_task_of task file document command answer) = of_run_task status text task answer.module_bytes answer.document_bytes answer.answers
 below_three given status text (document_task_of task document command answer) = of_document_task status text task answer.bytes answer.answers
 below_three given status text (witness_of words command answers) = of_witness_words words _ _ status text answers
-below_three given status text (stream_of file bytes command read answers) = omega (arith, answers.status_is, of_line (overall answers.answers))
+below_three given status text (stream_of file bytes command read answers) = omega (arith, answers.status_is, of_line (worse answers.own (overall answers.answers)))
 below_three given status text (drive_of file turns command answers) = of_script AnswersDrive _ _ _ status text (λ bytes plan turns. of_drive status text bytes plan turns) answers
 below_three given status text (trace_of file turns command answers) = of_script AnswersTrace _ _ _ status text (λ bytes plan turns. of_trace status text bytes plan turns) answers
 below_three given status text (run_of file rounds command answers) = of_rounds_words _ _ _ status text answers

@@ -4,7 +4,7 @@ use Rattle.std.specs.Borrow.{Bor}
 use Rattle.wm_decode.specs.Bounds.{max_module_bytes}
 use Rattle.wm_logfile.specs.Limits.{max_document_bytes}
 use Rattle.wm_stream.specs.declared.answer.LineStatus.{LineStatus}
-use Rattle.wm_stream.specs.Answers.{Answered, AreAnswers, status_code, text_of}
+use Rattle.wm_stream.specs.Answers.{Answered, AreAnswers, status_code, text_of, worse}
 use Rattle.wm_stream.specs.Stream.{AnswersAll, AnswersFirst}
 use Rattle.clap.specs.Words.{Text}
 use Rattle.wm_command.specs.declared.command.Command.TheVariants.{Stream}
@@ -16,7 +16,9 @@ use Rattle.wm_litmus.specs.Replies.IsAnswer.{stream_of}
 use Rattle.wm_litmus.specs.Replies.WritesFront.{nothing as written_nothing, first_lines}
 use Rattle.wm_litmus.specs.Serving.{StreamsAll, StreamsFront}
 use Rattle.wm_litmus.specs.Serving.StreamsFront.{nothing as streamed_nothing, front as streamed_front}
-use Rattle.wm_litmus.specs.Stream.{AnswersLine, IsJudgeOf, JudgesLine}
+use Rattle.wm_litmus.specs.declared.stream.Judge.TheVariants.{Module, Refused}
+use Rattle.wm_litmus.specs.Stream.{AnswersLine, HasStatus, IsJudgeOf, JudgesLine, status_of}
+use Rattle.wm_litmus.specs.Stream.HasStatus.{read as status_read, refused as status_refused}
 
 -- what a judge of the module answers to lines are their answers
 pub answers_lines : (module_bytes : List ℕ) (judge : Judge) → IsJudgeOf module_bytes judge → (lines : List (List ℕ)) (answers : List Answered)
@@ -26,9 +28,14 @@ answers_lines module_bytes judge is [] (answer ∷ answers) h = absurd h
 answers_lines module_bytes judge is (line ∷ lines) [] h = absurd h
 answers_lines module_bytes judge is (line ∷ lines) (answer ∷ answers) h = (h.0 module_bytes is, answers_lines module_bytes judge is lines answers h.1)
 
+-- the status of a judge's module is that of the bytes
+pub has_status : (module_bytes : List ℕ) (judge : Judge) → IsJudgeOf module_bytes judge → HasStatus module_bytes (status_of judge)
+has_status module_bytes (Module «module») is = status_read «module» is
+has_status module_bytes (Refused verdict) is = status_refused is.0 is.2
+
 module _ (file input old new : Option (List ℕ)) (module_bytes : List ℕ) (judge : Judge) where
   pub streams_all : (status : LineStatus) (code : ℕ) → IsReadOf file max_module_bytes module_bytes → IsJudgeOf module_bytes judge
-      → AnswersAll (JudgesLine judge) (max_document_bytes + 1) input old new status → code ≡ status_code status → StreamsAll file input old new code
+      → AnswersAll (JudgesLine judge) (max_document_bytes + 1) input old new status → code ≡ status_code (worse (status_of judge) status) → StreamsAll file input old new code
   streams_all status code read is all code_is = record {
     module_bytes = module_bytes;
     read = read;
@@ -38,7 +45,9 @@ module _ (file input old new : Option (List ℕ)) (module_bytes : List ℕ) (jud
       are_lines = all.are_lines;
       answers = all.prints.answers;
       are_answers = answers_lines module_bytes judge is all.lines all.prints.answers all.prints.are_answers;
-      status_is = code_is ∙ ap status_code all.prints.status_is;
+      own = status_of judge;
+      is_own = has_status module_bytes judge is;
+      status_is = code_is ∙ ap (λ (s : LineStatus). status_code (worse (status_of judge) s)) all.prints.status_is;
       text_is = refl;
     };
     gains = all.prints.gains;

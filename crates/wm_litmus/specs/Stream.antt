@@ -1,5 +1,6 @@
 -- The answers of the commands `verify` and `stream`.
 use Rattle.std.specs.Prelude.{◌≡◌, ℕ, ◌+◌, List, ◌++◌, Option, IfSome, string_bytes, take}
+use Rattle.wm_ast.specs.declared.module.Module.{Module}
 use Rattle.wm_check.specs.declared.verdict.Verdict.{Verdict}
 use Rattle.wm_check.specs.declared.verdict.Verdict.TheVariants.{Refused}
 use Rattle.wm_check.specs.declared.verdict.Refusal.{Refusal}
@@ -10,7 +11,8 @@ use Rattle.wm_check.specs.Texts.{verdict_status, verdict_text}
 use Rattle.wm_logfile.specs.Limits.{max_document_bytes}
 use Rattle.wm_stream.specs.declared.answer.LineAnswer.{LineAnswer}
 use Rattle.wm_stream.specs.declared.answer.LineStatus.{LineStatus}
-use Rattle.wm_stream.specs.Answers.{Answered, AreAnswers, overall, status_code, text_of}
+use Rattle.wm_stream.specs.declared.answer.LineStatus.TheVariants as line
+use Rattle.wm_stream.specs.Answers.{Answered, AreAnswers, overall, status_code, text_of, worse}
 use Rattle.wm_stream.specs.Lines.{cut_lines}
 use Rattle.wm_litmus.specs.declared.stream.Judge.{Judge}
 use Rattle.wm_litmus.specs.declared.stream.Judge.TheVariants as judge
@@ -31,17 +33,25 @@ pub record AnswersVerify (module_bytes document_bytes : List ℕ) (status : ℕ)
 abbrev pub AnswersLine : List ℕ → List ℕ → LineStatus → List ℕ → Type 0
 AnswersLine module_bytes line status text = AnswersVerify module_bytes line (status_code status) text
 
+-- the status of a module by itself: a refused module is refused without a line too
+pub data HasStatus (module_bytes : List ℕ) : LineStatus → Type 0 where
+  read : («module» : Module) → IsModuleOf module_bytes «module» → HasStatus module_bytes line.Allowed
+  refused : (refusal : Refusal) → IsModuleRefusal module_bytes refusal → HasStatus module_bytes line.Refused
+
 -- the lines of the input, each cut to one more byte than a document may have
 abbrev pub input_lines : List ℕ → List (List ℕ)
 input_lines bytes = cut_lines (max_document_bytes + 1) bytes
 
--- the status and the text that answer the input: an answer to each line, in their order
+-- the status and the text that answer the input: an answer to each line, in their order, and the status of all of them
+-- and of the module
 pub record AnswersStream (module_bytes : List ℕ) (input : Option (List ℕ)) (status : ℕ) (text : List ℕ) : Type 0 where
   pub lines : List (List ℕ)
   pub are_lines : IfSome input (λ all. lines ≡ input_lines all)
   pub answers : List Answered
   pub are_answers : AreAnswers (AnswersLine module_bytes) lines answers
-  pub status_is : status ≡ status_code (overall answers)
+  pub own : LineStatus
+  pub is_own : HasStatus module_bytes own
+  pub status_is : status ≡ status_code (worse own (overall answers))
   pub text_is : text ≡ text_of answers
 
 -- the text that answers some first lines of the input
@@ -64,6 +74,11 @@ pub record IsLineOf (verdict : Verdict) (answer : LineAnswer) : Type 0 where
 abbrev pub IsJudgeOf : List ℕ → Judge → Type 0
 IsJudgeOf module_bytes (judge.Module «module») = IsModuleOf module_bytes «module»
 IsJudgeOf module_bytes (judge.Refused verdict) = (refusal : Refusal) × (verdict ≡ Refused refusal) × IsModuleRefusal module_bytes refusal
+
+-- the status of a judge's module
+abbrev pub status_of : Judge → LineStatus
+status_of (judge.Module «module») = line.Allowed
+status_of (judge.Refused verdict) = line.Refused
 
 -- the answer of a judge to a line, whichever bytes the judge was made from
 abbrev pub JudgesLine : Judge → List ℕ → LineStatus → List ℕ → Type 0

@@ -303,7 +303,8 @@ fn rounds_of<'a, R: AllocGlobal + Threads + Wait + Sync, F: Files>(
     }
 }
 
-/// Answers each line of the input as a document over the module `name`, and returns the status of all answers.
+/// Answers each line of the input as a document over the module `name`, and returns the status of all answers and of
+/// the module by itself.
 fn stream_lines<'a, R: AllocGlobal + Threads + Sync, F: Files, I: Read, O: Write>(
     rt: &R,
     files: &mut F,
@@ -321,10 +322,11 @@ fn stream_lines<'a, R: AllocGlobal + Threads + Sync, F: Files, I: Read, O: Write
 {
     let bytes = read_file(files, name, MAX_MODULE_BYTES)?;
     let judge = judge_of(rt.alloc(), bytes.as_slice())?;
+    let own = judge.status();
     let answered = answer_lines(rt, input, out, &judge, MAX_DOCUMENT_BYTES + 1);
     drop(judge);
     let status = answered?;
-    Ok(status.code())
+    Ok(own.worse(status).code())
 }
 
 /// The reply to the words.

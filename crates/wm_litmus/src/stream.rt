@@ -2,7 +2,7 @@
 ghost use Rattle.std.specs.Prelude.{◌≡◌, IfOk, string_bytes};
 ghost use Rattle.wm_stream.specs.Answers.{status_code};
 ghost use Rattle.wm_check.specs.Texts.{verdict_status};
-ghost use Rattle.wm_litmus.specs.Stream.{AnswersVerify, IsJudgeOf, IsLineOf, JudgesLine};
+ghost use Rattle.wm_litmus.specs.Stream.{AnswersVerify, IsJudgeOf, IsLineOf, JudgesLine, status_of};
 
 use crate::answer::Answer;
 use std::alloc::{AllocError, Global};
@@ -34,6 +34,18 @@ pub(crate) enum Judge {
     Module(ValidModule),
     /// The refusal of the module, which answers each line.
     Refused(Verdict),
+}
+
+impl Judge {
+    /// The status of the module by itself.
+    pub fn status(&self) -> LineStatus
+        ensures { result ≡ status_of self.now }
+    {
+        match self {
+            Judge::Module(_) => LineStatus::Allowed,
+            Judge::Refused(_) => LineStatus::Refused,
+        }
+    }
 }
 
 /// The status of a line by its verdict.

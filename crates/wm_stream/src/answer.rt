@@ -26,7 +26,7 @@ impl LineStatus {
     }
 
     /// The combined status of two answers: broken if one of them is, else refused if one of them is.
-    pub(crate) fn worse(self, other: LineStatus) -> LineStatus
+    pub fn worse(self, other: LineStatus) -> LineStatus
         ensures { result ≡ worse self other }
     {
         match (self, other) {

@@ -2,6 +2,7 @@ use Rattle.std.proofs.Common.{◌≡◌, List, slice_get, subst}
 use Rattle.wm_event.specs.declared.event.Event.{Event}
 use Rattle.wm_explain.specs.Compared.{next_by_log}
 use Rattle.wm_replay.specs.Following.{FollowsLog}
+use Rattle.wm_replay.specs.Positions.{HasPositions, HasReached}
 use Rattle.wm_explain.proofs.compared.compare.Goals as goal
 
 pub returns : goal.returns
@@ -16,4 +17,6 @@ returns c =
       logged = logged;
       made = λ read. c.module_next.ensures read;
       position = c.position.ensures;
+      reached = subst (HasReached c.args.module.now c.args.number c.args.stated.now) c.in-Ok-Ok.field-0-is c.in-Ok-Ok.ensures.reached;
+      positions = subst (HasPositions c.args.module.now c.args.number c.args.stated.now) c.in-Ok-Ok.field-0-is c.in-Ok-Ok.ensures.positions;
     }
