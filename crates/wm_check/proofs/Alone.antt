@@ -76,7 +76,7 @@ coherent : (x : Execution) (r : EventKey) (e : Event) (k : ℕ) (w : EventId) (c
 coherent x r e k w c other past between (reads_future case none before) = past before
 coherent x r e k w c other past between (written_between case v is writes first second) = between v writes first second
 
-no_rule_fault : (x : Execution) (f : RuleFault) (rule : Rule) → IsValid x → BreaksRule x f rule → ⊥
+pub no_rule_fault : (x : Execution) (f : RuleFault) (rule : Rule) → IsValid x → BreaksRule x f rule → ⊥
 no_rule_fault x f WrittenValues valid (_, (e, is, reads, breaks)) =
     let keeps = valid.keeps_written_values f.event e f.byte f.writer is reads in
     written x f.event e f.byte f.writer f.case keeps.0 keeps.1 breaks

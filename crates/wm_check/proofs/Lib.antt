@@ -4,6 +4,7 @@ pub mod FirstFaults
 pub mod SameRefusal
 pub mod OnePlace
 pub mod SameVerdict
+pub mod OneVerified
 pub mod CompletedFits
 pub mod SameEvents
 pub mod OneCompletion

@@ -122,15 +122,15 @@ one_first : (m : Module) (log : List ThreadLog) (k l : ℕ) (a b : ReplayAnswer)
 one_first m log k l a b first second = same_first m log k l a b first second (cases_lt k l) (cases_lt l k)
 
 -- a thread that differs somewhere has started
-started_so : (m : Module) (k : ℕ) (t : ThreadLog) (p : Place) → DiffersAt m k t p → (c : Config) × (start_of m t ≡ Ok c)
+pub started_so : (m : Module) (k : ℕ) (t : ThreadLog) (p : Place) → DiffersAt m k t p → (c : Config) × (start_of m t ≡ Ok c)
 started_so m k t p (access reaches before makes missing) = (reaches.start, reaches.is_start)
 started_so m k t p (left_over reaches below rests) = (reaches.start, reaches.is_start)
 started_so m k t p (end reaches ends) = (reaches.start, reaches.is_start)
 
-same_fault : (f g : StartFault) → ◌≡◌ {A = Result Config StartFault} (Err f) (Err g) → f ≡ g
+pub same_fault : (f g : StartFault) → ◌≡◌ {A = Result Config StartFault} (Err f) (Err g) → f ≡ g
 same_fault f g same = cc
 
-no_start : (f : StartFault) (c : Config) → ◌≡◌ {A = Result Config StartFault} (Err f) (Ok c) → ⊥
+pub no_start : (f : StartFault) (c : Config) → ◌≡◌ {A = Result Config StartFault} (Err f) (Ok c) → ⊥
 no_start f c same = cc
 
 -- a thread's start is refused for one reason

@@ -1,5 +1,5 @@
 -- What is stated for a log with the steps and the ends that its module gives it.
-use Rattle.std.specs.Prelude.{ℕ, List}
+use Rattle.std.specs.Prelude.{◌≡◌, ℕ, List}
 use Rattle.wm_ast.specs.declared.module.Module.{Module}
 use Rattle.wm_event.specs.declared.log.ThreadLog.{ThreadLog}
 use Rattle.wm_event.specs.declared.rule.Judgement.TheVariants as judgement
@@ -17,6 +17,7 @@ use Rattle.wm_check.specs.declared.verdict.Verdict.TheVariants.{Allowed, Refused
 use Rattle.wm_check.specs.Alone.{Counts}
 use Rattle.wm_check.specs.Completed.{HasNoRun, IsCompletedTo}
 use Rattle.wm_check.specs.Run.{IsCandidateOf, IsModuleOf}
+use Rattle.wm_check.specs.SameVerdict.{IsExact}
 use Rattle.wm_check.specs.Verdicts.{IsRefusedFor, Says}
 
 -- the run with another log
@@ -62,6 +63,10 @@ abbrev pub VerifiesCandidate : Module → LoggedRun → Verdict → Type 0
 VerifiesCandidate «module» run verdict =
     (module_bytes document_bytes : List ℕ) → IsModuleOf module_bytes «module» → IsDocumentOf document_bytes run.log run.witness → IsInit «module» run.initial
     → IsWellShaped run → Verifies module_bytes document_bytes verdict
+
+-- the verdict on a completed log is a function of the bytes, but for which rule an invalid module breaks first and where
+abbrev pub OneVerified : Type 0
+OneVerified = (mb db : List ℕ) (verdict other : Verdict) → IsExact verdict → Verifies mb db verdict → Verifies mb db other → verdict ≡ other
 
 -- the verdict on a log and its completion is a check's verdict on the completed document, if this can be read
 abbrev pub VerifiesAsCheck : Type 0

@@ -1,7 +1,7 @@
 //! Laws about a run that is allowed, a document that is too large, and a completed document.
 ghost use Rattle.wm_check.specs.Alone.{AllowedAlone, TooLargeAlone};
 ghost use Rattle.wm_check.specs.SameVerdict.{OneExactVerdict, OnePart, OneStatus};
-ghost use Rattle.wm_check.specs.Verified.{VerifiesAsCheck};
+ghost use Rattle.wm_check.specs.Verified.{OneVerified, VerifiesAsCheck};
 
 use wm_decode::spelled_once;
 use wm_logfile::one_pair;
@@ -29,6 +29,15 @@ pub fn same_verdict()
     ensures status { OneStatus }
     ensures exact { OneExactVerdict }
     ensures part { OnePart }
+{
+    spelled_once();
+    one_pair();
+}
+
+/// What [`verify`](crate::verify) answers is a function of the bytes, except for which rule an invalid module breaks first
+/// and where. So is what [`verify_log`](crate::verify_log) answers for the module that bytes spell.
+pub fn one_verified_verdict()
+    ensures { OneVerified }
 {
     spelled_once();
     one_pair();

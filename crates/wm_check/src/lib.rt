@@ -13,6 +13,6 @@ pub use checker::{
 };
 pub use completed::{CompletedDocument, complete_document};
 pub use judged::{JudgedDocument, judge_document};
-pub use law::{one_verdict, same_verdict, verify_is_check_of_completed};
+pub use law::{one_verdict, one_verified_verdict, same_verdict, verify_is_check_of_completed};
 pub use verdict::{Breach, Certificate, Refusal, Verdict};
 pub use verified::{verify, verify_log};

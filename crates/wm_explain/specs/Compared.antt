@@ -34,4 +34,4 @@ pub record IsCompared (m : Module) (k : ℕ) (t : ThreadLog) (compared : Compare
   pub made : (read : ℕ) → compared.made ≡ next_by_module (need_of read thread)
   pub position : compared.position ≡ position_of thread
   pub reached : IsReached m k t compared.steps thread
-  pub positions : ArePositions m k t compared.events compared.positions.items
+  pub positions : ArePositions m k t compared.events compared.positions
