@@ -8,7 +8,8 @@ It needs node.
 Each function of a program is called by node, and runs as the only thread of a script by `wmlab drive`. Both have to
 end with the same result or trap, and to leave the same memory: for wmlab, what the writes of its log make of the
 initial one. The text of `explain` on the log has to be as a plain program writes it, and to name for each event an
-instruction that makes such an access.
+instruction that makes such an access. Each turn of `trace` has to be at an instruction to which the one before it leads,
+by a second reading of the code.
 
 Then instructions of the program are changed at random, and of the modules that come of it `wmlab check` has to refuse
 those that node refuses, and no other.
@@ -20,12 +21,14 @@ import copy
 import hashlib
 import json
 import os
+import re
 import subprocess
 import tempfile
 
 from wmlabtools import TOP, generated, harness, v8
 from wmlabtools.compiled import CompiledProgram
 from wmlabtools.explained import Difference, expect, expect_run
+from wmlabtools.flow import path_fault
 from wmlabtools.log import MAX_EVENTS
 from wmlabtools.programs import ACCESSES, BITS, PREFIX, Program, argument, change
 
@@ -39,9 +42,12 @@ TRAPS = {
 SAME_TRAP = ("trap:out-of-bounds", "trap:unaligned")
 CHANGES = 5
 STEPS = 1_000_000
+PLACE = re.compile(r"0 function=(\d+) instruction=(\d+) offset=0x([0-9a-f]+) ")
 IS_CUT = "cut"
 # How many programs one process of node is given.
 BATCH = 25
+# How many turns of a run are traced.
+TRACED = 2_000
 
 
 class Case:
@@ -112,7 +118,9 @@ def call_fault(wmlab, case, path, index, call):
     if not alike or memory != call["memory"]:
         return start, "node", call, "wmlab", out
     # A module that was lowered has other instructions.
-    return None if case.is_lowered else explanation_fault(wmlab, case, path, lines[2])
+    if case.is_lowered:
+        return None
+    return explanation_fault(wmlab, case, path, lines[2]) or trace_fault(wmlab, case, path, start, thread[3])
 
 
 def explanation_fault(wmlab, case, path, log):
@@ -134,6 +142,24 @@ def explanation_fault(wmlab, case, path, log):
     except Difference as difference:
         return str(difference), log, text
     return None
+
+
+def trace_fault(wmlab, case, path, start, steps):
+    """What is wrong with the places of a traced run; None if nothing is. Each turn has to be at an instruction of the
+    program, by its number and offset, to which the one before it leads."""
+    turns = min(steps, TRACED)
+    out, err, status = harness.run(wmlab, ["trace", path, f"0*{turns}", start])
+    lines, instructions, places = out.splitlines()[:-1], case.program.instructions(), []
+    if status or err or len(lines) != turns:
+        return "trace", start, out, err, status
+    for line in lines:
+        found = PLACE.match(line)
+        function, number, offset = int(found[1]), int(found[2]), int(found[3], 16)
+        if instructions.get(offset, ())[:2] != (function, number):
+            return "no such instruction", start, line
+        places.append((function, number))
+    fault = path_fault([function.code for function in case.program.functions], places)
+    return fault and (fault, start, out)
 
 
 def validity_fault(wmlab, module, is_valid, path):
