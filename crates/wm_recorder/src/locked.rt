@@ -6,7 +6,7 @@ ghost use Rattle.wm_recorder.specs.Locked.{DrainedOnce, DrainedAtOnce, IsOver, M
 ghost use Rattle.wm_recorder.specs.Recorder.{IsRecording, RecordsValid};
 
 use crate::held::Held;
-use crate::{AccessFault, Over, Recorder, Shared};
+use crate::{AccessFault, Accesses, Drains, Over, Recorder};
 use std::alloc::AllocError;
 use std::sync::{Mutex, Wait};
 use wm_event::{Op, Reply};
@@ -60,7 +60,7 @@ impl<'a, R: Wait, N: Over> LockedMemory<'a, R, N> {
     }
 }
 
-impl<'a, R: Wait, N: Over> Shared for LockedMemory<'a, R, N> {
+impl<'a, R: Wait, N: Over> Accesses for LockedMemory<'a, R, N> {
     ghost refuses = { λ t op fault. MadeOnce N.initial N.threads t op (Err fault) };
 
     fn access(&self, thread: u32, op: Op) -> Result<Reply, AccessFault>
@@ -72,7 +72,9 @@ impl<'a, R: Wait, N: Over> Shared for LockedMemory<'a, R, N> {
         let held = &mut *guard;
         held.access(thread, op)
     }
+}
 
+impl<'a, R: Wait, N: Over> Drains for LockedMemory<'a, R, N> {
     fn drain(&self, thread: u32) -> Result<bool, AllocError>
         ensures { IfOk result (DrainedOnce N.initial N.threads thread) }
     {

@@ -9,8 +9,9 @@ use crate::AccessFault;
 use std::alloc::AllocError;
 use wm_event::{Op, Reply};
 
-/// A memory that threads share by reference.
-pub trait Shared {
+/// Makes the accesses of threads that share a memory by reference. Who has no more of the memory than this drains no
+/// store.
+pub trait Accesses {
     /// What is known of an access of a thread that the memory refused for a fault.
     ghost refuses: { ℕ → OpFields → Fault → Type 0 };
 
@@ -23,7 +24,10 @@ pub trait Shared {
     fn access(&self, thread: u32, op: Op) -> Result<Reply, AccessFault>
         ensures answers { IfOk result (λ reply. ReadAnswers (kind_finds op.kind) op.width reply.read) }
         ensures refused { IfErr result (refuses thread op) };
+}
 
+/// Publishes the waiting stores of threads that share a memory by reference.
+pub trait Drains {
     /// Publishes the oldest waiting store of a thread; false if none waits.
     ///
     /// # Errors
@@ -39,3 +43,8 @@ pub trait Shared {
     /// Only if an allocation fails.
     fn drain_at(&self, thread: u32, index: u32) -> Result<bool, AllocError>;
 }
+
+/// A memory that threads share by reference: it makes their accesses and publishes their stores.
+pub trait Shared: Accesses + Drains {}
+
+impl<M: Accesses + Drains> Shared for M {}

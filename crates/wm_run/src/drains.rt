@@ -4,7 +4,7 @@ ghost use Rattle.wm_run.specs.Drains.{drainer_turn};
 
 use crate::gate::Gate;
 use std::alloc::AllocError;
-use wm_recorder::Shared;
+use wm_recorder::Drains;
 
 /// A turn of the drainer: which store of a thread leaves its buffer.
 #[derive(Clone, Copy)]
@@ -35,7 +35,7 @@ fn drainer_turn(threads: u32, number: u32) -> DrainerTurn
 /// # Errors
 ///
 /// Only if an allocation fails.
-pub fn drainer<S: Shared, G: Gate>(
+pub fn drainer<S: Drains, G: Gate>(
     shared: &S,
     threads: u32,
     drains: u32,

@@ -22,11 +22,11 @@ use std::snapshot::Snapshot;
 use wm_event::{Event, EventKey, Op, Start};
 use wm_list::Growing;
 use wm_machine::{AdvanceFault, StartFault, Stepped, Thread};
-use wm_recorder::{AccessFault, Shared};
+use wm_recorder::{AccessFault, Accesses};
 use wm_valid::ValidModule;
 
 /// Makes one access of a thread, or reports why it doesn't. The gate is asked first.
-fn access<S: Shared, G: Gate>(
+fn access<S: Accesses, G: Gate>(
     running: &mut Thread,
     events: &mut Growing<Event>,
     thread: u32,
@@ -65,7 +65,7 @@ fn access<S: Shared, G: Gate>(
 }
 
 /// Makes the next step of a thread, or reports why it doesn't.
-fn step<S: Shared, G: Gate>(
+fn step<S: Accesses, G: Gate>(
     running: &mut Thread,
     events: &mut Growing<Event>,
     thread: u32,
@@ -109,7 +109,7 @@ fn start_thread<'m>(
 }
 
 /// Makes steps of a thread until it stops, at most `steps`. Returns how many it made, and why it stopped.
-fn run_until_stop<S: Shared, G: Gate>(
+fn run_until_stop<S: Accesses, G: Gate>(
     running: &mut Thread,
     events: &mut Growing<Event>,
     thread: u32,
@@ -150,7 +150,7 @@ struct StepsMade {
 }
 
 /// Makes steps of a started thread until it stops, at most `steps`.
-fn make_steps<S: Shared, G: Gate>(
+fn make_steps<S: Accesses, G: Gate>(
     alloc: Global,
     running: &mut Thread,
     thread: u32,
@@ -209,7 +209,7 @@ fn finished(
 /// # Errors
 ///
 /// `Start` if the thread doesn't start, `OutOfMemory` if an allocation fails.
-pub fn work<S: Shared, G: Gate>(
+pub fn work<S: Accesses, G: Gate>(
     alloc: Global,
     module: &ValidModule,
     thread: u32,

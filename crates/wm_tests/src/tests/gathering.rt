@@ -14,20 +14,22 @@ use std::sync::Wait;
 use std::test::Fail;
 use wm_event::{End, Initial, Op, Reply, Start};
 use wm_list::{List, Text};
-use wm_recorder::{AccessFault, LockedMemory, Over, Recorder, Shared};
+use wm_recorder::{AccessFault, Accesses, Drains, LockedMemory, Over, Recorder, Shared};
 use wm_run::{OpenGate, RunFault, Stop, ThreadEnd, drainer, gather, work};
 use wm_valid::ValidModule;
 
 /// A memory that refuses each access.
 struct FullMemory;
 
-impl Shared for FullMemory {
+impl Accesses for FullMemory {
     ghost refuses = { λ _ _ fault. fault ≡ Full };
 
     fn access(&self, _thread: u32, _op: Op) -> Result<Reply, AccessFault> {
         Err(AccessFault::Full)
     }
+}
 
+impl Drains for FullMemory {
     fn drain(&self, _thread: u32) -> Result<bool, AllocError> {
         Ok(false)
     }

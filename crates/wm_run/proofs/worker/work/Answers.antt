@@ -22,5 +22,5 @@ returns-in-Ok-clause-end g c =
 pub returns-in-Ok-clause-refused : goal.returns-in-Ok-clause-refused
 returns-in-Ok-clause-refused g c =
     let s = c.in-Ok.made in
-    refused_after g.S.Shared.refuses (g.G.Gate.is_open c.args.gate.now) c.args.module.now c.args.thread c.args.start.now c.in_ok-own.own c.in_ok-running.running c.make_steps.new.running s.events.items c.args.steps s.count s.stop c.finished.result
+    refused_after g.S.Accesses.refuses (g.G.Gate.is_open c.args.gate.now) c.args.module.now c.args.thread c.args.start.now c.in_ok-own.own c.in_ok-running.running c.make_steps.new.running s.events.items c.args.steps s.count s.stop c.finished.result
     c.in_ok-running.ensures.ok c.in_ok-own.ensures c.in-Ok.ensures.stopped c.finished.ensures.given c.finished.ensures.events c.in-Ok.ensures.refused
