@@ -56,12 +56,7 @@ impl<N: Over> Held<N> {
     }
 
     /// One access, as [`Recorder::step_access`] makes it, which is added to the caller's calls.
-    pub fn access(
-        &mut self,
-        calls: &mut Calls,
-        thread: u32,
-        op: Op,
-    ) -> Result<Reply, AccessFault>
+    pub fn access(&mut self, calls: &mut Calls, thread: u32, op: Op) -> Result<Reply, AccessFault>
         requires room { HasCallRoom calls.old }
         ensures answers { IfOk result (λ reply. ReadAnswers (kind_finds op.kind) op.width reply.read) }
         ensures made { IsAccessOver N.initial N.threads thread op self.old.recorder result self.new.recorder }

@@ -194,7 +194,10 @@ fn pass_one<R: Abort + AllocGlobal, S: Shared>(rt: &R, shared: &S) -> Result<(),
 }
 
 /// The same over a recorder under a lock.
-fn take_locked_turns<N: Over, R: Abort + AllocGlobal + Wait>(rt: &R, recorder: Recorder) -> Result<(), Fail>
+fn take_locked_turns<N: Over, R: Abort + AllocGlobal + Wait>(
+    rt: &R,
+    recorder: Recorder,
+) -> Result<(), Fail>
     requires { IsOver N.initial N.threads recorder }
 {
     let shared = LockedMemory::<R, N>::new(rt, recorder);
@@ -202,7 +205,10 @@ fn take_locked_turns<N: Over, R: Abort + AllocGlobal + Wait>(rt: &R, recorder: R
 }
 
 /// The passing store, over a recorder under a lock.
-fn pass_one_locked<N: Over, R: Abort + AllocGlobal + Wait>(rt: &R, recorder: Recorder) -> Result<(), Fail>
+fn pass_one_locked<N: Over, R: Abort + AllocGlobal + Wait>(
+    rt: &R,
+    recorder: Recorder,
+) -> Result<(), Fail>
     requires { IsOver N.initial N.threads recorder }
 {
     let shared = LockedMemory::<R, N>::new(rt, recorder);

@@ -58,7 +58,10 @@ fn drain_both<R: Abort + AllocGlobal, S: Shared>(rt: &R, shared: &S) -> Result<(
 }
 
 /// Three stores of two threads, of which a drain shows the oldest of each to the other.
-fn drain_and_read<N: Over, R: Abort + AllocGlobal + Wait>(rt: &R, recorder: Recorder) -> Result<(), Fail>
+fn drain_and_read<N: Over, R: Abort + AllocGlobal + Wait>(
+    rt: &R,
+    recorder: Recorder,
+) -> Result<(), Fail>
     requires { IsOver N.initial N.threads recorder }
 {
     let shared = LockedMemory::<R, N>::new(rt, recorder);
@@ -90,10 +93,7 @@ fn store_three<S: Shared>(alloc: Global, shared: &S) -> Result<[bool; 2], Access
     for (address, value) in [(0, 1), (2, 2), (8, 3)] {
         write(alloc, shared, 0, address, value)?;
     }
-    Ok([
-        drain_at(alloc, shared, 1)?,
-        drain_at(alloc, shared, 2)?,
-    ])
+    Ok([drain_at(alloc, shared, 1)?, drain_at(alloc, shared, 2)?])
 }
 
 /// Reads each of three words some times.
