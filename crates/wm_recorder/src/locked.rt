@@ -1,12 +1,13 @@
 //! A recorder that threads share under a lock.
-ghost use Rattle.std.specs.Prelude.{Err, IfErr, IfOk, Ok};
+ghost use Rattle.std.specs.Prelude.{◌≡◌, Err, IfErr, IfOk, Ok, OnErr, OnOk};
 ghost use Rattle.wm_event.specs.Op.{kind_finds};
 ghost use Rattle.wm_event.specs.Reply.{ReadAnswers};
+ghost use Rattle.wm_recorder.specs.Calls.{CallsAccess, CallsDrain, HasCallRoom, HasDrainRoom};
 ghost use Rattle.wm_recorder.specs.Locked.{DrainedOnce, DrainedAtOnce, IsOver, MadeOnce};
 ghost use Rattle.wm_recorder.specs.Recorder.{IsRecording, RecordsValid};
 
 use crate::held::Held;
-use crate::{AccessFault, Over, Recorder, Shared};
+use crate::{AccessFault, Accesses, Calls, Drains, Over, Recorder};
 use std::alloc::AllocError;
 use std::sync::{Mutex, Wait};
 use wm_event::{Op, Reply};
@@ -60,32 +61,43 @@ impl<'a, R: Wait, N: Over> LockedMemory<'a, R, N> {
     }
 }
 
-impl<'a, R: Wait, N: Over> Shared for LockedMemory<'a, R, N> {
+impl<'a, R: Wait, N: Over> Accesses for LockedMemory<'a, R, N> {
     ghost refuses = { λ t op fault. MadeOnce N.initial N.threads t op (Err fault) };
 
-    fn access(&self, thread: u32, op: Op) -> Result<Reply, AccessFault>
+    fn access(&self, calls: &mut Calls, thread: u32, op: Op) -> Result<Reply, AccessFault>
+        requires room { HasCallRoom calls.old }
         ensures answers { IfOk result (λ reply. ReadAnswers (kind_finds op.kind) op.width reply.read) }
         ensures made { IfOk result (λ reply. MadeOnce N.initial N.threads thread op (Ok reply)) }
+        ensures called { IfOk result (λ reply. CallsAccess thread op reply.read calls.old calls.new) }
         ensures refused { IfErr result (λ fault. MadeOnce N.initial N.threads thread op (Err fault)) }
+        ensures not_called { OnErr result (calls.new ≡ calls.old) }
     {
         let mut guard = self.held.lock(self.rt);
         let held = &mut *guard;
-        held.access(thread, op)
+        held.access(calls, thread, op)
+    }
+}
+
+impl<'a, R: Wait, N: Over> Drains for LockedMemory<'a, R, N> {
+    fn drain(&self, calls: &mut Calls, thread: u32) -> Result<bool, AllocError>
+        requires room { HasDrainRoom calls.old }
+        ensures drained { IfOk result (DrainedOnce N.initial N.threads thread) }
+        ensures called { OnOk result (CallsDrain calls.old calls.new) }
+        ensures not_called { OnErr result (calls.new ≡ calls.old) }
+    {
+        let mut guard = self.held.lock(self.rt);
+        let held = &mut *guard;
+        held.drain(calls, thread)
     }
 
-    fn drain(&self, thread: u32) -> Result<bool, AllocError>
-        ensures { IfOk result (DrainedOnce N.initial N.threads thread) }
+    fn drain_at(&self, calls: &mut Calls, thread: u32, index: u32) -> Result<bool, AllocError>
+        requires room { HasDrainRoom calls.old }
+        ensures drained { IfOk result (DrainedAtOnce N.initial N.threads thread index) }
+        ensures called { OnOk result (CallsDrain calls.old calls.new) }
+        ensures not_called { OnErr result (calls.new ≡ calls.old) }
     {
         let mut guard = self.held.lock(self.rt);
         let held = &mut *guard;
-        held.drain(thread)
-    }
-
-    fn drain_at(&self, thread: u32, index: u32) -> Result<bool, AllocError>
-        ensures { IfOk result (DrainedAtOnce N.initial N.threads thread index) }
-    {
-        let mut guard = self.held.lock(self.rt);
-        let held = &mut *guard;
-        held.drain_at(thread, index)
+        held.drain_at(calls, thread, index)
     }
 }

@@ -1,6 +1,7 @@
 pub mod InBounds
 pub mod Accesses
 pub mod Leading
+pub mod Calling
 pub mod Uncut
 pub mod Working
 pub mod Strays

@@ -41,11 +41,11 @@ logged_events r ends logs k one_each agrees are = same_lists (map (λ (log : Thr
 
     item : (t : ℕ) (d : List Event) (e : ThreadEnd) → t < length r.events → t < threads_of r → IsEndIn ends t e → get_or (map (λ (log : ThreadLog). log.events) logs) t d ≡ get_or r.events t d
     item t d e lt there in_ends =
-        let here : slice_get (map (λ (log : ThreadLog). log.events) logs) t ≡ Some e.events =
+        let here : slice_get (map (λ (log : ThreadLog). log.events) logs) t ≡ Some e.calls.events =
         slice_get-map (λ (log : ThreadLog). log.events) logs t ∙ ap (option_map (λ (log : ThreadLog). log.events)) (are.each t e there in_ends) in
-        let same : unwrap_or (slice_get r.events t) [] ≡ e.events = ap (λ n. unwrap_or (slice_get r.events n) []) (sym in_ends.1) ∙ (agrees t e there in_ends).events in
+        let same : unwrap_or (slice_get r.events t) [] ≡ e.calls.events = ap (λ n. unwrap_or (slice_get r.events n) []) (sym in_ends.1) ∙ (agrees t e there in_ends).events in
         let held : slice_get r.events t ≡ Some (get_or r.events t d) = slice_get-get_or r.events t d lt in
-        get_or_from_slice_get (map (λ (log : ThreadLog). log.events) logs) t e.events d here ∙ (sym same ∙ ap (λ o. unwrap_or o []) held)
+        get_or_from_slice_get (map (λ (log : ThreadLog). log.events) logs) t e.calls.events d here ∙ (sym same ∙ ap (λ o. unwrap_or o []) held)
 
     items : (t : ℕ) (d : List Event) → t < length (map (λ (log : ThreadLog). log.events) logs) → get_or (map (λ (log : ThreadLog). log.events) logs) t d ≡ get_or r.events t d
     items t d lt =

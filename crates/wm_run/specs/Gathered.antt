@@ -14,16 +14,16 @@ use Rattle.wm_run.specs.Run.{AreLogsOver, Record}
 
 -- what is logged for a thread, by its end
 abbrev pub log_by : ThreadEnd → ThreadLog
-log_by e = thread_log e.start e.end e.steps e.events
+log_by e = thread_log e.start e.end e.steps e.calls.events
 
 -- the logs of this number of threads, each by its end
 pub record AreLogsBy (threads : ℕ) (ends : List ThreadEnd) (logs : List ThreadLog) : Type 0 where
   pub count : length logs ≡ threads
   pub each : (t : ℕ) (e : ThreadEnd) → t < threads → IsEndIn ends t e → slice_get logs t ≡ Some (log_by e)
 
--- the events of the end are the ones recorded for its thread
+-- the accesses that the thread called for are the ones recorded for it
 abbrev pub HasItsEvents : Recording → ThreadEnd → Type 0
-HasItsEvents r e = unwrap_or (slice_get r.events e.thread) [] ≡ e.events
+HasItsEvents r e = unwrap_or (slice_get r.events e.thread) [] ≡ e.calls.events
 
 -- the recorder is full if the memory stopped the thread
 abbrev pub StopsWhereFull : Recording → ThreadEnd → Type 0

@@ -12,7 +12,7 @@ use Rattle.wm_run.specs.declared.fault.RunFault.{RunFault}
 use Rattle.wm_run.specs.declared.fault.RunFault.TheVariants as run
 
 -- a run of this thread and start of at most this number of steps: unless it was stopped, it is cut only after all of
--- them; the gate stops it only if the gate isn't open; its result has 64 bits
+-- them; the gate stops it only if the gate isn't open; its result has 64 bits; it drained no store
 pub record IsEndOf (is_open : Bool) (m : Module) (thread : ℕ) (start : Start) (steps : ℕ) (e : ThreadEnd) : Type 0 where
   pub of_module : e.program.value ≡ m
   pub of_thread : e.thread ≡ thread
@@ -21,6 +21,7 @@ pub record IsEndOf (is_open : Bool) (m : Module) (thread : ℕ) (start : Start) 
   pub whole : e.stop ≡ Own → e.end ≡ Cut → e.steps ≡ steps
   pub held : e.stop ≡ Gate → is_open ≡ false
   pub fits : EndFits e.end
+  pub undrained : e.calls.drains ≡ 0
 
 -- what a worker knows about its thread
 abbrev pub IsGiven : Module → ℕ → Start → ℕ → Stop → ThreadEnd → Type 0

@@ -129,7 +129,13 @@ impl<'a, R: Wait, N: Over + Assigned, G: Gate, B: Collects<N>> Crew<'a, R, N, G,
 
     /// Takes the drains of one round.
     fn drain_once(&self) {
-        let drained = drainer(&self.memory, self.workers(), self.plan.drains, self.gate);
+        let drained = drainer(
+            self.alloc,
+            &self.memory,
+            self.workers(),
+            self.plan.drains,
+            self.gate,
+        );
         if self.board.take_drainer(drained.is_err()) {
             self.made.ring();
         }

@@ -1,10 +1,10 @@
 //! The drainer of a round.
-ghost use Rattle.std.specs.Prelude.{◌≡◌, ◌≤◌};
-ghost use Rattle.wm_run.specs.Drains.{drainer_turn};
+ghost use Rattle.std.specs.Prelude.{◌≡◌, ◌≤◌, IfOk};
+ghost use Rattle.wm_run.specs.Drains.{AreDrains, drainer_turn};
 
 use crate::gate::Gate;
-use std::alloc::AllocError;
-use wm_recorder::Shared;
+use std::alloc::{AllocError, Global};
+use wm_recorder::{Calls, Drains};
 
 /// A turn of the drainer: which store of a thread leaves its buffer.
 #[derive(Clone, Copy)]
@@ -30,27 +30,30 @@ fn drainer_turn(threads: u32, number: u32) -> DrainerTurn
 
 /// Takes `drains` turns over the buffers of `threads` threads, one thread after the other. The passes alternate between
 /// draining the oldest store and draining the one after it. The drainer ends when the gate answers false; the gate is
-/// asked before each turn while no lock is held.
+/// asked before each turn while no lock is held. Returns its calls: one drain for each turn.
 ///
 /// # Errors
 ///
 /// Only if an allocation fails.
-pub fn drainer<S: Shared, G: Gate>(
+pub fn drainer<S: Drains, G: Gate>(
+    alloc: Global,
     shared: &S,
     threads: u32,
     drains: u32,
     gate: &G,
-) -> Result<(), AllocError>
+) -> Result<Calls, AllocError>
     requires { 1 ≤ threads }
+    ensures { IfOk result (AreDrains (G.is_open gate.now) drains) }
 {
+    let mut calls = Calls::new(alloc);
     for number in 0..drains {
         if !gate.before_drain(number) {
-            return Ok(());
+            return Ok(calls);
         }
         match drainer_turn(threads, number) {
-            DrainerTurn::Oldest(thread) => shared.drain(thread)?,
-            DrainerTurn::Second(thread) => shared.drain_at(thread, 1)?,
+            DrainerTurn::Oldest(thread) => shared.drain(&mut calls, thread)?,
+            DrainerTurn::Second(thread) => shared.drain_at(&mut calls, thread, 1)?,
         };
     }
-    Ok(())
+    Ok(calls)
 }

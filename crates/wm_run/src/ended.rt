@@ -6,8 +6,8 @@ ghost use Rattle.wm_run.specs.Reached.{stands_before_access, thread_log};
 ghost use Rattle.wm_run.specs.Stops.{is_own};
 
 use std::snapshot::Snapshot;
-use wm_event::{End, Event, Start};
-use wm_list::List;
+use wm_event::{End, Start};
+use wm_recorder::Calls;
 use wm_valid::ValidModule;
 
 /// Why a worker stopped.
@@ -21,8 +21,8 @@ pub enum Stop {
     Memory,
 }
 
-/// A run of a thread of the module `program`: its events and its end are the result of its steps from its start, on the
-/// values that the events read. If the gate or the memory stopped it, it is before an access.
+/// A run of a thread of the module `program`: its calls of the memory and its end are the result of its steps from its
+/// start, on the values that the calls read. If the gate or the memory stopped it, it is before an access.
 #[derive(Drop)]
 pub struct ThreadEnd {
     /// The module, which only contracts see.
@@ -32,9 +32,9 @@ pub struct ThreadEnd {
     pub end: End,
     /// How many steps it made.
     pub steps: u32,
-    /// Its accesses to memory, in the order in which it made them.
-    pub events: List<Event>,
+    /// The calls of the memory that it made: the events of its accesses, in their order, and no drain.
+    pub calls: Calls,
     pub stop: Stop,
-    pub ghost is_run: { IsRun program.value thread (thread_log start end steps events) } by { Prim.hlevel props },
-    pub ghost stopped: { (is_own stop || stands_before_access program.value thread (thread_log start end steps events)) ≡ true },
+    pub ghost is_run: { IsRun program.value thread (thread_log start end steps calls.events) } by { Prim.hlevel props },
+    pub ghost stopped: { (is_own stop || stands_before_access program.value thread (thread_log start end steps calls.events)) ≡ true },
 }

@@ -35,7 +35,7 @@ fn same_events(events: &[Event], others: &[Event]) -> bool
 fn has_its_events(recorder: &Recorder, end: &ThreadEnd) -> bool
     ensures { IsTrue result ↔ HasItsEvents recorder.now end.now }
 {
-    same_events(recorder.events(end.thread), end.events.as_slice())
+    same_events(recorder.events(end.thread), end.calls.events())
 }
 
 /// Whether the recorder is full if the memory stopped the thread.
@@ -75,7 +75,7 @@ fn log_by(alloc: Global, end: &ThreadEnd) -> Result<ThreadLog, AllocError>
         start: copy_start(alloc, &end.start)?,
         end: end.end,
         steps: end.steps,
-        events: List::from_vec(end.events.as_slice().to_vec(alloc)?),
+        events: List::from_vec(end.calls.events().to_vec(alloc)?),
     })
 }
 

@@ -163,11 +163,11 @@ fn run_in<'s, E: 's, R: Threads, S: Shared + Sync, G: Gate + Sync>(
 {
     let threads = plan.starts.len() as u32;
     let drains = plan.drains;
-    let drain = scope.spawn(move || drainer(shared, threads, drains, gate))?;
+    let drain = scope.spawn(move || drainer(alloc, shared, threads, drains, gate))?;
     let results = run_workers(rt, scope, alloc, module, plan, shared, gate);
     let drained = drain.join(rt);
     let results = results?;
-    drained?;
+    let _calls = drained?;
     all_ends(alloc, results)
 }
 

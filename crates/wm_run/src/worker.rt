@@ -19,65 +19,59 @@ use crate::launch::copy_start;
 use crate::runner::end_of;
 use std::alloc::{AllocError, Global};
 use std::snapshot::Snapshot;
-use wm_event::{Event, EventKey, Op, Start};
-use wm_list::Growing;
+use wm_event::{Op, Start};
 use wm_machine::{AdvanceFault, StartFault, Stepped, Thread};
-use wm_recorder::{AccessFault, Shared};
+use wm_recorder::{AccessFault, Accesses, Calls};
 use wm_valid::ValidModule;
 
 /// Makes one access of a thread, or reports why it doesn't. The gate is asked first.
-fn access<S: Shared, G: Gate>(
+fn access<S: Accesses, G: Gate>(
     running: &mut Thread,
-    events: &mut Growing<Event>,
+    calls: &mut Calls,
     thread: u32,
     op: Op,
     shared: &S,
     gate: &G,
 ) -> Result<Option<Stop>, AllocError>
     requires asks { (read : ℕ) → need_of read running.old ≡ Need.Access op }
-    requires few { length events.old.items < 2 ^ 32 }
+    requires few { length calls.old.events < 2 ^ 32 }
     ensures same { running.new.module ≡ running.old.module }
-    ensures more { length events.new.items ≤ length events.old.items + 1 }
-    ensures made { result ≡ Ok None → LeadsOn thread running.old events.old.items running.new events.new.items }
+    ensures more { length calls.new.events ≤ length calls.old.events + 1 }
+    ensures undrained { calls.new.drains ≡ calls.old.drains }
+    ensures made { result ≡ Ok None → LeadsOn thread running.old calls.old.events running.new calls.new.events }
     ensures stopped { IfOk result (λ r.
-        IfSome r (StopsAs (G.is_open gate.now) running.old events.old.items running.new events.new.items)) }
+        IfSome r (StopsAs (G.is_open gate.now) running.old calls.old.events running.new calls.new.events)) }
     ensures refused { result ≡ Ok (Some Stop.Memory) → IsRefused S.refuses running.old.module thread (config_of running.old) }
 {
-    events.reserve(1)?;
-    if !gate.before(thread, events.len()) {
+    calls.reserve()?;
+    if !gate.before(thread, calls.events().len()) {
         return Ok(Some(Stop::Gate));
     }
-    match shared.access(thread, op) {
-        Ok(reply) => {
-            let key = EventKey {
-                thread,
-                number: events.len() as u32,
-            };
-            events.push_reserved(op.event(key, reply.read.unwrap_or(0)));
-            match running.advance(Some(reply)) {
-                Ok(()) => Ok(None),
-                Err(AdvanceFault::OutOfMemory) => Err(AllocError),
-            }
-        }
+    match shared.access(calls, thread, op) {
+        Ok(reply) => match running.advance(Some(reply)) {
+            Ok(()) => Ok(None),
+            Err(AdvanceFault::OutOfMemory) => Err(AllocError),
+        },
         Err(AccessFault::OutOfMemory) => Err(AllocError),
         Err(_) => Ok(Some(Stop::Memory)),
     }
 }
 
 /// Makes the next step of a thread, or reports why it doesn't.
-fn step<S: Shared, G: Gate>(
+fn step<S: Accesses, G: Gate>(
     running: &mut Thread,
-    events: &mut Growing<Event>,
+    calls: &mut Calls,
     thread: u32,
     shared: &S,
     gate: &G,
 ) -> Result<Option<Stop>, AllocError>
-    requires { length events.old.items < 2 ^ 32 }
+    requires { length calls.old.events < 2 ^ 32 }
     ensures same { running.new.module ≡ running.old.module }
-    ensures more { length events.new.items ≤ length events.old.items + 1 }
-    ensures made { result ≡ Ok None → LeadsOn thread running.old events.old.items running.new events.new.items }
+    ensures more { length calls.new.events ≤ length calls.old.events + 1 }
+    ensures undrained { calls.new.drains ≡ calls.old.drains }
+    ensures made { result ≡ Ok None → LeadsOn thread running.old calls.old.events running.new calls.new.events }
     ensures stopped { IfOk result (λ r.
-        IfSome r (StopsAs (G.is_open gate.now) running.old events.old.items running.new events.new.items)) }
+        IfSome r (StopsAs (G.is_open gate.now) running.old calls.old.events running.new calls.new.events)) }
     ensures refused { result ≡ Ok (Some Stop.Memory) → IsRefused S.refuses running.old.module thread (config_of running.old) }
 {
     let stepped = match running.step() {
@@ -86,7 +80,7 @@ fn step<S: Shared, G: Gate>(
     };
     match stepped {
         Stepped::Local => Ok(None),
-        Stepped::Access(op) => access(running, events, thread, op, shared, gate),
+        Stepped::Access(op) => access(running, calls, thread, op, shared, gate),
         Stepped::Ended(_) => Ok(Some(Stop::Own)),
     }
 }
@@ -109,19 +103,20 @@ fn start_thread<'m>(
 }
 
 /// Makes steps of a thread until it stops, at most `steps`. Returns how many it made, and why it stopped.
-fn run_until_stop<S: Shared, G: Gate>(
+fn run_until_stop<S: Accesses, G: Gate>(
     running: &mut Thread,
-    events: &mut Growing<Event>,
+    calls: &mut Calls,
     thread: u32,
     steps: u32,
     shared: &S,
     gate: &G,
 ) -> Result<(u32, Stop), AllocError>
     requires few { steps ≤ max_steps }
-    requires first { events.old.items ≡ [] }
+    requires first { calls.old.events ≡ [] }
     ensures same { running.new.module ≡ running.old.module }
+    ensures undrained { calls.new.drains ≡ calls.old.drains }
     ensures stopped { IfOk result (λ r.
-        HasStopped (G.is_open gate.now) thread running.old running.new events.new.items steps r.0 r.1) }
+        HasStopped (G.is_open gate.now) thread running.old running.new calls.new.events steps r.0 r.1) }
     ensures refused { IfOk result (λ r.
         r.1 ≡ Stop.Memory → IsRefused S.refuses running.old.module thread (config_of running.new)) }
 {
@@ -134,7 +129,7 @@ fn run_until_stop<S: Shared, G: Gate>(
         if made >= steps {
             return Ok((steps, Stop::Own));
         }
-        if let Some(stop) = step(running, events, thread, shared, gate)? {
+        if let Some(stop) = step(running, calls, thread, shared, gate)? {
             return Ok((made, stop));
         }
         made += 1;
@@ -145,12 +140,12 @@ fn run_until_stop<S: Shared, G: Gate>(
 #[derive(Drop)]
 struct StepsMade {
     count: u32,
-    events: Growing<Event>,
+    calls: Calls,
     stop: Stop,
 }
 
 /// Makes steps of a started thread until it stops, at most `steps`.
-fn make_steps<S: Shared, G: Gate>(
+fn make_steps<S: Accesses, G: Gate>(
     alloc: Global,
     running: &mut Thread,
     thread: u32,
@@ -161,17 +156,14 @@ fn make_steps<S: Shared, G: Gate>(
     requires { steps ≤ max_steps }
     ensures same { running.new.module ≡ running.old.module }
     ensures stopped { IfOk result (λ r.
-        HasStopped (G.is_open gate.now) thread running.old running.new r.events.items steps r.count r.stop) }
+        HasStopped (G.is_open gate.now) thread running.old running.new r.calls.events steps r.count r.stop) }
+    ensures undrained { IfOk result (λ r. r.calls.drains ≡ 0) }
     ensures refused { IfOk result (λ r.
         r.stop ≡ Stop.Memory → IsRefused S.refuses running.old.module thread (config_of running.new)) }
 {
-    let mut events = Growing::new(alloc);
-    let (count, stop) = run_until_stop(running, &mut events, thread, steps, shared, gate)?;
-    Ok(StepsMade {
-        count,
-        events,
-        stop,
-    })
+    let mut calls = Calls::new(alloc);
+    let (count, stop) = run_until_stop(running, &mut calls, thread, steps, shared, gate)?;
+    Ok(StepsMade { count, calls, stop })
 }
 
 /// The result of a thread after these steps.
@@ -183,10 +175,10 @@ fn finished(
     made: StepsMade,
 ) -> ThreadEnd
     requires same { running.module ≡ «module».now }
-    requires run { HasRun «module».now thread start made.events.items made.count (config_of running) }
+    requires run { HasRun «module».now thread start made.calls.events made.count (config_of running) }
     requires stopped { (is_own made.stop || is_before_access «module».now (config_of running)) ≡ true }
     ensures given { IsGiven «module».now thread start made.count made.stop result }
-    ensures events { result.events ≡ made.events.items }
+    ensures calls { result.calls ≡ made.calls }
     ensures end { result.end ≡ config_end (config_of running.entry) }
     ensures fits { EndFits result.end }
 {
@@ -198,7 +190,7 @@ fn finished(
         start,
         end,
         steps: made.count,
-        events: made.events.into_list(),
+        calls: made.calls,
         stop: made.stop,
     }
 }
@@ -209,7 +201,7 @@ fn finished(
 /// # Errors
 ///
 /// `Start` if the thread doesn't start, `OutOfMemory` if an allocation fails.
-pub fn work<S: Shared, G: Gate>(
+pub fn work<S: Accesses, G: Gate>(
     alloc: Global,
     module: &ValidModule,
     thread: u32,
@@ -221,7 +213,7 @@ pub fn work<S: Shared, G: Gate>(
     requires { steps ≤ max_steps }
     ensures end { IsWorkOf (G.is_open gate.now) «module».now thread start.now steps result }
     ensures refused { IfOk result (λ e.
-        e.stop ≡ Stop.Memory → IsRefusedAfter S.refuses «module».now thread start.now e.events e.steps) }
+        e.stop ≡ Stop.Memory → IsRefusedAfter S.refuses «module».now thread start.now e.calls.events e.steps) }
 {
     let own = copy_start(alloc, start)?;
     let mut running = start_thread(alloc, module, thread, start)?;

@@ -14,26 +14,18 @@ use std::sync::Wait;
 use std::test::Fail;
 use wm_event::{End, Initial, Op, Reply, Start};
 use wm_list::{List, Text};
-use wm_recorder::{AccessFault, LockedMemory, Over, Recorder, Shared};
+use wm_recorder::{AccessFault, Accesses, Calls, LockedMemory, Over, Recorder, Shared};
 use wm_run::{OpenGate, RunFault, Stop, ThreadEnd, drainer, gather, work};
 use wm_valid::ValidModule;
 
 /// A memory that refuses each access.
 struct FullMemory;
 
-impl Shared for FullMemory {
+impl Accesses for FullMemory {
     ghost refuses = { λ _ _ fault. fault ≡ Full };
 
-    fn access(&self, _thread: u32, _op: Op) -> Result<Reply, AccessFault> {
+    fn access(&self, _calls: &mut Calls, _thread: u32, _op: Op) -> Result<Reply, AccessFault> {
         Err(AccessFault::Full)
-    }
-
-    fn drain(&self, _thread: u32) -> Result<bool, AllocError> {
-        Ok(false)
-    }
-
-    fn drain_at(&self, _thread: u32, _index: u32) -> Result<bool, AllocError> {
-        Ok(false)
     }
 }
 
@@ -167,39 +159,45 @@ fn a_full_memory_stops_a_worker_before_its_access(rt: HostRuntime) -> Result<(),
 }
 
 /// Makes a drainer take `turns` turns over two threads.
-fn take<S: Shared>(shared: &S, turns: u32) -> Result<(), Fail> {
-    Ok(drainer(shared, 2, turns, &OpenGate)?)
+fn take<S: Shared>(alloc: Global, shared: &S, turns: u32) -> Result<(), Fail> {
+    let _calls = drainer(alloc, shared, 2, turns, &OpenGate)?;
+    Ok(())
 }
 
 /// Two stores of thread 0 and one of thread 1, of which a drain and a drainer of two turns make the first of each leave.
-fn take_turns<R: Abort, S: Shared>(rt: &R, shared: &S) -> Result<(), Fail> {
-    write(shared, 0, 0, 1)?;
-    write(shared, 0, 8, 2)?;
-    write(shared, 1, 4, 3)?;
-    same(rt, drain(shared, 0)?, true);
-    same(rt, read(shared, 1, 0)?, Some(1));
-    same(rt, read(shared, 1, 8)?, Some(0));
-    take(shared, 2)?;
-    same(rt, read(shared, 1, 8)?, Some(2));
-    same(rt, read(shared, 0, 4)?, Some(3));
-    same(rt, drain(shared, 0)?, false);
+fn take_turns<R: Abort + AllocGlobal, S: Shared>(rt: &R, shared: &S) -> Result<(), Fail> {
+    let alloc = rt.alloc();
+    write(alloc, shared, 0, 0, 1)?;
+    write(alloc, shared, 0, 8, 2)?;
+    write(alloc, shared, 1, 4, 3)?;
+    same(rt, drain(alloc, shared, 0)?, true);
+    same(rt, read(alloc, shared, 1, 0)?, Some(1));
+    same(rt, read(alloc, shared, 1, 8)?, Some(0));
+    take(alloc, shared, 2)?;
+    same(rt, read(alloc, shared, 1, 8)?, Some(2));
+    same(rt, read(alloc, shared, 0, 4)?, Some(3));
+    same(rt, drain(alloc, shared, 0)?, false);
     Ok(())
 }
 
 /// Three stores of thread 0, of which a drainer of three turns makes the first leave and then the one after the second.
-fn pass_one<R: Abort, S: Shared>(rt: &R, shared: &S) -> Result<(), Fail> {
-    write(shared, 0, 0, 1)?;
-    write(shared, 0, 4, 1)?;
-    write(shared, 0, 8, 1)?;
-    take(shared, 3)?;
-    same(rt, read(shared, 1, 0)?, Some(1));
-    same(rt, read(shared, 1, 4)?, Some(0));
-    same(rt, read(shared, 1, 8)?, Some(1));
+fn pass_one<R: Abort + AllocGlobal, S: Shared>(rt: &R, shared: &S) -> Result<(), Fail> {
+    let alloc = rt.alloc();
+    write(alloc, shared, 0, 0, 1)?;
+    write(alloc, shared, 0, 4, 1)?;
+    write(alloc, shared, 0, 8, 1)?;
+    take(alloc, shared, 3)?;
+    same(rt, read(alloc, shared, 1, 0)?, Some(1));
+    same(rt, read(alloc, shared, 1, 4)?, Some(0));
+    same(rt, read(alloc, shared, 1, 8)?, Some(1));
     Ok(())
 }
 
 /// The same over a recorder under a lock.
-fn take_locked_turns<N: Over, R: Abort + Wait>(rt: &R, recorder: Recorder) -> Result<(), Fail>
+fn take_locked_turns<N: Over, R: Abort + AllocGlobal + Wait>(
+    rt: &R,
+    recorder: Recorder,
+) -> Result<(), Fail>
     requires { IsOver N.initial N.threads recorder }
 {
     let shared = LockedMemory::<R, N>::new(rt, recorder);
@@ -207,7 +205,10 @@ fn take_locked_turns<N: Over, R: Abort + Wait>(rt: &R, recorder: Recorder) -> Re
 }
 
 /// The passing store, over a recorder under a lock.
-fn pass_one_locked<N: Over, R: Abort + Wait>(rt: &R, recorder: Recorder) -> Result<(), Fail>
+fn pass_one_locked<N: Over, R: Abort + AllocGlobal + Wait>(
+    rt: &R,
+    recorder: Recorder,
+) -> Result<(), Fail>
     requires { IsOver N.initial N.threads recorder }
 {
     let shared = LockedMemory::<R, N>::new(rt, recorder);

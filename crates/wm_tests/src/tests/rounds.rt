@@ -142,6 +142,7 @@ impl Gate for Meeting {
     }
 }
 
+/// Both store before either loads. Without a drain each store stays in its thread's buffer, so both load Init's zero.
 #[test]
 fn two_workers_meet(rt: HostRuntime) -> Result<(), Fail> {
     let gate = Meeting {
@@ -151,9 +152,7 @@ fn two_workers_meet(rt: HostRuntime) -> Result<(), Fail> {
     let plan = plan(rt.alloc(), &BOTH, 0)?;
     let ends = round(&rt, &STORE_BUFFERING, &plan, &gate);
     drop(plan);
-    for end in &ends {
-        same(&rt, matches!(end, Some(End::Done(Some(_)))), true);
-    }
+    same(&rt, ends, [Some(End::Done(Some(0))); 2]);
     Ok(())
 }
 

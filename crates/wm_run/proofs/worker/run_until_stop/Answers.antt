@@ -10,7 +10,7 @@ returns-then-made-steps-clause-stopped g c =
     let seen = c.run.new.self.module in
     let first = config_of c.args.running.now in
     let at = config_of c.run.new.self in
-    let events = c.loop-local.events.items in
+    let events = c.loop-local.calls.events in
     let n = c.loop-local.made + c.in-Ok.local in
     let leads = leads_locally c.loop-local.running.module seen c.args.thread first (config_of c.loop-local.running) at events c.loop-local.made c.in-Ok.local
     c.in-Ok.ensures.same c.loop-local.invariant.leads c.in-Ok.ensures.made in
@@ -26,7 +26,7 @@ returns-in-Some-clause-stopped g c =
     let seen = c.run.new.self.module in
     let first = config_of c.args.running.now in
     let at = config_of c.run.new.self in
-    let events = c.loop-local.events.items in
+    let events = c.loop-local.calls.events in
     let n = c.loop-local.made + c.in-Ok.local in
     let leads = leads_locally c.loop-local.running.module seen c.args.thread first (config_of c.loop-local.running) at events c.loop-local.made c.in-Ok.local
     c.in-Ok.ensures.same c.loop-local.invariant.leads c.in-Ok.ensures.made in
@@ -43,14 +43,15 @@ loop-local-preserved g c =
     let seen = c.run.new.self.module in
     let first = config_of c.args.running.now in
     let n = c.loop-local.made + c.in-Ok.local in
-    let leads = leads_locally c.loop-local.running.module seen c.args.thread first (config_of c.loop-local.running) (config_of c.run.new.self) c.loop-local.events.items c.loop-local.made
+    let leads = leads_locally c.loop-local.running.module seen c.args.thread first (config_of c.loop-local.running) (config_of c.run.new.self) c.loop-local.calls.events c.loop-local.made
     c.in-Ok.local c.in-Ok.ensures.same c.loop-local.invariant.leads c.in-Ok.ensures.made in
-    let events = c.step.new.events.items in
+    let events = c.step.new.calls.events in
     let at = config_of c.step.new.running in
     let more = c.in_ok-stop.ensures.more in
     record {
       within = omega (arith, c.if-made-steps.false);
       program = c.in_ok-stop.ensures.same ∙ c.in-Ok.ensures.same ∙ c.loop-local.invariant.program;
       few = omega (arith, more, c.loop-local.invariant.few);
+      undrained = c.in_ok-stop.ensures.undrained ∙ c.loop-local.invariant.undrained;
       leads = subst (λ x. LeadsTo x c.args.thread first events (n + 1) at) (sym c.in_ok-stop.ensures.same) (c.in_ok-stop.ensures.made (ap Ok c.in_default.is) first n leads);
     }

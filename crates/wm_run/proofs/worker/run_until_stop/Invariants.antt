@@ -7,8 +7,9 @@ abbrev pub invariant-loop-local : goal.invariant-loop-local
 invariant-loop-local g l = record {
   within : l.made ≤ l.steps;
   program : l.running.module ≡ l.fn.running.module;
-  few : length l.events.items ≤ l.made;
-  leads : LeadsTo l.running.module l.thread (config_of l.fn.running) l.events.items l.made (config_of l.running);
+  few : length l.calls.events ≤ l.made;
+  undrained : l.calls.drains ≡ l.fn.calls.drains;
+  leads : LeadsTo l.running.module l.thread (config_of l.fn.running) l.calls.events l.made (config_of l.running);
 }
 
 abbrev pub decreases-loop-local : goal.decreases-loop-local

@@ -12,5 +12,5 @@ returns-in-Ended-clause-stopped g c =
 
 pub returns-in-Local-clause-made : goal.returns-in-Local-clause-made
 returns-in-Local-clause-made g c = λ _ first n so.
-    leads_by_local c.args.running.now c.args.thread first (config_of c.step.new.self) c.args.events.now.items n so
+    leads_by_local c.args.running.now c.args.thread first (config_of c.step.new.self) c.args.calls.now.events n so
     (c.in-Ok.ensures.needs_nothing (ap Ok c.in-Local.is) 0) (c.in-Ok.ensures.local (ap Ok c.in-Local.is))

@@ -1,6 +1,6 @@
 use Rattle.wm_recorder.specs.Locked.{MadeOnce}
 use Rattle.wm_recorder.proofs.Outcomes.{of_err, of_ok}
-use Rattle.wm_recorder.proofs.locked.LockedMemoryShared.access.Goals as goal
+use Rattle.wm_recorder.proofs.locked.LockedMemoryAccesses.access.Goals as goal
 
 pub returns-clause-made : goal.returns-clause-made
 returns-clause-made g c =

@@ -1,5 +1,0 @@
-use Rattle.std.proofs.lemmas.Result.{IfOk-weaker}
-use Rattle.wm_recorder.proofs.locked.LockedMemoryShared.drain.Goals as goal
-
-pub returns : goal.returns
-returns g c = IfOk-weaker c.drain.result _ _ (λ drained is. (c.deref_mut-held.result.now.recorder, c.drain.new.self.recorder, is)) c.drain.ensures
