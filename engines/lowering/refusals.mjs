@@ -1,16 +1,18 @@
 /** Everything in a module that has no lowering: each part with its place, the feature's name and the reason. */
 
+import { isCarried } from './floats.mjs';
 import { CODE, beginsBlock, featureOf, nameOf } from './instructions.mjs';
 import { KIND, TYPE, constantOf } from './module.mjs';
 
 export const LIMITS = { pages: 16, functions: 1_000, locals: 1_000, nesting: 64 };
 
 const REASONS = {
-  Floats: 'floats have no lowering; use integers',
-  NarrowCmpxchg: 'one of 4 bytes would be another access, and one by plain accesses not atomic; use a 32-bit variable',
-  Wait: 'a thread that waits has no lowering; spin instead',
-  Notify: 'wait and notify have no lowering; spin instead',
-  PassiveData: 'only the linker\'s own initialization is lowered, and not with thread-local variables; use active segments',
+  Floats: 'arithmetic of floats becomes integer functions with --soft-floats; without it floats can only be moved, stored and loaded',
+  NarrowCmpxchg: 'one of 4 bytes would be another access, and one by plain accesses not atomic; '
+    + 'use an aligned variable of 4 bytes: in C _Atomic unsigned in place of atomic_bool, _Atomic char or _Atomic short, '
+    + 'in Rust AtomicU32 in place of AtomicBool, AtomicU8 or AtomicU16',
+  Growth: `memory.grow would always fail, since a module has at most ${LIMITS.pages} pages; give the module fewer at first, or, if its failure is wanted, --no-growth`,
+  PassiveData: 'only the linker\'s own initialization is lowered; use active segments',
   Table: 'only a table that is never written is lowered',
   References: 'references have no lowering; compile with -mno-reference-types',
   Simd: 'vectors have no lowering; compile with -mno-simd128',
@@ -29,7 +31,7 @@ const REASONS = {
 export const refusal = (feature, place, what) => ({ feature, place, what, reason: REASONS[feature] });
 
 const FEATURE_OF_TYPE = new Map([
-  [TYPE.i32, null], [TYPE.i64, null], [TYPE.f32, 'Floats'], [TYPE.f64, 'Floats'], [TYPE.v128, 'Simd'],
+  [TYPE.i32, null], [TYPE.i64, null], [TYPE.f32, null], [TYPE.f64, null], [TYPE.v128, 'Simd'],
 ]);
 const featureOfType = (type) => (FEATURE_OF_TYPE.has(type) ? FEATURE_OF_TYPE.get(type) : 'References');
 
@@ -43,9 +45,15 @@ function typeFeatures({ params, results }) {
 /** The type of a block, if it has one of the module's function types. */
 export const blockType = (module, { args }) => (args[0] >= 0n ? module.types[Number(args[0])] : null);
 
-function* instructionFeatures(module, instruction) {
-  const { code, args } = instruction;
+/** The feature for which an instruction itself is refused; arithmetic of floats is one without `softFloats`. */
+function ownFeature(code, { softFloats }) {
   const feature = featureOf(code);
+  return feature === 'Floats' && (softFloats || isCarried(code)) ? undefined : feature;
+}
+
+function* instructionFeatures(module, instruction, options) {
+  const { code, args } = instruction;
+  const feature = ownFeature(code, options);
   if (feature) yield feature;
   const type = beginsBlock(code) ? blockType(module, instruction) : null;
   if (type && (type.params.length || type.results.length > 1)) yield 'MultiValue';
@@ -68,7 +76,7 @@ function nestingOf(instructions) {
   return deepest;
 }
 
-function* functionRefusals(module, index, place) {
+function* functionRefusals(module, index, place, options) {
   const type = module.types[module.functionTypes[index]];
   const { locals, instructions } = module.bodies[index];
   for (const feature of typeFeatures(type)) yield refusal(feature, place, 'its type');
@@ -80,7 +88,7 @@ function* functionRefusals(module, index, place) {
   const depth = nestingOf(instructions);
   if (depth > LIMITS.nesting) yield refusal('Nesting', place, `${depth} blocks`);
   for (const [number, instruction] of instructions.entries()) {
-    for (const feature of instructionFeatures(module, instruction)) {
+    for (const feature of instructionFeatures(module, instruction, options)) {
       yield refusal(feature, `${place} instruction ${number}`, nameOf(instruction.code));
     }
   }
@@ -122,8 +130,8 @@ function* moduleRefusals(module) {
 }
 
 /** All refusals of a module, of whose functions only those are looked at that can be called. `placeOf` names a function. */
-export function refusalsOf(module, called, placeOf) {
+export function refusalsOf(module, called, placeOf, options) {
   const found = [...moduleRefusals(module)];
-  for (const index of [...called].sort((a, b) => a - b)) found.push(...functionRefusals(module, index, placeOf(index)));
+  for (const index of [...called].sort((a, b) => a - b)) found.push(...functionRefusals(module, index, placeOf(index), options));
   return found;
 }

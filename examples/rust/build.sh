@@ -1,11 +1,12 @@
 #!/usr/bin/env bash
 # Makes modules that wmlab takes out of Rust programs, with Debian's rustc and libstd-rust-dev-wasm32, wasm-objdump and
 # engines/lower.
-#   examples/rust/build.sh                         each program here
-#   examples/rust/build.sh SOURCE.rs OUT.wasm      one program
-# The compiler is /usr/bin/rustc, or the one that RUSTC names. A line `// lower: OPTIONS` of a source has options for
-# engines/lower. The status is 2 if a tool is missing, or if the compiler made the atomic accesses of a program plain
-# ones; then there is no module.
+#   examples/rust/build.sh                                    each program here
+#   examples/rust/build.sh SOURCE.rs OUT.wasm [OPTION..]      one program
+# An OPTION is one of engines/lower, such as --stacks 2; a line `// lower: OPTIONS` of the source has further ones. Else
+# each exported function has a stack of its own, if it needs one (--stacks auto). The compiler is /usr/bin/rustc, or the
+# one that RUSTC names. The status is 2 if a tool is missing, or if the compiler made the atomic accesses of a program
+# plain ones; then there is no module.
 set -euo pipefail
 here=$(cd "$(dirname "${BASH_SOURCE[0]}")" && pwd)
 rustc=${RUSTC:-/usr/bin/rustc}
@@ -17,7 +18,7 @@ trap 'rm -rf "$room"' EXIT
 compile() {
     "$rustc" --edition 2021 --target wasm32-unknown-unknown --crate-type cdylib --crate-name program -O \
         -C target-cpu=mvp -C target-feature=+atomics,-bulk-memory -C lto=fat -C codegen-units=1 -C panic=abort \
-        -C strip=none -C save-temps=yes -C link-arg=-zstack-size=4096 \
+        -C strip=none -C save-temps=yes -C link-arg=-zstack-size=4096 -C link-arg=--gc-sections \
         --remap-path-prefix "$(dirname "$1")=." --out-dir "$2" "$1"
 }
 
@@ -41,11 +42,13 @@ refuse_stripped() {
 
 build() {
     local source=$1 out=$2 options
+    shift 2
     rm -rf "$room/program"
     mkdir "$room/program"
     compile "$source" "$room/program"
     refuse_stripped "$source" "$room/program"
     read -ra options < <(sed -n 's,^// lower: ,,p' "$source") || true
+    options=(--stacks auto --tls auto "${options[@]}" "$@")
     "$here/../../engines/lower" "$room/program/program.wasm" -o "$out" "${options[@]}" |
         sed "s,^,$(basename "$source"): ,"
 }
@@ -56,13 +59,13 @@ for tool in "$rustc" wasm-objdump node; do
         exit 2
     fi
 done
-if [ $# -eq 2 ]; then
-    build "$1" "$2"
+if [ $# -ge 2 ]; then
+    build "$@"
 elif [ $# -eq 0 ]; then
     for source in "$here"/*.rs; do
         build "$source" "${source%.rs}.wasm"
     done
 else
-    echo "usage: examples/rust/build.sh [SOURCE.rs OUT.wasm]" >&2
+    echo "usage: examples/rust/build.sh [SOURCE.rs OUT.wasm [OPTION..]]" >&2
     exit 2
 fi
