@@ -14,7 +14,9 @@ Then instructions of the program are changed at random, and of the modules that 
 those that node refuses, and no other.
 
 With --lowered programs also have what `engines/lower` replaces: floats, waits, memory that grows and thread-local
-variables among others. node runs them as they are, and wmlab as they are lowered; none is changed. The last line is `N passed, N failed`.
+variables among others. node runs them as they are, and wmlab as they are lowered; none is changed.
+
+The last line is `N passed, N failed`.
 """
 import copy
 import hashlib

@@ -11,7 +11,7 @@ import { GROW, WORD_BYTES, failedGrowth, growBody, sizeFromWord } from './growth
 import { CODE, beginsBlock, isFloat, nameOf } from './instructions.mjs';
 import { FLAG_WHEN_FILLED, linkerMemory } from './linker_memory.mjs';
 import { KIND, TYPE, constantOf, readModule } from './module.mjs';
-import { LIMITS, blockType, refusal, refusalsOf } from './refusals.mjs';
+import { LIMITS, blockType, refusal, refusalsOf, tooMany } from './refusals.mjs';
 import { functionsWithStack, stackPointer } from './stacks.mjs';
 import { calledFunctions, tableOf, targetsOf, unknownTable } from './tables.mjs';
 import { BLOCK_ALIGNMENT, initializers, threadLocals } from './thread_locals.mjs';
@@ -239,7 +239,7 @@ class Lowering {
     if (!this.grows()) return this.pages;
     const most = Math.min(this.module.memories[0].maximum ?? LIMITS.pages, LIMITS.pages - this.further.pages);
     if (most > this.pages) return most;
-    throw new Refused([refusal('Growth', 'module', `${this.pages} pages and ${this.further.pages} further ones`)]);
+    throw new Refused([refusal('Growth', 'module', `${this.pages} pages and ${this.further.pages} further ones leave no page to grow`)]);
   }
 
   /** Finds out what comes behind the program's pages; answers the exported functions as they are in the lowered module. */
@@ -380,7 +380,7 @@ class Lowering {
     const globals = module.globals.map((global, index) => this.global(global, index));
     const data = this.segments().map(([address, bytes]) => [0, ...constant(address), CODE.end, ...u32(bytes.length), ...bytes]);
     const total = bodies.length + this.added.list.length;
-    if (total > LIMITS.functions) throw new Refused([refusal('Functions', 'lowered module', `${total} functions`)]);
+    if (total > LIMITS.functions) throw new Refused([refusal('Functions', 'lowered module', tooMany(total, LIMITS.functions, 'functions'))]);
     const parts = [
       [SECTION.types, this.types.list], [SECTION.imports, imports],
       [SECTION.functions, [...kinds, ...this.added.list.map(({ type }) => u32(type))]],

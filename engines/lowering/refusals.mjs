@@ -28,6 +28,9 @@ const REASONS = {
   Stripped: 'the compiler made its atomic accesses plain ones; compile with -matomics and without thread-local variables',
 };
 
+/** How much a limit is passed by. */
+export const tooMany = (count, most, what) => `${count} ${what}, ${count - most} too many`;
+
 export const refusal = (feature, place, what) => ({ feature, place, what, reason: REASONS[feature] });
 
 const FEATURE_OF_TYPE = new Map([
@@ -84,9 +87,9 @@ function* functionRefusals(module, index, place, options) {
     yield refusal(feature, place, 'a local');
   }
   const count = locals.reduce((sum, local) => sum + local.count, type.params.length);
-  if (count > LIMITS.locals) yield refusal('Locals', place, `${count} of them`);
+  if (count > LIMITS.locals) yield refusal('Locals', place, tooMany(count, LIMITS.locals, 'parameters and locals'));
   const depth = nestingOf(instructions);
-  if (depth > LIMITS.nesting) yield refusal('Nesting', place, `${depth} blocks`);
+  if (depth > LIMITS.nesting) yield refusal('Nesting', place, tooMany(depth, LIMITS.nesting, 'blocks'));
   for (const [number, instruction] of instructions.entries()) {
     for (const feature of instructionFeatures(module, instruction, options)) {
       yield refusal(feature, `${place} instruction ${number}`, nameOf(instruction.code));
@@ -98,7 +101,7 @@ function* memoryRefusals(module) {
   const { memories } = module;
   if (memories.length > 1) yield refusal('SeveralMemories', 'module', `${memories.length} memories`);
   for (const { minimum } of memories) {
-    if (minimum > LIMITS.pages) yield refusal('Pages', 'module', `${minimum} pages`);
+    if (minimum > LIMITS.pages) yield refusal('Pages', 'module', tooMany(minimum, LIMITS.pages, 'pages'));
   }
   for (const [index, { offset }] of module.data.entries()) {
     const isUnknown = offset && constantOf(offset, module.globals) === null;
@@ -125,7 +128,7 @@ function* moduleRefusals(module) {
   }
   yield* memoryRefusals(module);
   if (module.bodies.length > LIMITS.functions) {
-    yield refusal('Functions', 'module', `${module.bodies.length} functions`);
+    yield refusal('Functions', 'module', tooMany(module.bodies.length, LIMITS.functions, 'functions'));
   }
 }
 

@@ -51,7 +51,8 @@ build() {
     read -ra options < <(sed -n 's,^// lower: ,,p' "$source") || true
     options=(--stacks auto --tls auto "${options[@]}" "$@")
     compile "$source" "$room/object.o"
-    # Thread-local variables need bulk memory and a linker that knows of the threads; else the compiler strips the object.
+    # Thread-local variables need bulk memory, and a linker that knows of the threads; else the compiler strips the
+    # object.
     if is_stripped "$room/object.o"; then
         compile "$source" "$room/object.o" -mbulk-memory -ftls-model=local-exec
         link=(--shared-memory --max-memory=1048576)

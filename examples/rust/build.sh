@@ -43,8 +43,9 @@ make_library() {
     source=/usr/src/rustc-$version/library/std/src/lib.rs
     [ ! -d "$library/$version" ] || return 0
     if [ ! -f "$source" ]; then
-        echo "build.sh: $1: it uses what the standard library of $rustc has for one thread only (locks, thread_local!," \
-            "threads or the allocator); with its source std is compiled for threads: apt-get install rust-src" >&2
+        echo "build.sh: $1: it uses what the standard library of $rustc has for one thread only (locks," \
+            "thread_local!, threads or the allocator); with its source std is compiled for threads:" \
+            "apt-get install rust-src" >&2
         exit 2
     fi
     echo "build.sh: compiling std for threads, once" >&2
@@ -56,11 +57,12 @@ make_library() {
         esac
         ln -s "$crate" "$made"
     done
-    for crate in alloc cfg_if compiler_builtins core dlmalloc hashbrown libc panic_abort rustc_demangle std_detect unwind; do
+    for crate in alloc cfg_if compiler_builtins core dlmalloc hashbrown libc panic_abort rustc_demangle std_detect \
+        unwind; do
         args+=(--extern "$crate=$(echo "$made/lib$crate"-*.rlib)")
     done
-    RUSTC_BOOTSTRAP=1 STD_ENV_ARCH=wasm32 "$rustc" --crate-name std --edition 2021 --crate-type rlib --target "$target" -O \
-        -C embed-bitcode=yes -C panic=abort -C codegen-units=1 -C target-cpu=mvp \
+    RUSTC_BOOTSTRAP=1 STD_ENV_ARCH=wasm32 "$rustc" --crate-name std --edition 2021 --crate-type rlib \
+        --target "$target" -O -C embed-bitcode=yes -C panic=abort -C codegen-units=1 -C target-cpu=mvp \
         -C target-feature=+atomics,+bulk-memory,+mutable-globals -C metadata=wmlab --cap-lints allow \
         -Z force-unstable-if-unmarked --cfg backtrace_in_libstd --remap-path-prefix "/usr/src/rustc-$version=." \
         -L "$made" "${args[@]}" --out-dir "$made" --sysroot "$room/none" "$source"

@@ -59,14 +59,16 @@ class CompiledCoder(FloatCode, WaitingCode, Coder):
             return super().place(width, atomic)
         most = width.bit_length() - 1
         far = FAR + self.chance.getrandbits(31) if self.chance.random() < 0.02 else 0
-        return wasm.number(most if atomic else self.chance.randint(0, most)) + wasm.number(far or width * self.chance.randint(0, 20))
+        alignment = most if atomic else self.chance.randint(0, most)
+        return wasm.number(alignment) + wasm.number(far or width * self.chance.randint(0, 20))
 
     # ---- thread-local variables
 
     def own_place(self):
         """Code for an address in the block of the thread, and how far behind it an access is."""
         base = b"\x23" + wasm.number(len(self.program.globals))
-        return [base, constant(I32, 8 * self.chance.randint(0, BLOCK_BYTES // 8 - 2)), b"\x6a"], wasm.number(self.chance.randint(0, 8))
+        start = constant(I32, 8 * self.chance.randint(0, BLOCK_BYTES // 8 - 2))
+        return [base, start, b"\x6a"], wasm.number(self.chance.randint(0, 8))
 
     def load_own(self, kind, _):
         address, offset = self.own_place()

@@ -1,5 +1,5 @@
-"""Random code that computes with floats. Every NaN that an instruction makes becomes the canonical one at once, since the
-standard leaves its bits open."""
+"""Random code that computes with floats, and code that waits. Every NaN that an instruction makes becomes the canonical
+one at once, since the standard leaves its bits open."""
 from . import wasm
 from .programs import DROP, I32, I64, PREFIX, SELECT, constant
 
@@ -17,13 +17,20 @@ BINARY = {F32: range(0x92, 0x98), F64: range(0xA0, 0xA6)}
 COPYSIGN = {F32: b"\x98", F64: b"\xa6"}
 EQUAL = {F32: b"\x5b", F64: b"\x61"}
 COMPARISONS = {F32: range(0x5B, 0x61), F64: range(0x61, 0x67)}
-CONVERSIONS = {F32: {I32: range(0xB2, 0xB4), I64: range(0xB4, 0xB6)}, F64: {I32: range(0xB7, 0xB9), I64: range(0xB9, 0xBB)}}
+CONVERSIONS = {
+    F32: {I32: range(0xB2, 0xB4), I64: range(0xB4, 0xB6)},
+    F64: {I32: range(0xB7, 0xB9), I64: range(0xB9, 0xBB)},
+}
 FROM_OTHER = {F32: b"\xb6", F64: b"\xbb"}
 OTHER = {F32: F64, F64: F32}
 FROM_BITS = {F32: b"\xbe", F64: b"\xbf"}
 TO_BITS = {F32: b"\xbc", F64: b"\xbd"}
-TRUNCATIONS = {I32: {F32: range(0xA8, 0xAA), F64: range(0xAA, 0xAC)}, I64: {F32: range(0xAE, 0xB0), F64: range(0xB0, 0xB2)}}
+TRUNCATIONS = {
+    I32: {F32: range(0xA8, 0xAA), F64: range(0xAA, 0xAC)},
+    I64: {F32: range(0xAE, 0xB0), F64: range(0xB0, 0xB2)},
+}
 SATURATING = {I32: {F32: range(0, 2), F64: range(2, 4)}, I64: {F32: range(4, 6), F64: range(6, 8)}}
+WAYS = ("unary", "binary", "binary", "sign", "copysign", "convert", "other", "bits", "load", "keep", "leaf")
 FORMAT = {F32: (8, 23), F64: (11, 52)}
 
 
@@ -31,7 +38,8 @@ def bits(chance, kind):
     """The bits of a float: special ones, numbers near 1 or an integer's range, or any."""
     exponents, fraction = FORMAT[kind]
     most, width = (1 << exponents) - 1, 1 + exponents + fraction
-    exponent = chance.choice((0, 1, most, most - 1, most // 2, most // 2 + chance.randint(-3, 66), chance.randint(0, most)))
+    near_one = most // 2 + chance.randint(-3, 66)
+    exponent = chance.choice((0, 1, most, most - 1, most // 2, near_one, chance.randint(0, most)))
     low = chance.choice((0, 1, 1 << fraction - 1, (1 << fraction) - 1, chance.getrandbits(fraction)))
     return (chance.getrandbits(1) << width - 1 | (exponent % (most + 1)) << fraction | low) % (1 << width)
 
@@ -69,7 +77,7 @@ class FloatCode:
         self.room -= 1
         if depth <= 0 or self.room < 0:
             return self.float_leaf(kind)
-        way = self.chance.choice(("unary", "binary", "binary", "sign", "copysign", "convert", "other", "bits", "load", "keep", "leaf"))
+        way = self.chance.choice(WAYS)
         if way in ("unary", "sign", "keep"):
             code = self.float_value(kind, depth - 1)
             if way == "keep":
