@@ -355,6 +355,12 @@ class Lowering {
     return [kind, mutable || isBase ? 1 : 0, ...constantOfType(kind, value), CODE.end];
   }
 
+  /** A memory at its own maximum never grows, before and after; whoever linked it so may not know. */
+  warnOfFullMemory() {
+    const isFull = this.uses((code) => code === CODE.memoryGrow) && !this.growth && this.options.growth;
+    if (isFull) this.note('warning: memory', `memory.grow always fails, since the module's own maximum is its size (pages: ${this.pages})`);
+  }
+
   noteWaiting() {
     if (this.uses(isWaiting)) this.note('module', WAITING_NOTE);
   }
@@ -374,6 +380,7 @@ class Lowering {
     const exported = this.exports(functions);
     this.noteTable();
     this.noteWaiting();
+    this.warnOfFullMemory();
     const isImported = module.imports.length > 0;
     const memories = module.memories.map((memory) => this.limits(memory));
     const imports = isImported ? [[...name(module.imports[0].module), ...name(module.imports[0].name), KIND.memory, ...memories[0]]] : [];

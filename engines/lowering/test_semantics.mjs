@@ -139,7 +139,8 @@ const SMALL = [
 
 /** How the changes of the programs here are reported: one for each kind that they need. */
 const REPORTED = [
-  /memory: made shared/, /memory\.copy replaced by a loop/, /memory\.fill replaced by a loop/, /memory\.grow made to fail/, /memory\.grow replaced by an atomic update/, /memory\.size replaced by an atomic load/,
+  /memory: made shared/, /memory\.copy replaced by a loop/, /memory\.fill replaced by a loop/, /memory\.grow made to fail/, /^warning: memory: memory\.grow always fails/,
+  /memory\.grow replaced by an atomic update/, /memory\.size replaced by an atomic load/,
   /call_indirect replaced by a chain of calls/, /i64\.extend8_s replaced by shifts/, /i64\.extend16_s replaced by shifts/,
   /atomic\.fence dropped/, /start function; each exported function calls it first/, /start function of the linker, dropped/,
   /data segment 0: passive, made active/, /select with a type replaced by select/,

@@ -48,13 +48,13 @@ function testPaths({ note }) {
   for (const [how, parts] of PATHS) {
     const bytes = modulePath(parts);
     const shared = lower(bytes);
-    note(shared.changes.some((line) => WARNING.test(line)), `${how}: shared thread-local variables are warned of`, shared.changes);
+    note(shared.changes.some((line) => WARNING.test(line)), `${how}: shared thread-local variables are warned of`);
     const common = instance(shared);
     note(common.one(1) === 8 && common.two(1) === 9, `${how}: without --tls there is one block, with its initial value`);
     const own = lower(bytes, { tls: 'each' });
     const { one, two } = instance(own);
-    note(one(1) === 8 && two(1) === 8 && two(1) === 9, `${how}: with --tls each start has a block`, own.changes);
-    note(!own.changes.some((line) => /^warning:.*thread-local/.test(line)), `${how}: then there is no warning`, own.changes);
+    note(one(1) === 8 && two(1) === 8 && two(1) === 9, `${how}: with --tls each start has a block`);
+    note(!own.changes.some((line) => /^warning:.*thread-local/.test(line)), `${how}: then there is no warning`);
   }
 }
 
@@ -65,7 +65,7 @@ export function testThreadLocals({ note }) {
   note(exports.one === undefined && exports['one.0'](1) === 8 && exports['one.1'](1) === 8, '--tls 2 makes two of each export');
   note(exports['two.0'](1) === 9, 'copies with one number share a block');
   const both = lower(LINKED, { tls: 2, stacks: 'auto' });
-  note(both.changes.some((line) => line === `export run.1: its thread-local variables begin at ${2 * PAGE + 128}, 68 bytes`), 'a block is reported', both.changes);
+  note(both.changes.some((line) => line === `export run.1: its thread-local variables begin at ${2 * PAGE + 128}, 68 bytes`), 'a block is reported');
   note(instance(lower(LINKED, { tls: 'auto' })).run(1, 0) !== 0, '--tls auto gives blocks to a module with thread-local variables');
   const without = moduleOf({ types, functions: [{ code: [0x41, 1], exported: 'a' }] });
   note(/no thread-local variables/.test(refusal(without, { tls: 2 })), '--tls for a module without them is refused');

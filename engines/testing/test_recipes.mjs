@@ -112,7 +112,7 @@ __attribute__((export_name("a"))) int a(int value) { one = (struct large){{0}}; 
 `;
 
 /** Programs that have no room to grow, and none at all: 960 and 1,024 kilobytes beside the stack. */
-const GROWING = `static char room[960 * 1024];
+const GROWING = `static volatile char room[960 * 1024];
 __attribute__((export_name("a"))) char a(int at) { return room[at] = (char)__builtin_wasm_memory_grow(0, 1); }
 `;
 const LARGE = `static volatile char room[1024 * 1024];

@@ -4,13 +4,14 @@
   (data (i32.const 0) "\00\00\00\00\01\00\00\00\02\00\00\00\03\00\00\00\00\00\00\00\00\00\00\00\01\00\00\00\00\00\00\00")
   (func $near (param i32) (result i32)
     (i32.and (local.get 0) (i32.const 31)))
-  ;; A word of the first eight, mostly; an unaligned one or one at the memory's end otherwise.
+  ;; A word of the first eight, mostly; an unaligned one or one at the memory's end otherwise, never both: of two traps
+  ;; an engine may choose one.
   (func $place (param $seed i32) (result i32)
     (if (result i32) (i32.and (local.get $seed) (i32.const 0x700))
       (then (i32.and (local.get $seed) (i32.const 28)))
       (else (if (result i32) (i32.and (local.get $seed) (i32.const 0x800))
         (then (i32.and (local.get $seed) (i32.const 31)))
-        (else (i32.sub (i32.const 65540) (i32.and (local.get $seed) (i32.const 15))))))))
+        (else (i32.sub (i32.const 65540) (i32.and (local.get $seed) (i32.const 12))))))))
   (func (export "wait32") (param $seed i32) (param $value i32) (result i32)
     (local $before i32)
     (local.set $before (i32.mul (local.get $seed) (i32.const 31)))
@@ -29,4 +30,4 @@
   (func (export "far") (param $seed i32) (param $value i32) (result i32)
     (if (i32.and (local.get $value) (i32.const 1))
       (then (return (memory.atomic.notify offset=4294967292 (local.get $seed) (local.get $value)))))
-    (memory.atomic.wait32 offset=65528 (call $near (local.get $seed)) (local.get $value) (i64.const 0))))
+    (memory.atomic.wait32 offset=65528 (i32.and (local.get $seed) (i32.const 28)) (local.get $value) (i64.const 0))))
