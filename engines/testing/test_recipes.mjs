@@ -70,6 +70,8 @@ async function testProgram({ note, leftOut, wmlab, room, isSame, isTried }, reci
   const isBuilt = made.status === 0 && existsSync(out);
   if (!isBuilt && !isTried) {
     leftOut(name, `this version of ${recipe.tools[0]}, which was not tried, does not build it: ${made.err.trim().split('\n')[0]}`);
+  } else if (!isBuilt && /apt-get install rust-src/.test(made.err)) {
+    leftOut(name, 'it needs std for threads, and its source is not there: apt-get install rust-src');
   } else if (!isBuilt) {
     note(false, `${name} is built`, made);
   } else if (isSame) {
@@ -185,6 +187,10 @@ function testStrippedRust({ note, room }) {
   const stripped = build(RUST, source, out, { RUSTC: compiler });
   const isNamed = /atomic accesses plain ones/.test(stripped.err);
   note(stripped.status === 2 && !existsSync(out) && isNamed, 'Rust without atomics is refused, and the cause named', stripped);
+  writeFileSync(compiler, `#!/bin/bash\n[ "$*" = --version ] && exec echo 'rustc 9.9.9'\nexec ${RUSTC} "$@"\n`);
+  const single = build(RUST, join(EXAMPLES, 'rust', 'std-mutex.rs'), out, { RUSTC: compiler });
+  const isAsked = /one thread only .*apt-get install rust-src/.test(single.err);
+  note(single.status === 2 && !existsSync(out) && isAsked, 'std\'s locks without the source of std are refused', single);
   const missing = build(RUST, source, out, { RUSTC: join(room, 'none') });
   note(missing.status === 2 && /apt-get install/.test(missing.err), 'a missing Rust compiler is named', missing);
 }

@@ -95,9 +95,10 @@ class Program:
     """Functions over one shared memory of a page, each exported by its name `f0`, `f1` and so on, as the memory is by
     `m`. A function calls only those before it. The types of a module are the first ones and that of each function."""
 
-    first_types = ()
+    first_types: tuple[bytes, ...] = ()
     # The pages at first, and those that the memory may grow to.
-    pages, most_pages = 1, None
+    pages: int = 1
+    most_pages: int | None = None
 
     def __init__(self, chance):
         kinds = (I32, I64)
