@@ -5,6 +5,7 @@ import { accessSync, appendFileSync, constants, readFileSync, realpathSync, stat
 import { dirname } from 'node:path';
 import { fileURLToPath } from 'node:url';
 import { openRecorder } from './engines.mjs';
+import { sharedStarts } from '../lowering/shared_starts.mjs';
 import { cutComplaint, fitEvents } from '../shared/bound.mjs';
 import { endOnLostOutput } from '../shared/command_line.mjs';
 import { UserError, withFile } from '../shared/errors.mjs';
@@ -132,6 +133,9 @@ async function main(args) {
   process.once('SIGINT', () => { stop.requested = true; });
   const recorder = await openRecorder(bytes, options);
   try {
+    for (const name of sharedStarts(bytes, options.starts.map((start) => start.name))) {
+      console.error(`record.mjs: warning: threads that start with ${name} share its stack or thread-local variables; lower with --stacks N or --tls N`);
+    }
     const campaign = new Campaign(options, recorder, judge, stop);
     await campaign.record();
     await campaign.keepOutcomes();

@@ -251,6 +251,10 @@ function testBound({ note, wmlab, folder }) {
   note(given.status === 0 && !/were cut/.test(given.out), 'with --events no bound is looked for', given);
   const cut = record(folder, [...words, '--events', '8', ...spinning]);
   note(cut.status === 1 && /^each run was cut, so that no log is of a whole run; /m.test(cut.out), 'a recording of cut runs alone is no success', cut);
+  const shared = record(folder, [...words, example('c/thread-locals'), 'first', 'first']);
+  note(/^record\.mjs: warning: threads that start with first share its stack /.test(shared.err), 'two threads of a start with thread-local variables of its own are warned of', shared);
+  const apart = record(folder, [...words, example('c/thread-locals'), 'first', 'second']);
+  note(apart.status === 0 && apart.err === '', 'threads of two starts are not', apart);
   const quick = record(folder, [...words, BUFFERS, 'a', 'b']);
   note(quick.status === 0 && !/cut/.test(quick.out), 'a program that ends soon has no line on cut runs', quick);
   const endless = record(folder, [...words, '--rounds', '2', example('c/condition-variable'), 'consumer']);
