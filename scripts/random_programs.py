@@ -14,8 +14,10 @@ by a second reading of the code.
 Then instructions of the program are changed at random, and of the modules that come of it `wmlab check` has to refuse
 those that node refuses, and no other.
 
-With --lowered programs also have what `engines/lower` replaces. node runs them as they are, and wmlab as they are
-lowered; none is changed. The last line is `N passed, N failed`.
+With --lowered programs also have what `engines/lower` replaces: floats, waits, memory that grows and thread-local
+variables among others. node runs them as they are, and wmlab as they are lowered; none is changed.
+
+The last line is `N passed, N failed`.
 """
 import copy
 import hashlib
@@ -26,7 +28,7 @@ import subprocess
 import tempfile
 
 from wmlabtools import TOP, generated, harness, v8
-from wmlabtools.compiled import CompiledProgram
+from wmlabtools.compiled import BLOCK_AT, CompiledProgram
 from wmlabtools.explained import Difference, expect, expect_run
 from wmlabtools.flow import path_fault
 from wmlabtools.log import MAX_EVENTS
@@ -37,6 +39,8 @@ TRAPS = {
     # What a lowered call through a table does.
     "table index is out of bounds": "unreachable",
     "null function or function signature mismatch": "unreachable",
+    # What an integer function does that truncates a float.
+    "float unrepresentable in integer range": "unreachable",
 }
 # V8 reports the bounds of an atomic access that breaks both rules.
 SAME_TRAP = ("trap:out-of-bounds", "trap:unaligned")
@@ -66,10 +70,22 @@ class Case:
             change(chance, program)
             self.changed.append(program.module())
 
+    def layout(self):
+        """What node has to know of the memory of a program that is lowered."""
+        if not self.is_lowered:
+            return {}
+        own = self.program.own
+        block = None if own is None else {"at": BLOCK_AT, "bytes": own.hex()}
+        return {"pages": self.program.most_pages or self.program.pages, "block": block}
+
+    def lowered_place(self, address, index):
+        """Where the bytes at an address of wmlab's module are in node's; None if they are not there."""
+        return self.program.lowered_place(address, index) if self.is_lowered else address
+
     def requests(self):
         """What node is asked: the calls, and whether the changed modules are valid."""
         calls = [{"name": f"f{index}", "args": args} for index, args in enumerate(self.calls)]
-        yield {"module": self.program.module().hex(), "calls": calls}
+        yield {"module": self.program.module().hex(), "calls": calls, **self.layout()}
         for module in self.changed:
             yield {"module": module.hex(), "calls": []}
 
@@ -89,14 +105,15 @@ def end_in_node(call):
     return "-" if call["result"] is None else call["result"]
 
 
-def memory_digest(program, events):
-    """The digest of the memory after these events of the only thread."""
-    memory = program.memory()
+def memory_digest(case, index, events):
+    """The digest of the memory after these events of the only thread, which started with function `index`."""
+    memory = case.program.memory()
     for event in events:
         if event[0] != "r":
-            address, width = event[2:4]
+            address, width = case.lowered_place(event[2], index), event[3]
             value = event[4] if event[0] == "w" else event[5]
-            memory[address : address + width] = value.to_bytes(width, "little")
+            if address is not None:
+                memory[address : address + width] = value.to_bytes(width, "little")
     return hashlib.sha256(memory).hexdigest()
 
 
@@ -114,7 +131,7 @@ def call_fault(wmlab, case, path, index, call):
     if end == "cut" and (thread[3] == STEPS or len(thread[4]) == MAX_EVENTS):
         return IS_CUT
     # node has no memory if the start function traps.
-    memory = call["memory"] and memory_digest(case.program, thread[4])
+    memory = call["memory"] and memory_digest(case, index, thread[4])
     if not alike or memory != call["memory"]:
         return start, "node", call, "wmlab", out
     # A module that was lowered has other instructions.
@@ -177,7 +194,8 @@ def lowered_module(module, folder):
     source, path = os.path.join(folder, "source.wasm"), os.path.join(folder, "lowered.wasm")
     with open(source, "wb") as file:
         file.write(module)
-    words = [os.path.join(TOP, "engines", "lower"), source, "-o", path, "--quiet"]
+    words = [os.path.join(TOP, "engines", "lower"), source, "-o", path, "--quiet", "--soft-floats"]
+    words += ["--tls", "auto"]
     ran = subprocess.run(words, capture_output=True, text=True, check=False)
     if ran.returncode:
         return None, ran.stderr

@@ -14,7 +14,8 @@ const TASKS = {
     recorder = new Recorder(bytesOf(module), starts.map(parseStart), options, startThread);
     return {};
   },
-  async round({ seed, items }) {
+  async round({ seed, items, events }) {
+    if (events !== undefined) recorder.setEvents(events);
     const { ends, document, isOpen, turns } = await recorder.round(seed, items);
     return { ends: json(ends), document, isOpen, turns };
   },

@@ -89,8 +89,13 @@ class BrowserRecorder {
     Object.assign(this, { browser, initial, version: browser.version });
   }
 
+  /** Sets the most events of a round. */
+  setEvents(events) {
+    this.events = events;
+  }
+
   async round(seed, items = null) {
-    const { ends, document, isOpen, turns } = await this.browser.ask({ kind: 'round', seed, items });
+    const { ends, document, isOpen, turns } = await this.browser.ask({ kind: 'round', seed, items, events: this.events });
     return { ends: parse(ends), document, isOpen, turns };
   }
 

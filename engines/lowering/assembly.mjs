@@ -11,10 +11,14 @@ export const get = (local) => [CODE.localGet, ...u32(local)];
 export const set = (local) => [CODE.localSet, ...u32(local)];
 export const call = (index) => [CODE.call, ...u32(index)];
 export const constant = (value) => [CODE.i32Const, ...s32(value)];
-const longConstant = (value) => [CODE.i64Const, ...s32(value)];
-const branch = (label) => [CODE.branch, ...u32(label)];
-const block = (code, ...contents) => [code, EMPTY_BLOCK, ...contents.flat(), CODE.end];
-const condition = (...contents) => block(CODE.if, ...contents);
+export const longConstant = (value) => [CODE.i64Const, ...s32(value)];
+export const branch = (label) => [CODE.branch, ...u32(label)];
+export const branchIf = (label) => [CODE.branchIf, ...u32(label)];
+export const block = (code, ...contents) => [code, EMPTY_BLOCK, ...contents.flat(), CODE.end];
+export const condition = (...contents) => block(CODE.if, ...contents);
+
+/** The bytes of an instruction whose code has a prefix, without its immediates. */
+export const prefixed = (code) => [code >> 8, ...u32(code & 0xff)];
 
 /** A function's locals, all i32, and its code, with their size. */
 export function body(localCount, ...code) {
@@ -46,6 +50,9 @@ export function signExtension(code) {
 
 const long = (local) => [...get(local), CODE.i64ExtendI32U];
 
+/** The address in a local with an offset, as an i64. */
+export const effectiveAddress = (local, offset) => [...long(local), ...constantOfType(TYPE.i64, BigInt(offset)), CODE.i64Add];
+
 /** Whether the range from the address in one local, as long as another local states, ends past the memory: an i32. */
 const isPastMemory = (address, count) => [
   ...long(address), ...long(count), CODE.i64Add,
@@ -53,7 +60,7 @@ const isPastMemory = (address, count) => [
 ];
 
 /** A load that is out of bounds in every memory: it traps as the instruction would. */
-const trapOutOfBounds = [...constant(-1), CODE.i32Load8U, 0, ...u32(0xffff_ffff), CODE.drop];
+export const trapOutOfBounds = [...constant(-1), CODE.i32Load8U, 0, ...u32(0xffff_ffff), CODE.drop];
 
 const sum = (one, other) => [...get(one), ...get(other), CODE.i32Add];
 const loadByte = [CODE.i32Load8U, 0, 0];
@@ -96,11 +103,11 @@ export function dispatchBody(parameterCount, targets) {
   return body(0, ...cases, [CODE.unreachable]);
 }
 
-/** An exported function: it sets the stack pointer and calls the start function, if they are given, and then a function. */
-export function entryBody({ parameterCount, target, start = null, stack = null }) {
+/** An exported function: it sets globals to addresses, calls the start function, if there is one, and then a function. */
+export function entryBody({ parameterCount, target, start = null, places }) {
   const operands = Array.from({ length: parameterCount }, (_, index) => get(index));
-  const moved = stack ? [...constant(stack.top), CODE.globalSet, ...u32(stack.pointer)] : [];
-  return body(0, moved, start === null ? [] : call(start), ...operands, call(target));
+  const moved = places.map(({ global, address }) => [...constant(address), CODE.globalSet, ...u32(global)]);
+  return body(0, ...moved, start === null ? [] : call(start), ...operands, call(target));
 }
 
 export const UNREACHABLE_BODY = body(0, [CODE.unreachable]);

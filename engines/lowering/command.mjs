@@ -14,7 +14,12 @@ OPTIONS
     -o, --out FILE      the lowered module
     --stacks each       each exported function starts with a stack of its own
     --stacks N          each exported function NAME becomes NAME.0 to NAME.N-1, each with a stack of its own
+    --stacks auto       each, if the program uses the stack; with --tls N as many
+    --stacks none       all threads start with the one stack of the module; this is the default
     --stack-bytes N     the size of such a stack, a multiple of 16 (4096)
+    --tls WORD          the same words for thread-local variables: each start has a block of them with their initial values
+    --soft-floats       arithmetic of floats becomes integer functions; the bits of a NaN may differ
+    --no-growth         memory.grow always fails; else the module has the pages up to its maximum, of at most 16
     --quiet             print no changes
     --help              print this text
 
@@ -26,7 +31,7 @@ EXIT STATUS
     3    a fault of this program
 `;
 
-const MOST_STACKS = 16;
+const MOST_COPIES = 16;
 const MOST_STACK_BYTES = 1_048_576;
 
 /** What the words of a command line ask for, or null for `--help`. */
@@ -35,7 +40,9 @@ function optionsOf(args) {
     args,
     allowPositionals: true,
     options: {
-      out: { ...TEXT, short: 'o' }, stacks: TEXT, 'stack-bytes': TEXT, quiet: { type: 'boolean' }, ...HELP,
+      out: { ...TEXT, short: 'o' }, stacks: TEXT, 'stack-bytes': TEXT, tls: TEXT, 'no-growth': { type: 'boolean' },
+      'soft-floats': { type: 'boolean' },
+      quiet: { type: 'boolean' }, ...HELP,
     },
   });
   if (values.help) return null;
@@ -43,14 +50,23 @@ function optionsOf(args) {
     throw new UserError(`${positionals.length} modules are given; expected one; --help prints the usage`);
   }
   if (values.out === undefined) throw new UserError('no output is given; write -o OUT.wasm');
-  const { stacks = null, quiet = false, out } = values;
+  const { stacks = 'none', tls = 'none', quiet = false, out } = values;
   const stackBytes = countOf('stack-bytes', values['stack-bytes'] ?? '4096', MOST_STACK_BYTES);
   if (stackBytes % 16) throw new UserError(`--stack-bytes ${stackBytes}: expected a multiple of 16`);
-  if (values['stack-bytes'] !== undefined && stacks === null) {
+  if (values['stack-bytes'] !== undefined && stacks === 'none') {
     throw new UserError('--stack-bytes needs --stacks, without which all threads have the one stack of the module');
   }
-  const count = stacks === null || stacks === 'each' ? stacks : countOf('stacks', stacks, MOST_STACKS);
-  return { module: positionals[0], out, quiet, stackBytes, stacks: count };
+  return {
+    module: positionals[0], out, quiet, stackBytes,
+    stacks: copiesOf('stacks', stacks), tls: copiesOf('tls', tls), growth: !values['no-growth'],
+    softFloats: values['soft-floats'] ?? false,
+  };
+}
+
+/** What `--stacks` or `--tls` is: null, `each`, `auto` or a number. */
+function copiesOf(name, word) {
+  if (word === 'none') return null;
+  return word === 'each' || word === 'auto' ? word : countOf(name, word, MOST_COPIES);
 }
 
 /** Refuses what is not a module, in V8's words. */

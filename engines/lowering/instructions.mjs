@@ -10,13 +10,15 @@ import { UserError } from '../shared/errors.mjs';
 /** The codes that the lowering treats on their own. */
 export const CODE = {
   unreachable: 0x00, block: 0x02, loop: 0x03, if: 0x04, else: 0x05, end: 0x0b, branch: 0x0c, branchTable: 0x0e,
-  return: 0x0f, call: 0x10, callIndirect: 0x11, drop: 0x1a, select: 0x1b, typedSelect: 0x1c, localGet: 0x20,
+  branchIf: 0x0d, return: 0x0f, call: 0x10, callIndirect: 0x11, drop: 0x1a, select: 0x1b, typedSelect: 0x1c, localGet: 0x20,
   localSet: 0x21, globalGet: 0x23, globalSet: 0x24, i32Load8U: 0x2d, i32Store8: 0x3a, memorySize: 0x3f,
-  memoryGrow: 0x40, i32Const: 0x41, i64Const: 0x42, i32Eq: 0x46, i32LtU: 0x49, i32LeU: 0x4d, i64GtU: 0x56,
-  i32Add: 0x6a, i32Sub: 0x6b, i32Mul: 0x6c, i32Or: 0x72, i32Shl: 0x74, i32ShrS: 0x75, i64Add: 0x7c, i64Sub: 0x7d,
-  i64Mul: 0x7e, i64Shl: 0x86, i64ShrS: 0x87, i64ExtendI32U: 0xad, refNull: 0xd0, refFunc: 0xd2, memoryInit: 0xfc08,
-  dataDrop: 0xfc09, memoryCopy: 0xfc0a, memoryFill: 0xfc0b, notify: 0xfe00, wait32: 0xfe01, fence: 0xfe03,
-  i32AtomicStore: 0xfe17, i32AtomicExchange: 0xfe48,
+  memoryGrow: 0x40, i32Const: 0x41, i64Const: 0x42, f32Const: 0x43, f64Const: 0x44, i32Eqz: 0x45, i32Eq: 0x46, i32Ne: 0x47, i32LtU: 0x49, i32GtU: 0x4b,
+  i32LeU: 0x4d, i64Ne: 0x52, i64LtS: 0x53, i64GtU: 0x56, i32Add: 0x6a, i32Sub: 0x6b, i32Mul: 0x6c, i32And: 0x71,
+  i32Or: 0x72, i32Xor: 0x73, i32Shl: 0x74, i32ShrS: 0x75, i64Add: 0x7c, i64Sub: 0x7d, i64Mul: 0x7e, i64And: 0x83, i64Or: 0x84,
+  i64Xor: 0x85, i64Shl: 0x86, i64ShrS: 0x87,
+  i64ExtendI32U: 0xad, refNull: 0xd0, refFunc: 0xd2, memoryInit: 0xfc08, dataDrop: 0xfc09, memoryCopy: 0xfc0a,
+  memoryFill: 0xfc0b, notify: 0xfe00, wait32: 0xfe01, wait64: 0xfe02, fence: 0xfe03, i32AtomicLoad: 0xfe10,
+  i64AtomicLoad: 0xfe11, i32AtomicStore: 0xfe17, i32AtomicCmpxchg: 0xfe48,
 };
 
 const NAMES = new Map([
@@ -27,7 +29,7 @@ const NAMES = new Map([
   [CODE.memoryInit, 'memory.init'], [CODE.dataDrop, 'data.drop'], [CODE.memoryCopy, 'memory.copy'],
   [CODE.memoryFill, 'memory.fill'], [0xfc0c, 'table.init'], [0xfc0d, 'elem.drop'], [0xfc0e, 'table.copy'],
   [0xfc0f, 'table.grow'], [0xfc10, 'table.size'], [0xfc11, 'table.fill'],
-  [CODE.notify, 'memory.atomic.notify'], [CODE.wait32, 'memory.atomic.wait32'], [0xfe02, 'memory.atomic.wait64'],
+  [CODE.notify, 'memory.atomic.notify'], [CODE.wait32, 'memory.atomic.wait32'], [CODE.wait64, 'memory.atomic.wait64'],
   [CODE.fence, 'atomic.fence'], [0xfe4a, 'i32.atomic.rmw8.cmpxchg_u'], [0xfe4b, 'i32.atomic.rmw16.cmpxchg_u'],
   [0xfe4c, 'i64.atomic.rmw8.cmpxchg_u'], [0xfe4d, 'i64.atomic.rmw16.cmpxchg_u'],
   [0xfe4e, 'i64.atomic.rmw32.cmpxchg_u'],
@@ -56,7 +58,7 @@ export const nameOf = (code) => NAMES.get(code) ?? `opcode ${code.toString(16).p
 
 const between = (code, first, last) => code >= first && code <= last;
 
-const isFloat = (code) => between(code, 0x2a, 0x2b) || between(code, 0x38, 0x39) || between(code, 0x43, 0x44)
+export const isFloat = (code) => between(code, 0x2a, 0x2b) || between(code, 0x38, 0x39) || between(code, 0x43, 0x44)
   || between(code, 0x5b, 0x66) || between(code, 0x8b, 0xa6) || between(code, 0xa8, 0xab) || between(code, 0xae, 0xbf)
   || between(code, 0xfc00, 0xfc07);
 
@@ -64,8 +66,6 @@ const isFloat = (code) => between(code, 0x2a, 0x2b) || between(code, 0x38, 0x39)
 const FEATURES = [
   ['Floats', isFloat],
   ['NarrowCmpxchg', (code) => between(code, 0xfe4a, 0xfe4e)],
-  ['Notify', (code) => code === CODE.notify],
-  ['Wait', (code) => between(code, 0xfe01, 0xfe02)],
   ['PassiveData', (code) => between(code, CODE.memoryInit, CODE.dataDrop)],
   ['Table', (code) => between(code, 0x25, 0x26) || between(code, 0xfc0c, 0xfc11)],
   ['References', (code) => between(code, 0xd0, 0xd6)],
@@ -120,8 +120,8 @@ function immediates(reader, code) {
   if (ONE_NUMBER.has(code)) return [signed(reader)];
   if (code === CODE.branchTable) return labels(reader);
   if (code === CODE.typedSelect) return reader.take(reader.u32());
-  if (code === 0x43) return reader.take(4);
-  if (code === 0x44) return reader.take(8);
+  if (code === CODE.f32Const) return reader.take(4);
+  if (code === CODE.f64Const) return reader.take(8);
   if (between(code, 0x28, 0x3e) || code >= 0xfe00) return memoryArgument(reader);
   if (between(code, 0xfd00, 0xfdff)) return simdImmediates(reader, code);
   if (code > 0xd6 && code < 0xfc00) throw new UserError(`${nameOf(code)} at byte ${reader.at}: it is not known`);

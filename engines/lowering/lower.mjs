@@ -5,12 +5,17 @@ import { HEADER, SECTION, name, section, u32, vector } from '../shared/binary.mj
 import {
   UNREACHABLE_BODY, call, constant, constantOfType, copyBody, dispatchBody, entryBody, fillBody, signExtension,
 } from './assembly.mjs';
-import { CODE, beginsBlock, nameOf } from './instructions.mjs';
+import { carried, integerType, isFloatType, softFloat } from './floats.mjs';
+import { FurtherPages, PAGE_BYTES, entriesOf } from './further_pages.mjs';
+import { GROW, WORD_BYTES, failedGrowth, growBody, sizeFromWord } from './growth.mjs';
+import { CODE, beginsBlock, isFloat, nameOf } from './instructions.mjs';
 import { FLAG_WHEN_FILLED, linkerMemory } from './linker_memory.mjs';
 import { KIND, TYPE, constantOf, readModule } from './module.mjs';
-import { LIMITS, blockType, refusal, refusalsOf } from './refusals.mjs';
-import { PAGE_BYTES, entriesWithStacks, functionsWithStack, stackPointer } from './stacks.mjs';
+import { LIMITS, blockType, refusal, refusalsOf, tooMany } from './refusals.mjs';
+import { functionsWithStack, stackPointer } from './stacks.mjs';
 import { calledFunctions, tableOf, targetsOf, unknownTable } from './tables.mjs';
+import { BLOCK_ALIGNMENT, initializers, threadLocals } from './thread_locals.mjs';
+import { WAITING_NOTE, isWaiting, waitingFunction } from './waiting.mjs';
 
 /** A module has parts without a lowering: `refusals` lists them all. */
 export class Refused extends UserError {
@@ -24,8 +29,9 @@ export class Refused extends UserError {
 class Types {
   list = [];
 
+  /** The number of a type, whose floats become integers. */
   number(params, results) {
-    const bytes = [0x60, ...u32(params.length), ...params, ...u32(results.length), ...results];
+    const bytes = [0x60, ...vector(params.map(integerType)), ...vector(results.map(integerType))];
     const known = this.list.findIndex((other) => other.join() === bytes.join());
     return known < 0 ? this.list.push(bytes) - 1 : known;
   }
@@ -59,9 +65,14 @@ class Lowering {
     this.linker = linkerMemory(module);
     this.start = this.linker ? null : module.start;
     this.table = tableOf(module);
-    this.called = calledFunctions(module, this.table, this.start);
+    this.initializers = initializers(module);
+    this.exported = module.exports.filter(({ kind, index }) => kind === KIND.function && !this.initializers.has(index));
+    this.called = calledFunctions(module, this.table, this.exported, this.start);
+    this.locals = threadLocals(module, this.linker, this.called);
     this.pages = module.memories[0]?.minimum ?? 0;
-    this.morePages = 0;
+    this.further = new FurtherPages();
+    this.blocks = [];
+    this.growth = null;
   }
 
   placeOf = (index) => {
@@ -79,7 +90,7 @@ class Lowering {
   }
 
   refuseWhatHasNoLowering() {
-    const refusals = refusalsOf(this.module, this.called, this.placeOf);
+    const refusals = refusalsOf(this.module, this.called, this.placeOf, this.options);
     this.warnOfPlainAccesses();
     const unknown = this.usesTable() ? unknownTable(this.module) : null;
     if (unknown) refusals.push(refusal('Table', 'module', unknown));
@@ -88,13 +99,18 @@ class Lowering {
 
   /** A compiler that made atomic accesses plain ones leaves no trace in a linked module but this one. */
   warnOfPlainAccesses() {
-    const isAtomic = ({ code }) => code >= 0xfe00;
-    const hasAtomic = [...this.called].some((index) => this.module.bodies[index].instructions.some(isAtomic));
-    if (!hasAtomic) this.note('warning: module', 'no atomic access; the compiler may have made them plain ones');
+    if (!this.uses((code) => code >= 0xfe00)) {
+      this.note('warning: module', 'no atomic access; the compiler may have made them plain ones');
+    }
+  }
+
+  /** Whether a function that can be called has an instruction of which this holds. */
+  uses(holds) {
+    return [...this.called].some((index) => this.module.bodies[index].instructions.some(({ code }) => holds(code)));
   }
 
   usesTable() {
-    return [...this.called].some((index) => this.module.bodies[index].instructions.some(({ code }) => code === CODE.callIndirect));
+    return this.uses((code) => code === CODE.callIndirect);
   }
 
   /** What takes the place of an instruction, and how the report calls it; null if the instruction stays. */
@@ -102,24 +118,46 @@ class Lowering {
     const { code, args } = instruction;
     if (code === CODE.fence) return [[], 'dropped'];
     if (code >= 0xc0 && code <= 0xc4) return [signExtension(code), 'replaced by shifts'];
-    if (code === CODE.memoryGrow) return [[CODE.drop, ...constant(-1)], 'made to fail'];
-    if (code === CODE.memorySize && this.morePages) {
-      return [constant(this.pages), `replaced by ${this.pages}, without the pages of the stacks`];
-    }
+    if (code === CODE.memoryGrow) return this.grow();
+    if (code === CODE.memorySize) return this.size();
+    if (isWaiting(code)) return this.waiting(instruction);
     if (code === CODE.memoryCopy) return [call(this.added.once('copy', THREE_OPERANDS, copyBody)), 'replaced by a loop over bytes'];
     if (code === CODE.memoryFill) return [call(this.added.once('fill', THREE_OPERANDS, fillBody)), 'replaced by a loop over bytes'];
     if (code === CODE.callIndirect) return this.dispatch(args[0]);
     if (code === CODE.typedSelect) return [[CODE.select], 'replaced by select'];
-    if (beginsBlock(code) && blockType(this.module, instruction)) {
-      return [[code, blockType(this.module, instruction).results[0] ?? 0x40], 'its type is written without an index'];
-    }
-    return null;
+    if (beginsBlock(code)) return this.block(instruction);
+    return isFloat(code) ? carried(instruction, this.added) ?? softFloat(instruction, this.added) : null;
+  }
+
+  /** A block whose type has an index, or is a float. */
+  block(instruction) {
+    const { code, args } = instruction;
+    const type = blockType(this.module, instruction);
+    if (type) return [[code, integerType(type.results[0]) ?? 0x40], 'its type is written without an index'];
+    const result = Number(BigInt.asUintN(7, args[0]));
+    return isFloatType(result) ? [[code, integerType(result)], 'its type is that of the bits'] : null;
+  }
+
+  grow() {
+    if (!this.growth) return [failedGrowth(this.pages), `made to fail: the memory has ${this.pages} pages for good`];
+    const { most } = this.growth;
+    return [call(this.added.once('grow', GROW, () => growBody(this.growth))), `replaced by an atomic update (up to ${most} pages)`];
+  }
+
+  size() {
+    if (this.growth) return [sizeFromWord(this.growth.word), 'replaced by an atomic load'];
+    return this.further.pages ? [constant(this.pages), `replaced by ${this.pages}, without further pages`] : null;
+  }
+
+  waiting(instruction) {
+    const { key, type, makeBytes, text } = waitingFunction(instruction);
+    return [call(this.added.once(key, type, makeBytes)), text];
   }
 
   dispatch(typeIndex) {
     const { params, results } = this.module.types[typeIndex];
     const targets = targetsOf(this.module, this.table, typeIndex);
-    const key = `dispatch ${params} ${results}`;
+    const key = `dispatch ${params} to ${results}`;
     const type = { params: [...params, TYPE.i32], results };
     const number = this.added.once(key, type, () => dispatchBody(params.length, targets));
     return [call(number), `replaced by a chain of calls (functions: ${targets.length})`];
@@ -129,11 +167,11 @@ class Lowering {
   body(index) {
     const place = this.placeOf(index);
     if (!this.called.has(index)) {
-      if (index !== this.linker?.start) this.note(place, 'never called; its body is replaced by unreachable');
+      if (index !== this.linker?.start && !this.initializers.has(index)) this.note(place, 'never called; its body is replaced by unreachable');
       return UNREACHABLE_BODY;
     }
     const { locals, instructions } = this.module.bodies[index];
-    const bytes = [...vector(locals.map(({ count, type }) => [...u32(count), type]))];
+    const bytes = [...vector(locals.map(({ count, type }) => [...u32(count), integerType(type)]))];
     for (const [number, instruction] of instructions.entries()) {
       const replaced = this.replacement(instruction);
       if (replaced) this.note(`${place} instruction ${number}`, `${nameOf(instruction.code)} ${replaced[1]}`);
@@ -148,44 +186,110 @@ class Lowering {
     return this.types.number(params, results);
   }
 
-  warnOfSharedStack([first, ...others]) {
+  warnOfUsers([first, ...others], text) {
     const more = others.length ? ` and ${others.length} more` : '';
-    this.note(
-      `warning: ${this.placeOf(first)}${more}`,
-      'the stack pointer moves; all threads start with one stack; --stacks gives each its own',
-    );
+    this.note(`warning: ${this.placeOf(first)}${more}`, text);
   }
 
-  /** Finds out where the stacks are; answers the exported functions as they are in the lowered module. */
-  placeStacks() {
-    const functions = this.module.exports.filter(({ kind }) => kind === KIND.function);
+  /** What `auto` stands for: as many as there are of the other kind, or one for each export; nothing if none is needed. */
+  resolveAuto() {
+    const { stacks, tls } = this.options;
     const pointer = stackPointer(this.module);
-    const users = pointer === null ? [] : functionsWithStack(this.module, this.called, pointer);
-    const { stacks, stackBytes } = this.options;
-    if (stacks === null) {
-      if (users.length) this.warnOfSharedStack(users);
-      return functions;
-    }
-    if (pointer === null) throw new UserError('--stacks: the module has no stack pointer, so that its threads need no stacks');
-    const copies = stacks === 'each' ? 0 : stacks;
-    const base = this.pages * PAGE_BYTES;
-    const { entries, count } = entriesWithStacks(functions, { copies, size: stackBytes, base, pointer });
-    this.morePages = Math.ceil((count * stackBytes) / PAGE_BYTES);
-    if (this.pages + this.morePages > LIMITS.pages) {
-      const pages = this.pages + this.morePages;
-      throw new UserError(`--stacks: ${count} stacks of ${stackBytes} bytes make ${pages} pages; expected at most ${LIMITS.pages}`);
-    }
-    for (const { name: entry, stack } of entries) {
-      this.note(`export ${entry}`, `its stack begins at ${stack.top}, ${stackBytes} bytes down`);
-    }
-    return entries;
+    this.stackUsers = pointer === null ? [] : functionsWithStack(this.module, this.called, pointer);
+    const resolved = (own, other, isNeeded) => (own !== 'auto' ? own : isNeeded ? (Number.isInteger(other) ? other : 'each') : null);
+    this.options = {
+      ...this.options, stacks: resolved(stacks, tls, this.stackUsers.length > 0), tls: resolved(tls, stacks, this.locals !== null),
+    };
+    return pointer;
   }
 
-  /** The number of the function that an export names: one that sets the stack pointer or calls the start function first. */
-  entry({ index, stack = null }) {
-    if (!stack && this.start === null) return index;
+  /** The stack pointer, if each thread has a stack of its own; else null. */
+  ownPointer(pointer) {
+    if (this.options.stacks !== null) {
+      if (pointer === null) throw new UserError('--stacks: the module has no stack pointer, so that its threads need no stacks');
+      return pointer;
+    }
+    if (this.stackUsers.length) {
+      this.warnOfUsers(this.stackUsers, 'the stack pointer moves; all threads start with one stack; --stacks gives each its own');
+    }
+    return null;
+  }
+
+  /** How many blocks of thread-local variables are made. */
+  blockCount(entryCount) {
+    const { locals, options: { tls } } = this;
+    if (tls !== null) {
+      if (!locals) throw new UserError('--tls: the module has no thread-local variables');
+      if (!locals.image) throw new UserError('--tls: the initial values of the thread-local variables are not found');
+      return entryCount;
+    }
+    if (!locals) return 0;
+    this.warnOfUsers(locals.users, 'thread-local variables; all threads share one block of them; --tls gives each its own');
+    return locals.isPlaced || !locals.image ? 0 : 1;
+  }
+
+  /** Whether the memory grows: not if it is at its maximum, or if that is asked for. */
+  grows() {
+    const { minimum, maximum } = this.module.memories[0] ?? {};
+    return this.uses((code) => code === CODE.memoryGrow) && this.options.growth && maximum !== minimum;
+  }
+
+  /** The pages that the program has in the end, in front of the further ones. */
+  programPages() {
+    if (!this.grows()) return this.pages;
+    const most = Math.min(this.module.memories[0].maximum ?? LIMITS.pages, LIMITS.pages - this.further.pages);
+    if (most > this.pages) return most;
+    throw new Refused([refusal('Growth', 'module', `${this.pages} pages and ${this.further.pages} further ones leave no page to grow`)]);
+  }
+
+  /** Finds out what comes behind the program's pages; answers the exported functions as they are in the lowered module. */
+  placeEntries() {
+    const anyPointer = this.resolveAuto();
+    const { stacks, stackBytes, tls } = this.options;
+    const copies = copiesOf(stacks, tls);
+    const entries = entriesOf(this.exported, copies);
+    const count = copies || entries.length;
+    const pointer = this.ownPointer(anyPointer);
+    const stackPlace = pointer === null ? null : this.further.take(count * stackBytes);
+    const blockCount = this.blockCount(count);
+    const blockBytes = Math.ceil((this.locals?.image?.length ?? 0) / BLOCK_ALIGNMENT) * BLOCK_ALIGNMENT;
+    const blockPlace = this.further.take(blockCount * blockBytes, BLOCK_ALIGNMENT);
+    const wordPlace = this.grows() ? this.further.take(WORD_BYTES) : null;
+    const pages = this.programPages();
+    this.requirePages(pages);
+    const base = pages * PAGE_BYTES;
+    if (wordPlace !== null) this.growth = { word: base + wordPlace, most: pages };
+    this.blocks = Array.from({ length: blockCount }, (_, block) => base + blockPlace + block * blockBytes);
+    const topOf = ({ number }) => ({ global: pointer, address: base + stackPlace + stackBytes * (number + 1) });
+    const blockOf = ({ number }) => ({ global: this.locals.global, address: this.blocks[number] });
+    return entries.map((entry) => this.notedEntry({
+      ...entry, stack: pointer === null ? null : topOf(entry), block: tls === null ? null : blockOf(entry),
+    }));
+  }
+
+  requirePages(programPages) {
+    const pages = programPages + this.further.pages;
+    if (pages <= LIMITS.pages) return;
+    const parts = [
+      ...(this.options.stacks === null ? [] : [`--stacks with ${this.options.stackBytes} bytes each`]),
+      ...(this.locals ? [`${this.locals.image?.length ?? 0} bytes of thread-local variables each`] : []),
+    ];
+    throw new UserError(`${parts.join(' and ')}: they make ${pages} pages; expected at most ${LIMITS.pages}`);
+  }
+
+  notedEntry(entry) {
+    const place = `export ${entry.name}`;
+    if (entry.stack) this.note(place, `its stack begins at ${entry.stack.address}, ${this.options.stackBytes} bytes down`);
+    if (entry.block) this.note(place, `its thread-local variables begin at ${entry.block.address}, ${this.locals.image.length} bytes`);
+    return entry;
+  }
+
+  /** The number of the function that an export names: one that sets globals or calls the start function first. */
+  entry({ index, stack, block }) {
+    const places = [stack, block].filter((place) => place !== null);
+    if (!places.length && this.start === null) return index;
     const type = this.typeOf(index);
-    return this.added.add(type, entryBody({ parameterCount: type.params.length, target: index, start: this.start, stack }));
+    return this.added.add(type, entryBody({ parameterCount: type.params.length, target: index, start: this.start, places }));
   }
 
   exports(functions) {
@@ -194,15 +298,28 @@ class Lowering {
       if (kind === KIND.memory || kind === KIND.global) made.push([...name(exported), kind, ...u32(index)]);
       else if (kind !== KIND.function) this.note(`export ${exported}`, 'dropped, since it is a table or a tag');
     }
+    for (const { name: exported, index } of functions) {
+      const { params, results } = this.typeOf(index);
+      if ([...params, ...results].some(isFloatType)) this.note(`export ${exported}`, 'its floats are given as their bits');
+    }
+    for (const index of this.initializers) this.note(this.placeOf(index), 'it initializes thread-local variables, dropped');
     if (this.start !== null) this.note(this.placeOf(this.start), 'start function; each exported function calls it first');
     return made;
   }
 
   limits({ shared, minimum, maximum }) {
-    const most = Math.max(maximum ?? minimum, minimum + this.morePages);
+    const pages = (this.growth?.most ?? minimum) + this.further.pages;
+    const most = this.growth ? pages : Math.max(maximum ?? pages, pages);
     if (!shared) this.note('memory', `made shared (maximum pages: ${most})`);
-    if (this.morePages) this.note('memory', `${minimum + this.morePages} initial pages instead of ${minimum}, for the stacks`);
-    return [3, ...u32(minimum + this.morePages), ...u32(most)];
+    if (pages > minimum) this.note('memory', `${pages} initial pages instead of ${minimum}; the last ${this.further.pages} are further ones`);
+    if (this.growth) this.note('memory', `accesses from page ${minimum} up to page ${pages} do not trap before the memory grows`);
+    return [3, ...u32(pages), ...u32(most)];
+  }
+
+  /** The initial memory of what is behind the program's pages, as `[address, bytes]`. */
+  furtherSegments() {
+    const word = this.growth ? [[this.growth.word, [this.pages]]] : [];
+    return [...this.blocks.map((address) => [address, this.locals.image]), ...word];
   }
 
   /** The active segments, as `[address, bytes]`. */
@@ -212,9 +329,7 @@ class Lowering {
     for (const [index, [address]] of placed.entries()) {
       const taken = this.linker?.segments.find(({ segment }) => segment === index);
       if (taken) placed[index][0] = taken.address;
-      if (address === null) {
-        this.note(`data segment ${index}`, taken ? `passive, made active at ${taken.address}` : 'passive and not used, dropped');
-      }
+      if (address === null) this.note(`data segment ${index}`, this.endingOf(data[index], taken));
     }
     if (this.linker) {
       this.note(
@@ -223,7 +338,31 @@ class Lowering {
       );
       placed.push([this.linker.flag, FLAG_WHEN_FILLED]);
     }
-    return placed.filter(([address]) => address !== null);
+    return [...placed.filter(([address]) => address !== null), ...this.furtherSegments()];
+  }
+
+  /** What becomes of a passive segment. */
+  endingOf({ bytes }, taken) {
+    if (taken) return `passive, made active at ${taken.address}`;
+    return bytes === this.locals?.image ? 'the initial values of thread-local variables, copied to each block' : 'passive and not used, dropped';
+  }
+
+  /** A global. The base of thread-local variables is set by each entry, or it is the one block that all threads share. */
+  global({ type, mutable, initial }, index) {
+    const isBase = index === this.locals?.global && this.blocks.length > 0;
+    const value = isBase ? BigInt(this.blocks[0]) : constantOf(initial, this.module.globals);
+    const kind = integerType(type);
+    return [kind, mutable || isBase ? 1 : 0, ...constantOfType(kind, value), CODE.end];
+  }
+
+  /** A memory at its own maximum never grows, before and after; whoever linked it so may not know. */
+  warnOfFullMemory() {
+    const isFull = this.uses((code) => code === CODE.memoryGrow) && !this.growth && this.options.growth;
+    if (isFull) this.note('warning: memory', `memory.grow always fails, since the module's own maximum is its size (pages: ${this.pages})`);
+  }
+
+  noteWaiting() {
+    if (this.uses(isWaiting)) this.note('module', WAITING_NOTE);
   }
 
   noteTable() {
@@ -235,19 +374,20 @@ class Lowering {
   bytes() {
     const { module } = this;
     this.refuseWhatHasNoLowering();
-    const functions = this.placeStacks();
+    const functions = this.placeEntries();
     const bodies = module.bodies.map((_, index) => this.body(index));
     const kinds = module.bodies.map((_, index) => u32(this.functionType(index)));
     const exported = this.exports(functions);
     this.noteTable();
+    this.noteWaiting();
+    this.warnOfFullMemory();
     const isImported = module.imports.length > 0;
     const memories = module.memories.map((memory) => this.limits(memory));
     const imports = isImported ? [[...name(module.imports[0].module), ...name(module.imports[0].name), KIND.memory, ...memories[0]]] : [];
-    const globals = module.globals.map(({ type, mutable, initial }) => (
-      [type, mutable ? 1 : 0, ...constantOfType(type, constantOf(initial, module.globals)), CODE.end]));
+    const globals = module.globals.map((global, index) => this.global(global, index));
     const data = this.segments().map(([address, bytes]) => [0, ...constant(address), CODE.end, ...u32(bytes.length), ...bytes]);
     const total = bodies.length + this.added.list.length;
-    if (total > LIMITS.functions) throw new Refused([refusal('Functions', 'lowered module', `${total} functions`)]);
+    if (total > LIMITS.functions) throw new Refused([refusal('Functions', 'lowered module', tooMany(total, LIMITS.functions, 'functions'))]);
     const parts = [
       [SECTION.types, this.types.list], [SECTION.imports, imports],
       [SECTION.functions, [...kinds, ...this.added.list.map(({ type }) => u32(type))]],
@@ -260,11 +400,21 @@ class Lowering {
   }
 }
 
-export const DEFAULTS = { stacks: null, stackBytes: 4_096 };
+/** How many copies of each export there are, which stacks and thread-local variables have in common; 0 for the exports alone. */
+function copiesOf(stacks, tls) {
+  if (stacks !== null && tls !== null && stacks !== tls) {
+    throw new UserError(`--stacks ${stacks} and --tls ${tls}: expected the same, since a thread has one number`);
+  }
+  const copies = stacks ?? tls;
+  return copies === null || copies === 'each' ? 0 : copies;
+}
+
+export const DEFAULTS = { stacks: null, stackBytes: 4_096, tls: null, growth: true, softFloats: false };
 
 /**
  * The lowered module and the changes, one string for each. `stacks` is null, `'each'` (each exported function has a stack of
- * its own) or how many copies of each exported function there are, with a stack for each.
+ * its own), how many copies of each exported function there are, with a stack for each, or `'auto'` (`'each'`, or as many as
+ * `tls` is, if the stack is used). `tls` is the same for blocks of thread-local variables. Without `growth` the memory never grows. With `softFloats` there may be arithmetic of floats.
  */
 export function lower(bytes, options = {}) {
   const lowering = new Lowering(readModule(bytes), { ...DEFAULTS, ...options });

@@ -129,7 +129,10 @@ export function readModule(bytes) {
   };
 }
 
-/** The value of an initial expression of integers, or null if it is not known before the module runs. */
+/** The bits of a float, the immediate of an `f32.const` or an `f64.const`. */
+export const bitsOf = (bytes) => bytes.reduceRight((value, byte) => value * 256n + BigInt(byte), 0n);
+
+/** The value of an initial expression, a float's bits, or null if it is not known before the module runs. */
 export function constantOf(expression, globals) {
   if (expression === null) return null;
   const stack = [];
@@ -142,6 +145,7 @@ export function constantOf(expression, globals) {
   for (const { code, args } of expression) {
     const action = actions.find((row) => row.includes(code));
     if (code === CODE.i32Const || code === CODE.i64Const) stack.push(args[0]);
+    else if (code === CODE.f32Const || code === CODE.f64Const) stack.push(bitsOf(args));
     else if (code === CODE.globalGet) stack.push(constantOf(globals[args[0]].initial, globals));
     else if (action) operate(action[2], code === action[0] ? 32 : 64);
     else if (code !== CODE.end) return null;

@@ -1,16 +1,18 @@
 /** Everything in a module that has no lowering: each part with its place, the feature's name and the reason. */
 
+import { isCarried } from './floats.mjs';
 import { CODE, beginsBlock, featureOf, nameOf } from './instructions.mjs';
 import { KIND, TYPE, constantOf } from './module.mjs';
 
 export const LIMITS = { pages: 16, functions: 1_000, locals: 1_000, nesting: 64 };
 
 const REASONS = {
-  Floats: 'floats have no lowering; use integers',
-  NarrowCmpxchg: 'one of 4 bytes would be another access, and one by plain accesses not atomic; use a 32-bit variable',
-  Wait: 'a thread that waits has no lowering; spin instead',
-  Notify: 'wait and notify have no lowering; spin instead',
-  PassiveData: 'only the linker\'s own initialization is lowered, and not with thread-local variables; use active segments',
+  Floats: 'arithmetic of floats becomes integer functions with --soft-floats; without it floats can only be moved, stored and loaded',
+  NarrowCmpxchg: 'one of 4 bytes would be another access, and one by plain accesses not atomic; '
+    + 'use an aligned variable of 4 bytes: in C _Atomic unsigned in place of atomic_bool, _Atomic char or _Atomic short, '
+    + 'in Rust AtomicU32 in place of AtomicBool, AtomicU8 or AtomicU16',
+  Growth: `memory.grow would always fail, since a module has at most ${LIMITS.pages} pages; give the module fewer at first, or, if its failure is wanted, --no-growth`,
+  PassiveData: 'only the linker\'s own initialization is lowered; use active segments',
   Table: 'only a table that is never written is lowered',
   References: 'references have no lowering; compile with -mno-reference-types',
   Simd: 'vectors have no lowering; compile with -mno-simd128',
@@ -26,10 +28,13 @@ const REASONS = {
   Stripped: 'the compiler made its atomic accesses plain ones; compile with -matomics and without thread-local variables',
 };
 
+/** How much a limit is passed by. */
+export const tooMany = (count, most, what) => `${count} ${what}, ${count - most} too many`;
+
 export const refusal = (feature, place, what) => ({ feature, place, what, reason: REASONS[feature] });
 
 const FEATURE_OF_TYPE = new Map([
-  [TYPE.i32, null], [TYPE.i64, null], [TYPE.f32, 'Floats'], [TYPE.f64, 'Floats'], [TYPE.v128, 'Simd'],
+  [TYPE.i32, null], [TYPE.i64, null], [TYPE.f32, null], [TYPE.f64, null], [TYPE.v128, 'Simd'],
 ]);
 const featureOfType = (type) => (FEATURE_OF_TYPE.has(type) ? FEATURE_OF_TYPE.get(type) : 'References');
 
@@ -43,9 +48,15 @@ function typeFeatures({ params, results }) {
 /** The type of a block, if it has one of the module's function types. */
 export const blockType = (module, { args }) => (args[0] >= 0n ? module.types[Number(args[0])] : null);
 
-function* instructionFeatures(module, instruction) {
-  const { code, args } = instruction;
+/** The feature for which an instruction itself is refused; arithmetic of floats is one without `softFloats`. */
+function ownFeature(code, { softFloats }) {
   const feature = featureOf(code);
+  return feature === 'Floats' && (softFloats || isCarried(code)) ? undefined : feature;
+}
+
+function* instructionFeatures(module, instruction, options) {
+  const { code, args } = instruction;
+  const feature = ownFeature(code, options);
   if (feature) yield feature;
   const type = beginsBlock(code) ? blockType(module, instruction) : null;
   if (type && (type.params.length || type.results.length > 1)) yield 'MultiValue';
@@ -68,7 +79,7 @@ function nestingOf(instructions) {
   return deepest;
 }
 
-function* functionRefusals(module, index, place) {
+function* functionRefusals(module, index, place, options) {
   const type = module.types[module.functionTypes[index]];
   const { locals, instructions } = module.bodies[index];
   for (const feature of typeFeatures(type)) yield refusal(feature, place, 'its type');
@@ -76,11 +87,11 @@ function* functionRefusals(module, index, place) {
     yield refusal(feature, place, 'a local');
   }
   const count = locals.reduce((sum, local) => sum + local.count, type.params.length);
-  if (count > LIMITS.locals) yield refusal('Locals', place, `${count} of them`);
+  if (count > LIMITS.locals) yield refusal('Locals', place, tooMany(count, LIMITS.locals, 'parameters and locals'));
   const depth = nestingOf(instructions);
-  if (depth > LIMITS.nesting) yield refusal('Nesting', place, `${depth} blocks`);
+  if (depth > LIMITS.nesting) yield refusal('Nesting', place, tooMany(depth, LIMITS.nesting, 'blocks'));
   for (const [number, instruction] of instructions.entries()) {
-    for (const feature of instructionFeatures(module, instruction)) {
+    for (const feature of instructionFeatures(module, instruction, options)) {
       yield refusal(feature, `${place} instruction ${number}`, nameOf(instruction.code));
     }
   }
@@ -90,7 +101,7 @@ function* memoryRefusals(module) {
   const { memories } = module;
   if (memories.length > 1) yield refusal('SeveralMemories', 'module', `${memories.length} memories`);
   for (const { minimum } of memories) {
-    if (minimum > LIMITS.pages) yield refusal('Pages', 'module', `${minimum} pages`);
+    if (minimum > LIMITS.pages) yield refusal('Pages', 'module', tooMany(minimum, LIMITS.pages, 'pages'));
   }
   for (const [index, { offset }] of module.data.entries()) {
     const isUnknown = offset && constantOf(offset, module.globals) === null;
@@ -117,13 +128,13 @@ function* moduleRefusals(module) {
   }
   yield* memoryRefusals(module);
   if (module.bodies.length > LIMITS.functions) {
-    yield refusal('Functions', 'module', `${module.bodies.length} functions`);
+    yield refusal('Functions', 'module', tooMany(module.bodies.length, LIMITS.functions, 'functions'));
   }
 }
 
 /** All refusals of a module, of whose functions only those are looked at that can be called. `placeOf` names a function. */
-export function refusalsOf(module, called, placeOf) {
+export function refusalsOf(module, called, placeOf, options) {
   const found = [...moduleRefusals(module)];
-  for (const index of [...called].sort((a, b) => a - b)) found.push(...functionRefusals(module, index, placeOf(index)));
+  for (const index of [...called].sort((a, b) => a - b)) found.push(...functionRefusals(module, index, placeOf(index), options));
   return found;
 }

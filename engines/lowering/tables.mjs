@@ -1,7 +1,7 @@
 /** The table of functions that `call_indirect` uses, as far as it is known before the module runs. */
 
 import { CODE } from './instructions.mjs';
-import { KIND, constantOf } from './module.mjs';
+import { constantOf } from './module.mjs';
 
 /** The functions of the table by their places; a place without a function is absent. */
 export function tableOf(module) {
@@ -42,10 +42,9 @@ function calleesOf(module, table, index) {
   });
 }
 
-/** The functions that can be called: those that are exported, the start function, and what they call. */
-export function calledFunctions(module, table, start) {
-  const exported = module.exports.filter(({ kind }) => kind === KIND.function).map(({ index }) => index);
-  const waiting = [...exported, ...(start === null ? [] : [start])];
+/** The functions that can be called: those that are exported, as given, the start function, and what they call. */
+export function calledFunctions(module, table, exported, start) {
+  const waiting = [...exported.map(({ index }) => index), ...(start === null ? [] : [start])];
   const called = new Set(waiting);
   while (waiting.length) {
     for (const callee of calleesOf(module, table, waiting.pop())) {

@@ -8,7 +8,8 @@ import { run } from '../testing/tally.mjs';
 import { moduleOf } from './test_modules.mjs';
 
 const COMMAND = fileURLToPath(new URL('../lower', import.meta.url));
-const NOT_TAKEN = moduleOf({ functions: [{ code: [0x43, 0, 0, 0, 0, 0x1a, 0x43, 0, 0, 0, 0, 0x1a], exported: 'a' }] });
+/** Two roots of floats. */
+const NOT_TAKEN = moduleOf({ functions: [{ code: Array(2).fill([0x43, 0, 0, 0, 0, 0x91, 0x1a]).flat(), exported: 'a' }] });
 const TAKEN = moduleOf({ functions: [{ code: [0xfe, 3, 0], exported: 'a' }] });
 
 export function testCommand({ note }) {
@@ -36,7 +37,7 @@ export function testCommand({ note }) {
     }
     const floats = lower(file('floats.wasm'), '-o', out);
     const lines = floats.err.trim().split('\n').length;
-    note(floats.status === 2 && lines === 2 && !existsSync(out), 'a module with two floats is refused in two lines', floats);
+    note(floats.status === 2 && lines === 2 && !existsSync(out), 'a module with two roots of floats is refused in two lines', floats);
     const lowered = lower(file('fence.wasm'), '-o', out);
     const line = 'function 0 (a) instruction 0: atomic.fence dropped\n';
     const isWritten = existsSync(out) && WebAssembly.validate(readFileSync(out));

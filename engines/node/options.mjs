@@ -1,6 +1,7 @@
 /** The command line of record.mjs. */
 
 import { HELP, SEVERAL, TEXT, countOf, fileOf, wordsOf } from '../shared/command_line.mjs';
+import { LEAST_EVENTS } from '../shared/bound.mjs';
 import { UserError } from '../shared/errors.mjs';
 import { conditionsOf } from '../shared/outcomes.mjs';
 import { campaignName } from '../shared/report.mjs';
@@ -19,7 +20,7 @@ OPTIONS
     --mode MODE       how accesses are recorded: locked, buffered or free (locked); free is for logs of whole programs, and
                       litmus/run for weak outcomes of small tests
     --rounds N        the number of runs (100)
-    --events N        the most events of a run, up to 16384 (128)
+    --events N        the most events of a run, up to 16384 (128; up to 4096 if most of six runs would be cut)
     --turn N          the most accesses that a thread makes in one turn; locked and buffered (4)
     --seed N          what the turns are chosen by: the first run has the seed N, the next one N + 1 (1)
     --seconds N       the longest search for a witness of one run, or for a smaller run (20)
@@ -43,7 +44,7 @@ Ctrl-C prints the tables so far.
 
 EXIT STATUS
     0    every log is allowed
-    1    a log is not allowed, no witness of a run was found, or a condition failed
+    1    a log is not allowed, no witness of a run was found, a condition failed, or each run was cut
     2    the command line, a file or the module is refused, in one line on standard error
     3    a fault of the recorder
     130  stopped by Ctrl-C
@@ -51,7 +52,7 @@ EXIT STATUS
 
 export const ENGINES = ['node', 'chromium', 'firefox', 'webkit'];
 const DEFAULTS = {
-  engine: 'node', mode: 'locked', rounds: '100', events: '128', turn: '4', seed: '1', seconds: '20',
+  engine: 'node', mode: 'locked', rounds: '100', turn: '4', seed: '1', seconds: '20',
 };
 const MOST_EVENTS = 16_384;
 const MOST_THREADS = 16;
@@ -83,12 +84,13 @@ export function optionsOf(args) {
   }
   const { engine, mode, wrong, wmlab, report, out, answers } = given;
   const counts = ['rounds', 'turn', 'seed', 'seconds'].map((name) => [name, countOf(name, given[name])]);
-  const events = countOf('events', given.events, MOST_EVENTS);
+  const fits = given.events === undefined; // the recorder finds a bound
+  const events = fits ? LEAST_EVENTS : countOf('events', given.events, MOST_EVENTS);
   const conditions = conditionsOf(given, starts.length);
   const kept = given.kept ?? (report ? `${report}/logs/${campaignName(given, module)}` : conditions.length ? 'recorded' : undefined);
   const keep = given.keep ?? (report ? `${kept}/not-allowed.json` : 'not-allowed.json');
   return {
-    module, starts: starts.map(parseStart), engine, mode, wrong, wmlab, keep, kept, report, out, answers, events, conditions,
+    module, starts: starts.map(parseStart), engine, mode, wrong, wmlab, keep, kept, report, out, answers, events, fits, conditions,
     ...Object.fromEntries(counts),
   };
 }

@@ -5,6 +5,8 @@ import { accessSync, appendFileSync, constants, readFileSync, realpathSync, stat
 import { dirname } from 'node:path';
 import { fileURLToPath } from 'node:url';
 import { openRecorder } from './engines.mjs';
+import { sharedStarts } from '../lowering/shared_starts.mjs';
+import { cutComplaint, fitEvents } from '../shared/bound.mjs';
 import { endOnLostOutput } from '../shared/command_line.mjs';
 import { UserError, withFile } from '../shared/errors.mjs';
 import { hasNoWitness, keep, keepWithShrunk, missingPictures, prepareFolder, writeTo } from '../shared/kept.mjs';
@@ -48,12 +50,13 @@ const MOST_KEPT = 20;
 /** One run of the command: the recorder, the judge and the options, and the logs that it keeps. */
 class Campaign {
   constructor(options, recorder, judge, stop) {
-    Object.assign(this, { options, recorder, judge, stop, kept: [], lines: [] });
+    Object.assign(this, { options, recorder, judge, stop, kept: [], lines: [], bound: [] });
     this.places = new Map(); // outcome: the path of its log
   }
 
   async record() {
-    const { rounds, out, answers } = this.options;
+    const { rounds, out, answers, fits, seed } = this.options;
+    if (fits) this.bound = await fitEvents(this.recorder, seed, this.stop);
     const show = progress(rounds);
     const seen = ({ number, document, line }) => {
       show();
@@ -101,12 +104,17 @@ class Campaign {
     const stopped = stop.requested ? [`stopped after ${results.checked} of ${rounds} rounds`] : [];
     const place = (outcome) => (this.places.has(outcome) ? `  ${this.places.get(outcome)}` : '');
     const newline = stop.requested && process.stderr.isTTY ? [''] : [];
-    return [...newline, ...purposeOf(this.options), ...results.lines(place), ...stopped, ...this.conditions.map(({ line }) => line), ...this.lines].join('\n');
+    return [...newline, ...purposeOf(this.options), ...this.bound, ...results.lines(place), ...stopped,
+      ...this.conditions.map(({ line }) => line), ...this.lines, ...(this.cutComplaint ? [this.cutComplaint.line] : [])].join('\n');
+  }
+
+  get cutComplaint() {
+    return cutComplaint(this.results.cut, this.results.checked);
   }
 
   get status() {
     if (this.stop.requested) return 130;
-    return this.results.bad || this.conditions.some(({ fails }) => fails) ? 1 : 0;
+    return this.results.bad || this.conditions.some(({ fails }) => fails) || this.cutComplaint?.fails ? 1 : 0;
   }
 }
 
@@ -125,6 +133,9 @@ async function main(args) {
   process.once('SIGINT', () => { stop.requested = true; });
   const recorder = await openRecorder(bytes, options);
   try {
+    for (const name of sharedStarts(bytes, options.starts.map((start) => start.name))) {
+      console.error(`record.mjs: warning: threads that start with ${name} share its stack or thread-local variables; lower with --stacks N or --tls N`);
+    }
     const campaign = new Campaign(options, recorder, judge, stop);
     await campaign.record();
     await campaign.keepOutcomes();

@@ -239,12 +239,36 @@ function testProgress({ note }) {
   note(shownOn(true, 2) === '\r1 of 2 rounds\r2 of 2 rounds\n' && shownOn(false, 999) === '', 'progress is shown on a terminal');
 }
 
+/** Programs that spin, on modes and bounds: a bound is found, and a recording of cut runs alone is no success. */
+function testBound({ note, wmlab, folder }) {
+  const spinning = [example('c/spin'), 'work:20', 'work:20'];
+  const words = ['--wmlab', wmlab, '--rounds', '6'];
+  const same = [1, 2].map(() => record(folder, [...words, ...spinning]));
+  const found = /^of 6 runs with at most 128 events [4-6] were cut, so runs have at most \d+; --events sets the bound$/m.test(same[0].out);
+  note(same[0].status === 0 && found && /^ +\d+ {2}\d+ \d+$/m.test(same[0].out), 'without --events a bound is found at which most runs end', same[0]);
+  note(same[0].out === same[1].out, 'the same options find the same bound, and the same runs');
+  const given = record(folder, [...words, '--events', '1024', ...spinning]);
+  note(given.status === 0 && !/were cut/.test(given.out), 'with --events no bound is looked for', given);
+  const cut = record(folder, [...words, '--events', '8', ...spinning]);
+  note(cut.status === 1 && /^each run was cut, so that no log is of a whole run; /m.test(cut.out), 'a recording of cut runs alone is no success', cut);
+  const shared = record(folder, [...words, example('c/thread-locals'), 'first', 'first']);
+  note(/^record\.mjs: warning: threads that start with first share its stack /.test(shared.err), 'two threads of a start with thread-local variables of its own are warned of', shared);
+  const apart = record(folder, [...words, example('c/thread-locals'), 'first', 'second']);
+  note(apart.status === 0 && apart.err === '', 'threads of two starts are not', apart);
+  const quick = record(folder, [...words, BUFFERS, 'a', 'b']);
+  note(quick.status === 0 && !/cut/.test(quick.out), 'a program that ends soon has no line on cut runs', quick);
+  const endless = record(folder, [...words, '--rounds', '2', example('c/condition-variable'), 'consumer']);
+  const isTold = /and most with 4096 too: a thread may not end/.test(endless.out);
+  note(endless.status === 1 && isTold, 'a thread that waits for good is no success either', endless);
+}
+
 export async function testCommand({ note, wmlab }) {
   const folder = mkdtempSync(join(tmpdir(), 'record-'));
   try {
     const context = { note, wmlab, folder };
     testMistakes(context);
     testSuccess(context);
+    testBound(context);
     testPlaces(context);
     await testStarts(context);
     await testJudgement(context);

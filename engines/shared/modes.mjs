@@ -11,7 +11,7 @@
  */
 
 import { ACCESSES, eventOf, loaded, operation, reads, cut, trapOf } from './accesses.mjs';
-import { Cut, Turns, nextRandom } from './turns.mjs';
+import { CONTROL, Cut, Turns, nextRandom } from './turns.mjs';
 
 /** A trap of the profile, by its name in the log. */
 class Trap extends Error {}
@@ -185,15 +185,38 @@ const tornStore = (access, native) => (address, value, offset) => {
   native[half.name](at + half.width, upper);
 };
 
+/** After how many values that are not new a thread sleeps before it goes on, and for how many milliseconds. */
+const REPEATS = 32, NAP = 1;
+const KNOWN = 4;
+
+/** A thread that spins reads the same few values again: it sleeps, so that the other threads come to what it waits for. */
+class Naps {
+  constructor(control) {
+    Object.assign(this, { control, known: [], repeats: 0 });
+  }
+
+  see(value) {
+    if (this.known.includes(value)) {
+      if (++this.repeats > REPEATS) Atomics.wait(this.control, CONTROL.nap, 0, NAP);
+      return;
+    }
+    this.repeats = 0;
+    this.known.push(value);
+    if (this.known.length > KNOWN) this.known.shift();
+  }
+}
+
 /** Nothing but a note of each value read; a thread is cut right after the last read of its share. */
 export function free({ limit, values, wrong, native, control }) {
   const older = new Map(); // the last value of each type, for the engine that answers it again
+  const naps = new Naps(control);
   const note = (type) => (value) => {
     const isStale = wrong === 'stale-load' && older.has(type) && nextRandom(control) % 8 === 0;
     const seen = isStale ? older.get(type) : value;
     older.set(type, value);
     values.push(seen);
     if (values.length === limit) throw new Cut('after a read');
+    naps.see(seen);
     return seen;
   };
   const stores = wrong === 'torn-store' ? ACCESSES.filter(({ kind, width }) => kind === 'store' && width > 1) : [];

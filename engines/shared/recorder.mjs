@@ -85,6 +85,11 @@ export class Recorder {
     return this.starts.map((start, thread) => startThread({ ...shared, ...buffers, thread, start: start.name }));
   }
 
+  /** Sets the most events of a round. */
+  setEvents(events) {
+    this.options.events = events;
+  }
+
   /**
    * Runs all threads once, by the turns that the seed gives or by those of a schedule. Answers `ends`, which the engine gave,
    * `document`, the log with its witness or (`isOpen`) the events of a free round alone, and `turns`, the schedule made.

@@ -1,5 +1,6 @@
 /** Records rounds, has each log judged, and counts outcomes and verdicts. */
 
+import { isCut } from './bound.mjs';
 import { logsOfRound } from './logs.mjs';
 import { outcomeOf } from './outcomes.mjs';
 import { Table, kindOf } from './table.mjs';
@@ -16,18 +17,20 @@ function comesFirst(one, other) {
 
 /**
  * The tables of outcomes and verdicts; `bad`, the log to look at first, if one is not allowed: the first by round (a search
- * that gave up is shown only if no log is at fault); and `first`, the first round of each outcome.
+ * that gave up is shown only if no log is at fault); `first`, the first round of each outcome; and how many were cut.
  */
 class Results {
   outcomes = new Table();
   verdicts = new Table();
   first = new Map();
   checked = 0;
+  cut = 0;
   bad = null;
 
   add(found) {
-    const { number, outcome, line } = found;
+    const { number, outcome, line, ends } = found;
     this.checked++;
+    if (isCut(ends)) this.cut++;
     this.outcomes.add(outcome);
     this.verdicts.add(kindOf(line));
     if (!(this.first.get(outcome)?.number <= number)) this.first.set(outcome, found);
@@ -57,7 +60,7 @@ export function judgeRound(judge, round, initial, { seconds, stop } = {}) {
 export async function recordWith(recorder, judge, { rounds, seed = 1, seconds, seen = () => {}, stop = {} }) {
   const results = new Results();
   const note = (number, { ends, turns }, answer) => {
-    const found = { number, outcome: outcomeOf(ends), turns, ...answer };
+    const found = { number, outcome: outcomeOf(ends), ends, turns, ...answer };
     results.add(found);
     seen(found);
   };

@@ -10,9 +10,9 @@
 /** The thread stops before its next access, or right after its last read. */
 export class Cut extends Error {}
 
-/** The words of the control buffer. `ended` and `waiting` have a word for each thread. */
+/** The words of the control buffer. `ended` and `waiting` have a word for each thread; `nap` stays 0, and nobody notifies it. */
 export const CONTROL = {
-  ready: 0, left: 1, place: 2, turn: 3, random: 4, turnLeft: 5, current: 6, made: 7, at: 8, given: 9, ended: 16, waiting: 32,
+  ready: 0, left: 1, place: 2, turn: 3, random: 4, turnLeft: 5, current: 6, made: 7, at: 8, given: 9, nap: 10, ended: 16, waiting: 32,
 };
 export const CONTROL_WORDS = 48;
 

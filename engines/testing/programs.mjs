@@ -24,6 +24,21 @@ const STARTS = {
   'c/stack.wasm': ['own_stack:0:2', 'own_stack:1:2'],
 };
 
+const sum = (ends) => ends.reduce((total, end) => total + end, 0n);
+const isCounting = (ends) => ends.some((end) => end === 6n) && ends.every((end) => end >= 3n && end <= 6n);
+
+/** What the results of a whole run are, as the source of a program describes them. Each of these runs has results that hold. */
+export const RESULTS = {
+  'c/futex-mutex.wasm': isCounting,
+  'c/condition-variable.wasm': ([, digits]) => digits === 123n,
+  'c/growing-allocator.wasm': (ends) => ends.every((end) => end === 11n),
+  'c/thread-locals.wasm': (ends) => sum(ends) === 206n,
+  'c/averages.wasm': ([, tenths]) => [0n, 15n, 30n, 45n].includes(tenths),
+  'rust/std-mutex.wasm': isCounting,
+  'rust/shared-list.wasm': ([made, taken]) => (made === 1n ? [0n, 2n].includes(taken) : made === 2n && taken === 1n),
+  'rust/thread-locals.wasm': (ends) => ends.every((end) => end % 100n === 2n) && ends.some((end) => end === 402n),
+};
+
 /** Programs whose logs have no events. */
 export const WITHOUT_EVENTS = new Set(['every-trap.wasm']);
 

@@ -5,7 +5,8 @@ import { availableParallelism } from 'node:os';
 import { fileURLToPath } from 'node:url';
 import { openRecorder } from '../node/engines.mjs';
 import { parse } from '../shared/document.mjs';
-import { WITHOUT_EVENTS, programsOf } from './programs.mjs';
+import { fitEvents, isCut } from '../shared/bound.mjs';
+import { RESULTS, WITHOUT_EVENTS, programsOf } from './programs.mjs';
 import { WRONG } from '../shared/recorder.mjs';
 import { recordWith } from '../shared/rounds.mjs';
 import { parseStart } from '../shared/starts.mjs';
@@ -40,11 +41,19 @@ function isWhole({ name, starts }, document) {
   return threads.length >= 2 && threads.length === starts.length && (events > 0 || WITHOUT_EVENTS.has(name));
 }
 
-/** Records rounds of a program, and has `seen` called for each. */
-async function record({ path, starts }, wmlab, { rounds, seen, stop, ...options }) {
+/** Whether the results of a completed document are those that the program describes; null if a thread was cut, or it describes none. */
+function hasItsResults(name, document) {
+  const ends = parse(document)[2].map((thread) => thread[2]);
+  if (!RESULTS[name] || isCut(ends)) return null;
+  return ends.every(([kind]) => kind === 'done') && RESULTS[name](ends.map(([, results]) => results[0]));
+}
+
+/** Records rounds of a program, and has `seen` called for each. What describes its results has events enough to end. */
+async function record({ name, path, starts }, wmlab, { rounds, seen, stop, ...options }) {
   const judge = await Judge.open(wmlab, path);
   const recorder = await openRecorder(readFileSync(path), { ...options, starts: starts.map(parseStart) });
   try {
+    if (RESULTS[name]) await fitEvents(recorder, 1);
     await recordWith(recorder, judge, { rounds, seen, stop });
   } finally {
     judge.close();
@@ -55,11 +64,14 @@ async function record({ path, starts }, wmlab, { rounds, seen, stop, ...options 
 /** Records a program, and reports how many logs were allowed, whole and weak, and the other verdicts. */
 export async function run(program, wmlab, options) {
   const { rounds } = options;
-  let allowed = 0, weak = 0, whole = 0;
+  let allowed = 0, weak = 0, whole = 0, right = 0, wrong = 0;
   const others = new Map();
   const seen = ({ document, line }) => {
     if (isWeak(program.name, document)) weak++;
     if (isWhole(program, document)) whole++;
+    const results = hasItsResults(program.name, document);
+    if (results) right++;
+    else if (results === false) wrong++;
     if (line.startsWith('allowed')) allowed++;
     else others.set(line, (others.get(line) ?? 0) + 1);
   };
@@ -67,9 +79,11 @@ export async function run(program, wmlab, options) {
   const parts = [
     `${allowed} of ${rounds} allowed${weak ? `, ${weak} weak` : ''}`,
     ...(whole < rounds ? [`${rounds - whole} logs without threads or events`] : []),
+    ...(RESULTS[program.name] ? [`${right} with the results described, ${wrong} with others`] : []),
     ...[...others].slice(0, 3).map(([line, count]) => `${count}: ${line}`),
   ];
-  return { holds: allowed === rounds && whole === rounds, allowed, weak, others, text: parts.join('; ') };
+  const isDescribed = !RESULTS[program.name] || (right > 0 && wrong === 0);
+  return { holds: allowed === rounds && whole === rounds && isDescribed, allowed, weak, others, text: parts.join('; ') };
 }
 
 /** What each engine that is wrong on purpose runs: loops in which two threads meet (races.wat). */

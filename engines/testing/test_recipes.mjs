@@ -70,6 +70,8 @@ async function testProgram({ note, leftOut, wmlab, room, isSame, isTried }, reci
   const isBuilt = made.status === 0 && existsSync(out);
   if (!isBuilt && !isTried) {
     leftOut(name, `this version of ${recipe.tools[0]}, which was not tried, does not build it: ${made.err.trim().split('\n')[0]}`);
+  } else if (!isBuilt && /apt-get install rust-src/.test(made.err)) {
+    leftOut(name, 'it needs std for threads, and its source is not there: apt-get install rust-src');
   } else if (!isBuilt) {
     note(false, `${name} is built`, made);
   } else if (isSame) {
@@ -99,7 +101,7 @@ async function testRecipe(context, recipe, testOthers) {
   }
 }
 
-/** Store buffering in C; with a thread-local variable the compiler makes its atomic accesses plain ones. */
+/** Store buffering in C. With a thread-local variable the compiler makes atomic accesses plain ones, unless it has bulk memory. */
 const storeBuffering = (depth) => `${depth} int depth;
 static _Atomic int x, y;
 __attribute__((export_name("a"))) int a(void) { depth++; x = 1; return y; }
@@ -109,6 +111,14 @@ __attribute__((export_name("b"))) int b(void) { depth++; y = 1; return x; }
 const COPY = `struct large { int numbers[100]; };
 static struct large one, two;
 __attribute__((export_name("a"))) int a(int value) { one = (struct large){{0}}; one.numbers[99] = value; two = one; return two.numbers[99]; }
+`;
+
+/** Programs that have no room to grow, and none at all: 960 and 1,024 kilobytes beside the stack. */
+const GROWING = `static volatile char room[960 * 1024];
+__attribute__((export_name("a"))) char a(int at) { return room[at] = (char)__builtin_wasm_memory_grow(0, 1); }
+`;
+const LARGE = `static volatile char room[1024 * 1024];
+__attribute__((export_name("a"))) char a(int at) { return room[at]++; }
 `;
 
 /** Builds a C program of this source; answers what the command did, and the module's bytes if there is one. */
@@ -146,14 +156,9 @@ function testStrippedC({ note, room }) {
   note(plain.status === 0 && count === 4, `a C program is built with its four atomic accesses: ${count}`, plain);
   for (const word of ['static _Thread_local', 'static __thread']) {
     const local = buildSource(room, storeBuffering(word));
-    const isNamed = /-shared-mem/.test(local.err) && /thread-local variable/.test(local.err);
-    const isRefused = local.status === 2 && !local.bytes && isNamed;
-    const isKept = local.status === 0 && atomicAccesses(local.bytes) === 4; // by a compiler that does not strip them
-    note(
-      isRefused || isKept,
-      `a C program with ${word} is ${isKept ? 'built with its atomic accesses' : 'refused, and the cause named'}`,
-      local,
-    );
+    const isKept = local.status === 0 && atomicAccesses(local.bytes) === 4;
+    const hasBlocks = /export b: its thread-local variables begin at/.test(local.out);
+    note(isKept && hasBlocks, `a C program with ${word} is built with its atomic accesses, and a block for each start`, local);
   }
   const marked = buildSource(room, storeBuffering('static'), showing(room, '[-] atomics'));
   note(marked.status === 2 && !marked.bytes, 'an object that is marked -atomics is refused', marked);
@@ -162,6 +167,10 @@ function testStrippedC({ note, room }) {
   const optimizer = join(room, 'optimized');
   const alone = buildSource(room, storeBuffering('static'), pathWith(room, 'wasm-opt', `touch '${optimizer}'; exit 1`));
   note(alone.status === 0 && !existsSync(optimizer), 'wasm-opt, which drops fences, is not run', alone);
+  const grown = buildSource(room, GROWING);
+  note(grown.status === 2 && !grown.bytes && /leave no page to grow \(Growth\)/.test(grown.err), 'a program whose allocations would all fail is refused', grown);
+  const large = buildSource(room, LARGE);
+  note(large.status === 2 && !large.bytes && /17 pages, 1 too many \(Pages\)/.test(large.err), 'a program that is too large is refused, with how much', large);
   const copy = buildSource(room, COPY);
   const copied = copy.bytes && new WebAssembly.Instance(new WebAssembly.Module(copy.bytes)).exports.a(7);
   note(copy.status === 0 && copied === 7, 'a C program that copies and fills large structures is built', copy);
@@ -178,6 +187,10 @@ function testStrippedRust({ note, room }) {
   const stripped = build(RUST, source, out, { RUSTC: compiler });
   const isNamed = /atomic accesses plain ones/.test(stripped.err);
   note(stripped.status === 2 && !existsSync(out) && isNamed, 'Rust without atomics is refused, and the cause named', stripped);
+  writeFileSync(compiler, `#!/bin/bash\n[ "$*" = --version ] && exec echo 'rustc 9.9.9'\nexec ${RUSTC} "$@"\n`);
+  const single = build(RUST, join(EXAMPLES, 'rust', 'std-mutex.rs'), out, { RUSTC: compiler });
+  const isAsked = /one thread only .*apt-get install rust-src/.test(single.err);
+  note(single.status === 2 && !existsSync(out) && isAsked, 'std\'s locks without the source of std are refused', single);
   const missing = build(RUST, source, out, { RUSTC: join(room, 'none') });
   note(missing.status === 2 && /apt-get install/.test(missing.err), 'a missing Rust compiler is named', missing);
 }

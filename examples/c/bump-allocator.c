@@ -1,5 +1,6 @@
 // An allocator that moves a shared top up, and asks for a page if its room is full, which fails here. Two threads allocate twice
 // and write their numbers all over. A result has a digit for each block: 1 if it stayed as it was written, 0 if it was refused.
+// lower: --no-growth
 #include <stdatomic.h>
 #include <stdint.h>
 

@@ -1,4 +1,5 @@
-// What the compiler calls for large copies and fills. build.sh links it to each program; what is not called is dropped.
+// What the compiler calls for large copies and fills, and the other functions of include/string.h. build.sh links it to
+// each program; what is not called is dropped.
 #include <stddef.h>
 #include <stdint.h>
 
@@ -20,4 +21,24 @@ void *memset(void *to, int value, size_t count) {
   }
   for (; done < count; done++) ((char *)to)[done] = (char)value;
   return to;
+}
+
+void *memmove(void *to, const void *from, size_t count) {
+  if ((uintptr_t)to <= (uintptr_t)from) return memcpy(to, from, count);
+  for (size_t left = count; left > 0; left--) ((char *)to)[left - 1] = ((const char *)from)[left - 1];
+  return to;
+}
+
+int memcmp(const void *one, const void *other, size_t count) {
+  const unsigned char *a = one, *b = other;
+  for (size_t i = 0; i < count; i++) {
+    if (a[i] != b[i]) return a[i] - b[i];
+  }
+  return 0;
+}
+
+size_t strlen(const char *text) {
+  size_t length = 0;
+  while (text[length]) length++;
+  return length;
 }

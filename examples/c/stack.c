@@ -1,5 +1,6 @@
 // Pointers to locals. Such a local lives on the stack that the compiler keeps in the shared memory, and every thread starts
 // with the same one. So a function that a thread starts with first moves to a stack of the thread's own.
+// lower: --stacks none
 #include <stdatomic.h>
 
 static _Atomic int mail[2];

@@ -1,24 +1,82 @@
 #!/usr/bin/env bash
 # Makes modules that wmlab takes out of Rust programs, with Debian's rustc and libstd-rust-dev-wasm32, wasm-objdump and
 # engines/lower.
-#   examples/rust/build.sh                         each program here
-#   examples/rust/build.sh SOURCE.rs OUT.wasm      one program
-# The compiler is /usr/bin/rustc, or the one that RUSTC names. A line `// lower: OPTIONS` of a source has options for
-# engines/lower. The status is 2 if a tool is missing, or if the compiler made the atomic accesses of a program plain
-# ones; then there is no module.
+#   examples/rust/build.sh                                    each program here
+#   examples/rust/build.sh SOURCE.rs OUT.wasm [OPTION..]      one program
+# An OPTION is one of engines/lower, such as --stacks 2; a line `// lower: OPTIONS` of the source has further ones. Else
+# each exported function has a stack and a block of thread-local variables of its own, if it needs them (--stacks auto
+# --tls auto). The compiler is /usr/bin/rustc, or the one that RUSTC names.
+# Debian's standard library is made for one thread. For a program that needs its locks, thread_local! or its allocator,
+# std is compiled for threads, once, from Debian's rust-src.
+# The status is 2 if a tool is missing, or if the compiler made the atomic accesses of a program plain ones; then there
+# is no module.
 set -euo pipefail
 here=$(cd "$(dirname "${BASH_SOURCE[0]}")" && pwd)
 rustc=${RUSTC:-/usr/bin/rustc}
+target=wasm32-unknown-unknown
+library=$here/../../.built/rust-library
 room=$(mktemp -d)
 trap 'rm -rf "$room"' EXIT
 
 # One object of the program and what it uses of the library (lto=fat). Panics name files without their folder, so
 # that the module is the same wherever it is made.
 compile() {
-    "$rustc" --edition 2021 --target wasm32-unknown-unknown --crate-type cdylib --crate-name program -O \
-        -C target-cpu=mvp -C target-feature=+atomics,-bulk-memory -C lto=fat -C codegen-units=1 -C panic=abort \
-        -C strip=none -C save-temps=yes -C link-arg=-zstack-size=4096 \
-        --remap-path-prefix "$(dirname "$1")=." --out-dir "$2" "$1"
+    local source=$1 out=$2
+    shift 2
+    "$rustc" --edition 2021 --target "$target" --crate-type cdylib --crate-name program -O \
+        -C target-cpu=mvp -C lto=fat -C codegen-units=1 -C panic=abort \
+        -C strip=none -C save-temps=yes -C link-arg=-zstack-size=4096 -C link-arg=--gc-sections "$@" \
+        --remap-path-prefix "$(dirname "$source")=." --out-dir "$out" "$source"
+}
+
+# What the library has for one thread alone, by its name in the source.
+needs_threads() {
+    tr '\n' ' ' <"$1" | grep -qE \
+        'std::sync::(\{[^}]*)?\b(Mutex|RwLock|Condvar|Once|Barrier|mpsc)\b|\bthread_local!|std::thread\b'
+}
+
+# Compiles std for threads: the other crates of the library have no state, and are taken as Debian has them.
+make_library() {
+    local rustlib made crate version source args=()
+    version=$("$rustc" --version | cut -d' ' -f2)
+    rustlib=$("$rustc" --print sysroot)/lib/rustlib
+    source=/usr/src/rustc-$version/library/std/src/lib.rs
+    [ ! -d "$library/$version" ] || return 0
+    if [ ! -f "$source" ]; then
+        echo "build.sh: $1: it uses what the standard library of $rustc has for one thread only (locks," \
+            "thread_local!, threads or the allocator); with its source std is compiled for threads:" \
+            "apt-get install rust-src" >&2
+        exit 2
+    fi
+    echo "build.sh: compiling std for threads, once" >&2
+    made=$room/library/lib/rustlib/$target/lib
+    mkdir -p "$made"
+    for crate in "$rustlib/$target"/lib/*.rlib; do
+        case $(basename "$crate") in
+        libstd-* | libtest-* | libproc_macro-*) continue ;;
+        esac
+        ln -s "$crate" "$made"
+    done
+    for crate in alloc cfg_if compiler_builtins core dlmalloc hashbrown libc panic_abort rustc_demangle std_detect \
+        unwind; do
+        args+=(--extern "$crate=$(echo "$made/lib$crate"-*.rlib)")
+    done
+    RUSTC_BOOTSTRAP=1 STD_ENV_ARCH=wasm32 "$rustc" --crate-name std --edition 2021 --crate-type rlib \
+        --target "$target" -O -C embed-bitcode=yes -C panic=abort -C codegen-units=1 -C target-cpu=mvp \
+        -C target-feature=+atomics,+bulk-memory,+mutable-globals -C metadata=wmlab --cap-lints allow \
+        -Z force-unstable-if-unmarked --cfg backtrace_in_libstd --remap-path-prefix "/usr/src/rustc-$version=." \
+        -L "$made" "${args[@]}" --out-dir "$made" --sysroot "$room/none" "$source"
+    mkdir -p "$library"
+    mv -T "$room/library" "$library/$version" 2>/dev/null || [ -d "$library/$version" ]
+}
+
+# With std for threads the linker makes the memory shared. It refuses objects without atomics, which the rest of the
+# library may have: they have no accesses to shared variables.
+compile_for_threads() {
+    make_library "$1"
+    RUSTC_BOOTSTRAP=1 compile "$1" "$2" -C target-feature=+atomics,+bulk-memory,+mutable-globals \
+        --sysroot "$library/$("$rustc" --version | cut -d' ' -f2)" \
+        -C link-arg=--no-check-features -C link-arg=--max-memory=1048576
 }
 
 # Refuses objects whose atomic accesses are plain ones: the compiler marks them, as for C.
@@ -41,11 +99,23 @@ refuse_stripped() {
 
 build() {
     local source=$1 out=$2 options
+    shift 2
     rm -rf "$room/program"
     mkdir "$room/program"
-    compile "$source" "$room/program"
+    if needs_threads "$source"; then
+        compile_for_threads "$source" "$room/program"
+    else
+        compile "$source" "$room/program" -C target-feature=+atomics,-bulk-memory
+        # The library's allocator takes no lock.
+        if wasm-objdump -x "$room/program/program.wasm" | grep -q '<.*dlmalloc.*malloc'; then
+            rm -r "$room/program"
+            mkdir "$room/program"
+            compile_for_threads "$source" "$room/program"
+        fi
+    fi
     refuse_stripped "$source" "$room/program"
     read -ra options < <(sed -n 's,^// lower: ,,p' "$source") || true
+    options=(--stacks auto --tls auto "${options[@]}" "$@")
     "$here/../../engines/lower" "$room/program/program.wasm" -o "$out" "${options[@]}" |
         sed "s,^,$(basename "$source"): ,"
 }
@@ -56,13 +126,13 @@ for tool in "$rustc" wasm-objdump node; do
         exit 2
     fi
 done
-if [ $# -eq 2 ]; then
-    build "$1" "$2"
+if [ $# -ge 2 ]; then
+    build "$@"
 elif [ $# -eq 0 ]; then
     for source in "$here"/*.rs; do
         build "$source" "${source%.rs}.wasm"
     done
 else
-    echo "usage: examples/rust/build.sh [SOURCE.rs OUT.wasm]" >&2
+    echo "usage: examples/rust/build.sh [SOURCE.rs OUT.wasm [OPTION..]]" >&2
     exit 2
 fi

@@ -1,29 +1,83 @@
 """Random programs that also have what compilers emit and `engines/lower` replaces."""
 from . import wasm
-from .programs import END, I32, I64, Coder, Program, constant, signed
+from .floats import FloatCode, WaitingCode
+from .programs import END, I32, I64, PAGE_BYTES, Coder, Program, constant, signed
 
 EXTENSIONS = {I32: (b"\xc0", b"\xc1"), I64: (b"\xc2", b"\xc3", b"\xc4")}
 FENCE, COPY, FILL = b"\xfe\x03\0", b"\xfc\x0a\0\0", b"\xfc\x0b\0"
 # The types of blocks that give a value, by the index that a block's type may have.
 BLOCK_TYPES = (I32, I64)
 FUNCTION_REFERENCE = b"\x70"
+# An address or an offset from here on is past every memory.
+FAR = 1 << 31
+# Where the block of thread-local variables is in the module as it is, in a page of its own, and the bytes of a block.
+BLOCK_AT, BLOCK_BYTES = PAGE_BYTES + PAGE_BYTES // 2, 64
 
 
-class CompiledCoder(Coder):
+class CompiledCoder(FloatCode, WaitingCode, Coder):
     """Writes the code of a function of such a program."""
+
+    def __init__(self, chance, program, function):
+        super().__init__(chance, program, function)
+        self.add_float_locals()
 
     def value(self, kind, depth):
         if depth <= 0 or self.room < 0 or self.chance.random() < 0.75:
             return super().value(kind, depth)
         self.room -= 1
-        ways = (self.extension, self.typed_choice, self.typed_block, self.indirect_call)
+        ways = [self.extension, self.typed_choice, self.typed_block, self.indirect_call, self.of_floats]
+        if kind == I32:
+            ways += [lambda _, rest: self.wait(rest)]
+            ways += [lambda _, rest: self.grow(rest)] if self.program.most_pages else []
+        ways += [self.load_own] if self.program.own is not None else []
         return self.chance.choice(ways)(kind, depth - 1)
 
     def statement(self, depth):
-        if self.room < 0 or self.chance.random() < 0.85:
+        if self.room < 0 or self.chance.random() < 0.8:
             return super().statement(depth)
         self.room -= 1
-        return [FENCE] if self.chance.random() < 0.2 else self.bulk(depth - 1)
+        ways = [lambda _: [FENCE], self.bulk, self.bulk, self.float_store, self.dropped_wait]
+        ways += [self.store_own] if self.program.own is not None else []
+        return self.chance.choice(ways)(depth - 1)
+
+    # ---- memory that grows: no access is between its size and the most that it may have, where only one of both traps
+
+    def grow(self, depth):
+        pages = [constant(I32, self.chance.choice((0, 1, 1, 2, 3)))]
+        return (self.value(I32, depth) if self.chance.random() < 0.1 else pages) + [b"\x40\0"]
+
+    def address(self, width, depth, atomic):
+        if self.program.most_pages and self.chance.random() < 0.015:
+            return self.value(I32, depth) + [constant(I32, FAR), b"\x72"]
+        mask = 256 - width if atomic else 255
+        if self.program.most_pages:
+            return self.value(I32, depth) + [constant(I32, mask), b"\x71"]
+        return super().address(width, depth, atomic)
+
+    def place(self, width, atomic):
+        if not self.program.most_pages:
+            return super().place(width, atomic)
+        most = width.bit_length() - 1
+        far = FAR + self.chance.getrandbits(31) if self.chance.random() < 0.02 else 0
+        alignment = most if atomic else self.chance.randint(0, most)
+        return wasm.number(alignment) + wasm.number(far or width * self.chance.randint(0, 20))
+
+    # ---- thread-local variables
+
+    def own_place(self):
+        """Code for an address in the block of the thread, and how far behind it an access is."""
+        base = b"\x23" + wasm.number(len(self.program.globals))
+        start = constant(I32, 8 * self.chance.randint(0, BLOCK_BYTES // 8 - 2))
+        return [base, start, b"\x6a"], wasm.number(self.chance.randint(0, 8))
+
+    def load_own(self, kind, _):
+        address, offset = self.own_place()
+        return [*address, (b"\x28\0" if kind == I32 else b"\x29\0") + offset]
+
+    def store_own(self, depth):
+        address, offset = self.own_place()
+        kind = self.chance.choice((I32, I64))
+        return [*address, *self.value(kind, depth), (b"\x36\0" if kind == I32 else b"\x37\0") + offset]
 
     def extension(self, kind, depth):
         return self.value(kind, depth) + [self.chance.choice(EXTENSIONS[kind])]
@@ -61,11 +115,15 @@ class CompiledCoder(Coder):
 
 
 class CompiledProgram(Program):
-    """A program with a table, whose elements are among the first functions, and perhaps a start function, the last."""
+    """A program with a table, whose elements are among the first functions, and perhaps a start function, the last. Its
+    memory may grow (`most_pages`), and it may have thread-local variables: `own` has their initial values, or None."""
 
     first_types = tuple(b"\x60\0\1" + bytes([kind]) for kind in BLOCK_TYPES)
 
     def __init__(self, chance):
+        self.own = chance.randbytes(BLOCK_BYTES) if chance.random() < 0.3 else None
+        self.pages = 1 if self.own is None else 2
+        self.most_pages = chance.choice((3, 5)) if chance.random() < 0.3 else None
         self.callees = chance.randint(1, 2)
         self.table = [chance.choice((None, *range(self.callees))) for _ in range(chance.randint(1, 6))]
         super().__init__(chance)
@@ -75,6 +133,32 @@ class CompiledProgram(Program):
 
     def write(self, chance, function):
         CompiledCoder(chance, self, function).write()
+
+    def memory(self):
+        memory = super().memory()
+        if self.own is not None:
+            memory[BLOCK_AT : BLOCK_AT + BLOCK_BYTES] = self.own
+        return memory
+
+    def lowered_place(self, address, index):
+        """Where the bytes of a lowered module are in the module as it was, if function `index` has a block of its own;
+        None if they are not there."""
+        behind = address - PAGE_BYTES * (self.most_pages or self.pages)
+        if behind < 0:
+            return address
+        block = behind - BLOCK_BYTES * index
+        return BLOCK_AT + block if self.own is not None and 0 <= block < BLOCK_BYTES else None
+
+    def exports(self):
+        own = [] if self.own is None else [wasm.sized(b"__tls_base") + b"\3" + wasm.number(len(self.globals))]
+        return super().exports() + own
+
+    def global_entries(self):
+        own = [] if self.own is None else [bytes([I32, 1]) + constant(I32, 0) + END]
+        return super().global_entries() + own
+
+    def data(self):
+        return super().data() + ([] if self.own is None else [b"\1" + wasm.sized(self.own)])
 
     def module(self):
         elements = [

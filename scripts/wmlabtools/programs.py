@@ -95,7 +95,10 @@ class Program:
     """Functions over one shared memory of a page, each exported by its name `f0`, `f1` and so on, as the memory is by
     `m`. A function calls only those before it. The types of a module are the first ones and that of each function."""
 
-    first_types = ()
+    first_types: tuple[bytes, ...] = ()
+    # The pages at first, and those that the memory may grow to.
+    pages: int = 1
+    most_pages: int | None = None
 
     def __init__(self, chance):
         kinds = (I32, I64)
@@ -121,8 +124,8 @@ class Program:
         return len(self.first_types) + index
 
     def memory(self):
-        """The initial memory."""
-        memory = bytearray(PAGE_BYTES)
+        """The initial memory, with the pages that it may grow to."""
+        memory = bytearray(PAGE_BYTES * (self.most_pages or self.pages))
         for start, data in self.segments:
             memory[start : start + len(data)] = data
         return memory
@@ -142,20 +145,26 @@ class Program:
                 place += len(instruction)
         return found
 
+    def exports(self):
+        """What the module exports beside its memory."""
+        return [wasm.export(b"f%d" % index, index) for index in range(len(self.functions))]
+
+    def global_entries(self):
+        return [bytes([kind, mutable]) + value + END for (kind, mutable), value in zip(self.globals, self.initial)]
+
+    def data(self):
+        return [b"\0" + constant(I32, start) + END + wasm.sized(data) for start, data in self.segments]
+
     def module(self, **more):
         """The bytes of the module, which has these other parts too."""
-        entries = [
-            bytes([kind, mutable]) + value + END for (kind, mutable), value in zip(self.globals, self.initial)
-        ]
-        exports = [wasm.export(b"f%d" % index, index) for index in range(len(self.functions))]
         return wasm.module_of(
             [function.body() for function in self.functions],
             types=[*self.first_types, *(function.type() for function in self.functions)],
             kinds=[self.type_of(index) for index in range(len(self.functions))],
-            memory=wasm.shared_memory(1),
-            global_entries=entries,
-            exports=[*exports, wasm.sized(b"m") + b"\2\0"],
-            data=[b"\0" + constant(I32, start) + END + wasm.sized(data) for start, data in self.segments],
+            memory=wasm.shared_memory(self.pages, self.most_pages),
+            global_entries=self.global_entries(),
+            exports=[*self.exports(), wasm.sized(b"m") + b"\2\0"],
+            data=self.data(),
             **more,
         )
 
