@@ -1,5 +1,5 @@
 pub mod Steps
-pub mod Cells
+pub mod Lanes
 pub mod Frames
 pub mod RelationLaw
 pub mod ChoiceLaw

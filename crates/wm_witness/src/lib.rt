@@ -2,11 +2,19 @@
 #![tactic(auto)]
 
 mod answer;
+mod arcs;
 mod assumption;
+mod buckets;
+mod cells;
 mod choice;
 mod copies;
+mod decision;
 mod grounds;
+mod guess;
+mod guessed;
+mod halt;
 mod leaf;
+mod likely;
 mod links;
 mod node;
 mod relation;
@@ -17,6 +25,7 @@ mod search;
 mod split;
 mod stack;
 mod step;
+mod turns;
 mod unknown;
 
 pub use answer::Answer;
