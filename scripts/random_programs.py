@@ -182,6 +182,7 @@ def program_fault(wmlab, case, is_valid, path):
     if case.is_lowered:
         module, said = lowered_module(module, os.path.dirname(path))
         case.program.has_blocks = "thread-local variables begin at" in said
+        case.program.has_growth = "memory.grow replaced by" in said
     if not is_valid or module is None:
         return "a program", said
     return validity_fault(wmlab, module, True, path)

@@ -122,8 +122,8 @@ class CompiledProgram(Program):
 
     def __init__(self, chance):
         self.own = chance.randbytes(BLOCK_BYTES) if chance.random() < 0.3 else None
-        # Whether the lowered module has blocks: not if no code uses the variables.
-        self.has_blocks = False
+        # What the lowered module has: no blocks if no code uses the variables, no growth if none grows the memory.
+        self.has_blocks = self.has_growth = False
         self.pages = 1 if self.own is None else 2
         self.most_pages = chance.choice((3, 5)) if chance.random() < 0.3 else None
         self.callees = chance.randint(1, 2)
@@ -147,7 +147,8 @@ class CompiledProgram(Program):
     def lowered_place(self, address, index):
         """Where the bytes of a lowered module are in the module as it was, if function `index` has a block of its own;
         None if they are not there."""
-        behind = address - PAGE_BYTES * (self.most_pages or self.pages)
+        grown = self.most_pages if self.has_growth else None
+        behind = address - PAGE_BYTES * (grown or self.pages)
         if behind < 0:
             return address
         block = behind - BLOCK_BYTES * index
