@@ -190,17 +190,16 @@ def validity_fault(wmlab, module, is_valid, path):
 
 
 def lowered_module(module, folder):
-    """What `engines/lower` makes of a module, and what it says if it refuses it."""
+    """What `engines/lower` makes of a module, None if it refuses it, and what it says."""
     source, path = os.path.join(folder, "source.wasm"), os.path.join(folder, "lowered.wasm")
     with open(source, "wb") as file:
         file.write(module)
-    words = [os.path.join(TOP, "engines", "lower"), source, "-o", path, "--quiet", "--soft-floats"]
-    words += ["--tls", "auto"]
+    words = [os.path.join(TOP, "engines", "lower"), source, "-o", path, "--soft-floats", "--tls", "auto"]
     ran = subprocess.run(words, capture_output=True, text=True, check=False)
     if ran.returncode:
         return None, ran.stderr
     with open(path, "rb") as file:
-        return file.read(), ""
+        return file.read(), ran.stdout
 
 
 def program_fault(wmlab, case, is_valid, path):
@@ -208,6 +207,8 @@ def program_fault(wmlab, case, is_valid, path):
     module, said = case.program.module(), ""
     if case.is_lowered:
         module, said = lowered_module(module, os.path.dirname(path))
+        case.program.has_blocks = "thread-local variables begin at" in said
+        case.program.has_growth = "memory.grow replaced by" in said
     if not is_valid or module is None:
         return "a program", said
     return validity_fault(wmlab, module, True, path)

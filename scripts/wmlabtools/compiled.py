@@ -122,12 +122,16 @@ class CompiledProgram(Program):
 
     def __init__(self, chance):
         self.own = chance.randbytes(BLOCK_BYTES) if chance.random() < 0.3 else None
+        # What the lowered module has: no blocks if no code uses the variables, no growth if none grows the memory.
+        self.has_blocks = self.has_growth = False
         self.pages = 1 if self.own is None else 2
         self.most_pages = chance.choice((3, 5)) if chance.random() < 0.3 else None
         self.callees = chance.randint(1, 2)
         self.table = [chance.choice((None, *range(self.callees))) for _ in range(chance.randint(1, 6))]
         super().__init__(chance)
-        self.start = len(self.functions) if chance.random() < 0.15 else None
+        # A start function would use thread-local variables before there is a block.
+        has_start = chance.random() < 0.15 and self.own is None
+        self.start = len(self.functions) if has_start else None
         if self.start is not None:
             self.add(chance, [], None)
 
@@ -143,11 +147,12 @@ class CompiledProgram(Program):
     def lowered_place(self, address, index):
         """Where the bytes of a lowered module are in the module as it was, if function `index` has a block of its own;
         None if they are not there."""
-        behind = address - PAGE_BYTES * (self.most_pages or self.pages)
+        grown = self.most_pages if self.has_growth else None
+        behind = address - PAGE_BYTES * (grown or self.pages)
         if behind < 0:
             return address
         block = behind - BLOCK_BYTES * index
-        return BLOCK_AT + block if self.own is not None and 0 <= block < BLOCK_BYTES else None
+        return BLOCK_AT + block if self.has_blocks and 0 <= block < BLOCK_BYTES else None
 
     def exports(self):
         own = [] if self.own is None else [wasm.sized(b"__tls_base") + b"\3" + wasm.number(len(self.globals))]
