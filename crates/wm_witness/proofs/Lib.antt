@@ -1,5 +1,5 @@
 pub mod Steps
-pub mod Lanes
+pub mod Cells
 pub mod Frames
 pub mod RelationLaw
 pub mod ChoiceLaw

@@ -2,19 +2,11 @@
 #![tactic(auto)]
 
 mod answer;
-mod arcs;
 mod assumption;
-mod buckets;
-mod cells;
 mod choice;
 mod copies;
-mod decision;
 mod grounds;
-mod guess;
-mod guessed;
-mod halt;
 mod leaf;
-mod likely;
 mod links;
 mod node;
 mod relation;
@@ -25,7 +17,6 @@ mod search;
 mod split;
 mod stack;
 mod step;
-mod turns;
 mod unknown;
 
 pub use answer::Answer;

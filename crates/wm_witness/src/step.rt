@@ -223,7 +223,7 @@ fn witness_of(
 }
 
 /// The candidate of a witness; None if its shape has a fault.
-pub(crate) fn candidate_with<'a>(
+fn candidate_with<'a>(
     alloc: Global,
     start: &Candidate<'a>,
     witness: Witness,
