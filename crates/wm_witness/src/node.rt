@@ -577,7 +577,7 @@ pub(crate) fn settle(
     let mut node = Node::of(alloc, start, assumed)?;
     for _ in 0..MAX_ROUNDS {
         node.close(alloc, start, assumed)?;
-        if node.stands.has_cycle(start, assumed) || node.contradicts(start, assumed) {
+        if node.stands.has_cycle(start, assumed) {
             return Ok(None);
         }
         let (ordered, taken) = (node.ordered.len(), node.taken.len());
@@ -586,8 +586,11 @@ pub(crate) fn settle(
         }
         node.order(start, assumed)?;
         if node.ordered.len() == ordered && node.taken.len() == taken {
-            return Ok(Some(node));
+            break;
         }
+    }
+    if node.contradicts(start, assumed) {
+        return Ok(None);
     }
     Ok(Some(node))
 }

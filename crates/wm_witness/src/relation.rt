@@ -241,7 +241,10 @@ impl Relation {
     {
         let links = Links::of(alloc, self, pairs)?;
         for _ in 0..self.rows.len() {
-            if !self.join_all(start, assumed, pairs, &links) || self.has_cycle(start, assumed) {
+            if !self.join_all(start, assumed, pairs, &links)
+                || links.is_sorted
+                || self.has_cycle(start, assumed)
+            {
                 break;
             }
         }
