@@ -7,5 +7,6 @@ pub mod RulesLaw
 pub mod NodeLaw
 pub mod UnknownLaw
 pub mod SplitLaw
+pub mod NewSplitLaw
 pub mod SearchLaw
 pub mod SearchKept

@@ -6,17 +6,17 @@ use Rattle.wm_writers.specs.Forced.{IsNeverValid}
 use Rattle.wm_witness.specs.declared.assumption.Assumption.{Assumption}
 use Rattle.wm_witness.specs.declared.stack.Frame.{Frame}
 use Rattle.wm_witness.specs.Always.{IsClosed}
-use Rattle.wm_witness.specs.Search.{AreOpposite, IsLeftOpen, Searched, alternative, alternatives}
+use Rattle.wm_witness.specs.Search.{IsLeftOpen, IsNewSplit, NothingIsNew, Searched, alternative, alternatives}
 use Rattle.wm_witness.specs.Search.Searched.{step}
-use Rattle.wm_witness.specs.Search.Replaces.{closed, split}
+use Rattle.wm_witness.specs.Search.Replaces.{closed, split, stays}
 use Rattle.wm_witness.proofs.Frames.{AreStacked, after-pop, after-split, stacked-more, stacked-pop, stacked-push}
 use Rattle.wm_witness.proofs.SearchLaw.{none-left}
 
 module _ (run : LoggedRun) (n : ℕ) (xs : List Assumption) (fs : List Frame) (searched : Searched run n (alternatives xs fs)) (stacked : AreStacked 0 fs (length xs)) where
-  module _ (a b : Assumption) (ys : List Assumption) (gs : List Frame) (ys-is : ys ≡ xs ++ a ∷ []) (gs-is : gs ≡ fs ++ record { mark = length xs; last = b } ∷ []) (opposite : AreOpposite run.log a b) where
+  module _ (a b : Assumption) (ys : List Assumption) (gs : List Frame) (ys-is : ys ≡ xs ++ a ∷ []) (gs-is : gs ≡ fs ++ record { mark = length xs; last = b } ∷ []) (new : IsNewSplit run.log xs a b) where
     pub split-searched : Searched run (n + 1) (alternatives ys gs)
     split-searched =
-        let next = step n (map (alternative xs) fs) xs ((xs ++ b ∷ []) ∷ (xs ++ a ∷ []) ∷ []) searched (split opposite) in
+        let next = step n (map (alternative xs) fs) xs ((xs ++ b ∷ []) ∷ (xs ++ a ∷ []) ∷ []) searched (split new) in
         let here : alternatives (xs ++ a ∷ []) (fs ++ record { mark = length xs; last = b } ∷ []) ≡ alternatives ys gs = cc in
         subst (Searched run (n + 1)) (sym (after-split xs fs a b 0 stacked) ∙ here) next
 
@@ -25,6 +25,9 @@ module _ (run : LoggedRun) (n : ℕ) (xs : List Assumption) (fs : List Frame) (s
         let size : length ys ≡ length xs + 1 = ap length ys-is ∙ length-append xs (a ∷ []) in
         let below : length xs ≤ length ys = omega (arith, size) in
         subst (λ hs. AreStacked 0 hs (length ys)) (sym gs-is) (stacked-push 0 fs (record { mark = length xs; last = b }) (length ys) below stacked)
+
+  pub stays-searched : NothingIsNew run.log xs → Searched run (n + 1) (alternatives xs fs)
+  stays-searched none = step n (map (alternative xs) fs) xs (xs ∷ []) searched (stays none)
 
   module _ (f : Frame) (ys : List Assumption) (gs : List Frame) (fs-is : fs ≡ gs ++ f ∷ []) (ys-is : ys ≡ take f.mark xs ++ f.last ∷ []) where
     popped : AreStacked 0 gs f.mark × (f.mark ≤ length xs)

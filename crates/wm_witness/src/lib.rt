@@ -16,6 +16,7 @@ mod halt;
 mod leaf;
 mod likely;
 mod links;
+mod new_split;
 mod node;
 mod relation;
 mod row;

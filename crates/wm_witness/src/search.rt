@@ -29,6 +29,7 @@ pub fn find(alloc: Global, start: &Candidate, nodes: u64) -> Result<Answer, Allo
         match next_step(alloc, start, stack.assumed.as_slice())? {
             Step::Found(witness) => return Ok(Answer::Found(witness)),
             Step::Split(last, other) => stack.split(last, other)?,
+            Step::Stays => (),
             Step::Closed => {
                 if !stack.back()? {
                     return Ok(Answer::NoWitness);

@@ -8,7 +8,6 @@ use std::alloc::{AllocError, Global};
 
 /// The most decisions, and of those the most of which the first way contradicts what is known.
 const MAX_DECISIONS: u32 = 1_000;
-
 const MAX_RESTARTS: u32 = 100;
 
 /// How many of the accesses that follow in a thread are looked at.

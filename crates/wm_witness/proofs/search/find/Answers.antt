@@ -1,18 +1,18 @@
-use Rattle.std.proofs.Common.{◌≡◌, true, List, [], ◌∷◌, ◌++◌, length, take, sym, ap, ◌∙◌, subst, arith}
+use Rattle.std.proofs.Common.{◌≡◌, ◌+◌, true, List, [], ◌∷◌, ◌++◌, length, take, sym, ap, ◌∙◌, subst, arith}
 use Rattle.wm_event.specs.LoggedRun.{LoggedRun}
 use Rattle.wm_witness.specs.declared.assumption.Assumption.{Assumption}
 use Rattle.wm_witness.specs.declared.step.Step.{Step}
-use Rattle.wm_witness.specs.declared.step.Step.TheVariants.{Closed, Split}
+use Rattle.wm_witness.specs.declared.step.Step.TheVariants.{Closed, Split, Stays}
 use Rattle.wm_witness.specs.declared.stack.Frame.{Frame}
 use Rattle.wm_witness.specs.declared.stack.Stack.{Stack}
 use Rattle.wm_witness.specs.Always.{IsClosed}
-use Rattle.wm_witness.specs.Search.{AreOpposite, IsBack, IsLeftOpen, Searched, alternatives}
+use Rattle.wm_witness.specs.Search.{IsBack, IsLeftOpen, IsNewSplit, NothingIsNew, Searched, alternatives}
 use Rattle.wm_witness.specs.Search.Searched.{start}
 use Rattle.wm_witness.specs.Steps.{IsStep}
 use Rattle.wm_witness.proofs.Frames.{AreStacked}
-use Rattle.wm_witness.proofs.SearchKept.{closed-searched, closed-stacked, left-open, none-left-now, split-searched, split-stacked}
+use Rattle.wm_witness.proofs.SearchKept.{closed-searched, closed-stacked, left-open, none-left-now, split-searched, split-stacked, stays-searched}
 use Rattle.wm_witness.proofs.search.find.Goals as goal
-use Rattle.wm_witness.proofs.search.find.Goals.{in-Split+in_ok-split-in-Split, in-Closed+in_ok-back-in-Closed+else-not-branch}
+use Rattle.wm_witness.proofs.search.find.Goals.{in-Split+in_ok-split-in-Split, in-Closed+in_ok-back-in-Closed+else-not-branch, in-Stays}
 
 -- what a step that closes says of what was assumed
 closed-by : (run : LoggedRun) (xs ys : List Assumption) (s : Step) → ys ≡ xs → s ≡ Closed → IsStep run ys s → IsClosed run xs
@@ -28,8 +28,12 @@ returns-then-not-branch-clause-none c =
     (closed-by c.args.start.now c.loop-begun.stack.assumed.items c.as_slice.result.now c.in_ok-witness.field-0 c.as_slice.ensures.value c.in-Closed.is c.in_ok-witness.ensures)
 
 -- what a step that splits says
-split-by : (run : LoggedRun) (xs : List Assumption) (s : Step) (a b : Assumption) → s ≡ Split a b → IsStep run xs s → AreOpposite run.log a b
-split-by run xs s a b is step = subst (IsStep run xs) is step
+split-by : (run : LoggedRun) (xs ys : List Assumption) (s : Step) (a b : Assumption) → ys ≡ xs → s ≡ Split a b → IsStep run ys s → IsNewSplit run.log xs a b
+split-by run xs ys s a b same is step = subst (λ zs. IsNewSplit run.log zs a b) same (subst (IsStep run ys) is step)
+
+-- what a step that leaves the alternative says
+stays-by : (run : LoggedRun) (xs ys : List Assumption) (s : Step) → ys ≡ xs → s ≡ Stays → IsStep run ys s → NothingIsNew run.log xs
+stays-by run xs ys s same is step = subst (NothingIsNew run.log) same (subst (IsStep run ys) is step)
 
 pub loop-begun-preserved : goal.loop-begun-preserved
 loop-begun-preserved c = elim c.match-branch-2.branch [
@@ -42,10 +46,10 @@ loop-begun-preserved c = elim c.match-branch-2.branch [
       let ys : c.match-branch-2.stack.assumed.items ≡ xs ++ w.in-Split.last ∷ [] = ap (λ (s : Stack). s.assumed.items) w.stack-is ∙ w.in_ok-split-in-Split.ensures.assumed in
       let gs : c.match-branch-2.stack.frames.items ≡ fs ++ record { mark = length xs; last = w.in-Split.other } ∷ [] =
       ap (λ (s : Stack). s.frames.items) w.stack-is ∙ w.in_ok-split-in-Split.ensures.frames in
-      let opposite = split-by run c.as_slice.result.now c.in_ok-witness.field-0 w.in-Split.last w.in-Split.other w.in-Split.is c.in_ok-witness.ensures in
+      let new = split-by run xs c.as_slice.result.now c.in_ok-witness.field-0 w.in-Split.last w.in-Split.other c.as_slice.ensures.value w.in-Split.is c.in_ok-witness.ensures in
       record {
-        searched = split-searched run c.loop-begun.begun xs fs searched stacked w.in-Split.last w.in-Split.other c.match-branch-2.stack.assumed.items c.match-branch-2.stack.frames.items ys gs opposite;
-        stacked = split-stacked run c.loop-begun.begun xs fs searched stacked w.in-Split.last w.in-Split.other c.match-branch-2.stack.assumed.items c.match-branch-2.stack.frames.items ys gs opposite;
+        searched = split-searched run c.loop-begun.begun xs fs searched stacked w.in-Split.last w.in-Split.other c.match-branch-2.stack.assumed.items c.match-branch-2.stack.frames.items ys gs new;
+        stacked = split-stacked run c.loop-begun.begun xs fs searched stacked w.in-Split.last w.in-Split.other c.match-branch-2.stack.assumed.items c.match-branch-2.stack.frames.items ys gs new;
       }
   | in-Closed+in_ok-back-in-Closed+else-not-branch w ↦
       let run : LoggedRun = c.args.start.now in
@@ -60,6 +64,17 @@ loop-begun-preserved c = elim c.match-branch-2.branch [
       record {
         searched = closed-searched run c.loop-begun.begun xs fs searched stacked back.0 c.match-branch-2.stack.assumed.items c.match-branch-2.stack.frames.items gs ys closed;
         stacked = closed-stacked run c.loop-begun.begun xs fs searched stacked back.0 c.match-branch-2.stack.assumed.items c.match-branch-2.stack.frames.items gs ys;
+      }
+  | in-Stays w ↦
+      let run : LoggedRun = c.args.start.now in
+      let xs : List Assumption = c.loop-begun.stack.assumed.items in
+      let fs : List Frame = c.loop-begun.stack.frames.items in
+      let searched : Searched run c.loop-begun.begun (alternatives xs fs) = c.loop-begun.invariant.searched in
+      let stacked : AreStacked 0 fs (length xs) = c.loop-begun.invariant.stacked in
+      let none = stays-by run xs c.as_slice.result.now c.in_ok-witness.field-0 c.as_slice.ensures.value w.in-Stays.is c.in_ok-witness.ensures in
+      record {
+        searched = subst (λ (s : Stack). Searched run (c.loop-begun.begun + 1) (alternatives s.assumed.items s.frames.items)) (sym w.stack-is) (stays-searched run c.loop-begun.begun xs fs searched stacked none);
+        stacked = subst (λ (s : Stack). AreStacked 0 s.frames.items (length s.assumed.items)) (sym w.stack-is) stacked;
       }
 ]
 
