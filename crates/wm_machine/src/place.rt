@@ -1,7 +1,7 @@
 //! Where a call is in the code of its function.
-ghost use Rattle.std.specs.Prelude.{◌≡◌, [], ◌∷◌};
+ghost use Rattle.std.specs.Prelude.{◌≡◌};
 ghost use Rattle.wm_machine.specs.Functions.{continuation};
-ghost use Rattle.wm_machine.specs.Places.{end_in, end_within, place_of};
+ghost use Rattle.wm_machine.specs.Places.{end_within, place_of};
 
 use crate::code::Code;
 use crate::control_stack::ControlStack;

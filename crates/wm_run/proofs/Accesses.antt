@@ -6,7 +6,6 @@ use Rattle.wm_access.specs.declared.AccessWidth.{AccessWidth}
 use Rattle.wm_access.specs.declared.AccessWidth.TheVariants.{One, Two, Four, Eight}
 use Rattle.wm_access.specs.AccessWidth.{Fits, bytes_of}
 use Rattle.wm_event.specs.declared.event.EventKey.{EventKey}
-use Rattle.wm_event.specs.declared.event.EventKind.TheVariants as event
 use Rattle.wm_event.specs.declared.op.OpFields.{OpFields}
 use Rattle.wm_event.specs.declared.op.OpKind.{OpKind}
 use Rattle.wm_event.specs.declared.op.OpKind.TheVariants.{Read, Write, Rmw, CmpXchg}
