@@ -2,7 +2,7 @@ use Rattle.std.proofs.Common.{subst, string_bytes}
 use Rattle.wm_litmus.specs.Drive.{AnswersDrive, IsScriptAnswer}
 use Rattle.wm_litmus.specs.Trace.{AnswersTrace}
 use Rattle.wm_litmus.specs.Rounds.{IsRoundsAnswer}
-use Rattle.wm_litmus.specs.Replies.IsAnswer.{document_task_of, drive_of, help_of, no_command, run_of, run_task_of, trace_of, version_of}
+use Rattle.wm_litmus.specs.Replies.IsAnswer.{document_task_of, drive_of, help_of, no_command, run_of, run_task_of, trace_of, version_of, witness_of}
 use Rattle.wm_litmus.proofs.program.reply_to.Goals as goal
 
 pub returns-in_ok-answer-in-Ok-OfRun-clause-answers : goal.returns-in_ok-answer-in-Ok-OfRun-clause-answers
@@ -14,6 +14,11 @@ pub returns-in_ok-answer-in-Ok-OfDocument-clause-answers : goal.returns-in_ok-an
 returns-in_ok-answer-in-Ok-OfDocument-clause-answers g c =
     let read = rw c.in-Ok-OfDocument.field-0-is at c.in-Ok-OfDocument.ensures.read in
     document_task_of c.in-Ok-OfDocument.task c.in-Ok-OfDocument.document read c.in_ok-answer-in-Ok-OfDocument.ensures.answers
+
+pub returns-in_ok-answer-in-Ok-Witness-clause-answers : goal.returns-in_ok-answer-in-Ok-Witness-clause-answers
+returns-in_ok-answer-in-Ok-Witness-clause-answers g c =
+    let read = rw c.in-Ok-Witness.field-0-is at c.in-Ok-Witness.ensures.read in
+    witness_of c.in-Ok-Witness.words read c.in_ok-answer-in-Ok-Witness.ensures.answers
 
 pub returns-in_ok-answer-in-Ok-Drive-clause-answers : goal.returns-in_ok-answer-in-Ok-Drive-clause-answers
 returns-in_ok-answer-in-Ok-Drive-clause-answers g c =

@@ -14,22 +14,22 @@ use Rattle.wm_litmus.proofs.RaceAnswers.{told_over}
 use Rattle.wm_litmus.proofs.races.races_of_checked.Goals as goal
 
 pub list_allowed-requires-clause-positions : goal.list_allowed-requires-clause-positions
-list_allowed-requires-clause-positions g c =
+list_allowed-requires-clause-positions g c κs _ =
     let is = subst (IsCheckOf c.args.code.module.now c.args.document_bytes.now) c.in-Judged.is c.requires.kept in
     is.1.made_at
 
 pub list_allowed-requires-clause-closure : goal.list_allowed-requires-clause-closure
-list_allowed-requires-clause-closure g c =
+list_allowed-requires-clause-closure g c κs _ =
     let is = subst (IsCheckOf c.args.code.module.now c.args.document_bytes.now) c.in-Judged.is c.requires.kept in
     subst (HasClosure c.in-Judged.candidate) c.in-Valid.is is.1.closed
 
 pub list_allowed-requires-clause-valid : goal.list_allowed-requires-clause-valid
-list_allowed-requires-clause-valid g c =
+list_allowed-requires-clause-valid g c κs _ =
     let is = subst (IsCheckOf c.args.code.module.now c.args.document_bytes.now) c.in-Judged.is c.requires.kept in
     subst (λ f. Judges (execution c.in-Judged.candidate) (judgement_of f)) c.in-Valid.is is.1.judged
 
-pub returns-in-Judged-in-Valid : goal.returns-in-Judged-in-Valid
-returns-in-Judged-in-Valid g c =
+pub returns-in-Valid : goal.returns-in-Valid
+returns-in-Valid g c =
     let m = c.args.code.module.now in
     let mb = c.args.code.bytes.now in
     let db = c.args.document_bytes.now in
@@ -67,8 +67,8 @@ returns-in-Differs g c =
     told_over (code_in c.args.code) db (Broken (Replay c.in-Differs.answer)) answer (subst (λ k. SaysOver m db (verdict_of k)) c.in-Differs.is c.requires.verdict) tt prints)
     c.of_verdict-in-Differs.ensures
 
-pub returns-in-Judged-in-Broken : goal.returns-in-Judged-in-Broken
-returns-in-Judged-in-Broken g c =
+pub returns : goal.returns
+returns g c =
     let m = c.args.code.module.now in
     let db = c.args.document_bytes.now in
     let run = c.in-Judged.candidate in

@@ -13,23 +13,23 @@ use Rattle.wm_litmus.proofs.RaceAnswers.{one_not_zero, two_not_zero}
 use Rattle.wm_litmus.proofs.races.races_of_judged.Goals as goal
 
 pub list_valid-requires-clause-closure : goal.list_valid-requires-clause-closure
-list_valid-requires-clause-closure g c =
+list_valid-requires-clause-closure g c κs _ =
     let is = subst (IsJudgedDocument c.args.bytes.now (zeros 16)) c.in-Judged.is c.requires in
     subst (HasClosure c.in-Judged.candidate) c.in-Valid.is is.1.closed
 
 pub list_valid-requires-clause-valid : goal.list_valid-requires-clause-valid
-list_valid-requires-clause-valid g c =
+list_valid-requires-clause-valid g c κs _ =
     let is = subst (IsJudgedDocument c.args.bytes.now (zeros 16)) c.in-Judged.is c.requires in
     subst (λ f. Judges (execution c.in-Judged.candidate) (judgement_of f)) c.in-Valid.is is.1.judged
 
-pub returns-in-Judged-in-Valid : goal.returns-in-Judged-in-Valid
-returns-in-Judged-in-Valid g c =
+pub returns-in-Valid : goal.returns-in-Valid
+returns-in-Valid g c =
     let bytes = c.args.bytes.now in
     let is = subst (λ f. IsJudgedDocument bytes (zeros 16) (Judged c.in-Judged.candidate f)) c.in-Valid.is (subst (IsJudgedDocument bytes (zeros 16)) c.in-Judged.is c.requires) in
     IfOk-weaker c.list_valid.result _ _ (λ answer reports. answers_races bytes c.in-Judged.candidate c.in-Valid.closure answer is reports) c.list_valid.ensures
 
-pub returns-in-Judged-in-Broken : goal.returns-in-Judged-in-Broken
-returns-in-Judged-in-Broken g c =
+pub returns : goal.returns
+returns g c =
     let bytes = c.args.bytes.now in
     let is = subst (λ f. IsJudgedDocument bytes (zeros 16) (Judged c.in-Judged.candidate f)) c.in-Broken.is (subst (IsJudgedDocument bytes (zeros 16)) c.in-Judged.is c.requires) in
     IfOk-weaker c.judged.result _ _
