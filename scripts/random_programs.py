@@ -8,8 +8,8 @@ It needs node.
 Each function of a program is called by node, and runs as the only thread of a script by `wmlab drive`. Both have to
 end with the same result or trap, and to leave the same memory: for wmlab, what the writes of its log make of the
 initial one. The text of `explain` on the log has to be as a plain program writes it, and to name for each event an
-instruction that makes such an access. Each turn of `trace` has to be at an instruction to which the one before it leads,
-by a second reading of the code.
+instruction that makes such an access. Each turn of `trace` has to be at an instruction to which the one before it
+leads, by a second reading of the code.
 
 Then instructions of the program are changed at random, and of the modules that come of it `wmlab check` has to refuse
 those that node refuses, and no other.
