@@ -9,7 +9,7 @@ export class Table {
   }
 
   rows() {
-    return [...this.counts].sort(([, a], [, b]) => b - a);
+    return [...this.counts].sort(([one, a], [other, b]) => b - a || (one < other ? -1 : 1));
   }
 
   /** The rows as lines; `more(text)` is put at the end of each. */
