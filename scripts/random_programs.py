@@ -171,6 +171,8 @@ def trace_fault(wmlab, case, path, start, steps):
         return "trace", start, out, err, status
     for line in lines:
         found = PLACE.match(line)
+        if found is None:
+            return "a line without a place", start, line
         function, number, offset = int(found[1]), int(found[2]), int(found[3], 16)
         if instructions.get(offset, ())[:2] != (function, number):
             return "no such instruction", start, line

@@ -3,7 +3,7 @@ from wmlabtools import wasm
 
 BLOCK, LOOP, IF, ELSE, END = 0x02, 0x03, 0x04, 0x05, 0x0B
 BR, BR_IF, BR_TABLE, RETURN, CALL = 0x0C, 0x0D, 0x0E, 0x0F, 0x10
-# The places after a function's last instruction.
+# What comes after an instruction that leaves its function.
 LEAVES = "leaves"
 
 
@@ -30,9 +30,7 @@ class Flow:
                 self.elses[opened[-1]] = place
             if opcode == END and opened:
                 self.ends[opened.pop()] = place
-                self.around.append([*opened])
-            else:
-                self.around.append([*opened])
+            self.around.append([*opened])
             if opcode in (BLOCK, LOOP, IF):
                 opened.append(place)
 
