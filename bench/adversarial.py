@@ -17,8 +17,11 @@ Each is valid, so that every rule is judged to its end.
 import argparse
 import os
 import random
+import sys
 
-from bench_path import log
+sys.path.insert(0, os.path.join(os.path.dirname(os.path.abspath(__file__)), "../scripts"))
+
+from wmlabtools import log
 
 
 def old(n):
@@ -97,7 +100,8 @@ def atomic_past(n):
 
 
 def mixed(n, threads, order):
-    run, r, memory = log.LogBuilder(threads), random.Random(3), [[]] * 8
+    run, r = log.LogBuilder(threads), random.Random(3)
+    memory: list[log.Key] = [[]] * 8
     for index in range(n):
         thread = r.randrange(threads)
         if r.random() < 0.5:

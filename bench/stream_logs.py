@@ -3,7 +3,7 @@ import random
 import re
 from collections import deque
 
-from bench_path import wasm
+from wmlabtools import log, wasm
 from wmlabtools.log import compact
 
 FLAGS = 64
@@ -32,8 +32,10 @@ class Machine:
 
     def __init__(self, threads, chance):
         self.chance = chance
-        self.events, self.order = [[] for _ in range(threads)], []
-        self.cells, self.buffers = {}, [deque() for _ in range(threads)]
+        self.events: list[list[log.LoggedEvent]] = [[] for _ in range(threads)]
+        self.order: list[log.Key] = []
+        self.cells: dict[int, tuple[int, log.Key]] = {}
+        self.buffers: list[deque[tuple[int, int, log.Key]]] = [deque() for _ in range(threads)]
 
     def publish(self, thread):
         address, value, key = self.buffers[thread].popleft()

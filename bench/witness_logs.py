@@ -5,7 +5,7 @@ import random
 from collections import deque
 from collections.abc import Callable, Generator
 
-from bench_path import log
+from wmlabtools import log
 
 WIDTH = 4
 # A kind, an order, an address and a value.

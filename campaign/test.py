@@ -19,17 +19,19 @@ import threading
 import time
 from collections import Counter
 from pathlib import Path
+from typing import Any
 
-HERE = Path(__file__).resolve().parent
-sys.path[:0] = [str(HERE), str(HERE.parent / "scripts")]
+from wmlabcampaign.worker import kind_of
 
-from wmlabcampaign.worker import kind_of  # noqa: E402
-from wmlabtools import TOP, harness, log  # noqa: E402
+sys.path.insert(0, os.path.join(os.path.dirname(os.path.abspath(__file__)), "../scripts"))
+
+from wmlabtools import TOP, harness, log
 
 MODULE = "examples/store-buffering.wasm"
 ATOMIC = "examples/store-buffering-atomic.wasm"
 FLOATS = "examples/floats.wasm"
 SECONDS = 300
+RUN = Path(TOP) / "campaign/run"
 
 
 # ---- logs
@@ -91,7 +93,7 @@ class Room:
         return str(path)
 
     def start(self, *words, wmlab=None, **streams):
-        command = [HERE / "run", "--out", self.folder / words[0], "--wmlab", wmlab or self.wmlab, *words[1:]]
+        command = [RUN, "--out", self.folder / words[0], "--wmlab", wmlab or self.wmlab, *words[1:]]
         streams = {"stdout": subprocess.PIPE, "stderr": subprocess.PIPE, "text": True, **streams}
         streams["preexec_fn"] = heeds_interrupts
         return subprocess.Popen(command, cwd=TOP, stdin=subprocess.DEVNULL, start_new_session=True, **streams)
@@ -141,7 +143,8 @@ class DaskCluster:
     def __init__(self, folder):
         self.file, self.folder = folder / "scheduler.json", folder
         self.file.unlink(missing_ok=True)
-        self.processes = []
+        self.processes: list[subprocess.Popen[bytes]] = []
+        self.workers: list[subprocess.Popen[bytes]] = []
         words = ["scheduler", "--host", "127.0.0.1", "--port", "0", "--no-dashboard", "--scheduler-file", self.file]
         self.scheduler = self.start(words)
         self.address = wait_for(self.find_address)
@@ -173,7 +176,7 @@ class DaskCluster:
 def dask_cluster(folder, workers):
     cluster = DaskCluster(folder)
     try:
-        cluster.workers = cluster.add_workers(workers)
+        cluster.workers += cluster.add_workers(workers)
         yield cluster
     finally:
         cluster.close()
@@ -186,7 +189,7 @@ def counts_in(text):
     """The row of the first module, and the kinds below it, out of a printed table."""
     rows = text.splitlines()
     numbers = [int(cell.replace(",", "")) for cell in rows[1].split()[1:]]
-    kinds = Counter()
+    kinds: Counter[str] = Counter()
     for row in rows[2:]:
         if not row.startswith(" "):
             break
@@ -197,7 +200,7 @@ def counts_in(text):
 
 def is_table_of(text, counts):
     numbers, kinds = counts_in(text)
-    by_verdict = Counter()
+    by_verdict: Counter[str] = Counter()
     for kind, count in counts.items():
         by_verdict[kind.split(" ")[0]] += count
     expected = [sum(counts.values()), *(by_verdict[verdict] for verdict in ("allowed", "broken", "refused"))]
@@ -296,6 +299,39 @@ def interrupted(tally, room):
     tally.check(is_gone, "no process of the campaign is left")
 
 
+def terminated(tally, room):
+    """A batch system's signal reaches the campaign alone, which ends its workers and what these run."""
+    mark = f"campaign-{os.getpid()}"
+    words = ["--workers", "2", "--batch", "500", "record", "--mode", "free", "--rounds", "5000", MODULE, "a", "b"]
+    running = room.start("terminated", *words, env={**os.environ, "WMLAB_TEST": mark})
+    is_recording = wait_for(lambda: any(b"record.mjs" in words_of(process) for process in marked(mark)))
+    running.terminate()
+    out, err = running.communicate(timeout=SECONDS)
+    is_right = running.returncode == 130 and "stopped; --resume goes on" in err and is_quiet(err)
+    tally.check(is_recording and is_right and "batches finished: " in out, "SIGTERM ends a campaign", (out, err))
+    tally.check(wait_for(lambda: not marked(mark)), "no recorder of it is left", [*map(words_of, marked(mark))])
+
+
+def words_of(process):
+    """The command line of a process, by its folder in /proc."""
+    try:
+        return (process / "cmdline").read_bytes()
+    except OSError:
+        return b""
+
+
+def marked(mark):
+    """The folders in /proc of the processes that have a value in their environment, and have not ended."""
+
+    def has(process):
+        try:
+            return f"WMLAB_TEST={mark}".encode() in (process / "environ").read_bytes().split(b"\0")
+        except OSError:
+            return False
+
+    return [process for process in Path("/proc").glob("[0-9]*") if has(process)]
+
+
 def is_of_session(process, session):
     """Whether a folder of /proc is of a process of a session that has not ended."""
     try:
@@ -321,8 +357,10 @@ def kinds(tally):
         ("refused document BadShape at /2/0/1", "refused document BadShape"),
         ("refused shape OrderNotPermutation", "refused shape OrderNotPermutation"),
         ('thread 0 ended with ["done",[1]], and its run with ["done",[0]]', "broken engine's end"),
-        ("no witness exists on a machine with store buffers", "broken no witness exists"),
-        ("no witness found: gave up after 2000000 steps", "refused no witness found"),
+        ("no witness threads=2 events=4", "broken no witness"),
+        ("refused another witness is allowed; with its own: broken V2 case 1 at 0.1", "refused another witness"),
+        ("refused no witness found, gave up nodes=100000; with its own: broken V2", "refused no witness found"),
+        ("no witness found: gave up after 100000 nodes", "refused no witness found"),
     ):
         tally.check(kind_of(answer) == kind, f"the kind of {answer}", kind_of(answer))
 
@@ -347,6 +385,21 @@ def statuses(tally, room, cluster):
         answer = path.with_suffix(".txt").read_text(encoding="utf-8").splitlines()[0]
         line = harness.run(room.wmlab, ["check", MODULE, str(path)])[0].rstrip("\n")
         tally.check(line == answer, "`check` answers a kept log as the stream did", (line, answer))
+
+
+def another_witness(tally, room, cluster):
+    """A log that a rule refuses, of values that the rules permit, does not count against an engine."""
+    misordered = buffered(order=((0, 1), (0, 0), (1, 0), (1, 1)))
+    write_lines(room.folder / "misordered.jsonl", [ALLOWED, misordered])
+    words = ["--scheduler", cluster.address, "logs", MODULE, str(room.folder / "misordered.jsonl")]
+    out, err, status = room.run("misordered", *words)
+    is_right = status == 2 and is_table_of(out, {"allowed": 1, "refused another witness": 1})
+    tally.check(is_right, "a log with another witness is no fault of an engine", (status, out, err))
+    path = next((room.folder / "misordered/kept").glob("*.txt"))
+    text = path.read_text(encoding="utf-8")
+    line = harness.run(room.wmlab, ["check", MODULE, str(path.with_suffix(".json"))])[0].rstrip("\n")
+    is_told = text.startswith(f"refused another witness is allowed; with its own: {line}\n")
+    tally.check(is_told and line.startswith("broken V2"), "its own witness is told of", (text, line))
 
 
 def one_kept_log(tally, room, cluster):
@@ -385,7 +438,7 @@ def recordings(tally, room, cluster):
     out, err, status = room.run("wrong", *words, *wrong)
     numbers, kinds = counts_in(out)
     tally.check(
-        status == 1 and numbers[0] == 20 and kinds["broken V5 case 3"] == numbers[2] > 0,
+        status == 1 and numbers[0] == 20 and kinds["broken no witness"] == numbers[2] > 0,
         "rounds of a wrong engine are broken",
         (status, out, err),
     )
@@ -411,7 +464,7 @@ def without_pictures(tally, room):
     words = ["--workers", "1", "record", "--mode", "buffered", "--rounds", "20", "--wrong", "plain-atomics", ATOMIC]
     out, err, status = room.run("undrawn", *words, "a", "b", env=environment)
     numbers, kinds = counts_in(out)
-    is_right = status == 1 and numbers[0] == 20 and kinds["broken V5 case 3"] == numbers[2] > 0
+    is_right = status == 1 and numbers[0] == 20 and kinds["broken no witness"] == numbers[2] > 0
     tally.check(is_right, "rounds are counted though dot fails", (status, out, err))
     is_kept = any((room.folder / "undrawn/kept").glob("*-shrunk.txt"))
     tally.check(is_kept, "their logs are kept too", os.listdir(room.folder / "undrawn/kept"))
@@ -530,13 +583,22 @@ def other_folders(tally, room, cluster):
     words = ["--scheduler", cluster.address, "logs", MODULE, str(room.folder / "one.jsonl")]
     first = room.run("mine", *words)
     tally.check(first[2] == 0, "a campaign of one log", first)
+    two = [*words, str(room.folder / "allowed.jsonl")]
+    logs = 'one.jsonl"], and has ["'
     for name, more, changed, reason in (
-        ("again", [], words, "has a campaign already; --resume"),
-        ("logs", ["--resume"], [*words, str(room.folder / "allowed.jsonl")], "it is over other logs or rounds: ["),
-        ("batch", ["--resume", "--batch", "7"], words, "has another campaign: its --batch was 1000\n"),
+        ("again", [], words, "has this campaign already; --resume goes on with it"),
+        ("logs", ["--resume"], two, "has another campaign: part 1 had logs ["),
+        ("places", ["--resume"], two, logs),
+        ("logs, not resumed", [], two, "has another campaign: part 1 had logs ["),
+        ("batch", ["--resume", "--batch", "7"], words, "another campaign: its --batch was 1000, and is 7 now; name a"),
     ):
         out, err, status = room.run("mine", *more, *changed)
         tally.check(status == 2 and reason in err and out == "", f"a campaign of other {name}", (status, out, err))
+    plan = room.folder / "longer.txt"
+    plan.write_text(f"{' '.join(words[2:])}\nrecord --rounds 5 {MODULE} a b\n", encoding="utf-8")
+    out, err, status = room.run("mine", "--resume", *words[:2], "plan", str(plan))
+    is_right = status == 2 and "another campaign: its parts were 1, and are 2 now: the next one is {" in err
+    tally.check(is_right, "a plan with a further part", (status, err))
     same = room.run("mine", "--resume", *words, wmlab=room.stand_in("newer", 'exec "$wmlab" "$@"'))
     is_right = same[2] == 2 and "has another campaign: it was judged by another program" in same[1]
     tally.check(is_right, "a campaign of another program", same)
@@ -563,7 +625,8 @@ def litmus_tests(tally, room, cluster):
     tally.check(status == 1 and "broken not permitted" in out, "a wrong engine in a campaign", (status, out, err))
     files = sorted((room.folder / "tests/litmus").glob("*.jsonl"))
     rows = [json.loads(line) for path in files for line in path.read_text(encoding="utf-8").splitlines()]
-    whole = next((row for row in rows if row["name"] == "SB"), {"iterations": 0, "states": []})
+    nothing: dict[str, Any] = {"iterations": 0, "states": []}
+    whole = next((row for row in rows if row["name"] == "SB"), nothing)
     tally.check(whole["iterations"] == 1_011_712, "the histograms of two batches are added up", rows)
     count = sum(state["count"] for state in whole["states"])
     tally.check(count == whole["iterations"], "each iteration is counted once", whole)
@@ -587,11 +650,12 @@ def main():
         kinds(tally)
         lost_worker_and_scheduler(tally, room)
         interrupted(tally, room)
+        terminated(tally, room)
         mistakes(tally, room)
         without_dask(tally, room)
         without_pictures(tally, room)
         with dask_cluster(room.folder, 2) as cluster:
-            for test in (statuses, one_kept_log, forms_of_logs, recordings, litmus_tests):
+            for test in (statuses, another_witness, one_kept_log, forms_of_logs, recordings, litmus_tests):
                 test(tally, room, cluster)
             for test in (failing_streams, no_logs, other_folders):
                 test(tally, room, cluster)

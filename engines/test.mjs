@@ -1,4 +1,5 @@
-#!/usr/bin/env node
+#!/bin/sh
+':' //; command -v node >/dev/null || { echo "${0##*/}: node is not installed (Debian: nodejs)" >&2; exit 2; }; exec node "$0" "$@"
 /** The tests of everything in engines/, in parts that run side by side. `--help` prints the usage. */
 
 import { availableParallelism } from 'node:os';

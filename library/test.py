@@ -14,7 +14,8 @@ import subprocess
 import sys
 import tempfile
 
-sys.path.insert(0, os.path.join(os.path.dirname(os.path.abspath(__file__)), "..", "scripts"))
+sys.path.insert(0, os.path.join(os.path.dirname(os.path.abspath(__file__)), "../scripts"))
+
 from wmlabtools import TOP, harness, wasm
 
 OPTIONS = harness.arguments(__doc__).parse_args()
@@ -66,7 +67,8 @@ def check_answers(room):
 def check_usage(room):
     """Too few words are no verdict."""
     script = f"{TOP}/examples/c-library/verify.py"
-    for words in ([], [f"{room}/libwmlab.so", MODULES[0]]):
+    few: tuple[list[str], ...] = ([], [f"{room}/libwmlab.so", MODULES[0]])
+    for words in few:
         got = run(sys.executable, script, *words)
         TALLY.check((got[0], got[2]) == ([], 2) and "LOG.." in got[1], f"verify.py with {len(words)} words", got)
 

@@ -11,7 +11,7 @@ import subprocess
 import tempfile
 from collections import Counter
 
-from litmustools import TOP, bytewise, commands, cycle_check, harness, judges, run_tests, wabt
+from litmustools import bytewise, commands, cycle_check, judges, outcome_tests, run_tests
 from litmustools.accesses import BadCycle
 from litmustools.buffers import WRONG, Machine, outcomes, script
 from litmustools.candidates import Candidates, ask
@@ -23,7 +23,9 @@ from litmustools.model import Model
 from litmustools.modules import bytes_of, text_of
 from litmustools.names import SHAPES, cycle_named, named, shape_of
 from litmustools.suite import committed, suite
-from litmustools.verdicts import expected_verdicts, verdict_of
+from litmustools.verdicts import expected_verdicts, proved_verdict, verdict_of
+from litmustools.witnesses import witness_of_cycle
+from wmlabtools import TOP, harness, wabt
 
 HERE = os.path.join(TOP, "litmus")
 LEAST_TESTS = 400
@@ -164,9 +166,11 @@ def not_permitted(test, judge, wrong=None):
 
 
 def test_verdict(tally, test, expected, stream, program):
-    """The verdict on the cycle's outcome, and what `check` answers to the witness."""
+    """The verdict on the cycle's outcome, by candidates and by `witness`; and what `check` answers to a candidate."""
     verdict, witness = verdict_of(test, stream)
     tally.check(verdict == expected, f"the verdict on {test.name}", f"{verdict}, expected {expected}")
+    proved = proved_verdict(witness_of_cycle(program, stream.module, test, test.cycle_values))
+    tally.check(proved == expected, f"what is proved of {test.name}", f"{proved}, expected {expected}")
     if witness:
         document = judges.completed(program, stream.module, witness)
         answer = harness.run(program, ["check", stream.module, "-"], input=document.encode())[0]
@@ -177,7 +181,8 @@ def test_script(tally, test, stream, program):
     """The script that the search found gives the outcome."""
     found = outcomes(Machine(test))
     if test.cycle_values in found:
-        words = ["drive", stream.module, script(test, found[test.cycle_values]), *test.starts]
+        moves = [move for move in found[test.cycle_values] if move]
+        words = ["drive", stream.module, script(test, moves), *test.starts]
         lines = harness.run(program, words)[0].split("\n")
         holds = lines[0] == f"outcome {test.outcome}" and lines[1].startswith("allowed")
         tally.check(holds, f"drive gives the outcome of {test.name}", lines[:2])
@@ -194,7 +199,7 @@ def test_engines(tally, test, stream, caught):
 
 
 def test_each(tally, tests, verdicts, names, stream_on, program):
-    caught = {}
+    caught: dict[str, str] = {}
     for name in names:
         with stream_on(tests[name]) as stream:
             test_verdict(tally, tests[name], verdicts[name], stream, program)
@@ -209,7 +214,8 @@ def test_each(tally, tests, verdicts, names, stream_on, program):
 def smallest(tests):
     """The ten tests with the fewest candidates in the second enumeration, at most two of a shape."""
     several = {name: test for name, test in tests.items() if len(test.threads) > 1 and not test.finals}
-    found, taken = [], Counter()
+    found: list[str] = []
+    taken: Counter[str] = Counter()
     for _, name in sorted((bytewise.count(cycle_log(test)), name) for name, test in several.items()):
         shape = tests[name].cycle.shape
         if taken[shape] < 2 and len(found) < 10:
@@ -248,12 +254,14 @@ def test_same_answers(tally, tests, stream_on):
         tally.check(alike == len(lines), f"{name}: the program and the model answer alike", f"{alike} of {len(lines)}")
 
 
-def ran(command, *words_of_command):
-    return harness.run(os.path.join(HERE, command), [*words_of_command])
+def ran(command, *words_of_command, path=None):
+    """A run of a command, with the folders in which it looks for tools if they are given."""
+    env = {**os.environ, "PATH": path} if path else None
+    return harness.run(os.path.join(HERE, command), [*words_of_command], env=env)
 
 
-def check_refusal(tally, sentence, command, *words_of_command):
-    out, err, status = ran(command, *words_of_command)
+def check_refusal(tally, sentence, command, *words_of_command, path=None):
+    out, err, status = ran(command, *words_of_command, path=path)
     is_line = err.startswith(f"{command}: {sentence}") and err.count("\n") == 1
     is_refused = status == 2 and not out and is_line
     tally.check(is_refused, f"{command} {words_of_command} is refused in a line", out + err)
@@ -280,6 +288,9 @@ def test_refusals(tally, room):
     for sentence, command, *words_of_command in (
         ("an empty name: no shape has this name", "candidates", ""),
         ("'SC': no shape has this name", "candidates", "SC"),
+        ("'SB' names a test: --test SB prints it; a folder is written ./SB", "generate", "SB"),
+        ("'2+2W+sc-nope' names a test", "generate", "2+2W+sc-nope"),
+        ("'PodWR Fre' names a test", "generate", "PodWR Fre"),
         ("'nosuch': there is no such edit; they are litmus/left-out", "wrong-judges", "nosuch"),
         ("'edits': there is no such edit", "wrong-judges", "edits"),
         ("litmus/README.md: it changes nothing", "wrong-judges", "litmus/README.md"),
@@ -304,19 +315,54 @@ def test_commands(tally, program, room):
     tally.check(status == 0 and os.path.getsize(picture) > 500, "generate --pictures", drawn + err)
     kept = os.path.join(room, "kept")
     asked, err, status = ran("candidates", "--wmlab", program, "SB+sc", "--all-orders", "--keep", kept)
-    holds = status == 0 and "* not found  0 0" in asked and "96 candidates, 4 outcomes" in asked
-    tally.check(holds and len(os.listdir(kept)) == 4, "candidates of SB+sc", asked + err)
+    holds = status == 0 and "* not permitted  0 0" in asked and "96 candidates, 4 outcomes" in asked
+    tally.check(holds, "candidates of SB+sc", asked + err)
+    test_kept(tally, program, kept)
     words_of_gallery = ["--test", "SB", "--test", "SB+sc", "--iterations", "5000", "--run-rounds", "5"]
     words_of_gallery += ["--wmlab", program]
-    page, err, status = ran("gallery", *words_of_gallery, "--out", "-")
+    html = os.path.join(room, "html")
+    page, err, status = ran("gallery", *words_of_gallery, "--out", "-", "--html", html)
     rows = [line for line in page.splitlines() if line.startswith("| `SB")]
     is_shown = any("| permitted by 6 of 6 | `0*" in line for line in rows)
-    holds = status == 0 and is_shown and "not found among 6: 6 V5" in page
+    holds = status == 0 and is_shown and "not permitted: 6 V5" in page
     tally.check(holds, "gallery of two tests", page + err)
+    with open(os.path.join(html, "SB+sc.svg"), encoding="utf-8") as file:
+        drawn = file.read()
+    parts = ("Wsc x := 1</text>", "SB+sc, y=0; x=0. Not allowed: ", "fr: the first event reads")
+    tally.check(all(part in drawn for part in parts), "a picture of the gallery has names, words and a legend", drawn)
+    test_tools(tally, words_of_gallery, room)
+
+
+def test_kept(tally, program, kept):
+    """`candidates --keep` has the module, and each outcome's log in the folder of its verdict."""
+    logs = {"permitted": {"SB+sc_0_1.json", "SB+sc_1_0.json", "SB+sc_1_1.json"}, "not-permitted": {"SB+sc_0_0.json"}}
+    there = {name: set(os.listdir(os.path.join(kept, name))) for name in os.listdir(kept) if "." not in name}
+    tally.check(there == logs and os.path.isfile(f"{kept}/SB+sc.wasm"), "candidates --keep SB+sc", there)
+    for verdict, names in logs.items():
+        for name in names:
+            answer = harness.run(program, ["check", f"{kept}/SB+sc.wasm", f"{kept}/{verdict}/{name}"])[0]
+            is_allowed = answer.startswith("allowed")
+            tally.check(is_allowed == (verdict == "permitted"), f"check of {verdict}/{name}", answer)
+
+
+def test_tools(tally, words_of_gallery, room):
+    """A tool that is missing is named in a line. If an engine fails, the page has the verdicts."""
+    tools = os.path.join(room, "tools")
+    os.makedirs(tools)
+    for name in ("env", "python3", "bash", "sh"):
+        os.symlink(str(shutil.which(name)), os.path.join(tools, name))
+    sentence = "node is not installed, which runs the tests also in browsers"
+    check_refusal(tally, sentence, "gallery", *words_of_gallery, path=tools)
+    commands.write(os.path.join(tools, "node"), "#!/bin/sh\nexit 1\n")
+    os.chmod(os.path.join(tools, "node"), 0o755)
+    page, err, status = ran("gallery", *words_of_gallery, "--out", "-", path=tools)
+    rows = [line for line in page.splitlines() if line.startswith("| `SB")]
+    holds = status == 2 and "node is left out: " in err and "no engine ran the tests" in err and ": none." in page
+    tally.check(holds and len(rows) >= 2, "the gallery's verdicts are kept if each engine fails", page + err)
 
 
 def test_finds(tally, tests):
-    """What no candidate permits is a find, wherever it came."""
+    """What the rules do not permit is a find, wherever it came."""
     allowed = {"allowed threads=2": 5}
     cases = [
         ("SB+sc", False, Seen({"0 0": 1, "0 1": 4}, allowed), "node gave the cycle's outcome"),
@@ -329,7 +375,7 @@ def test_finds(tally, tests):
         holds = len(row.finds) == 1 and sentence in row.finds[0] if sentence else not row.finds
         tally.check(holds, f"{name}: a find: {sentence}", row.finds)
     row = Row(tests["SB+sc"], "", script="0*5,1*5")
-    tally.check("the store buffers gave" in row.finds[0], "a script for what no candidate permits is a find")
+    tally.check("the store buffers gave" in row.finds[0], "a script for what is not permitted is a find")
 
 
 def test_page(tally, tests, verdicts):
@@ -358,6 +404,8 @@ def with_program(tally, tests, verdicts, program, is_all):
         test_each(tally, tests, verdicts, names, stream_on, program)
         test_second_enumeration(tally, tests, stream_on)
         test_same_answers(tally, tests, stream_on)
+        outcome_tests.test_command(tally, program, room)
+        outcome_tests.test_explored(tally, tests, names, stream_on, program, is_all)
         run_tests.test_run(tally, program, room)
 
 
@@ -368,6 +416,7 @@ def without_program(tally, tests, verdicts, is_all):
     test_finds(tally, tests)
     test_page(tally, tests, verdicts)
     test_theorem(tally, tests, verdicts)
+    outcome_tests.test_patterns(tally)
     test_model(tally, tests, verdicts, list(tests) if is_all else committed(tests))
     with tempfile.TemporaryDirectory() as room:
         test_files(tally, tests, room, is_all)

@@ -14,7 +14,7 @@ from wmlabtools import TOP, generated, wabt
 FOLDERS = ("examples", "engines/testing", "engines/lowering/programs")
 
 
-def assembled(path):
+def assembled(path: str) -> bytes:
     """The bytes of the module that a file has the text of."""
     with open(path, encoding="utf-8") as file:
         text = file.read()
@@ -22,7 +22,7 @@ def assembled(path):
     return wabt.assembled(text, *unchecked)
 
 
-def main():
+def main() -> None:
     options = generated.words_of(__doc__)
     generated.need("wat2wasm")
     texts = [path for folder in FOLDERS for path in sorted(glob.glob(f"{TOP}/{folder}/*.wat"))]

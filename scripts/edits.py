@@ -26,6 +26,7 @@ import subprocess
 import tempfile
 import threading
 import time
+from collections.abc import Collection, Iterable, Iterator, Mapping
 
 from wmlabtools import TOP, by_contract, changed_function, edits, harness, prover
 
@@ -35,12 +36,16 @@ SETTLED = 5
 STOPPED = threading.Event()
 
 
+# For each edit or function, whether it is refused or proved, and what is said of it.
+Answers = dict[str, tuple[bool, str]]
+
+
 class Stopped(Exception):
     """The script was interrupted, so nothing more is tried."""
 
 
 @contextlib.contextmanager
-def threads(count):
+def threads(count: int) -> Iterator[concurrent.futures.ThreadPoolExecutor]:
     """A pool of threads. An interrupt ends what they do."""
     with concurrent.futures.ThreadPoolExecutor(count) as pool:
         try:
@@ -50,13 +55,13 @@ def threads(count):
             raise
 
 
-def copy_of(edit):
+def copy_of(edit: str) -> str:
     """Where the gate finds an edit."""
     _, crate, name = edit.split("/")
     return f"crates/{crate}/must-fail/{name}"
 
 
-def check(tally):
+def check(tally: harness.Tally) -> None:
     """Whether each edit can be applied, and the copies in the crates are those of edits/gate.txt."""
     for edit in edits.all_edits():
         changed = edits.changed_files(edit)
@@ -73,7 +78,7 @@ def check(tally):
         tally.check(is_current, f"{copy} is not what edits/gate.txt asks for; scripts/edits.py --sync mends it")
 
 
-def sync():
+def sync() -> None:
     """Makes the copies in the crates."""
     for path in glob.glob(f"{TOP}/crates/*/must-fail"):
         shutil.rmtree(path)
@@ -83,7 +88,7 @@ def sync():
             shutil.copy(f"{TOP}/{edit}", f"{TOP}/{copy_of(edit)}")
 
 
-def changed_since(crate):
+def changed_since(crate: str) -> str | None:
     """What is said if a crate has no library, or one that is older than a file of the crate; else nothing. Of a crate
     that no other uses there is none."""
     top = f"{TOP}/crates/{crate}"
@@ -99,7 +104,7 @@ def changed_since(crate):
     return None
 
 
-def wait_for_library(crate, start, until):
+def wait_for_library(crate: str, start: float, until: str) -> None:
     """Waits until `rt ci`, which began at the same time, has built the library of a crate, or has ended and so written
     the file `until`. A library from before the start is not meant."""
     last = f"{TOP}/crates/{crate}/out/rlib/{crate}.rlib/toolchain"
@@ -113,7 +118,7 @@ class Copy:
     """A copy of a crate in a folder, in which functions are proved. Others that have files of a proof are taken by
     their contracts, which `rt ci` has proved. What was proved is kept, so that an edit costs only what it changes."""
 
-    def __init__(self, crate, room):
+    def __init__(self, crate: str, room: str) -> None:
         self.crate, self.room, self.top = crate, room, f"{TOP}/crates/{crate}"
         kept = f"{room}/kept"
         os.makedirs(kept)
@@ -123,16 +128,16 @@ class Copy:
                 shutil.copytree(f"{self.top}/{part}", f"{room}/{part}")
         self.others = by_contract.ByContract(crate, self.top, room)
 
-    def write(self, texts, functions):
+    def write(self, texts: Mapping[str, str], functions: Collection[str]) -> None:
         """Writes changed texts of files, with these functions as they are."""
         self.others.leave(functions, {os.path.relpath(path, self.top): text for path, text in texts.items()})
 
-    def prove(self, functions):
+    def prove(self, functions: Iterable[str]) -> str:
         """What the prover says of these functions, and of what they call."""
         only = [word for function in functions for word in ("--only", f"{self.crate}::{function}")]
-        streams = {"stdout": subprocess.PIPE, "stderr": subprocess.STDOUT, "text": True}
-        said = None
-        with subprocess.Popen([*self.words, *only], cwd=self.room, **streams) as started:
+        words, to = [*self.words, *only], subprocess.PIPE
+        said: str | None = None
+        with subprocess.Popen(words, cwd=self.room, stdout=to, stderr=subprocess.STDOUT, text=True) as started:
             while said is None:
                 with contextlib.suppress(subprocess.TimeoutExpired):
                     said = started.communicate(timeout=1)[0]
@@ -153,21 +158,22 @@ NAMES = re.compile(r"has no field|is not in scope|has no `|was not admitted|reco
 GOAL_OF_CYCLE = re.compile(r"error: `(\w+)-")
 
 
-def function_of(folder, line):
+def function_of(folder: str, line: str) -> str:
     """The function that a line says something of, at a place of a proof in this folder."""
     *outer, last = folder.split("/")
     goal = GOAL_OF_CYCLE.search(line) if last.startswith("+") else None
     return "::".join([*outer, goal[1] if goal else last])
 
 
-def goal_of(said, crate, function):
+def goal_of(said: str, crate: str, function: str) -> str | None:
     """The line of what the prover said that names an open goal of the contract of a function, or of a closure in it;
     or nothing."""
 
-    def is_meant(name):
+    def is_meant(name: str) -> bool:
         return by_contract.owner_of(name) == function
 
-    of_proofs, of_function = [], []
+    of_proofs: list[str] = []
+    of_function: list[str] = []
     for line in said.split("\n"):
         place, verdict = PLACE.match(line), VERDICT.match(line)
         if place and is_meant(function_of(place[1], line)) and not NAMES.search(line):
@@ -181,42 +187,44 @@ def goal_of(said, crate, function):
     return None
 
 
-def refusals(copy, batch):
+def refusals(copy: Copy, batch: Mapping[str, str]) -> Answers:
     """For each of some edits, tried at the same time, whether the prover refuses its function by a goal of the
     contract; and what it said."""
-    changed = {}
+    changed: dict[str, str] = {}
     for edit in batch:
-        changed = edits.changed_files(edit, changed_before=changed)
+        changed = edits.applied(edit, changed_before=changed)
     functions = sorted(set(batch.values()))
     copy.write(changed, functions)
     said = copy.prove(functions)
     copy.write({path: edits.text_of(path) for path in changed}, functions)
-    answers = {}
+    answers: Answers = {}
     for edit, function in batch.items():
         goal = goal_of(said, copy.crate, function)
         answers[edit] = (goal is not None, goal[:200] if goal else f"it is not refused: {said[-500:]}")
     return answers
 
 
-def next_batch(waiting, alone):
+def next_batch(waiting: Mapping[str, str], alone: Collection[str]) -> dict[str, str]:
     """Edits to try at the same time: none that changes or tries a function that another one changes or tries."""
-    batch, changed, taken = {}, {}, set()
+    batch: dict[str, str] = {}
+    changed: dict[str, str] = {}
+    taken: set[str] = set()
     for edit, function in waiting.items():
-        meant = {function} if edit in alone else {function, *changed_function.bodies_changed(edit)}
-        if edit in alone or taken & meant:
+        bodies = None if edit in alone else changed_function.bodies_changed(edit)
+        if not bodies or taken & {function, *bodies}:
             continue
         tried = edits.changed_files(edit, changed_before=changed)
         if not isinstance(tried, str):
-            batch[edit], changed, taken = function, tried, taken | meant
+            batch[edit], changed, taken = function, tried, taken | {function, *bodies}
     return batch or dict([next(iter(waiting.items()))])
 
 
-def try_crate(crate, listed):
+def try_crate(crate: str, listed: Mapping[str, str]) -> Answers:
     """For each edit of a crate, with its function, whether it is refused, and what is said of it. `rt ci` has proved
     the functions without the edits. An edit is tried alone if it changes more than bodies of functions, or if it is
     not refused beside others, since its function calls theirs, say."""
     whys = {edit: changed_since(crate) or edits.changed_files(edit) for edit in listed}
-    answers = {edit: (False, why) for edit, why in whys.items() if isinstance(why, str)}
+    answers: Answers = {edit: (False, why) for edit, why in whys.items() if isinstance(why, str)}
     waiting = {edit: function for edit, function in listed.items() if edit not in answers}
     if not waiting:
         return answers
@@ -234,13 +242,14 @@ def try_crate(crate, listed):
     return answers
 
 
-def try_functions(tally, jobs, until):
-    by_crate, start, turns = {}, time.time(), threading.Semaphore(jobs)
+def try_functions(tally: harness.Tally, jobs: int, until: str | None) -> None:
+    start, turns = time.time(), threading.Semaphore(jobs)
+    by_crate: dict[str, dict[str, str]] = {}
     for edit, function in edits.gate_edits().items():
         if function:
             by_crate.setdefault(edit.split("/")[1], {})[edit] = function
 
-    def answered(crate):
+    def answered(crate: str) -> Answers:
         if until:
             wait_for_library(crate, start, until)
         with turns:
@@ -253,19 +262,20 @@ def try_functions(tally, jobs, until):
                 print(f"{edit}: {said}", flush=True)
 
 
-def by_crates(crates):
+def by_crates(crates: Collection[str]) -> dict[str, dict[str, list[str]]]:
     """The edits of these crates, or of all, by their crates: each with the function that edits/gate.txt names, or else
     with those that it changes. The crates with the most edits come first."""
-    listed, found = edits.gate_edits(), {}
+    listed = edits.gate_edits()
+    found: dict[str, dict[str, list[str]]] = {}
     for edit in edits.all_edits(crates):
         functions = [listed[edit]] if listed.get(edit) else changed_function.changed_functions(edit)
         found.setdefault(edit.split("/")[1], {})[edit] = functions
     return dict(sorted(found.items(), key=lambda each: -len(each[1])))
 
 
-def try_each_function(crate, listed):
+def try_each_function(crate: str, listed: Mapping[str, list[str]]) -> Answers:
     """For each edit of a crate, with its functions, whether one of them is refused, and what is said of it."""
-    answers = {edit: (False, "it changes no function") for edit in listed}
+    answers: Answers = {edit: (False, "it changes no function") for edit in listed}
     answers.update(try_crate(crate, {edit: functions[0] for edit, functions in listed.items() if functions}))
     for edit, functions in listed.items():
         for function in functions[1:]:
@@ -276,7 +286,7 @@ def try_each_function(crate, listed):
     return answers
 
 
-def try_by_function(tally, crates, jobs):
+def try_by_function(tally: harness.Tally, crates: Collection[str], jobs: int) -> None:
     by_crate = by_crates(crates)
     with threads(jobs) as pool:
         for answers in pool.map(try_each_function, by_crate, by_crate.values()):
@@ -284,7 +294,7 @@ def try_by_function(tally, crates, jobs):
                 tally.check(is_refused, edit, said)
 
 
-def unedited(crate, listed):
+def unedited(crate: str, listed: Mapping[str, list[str]]) -> Answers:
     """For each function of the edits of a crate, whether it is proved over contracts as it is, and what is said."""
     functions = sorted({function for functions in listed.values() for function in functions})
     why = changed_since(crate)
@@ -301,7 +311,7 @@ def unedited(crate, listed):
     return {f"{crate}::{function}": (function in proved, said[-500:]) for function in functions}
 
 
-def try_unedited(tally, crates, jobs):
+def try_unedited(tally: harness.Tally, crates: Collection[str], jobs: int) -> None:
     by_crate = by_crates(crates)
     with threads(jobs) as pool:
         for answers in pool.map(unedited, by_crate, by_crate.values()):
@@ -309,7 +319,7 @@ def try_unedited(tally, crates, jobs):
                 tally.check(is_proved, f"{function} is not proved without an edit", said)
 
 
-def main():
+def main() -> None:
     parser = argparse.ArgumentParser(description=__doc__, formatter_class=argparse.RawDescriptionHelpFormatter)
     parser.add_argument(
         "--check", action="store_true", help="only ask whether each can be applied and the copies are current"

@@ -293,8 +293,9 @@ def module_limits():
 
 def script_limits():
     """Threads, turns and rounds."""
-    answers("17 starts", ["drive", MODULE, "0", *["a"] * 17], "refused plan Threads")
-    answers("17 starts of a round", ["run", MODULE, "1", *["a"] * 17], "refused plan Threads")
+    many = "wmlab: there are 17 STARTs. Expected: 1 to 16, one for each thread"
+    answers("17 starts", ["drive", MODULE, "0", *["a"] * 17], "refused plan Threads", error=many)
+    answers("17 starts of a round", ["run", MODULE, "1", *["a"] * 17], "refused plan Threads", error=many)
     alone = one_thread(STORE_BUFFERING[2][0][4], steps=6, end=["done", [0]]).decode()
     answers(
         "1,000,000 turns",
@@ -311,9 +312,12 @@ def script_limits():
         (text[:200], error, status),
     )
     answers("1,000,001 turns", ["drive", MODULE, "0*1000001", "a"], "refused plan Turns")
-    answers("a turn of a thread that isn't there", ["drive", MODULE, "16", *["a"] * 16], "refused plan Turn 16")
-    answers("no rounds", ["run", MODULE, "0", "a", "b"], "refused command rounds")
-    answers("10,001 rounds", ["run", MODULE, "10001", "a", "b"], "refused command rounds")
+    absent = "wmlab: TURNS names thread 16. Expected: a thread below 16, the number of STARTs"
+    there = ["drive", MODULE, "16", *["a"] * 16]
+    answers("a turn of a thread that isn't there", there, "refused plan Turn 16", error=absent)
+    for rounds in ("0", "10001"):
+        reason = f"wmlab: ROUNDS is '{rounds}'. Expected: an integer from 1 to 10000"
+        answers(f"{rounds} rounds", ["run", MODULE, rounds, "a", "b"], "refused command rounds", error=reason)
 
 
 # ---- what is changed
@@ -358,6 +362,7 @@ def endless_inputs():
         answers("zeros without end", ["rules", "-"], "refused document TooLarge", stdin=zero)
     for words in OVER_DOCUMENTS:
         endless = subprocess.Popen(["yes"], stdout=subprocess.PIPE)
+        assert endless.stdout is not None
         answers(f"lines without end, {words[0]}", words, "refused document TooLarge", stdin=endless.stdout)
         endless.stdout.close()
         endless.kill()
@@ -375,6 +380,7 @@ def one_byte_a_read():
         slow = subprocess.Popen(
             [WMLAB, *words], cwd=TOP, stdin=subprocess.PIPE, stdout=subprocess.PIPE, stderr=subprocess.PIPE, bufsize=0
         )
+        assert slow.stdin is not None and slow.stdout is not None and slow.stderr is not None
         for byte in example("store-buffering.json"):
             slow.stdin.write(bytes([byte]))
             time.sleep(0.001)

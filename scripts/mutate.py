@@ -10,13 +10,15 @@ table and how many rounds there were, or that line. What `drive` and `run` log i
 last line is `N passed, N failed`.
 """
 import glob
+import random
 import subprocess
 import tempfile
+from collections.abc import Sequence
 
 from wmlabtools import TOP, harness
 
 
-def read(pattern):
+def read(pattern: str) -> list[bytes]:
     contents = []
     for name in sorted(glob.glob(f"{TOP}/examples/{pattern}")):
         with open(name, "rb") as file:
@@ -24,46 +26,48 @@ def read(pattern):
     return contents
 
 
+# A run of the program.
+Ran = subprocess.CompletedProcess[bytes]
 MODULES, DOCUMENTS = read("*.wasm"), read("*.json")
 
 
-def mutated(data, others, chance):
+def mutated(data: bytes, others: Sequence[bytes], chance: random.Random) -> bytes:
     """The data with one to four changes."""
-    data = bytearray(data)
+    made = bytearray(data)
     for _ in range(chance.randint(1, 4)):
-        at = chance.randrange(len(data) + 1)
-        end = min(len(data), at + chance.randint(1, 8))
+        at = chance.randrange(len(made) + 1)
+        end = min(len(made), at + chance.randint(1, 8))
         kind = chance.randrange(5)
-        if kind == 0 and at < len(data):
-            data[at] ^= 1 << chance.randrange(8)
-        elif kind == 1 and at < len(data):
-            data[at] = chance.choice([0, 0x0B, 0x7F, 0x80, 0xFF, 0x30, 0x5B, 0x5D, chance.randrange(256)])
+        if kind == 0 and at < len(made):
+            made[at] ^= 1 << chance.randrange(8)
+        elif kind == 1 and at < len(made):
+            made[at] = chance.choice([0, 0x0B, 0x7F, 0x80, 0xFF, 0x30, 0x5B, 0x5D, chance.randrange(256)])
         elif kind == 2:
-            del data[at:end]
+            del made[at:end]
         elif kind == 3:
-            data[at:at] = data[at:end]
+            made[at:at] = made[at:end]
         else:
             other = chance.choice(others)
             start = chance.randrange(len(other))
-            data[at:end] = other[start : start + chance.randint(1, 16)]
-    return bytes(data)
+            made[at:end] = other[start : start + chance.randint(1, 16)]
+    return bytes(made)
 
 
-def is_line(text, words=b""):
+def is_line(text: bytes, words: bytes = b"") -> bool:
     """Whether this is one line, which begins so."""
     return text.count(b"\n") == 1 and text.endswith(b"\n") and text.startswith(words)
 
 
-def is_answer(command, ran, checked):
+def is_answer(command: str, ran: Ran, checked: Ran | None) -> bool:
     """Whether a run of the command ended with the status and the lines that it has; `checked` is the run of `check`
     on the same."""
     if not 0 <= ran.returncode < 3 or ran.stderr:
         return False
     first, _, behind = ran.stdout.partition(b"\n")
     refused = is_line(ran.stdout, b"refused ")
-    if command == "explain":
+    if command == "explain" and checked:
         return first + b"\n" == checked.stdout and ran.returncode == checked.returncode and behind.endswith(b"\n")
-    if command == "graph":
+    if command == "graph" and checked:
         drawn = first == b"digraph execution {" and behind.endswith(b"}\n")
         return ran.returncode == checked.returncode and (
             ran.stdout == checked.stdout if checked.returncode == 2 else drawn
@@ -80,7 +84,7 @@ def is_answer(command, ran, checked):
 COMMANDS = ["check", "check", "complete", "explain", "graph", "rules", "migrate", "drive", "run"]
 
 
-def words_of(command, module):
+def words_of(command: str, module: str) -> list[str]:
     """The words of a command over the module of this name, with the document on standard input."""
     if command == "drive":
         return [command, module, "0*9,1*9,d0/1,d1,0*9,1*9", "a", "b"]
@@ -89,7 +93,7 @@ def words_of(command, module):
     return [command, "-"] if command in ("rules", "migrate") else [command, module, "-"]
 
 
-def fault_of(program, number, chance):
+def fault_of(program: str, number: int, chance: random.Random) -> tuple[int, str, str, bytes, Ran] | None:
     """What was given and got where a mutation is not answered as it must be; None where it is."""
     module, document = chance.choice(MODULES), chance.choice(DOCUMENTS)
     command = chance.choice(COMMANDS)
@@ -101,7 +105,7 @@ def fault_of(program, number, chance):
         file.write(module)
         file.flush()
 
-        def run(command):
+        def run(command: str) -> Ran:
             return subprocess.run(
                 [program, *words_of(command, file.name)], input=document, capture_output=True, timeout=60
             )
@@ -111,7 +115,7 @@ def fault_of(program, number, chance):
     return None if is_answer(command, ran, checked) else (number, command, module.hex(), document, ran)
 
 
-def main():
+def main() -> None:
     options = harness.random_arguments(__doc__, 20_000, "mutations").parse_args()
     harness.try_cases(options, "a mutation", fault_of)
 

@@ -17,42 +17,47 @@ import concurrent.futures
 import glob
 import os
 import re
-import shutil
 import subprocess
 import tempfile
+from collections.abc import Collection, Mapping, Sequence
 
 from wmlabtools import TOP, edits, harness
+from wmlabtools.planted import (
+    NONE_IS_ON,
+    SWITCH,
+    SWITCHES,
+    add_switch,
+    built,
+    copy_sources,
+    copy_with,
+    let_use_switches,
+    plant,
+    quick_program,
+)
 
 LIST = "tests/planted/gate.txt"
 # The rows that are tried on a planted bug, but for those of long.rows, which only these bugs need.
 NEEDS_LONG = "full_log"
-# An edit of the gate has this word as the condition of its bug: whether its switch is on. It becomes `true` if the bug
-# is built alone.
-SWITCH = "IS_PLANTED"
-# The crate that has the number of the bug whose switch is on; and the number for none. In the program's bytes it is
-# found once, and a copy of the program has another number there.
-SWITCHES = "wm_access"
-NONE_IS_ON = 0x5D8E_F1C3_97A2_64B9
 # How long a row of the gate may take with and without its bug. Without it each takes a second; with threads one after
 # the other it would take minutes, since each waits for the other as long as its steps last.
 SECONDS = "15"
 
 
-def planted(words):
+def planted(words: Collection[str]) -> list[str]:
     paths = sorted(os.path.relpath(path, TOP) for path in glob.glob(f"{TOP}/tests/planted/*/*.edit"))
     return [path for path in paths if not words or any(word in path for word in words)]
 
 
-def rows_of_gate():
+def rows_of_gate() -> dict[str, str]:
     """The planted bugs of the gate, each with the words of its row."""
     with open(f"{TOP}/{LIST}", encoding="utf-8") as file:
         lines = [line.strip().split(": ", 1) for line in file if line.strip() and not line.startswith("#")]
     return {f"tests/planted/{edit}": row for edit, row in lines}
 
 
-def check_together(tally, rows):
+def check_together(tally: harness.Tally, rows: Mapping[str, str]) -> None:
     """Whether the bugs of the gate can be applied to one copy, and each has a switch."""
-    changed = {}
+    changed: dict[str, str] = {}
     for edit in rows:
         tally.check(SWITCH in edits.text_of(f"{TOP}/{edit}"), f"{edit} has no switch {SWITCH}")
         together = edits.changed_files(edit, changed_before=changed)
@@ -60,39 +65,7 @@ def check_together(tally, rows):
         changed = changed if isinstance(together, str) else together
 
 
-def copy_sources(folder):
-    """Copies to a folder what a quick build reads."""
-    for name in ("crates.txt", "HANDLES", "wmlab"):
-        shutil.copy(f"{TOP}/{name}", folder)
-    for name in ("crates", "examples", "scripts"):
-        shutil.copytree(f"{TOP}/{name}", f"{folder}/{name}", ignore=shutil.ignore_patterns("out", "__pycache__"))
-
-
-def plant(edit, folder, is_on):
-    """Applies a planted bug to the copy, with a condition as its switch."""
-    switched = f"{folder}/{os.path.basename(edit)}"
-    with open(switched, "w", encoding="utf-8") as file:
-        file.write(edits.text_of(f"{TOP}/{edit}").replace(SWITCH, is_on))
-    for path, text in edits.changed_files(edit, folder, switched).items():
-        with open(path, "w", encoding="utf-8") as file:
-            file.write(text)
-
-
-def quick_program(folder, niceness):
-    """The program of the copy, or nothing if it is not built."""
-    words = ["nice", "-n", str(niceness), f"{folder}/wmlab", "--which"]
-    ran = subprocess.run(words, stdout=subprocess.PIPE, text=True, check=False)
-    return ran.stdout.strip() if ran.returncode == 0 else None
-
-
-def built(edit, folder, niceness=0):
-    """The program of a copy with the edit alone, or nothing if it is not built."""
-    copy_sources(folder)
-    plant(edit, folder, "true")
-    return quick_program(folder, niceness)
-
-
-def red_rows(program, words):
+def red_rows(program: str, words: Sequence[str]) -> tuple[list[str], bool]:
     """The titles of the rows that fail on the program, and whether any was run."""
     ran = subprocess.run(
         [f"{TOP}/scripts/rows.py", "--wmlab", program, *words], stdout=subprocess.PIPE, text=True, check=False
@@ -100,7 +73,7 @@ def red_rows(program, words):
     return re.findall(r"(?m)^FAILED (.*)$", ran.stdout), not ran.stdout.endswith("0 passed, 0 failed\n")
 
 
-def seen(program, words):
+def seen(program: str, words: Sequence[str]) -> tuple[bool, str]:
     """Whether rows fail on a program with a planted bug, and what to say of it."""
     red, is_run = red_rows(program, words)
     if not is_run:
@@ -108,7 +81,7 @@ def seen(program, words):
     return bool(red), f"{len(red)} rows see it, {red[0]}" if red else "no row sees it"
 
 
-def tried(edit, niceness):
+def tried(edit: str, niceness: int) -> tuple[bool, str]:
     """Whether rows fail on a program with this planted bug, and what to say of it."""
     with tempfile.TemporaryDirectory() as folder:
         program = built(edit, folder, niceness)
@@ -117,24 +90,7 @@ def tried(edit, niceness):
         return seen(program, ["long.rows"] if NEEDS_LONG in edit else ["--without", "long.rows"])
 
 
-def let_use_switches(folder, crates):
-    """Has these crates of the copy use the crate of the switches, if they don't."""
-    with open(f"{folder}/crates.txt", encoding="utf-8") as file:
-        lines = file.read().splitlines()
-    with open(f"{folder}/crates.txt", "w", encoding="utf-8") as file:
-        for line in lines:
-            head, _, used = line.partition(":")
-            is_meant = head.split(" ")[0] in crates and SWITCHES not in used.split()
-            file.write(f"{line} {SWITCHES}\n" if is_meant else f"{line}\n")
-
-
-def add_switch(folder):
-    """Adds the number of the bug whose switch is on to the copy."""
-    with open(f"{folder}/crates/{SWITCHES}/src/lib.rt", "a", encoding="utf-8") as file:
-        file.write(f"\n/// Which planted bug is on.\npub fn planted_bug() -> u64 {{\n    {NONE_IS_ON}\n}}\n")
-
-
-def built_together(listed, folder, niceness):
+def built_together(listed: Collection[str], folder: str, niceness: int) -> bytes | None:
     """The bytes of a program with all of these bugs, of which none is on, or nothing if it is not built."""
     copy_sources(folder)
     let_use_switches(folder, {edit.split("/")[-2] for edit in listed})
@@ -148,16 +104,7 @@ def built_together(listed, folder, niceness):
         return file.read()
 
 
-def copy_with(program, number, folder):
-    """A copy of the program in which this bug is on, or none is on if it is `NONE_IS_ON`."""
-    path = f"{folder}/planted-{number}"
-    with open(path, "wb") as file:
-        file.write(program.replace(NONE_IS_ON.to_bytes(8, "little"), number.to_bytes(8, "little")))
-    os.chmod(path, 0o755)
-    return path
-
-
-def try_together(tally, rows, niceness):
+def try_together(tally: harness.Tally, rows: Mapping[str, str], niceness: int) -> None:
     """Tries each bug of the gate on its row, and each row without a bug."""
     with tempfile.TemporaryDirectory() as folder:
         program = built_together(rows, folder, niceness)
@@ -176,7 +123,7 @@ def try_together(tally, rows, niceness):
             tally.check(is_run and not red, f"{row}: it fails without a planted bug")
 
 
-def main():
+def main() -> None:
     parser = argparse.ArgumentParser(description=__doc__, formatter_class=argparse.RawDescriptionHelpFormatter)
     parser.add_argument("--check", action="store_true", help="ask only whether each can still be applied")
     parser.add_argument("--gate", action="store_true", help=f"only those of {LIST}, each on its row")

@@ -17,6 +17,7 @@ import signal
 import subprocess
 import sys
 import time
+from collections.abc import Iterable, Sequence
 
 from wmlabtools import prover
 
@@ -25,7 +26,7 @@ PARTS = {"--test": "tests", "--only": "single functions", "--backend": "compiler
 PAUSE = 0.2
 
 
-def contents(number, name):
+def contents(number: str, name: str) -> str | None:
     """A file of the system about a process; None if the process has ended."""
     try:
         with open(f"/proc/{number}/{name}", encoding="utf-8", errors="replace") as file:
@@ -37,19 +38,19 @@ def contents(number, name):
 class Process:
     """A process of the prover: its crate, the part of the work, and its seconds of the processor so far."""
 
-    def __init__(self, words):
+    def __init__(self, words: Sequence[str]) -> None:
         self.crate = words[words.index("--crate-name") + 1] if "--crate-name" in words else "no crate"
         self.part = next((part for option, part in PARTS.items() if option in words), "proof")
         self.seconds = 0.0
 
 
-def fields_of(number):
+def fields_of(number: str) -> list[str] | None:
     """What the system counts of a process, from its state on; None if it has ended."""
     stat = contents(number, "stat")
     return stat.rsplit(")", 1)[1].split() if stat else None
 
 
-def is_below(number, command):
+def is_below(number: str, command: str) -> bool:
     """Whether this process was started by the command, or by a process that was."""
     while number not in ("0", command):
         fields = fields_of(number)
@@ -57,7 +58,7 @@ def is_below(number, command):
     return number == command
 
 
-def look(command, program, seen):
+def look(command: str, program: str, seen: dict[tuple[str, str], Process]) -> None:
     """Notes how long each process of this program has run that the command started. `seen` has them by their number and
     the time of their start, since the system gives numbers again."""
     for number in filter(str.isdigit, os.listdir("/proc")):
@@ -73,10 +74,10 @@ def look(command, program, seen):
         seen[key].seconds = (int(fields[11]) + int(fields[12])) / os.sysconf("SC_CLK_TCK")
 
 
-def run(command, program):
+def run(command: Sequence[str], program: str) -> tuple[int, list[Process]]:
     """Runs the command to its end, or until an interrupt ends it: its status, and the prover's processes. The command
     has a session of its own, so that an interrupt of the script alone ends it too, and none reaches it twice."""
-    seen = {}
+    seen: dict[tuple[str, str], Process] = {}
     try:
         with subprocess.Popen(command, start_new_session=True) as ran:
             try:
@@ -92,21 +93,22 @@ def run(command, program):
     return ran.returncode, list(seen.values())
 
 
-def report(processes):
+def report(processes: Iterable[Process]) -> None:
     """Prints a line for each crate and part, the longest first, and the sum of each part."""
-    crates, parts = collections.Counter(), collections.Counter()
+    crates: dict[tuple[str, str], float] = collections.defaultdict(float)
+    parts: dict[str, float] = collections.defaultdict(float)
     for process in processes:
         crates[process.crate, process.part] += process.seconds
         parts[process.part] += process.seconds
-    for (crate, part), seconds in crates.most_common():
+    for (crate, part), seconds in sorted(crates.items(), key=lambda each: -each[1]):
         print(f"{seconds:8.1f} s  {crate}" + ("" if part == "proof" else f", {part}"))
-    for part, seconds in parts.most_common():
+    for part, seconds in sorted(parts.items(), key=lambda each: -each[1]):
         print(f"{seconds:8.1f} s  {part}, all crates")
     used = resource.getrusage(resource.RUSAGE_CHILDREN)
     print(f"{used.ru_utime + used.ru_stime:8.1f} s  all processes of the command")
 
 
-def main():
+def main() -> None:
     parser = argparse.ArgumentParser(description=__doc__, formatter_class=argparse.RawDescriptionHelpFormatter)
     parser.add_argument("command", nargs=argparse.REMAINDER, metavar="COMMAND", help="the command and its words")
     command = parser.parse_args().command

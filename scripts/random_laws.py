@@ -20,7 +20,7 @@ from collections.abc import Callable, Iterator, Sequence
 
 from random_logs import change_writer, run, set_byte
 from wmlabtools import TOP, harness
-from wmlabtools.model import INIT, Event, Execution, execution_of, same_range
+from wmlabtools.model import INIT, Event, Execution, Initial, Writer, execution_of, same_range
 from wmlabtools.standard import Candidate, SharedEvent, have_common_bytes, overlap_by_the_letter
 
 MEMORY = 16
@@ -170,7 +170,7 @@ def judged(
     shared = {event: shared_of(chance, event) for event in order}
     sources = {
         shared[event]: [
-            initial[index // size] if writer is INIT else shared[writer]
+            shared[writer] if isinstance(writer, Event) else initial[index // size]
             for index, writer in enumerate(event.writers, event.address)
         ]
         for event in order
@@ -189,8 +189,8 @@ def values_end(execution: Execution) -> bool:
     """Whether no chain of updates goes on for ever, each of which takes a byte from the next."""
     active: set[Event] = set()
 
-    def ends(event: Event) -> bool:
-        if event is INIT or event.kind != "x":
+    def ends(event: Writer) -> bool:
+        if isinstance(event, Initial) or event.kind != "x":
             return True
         if event in active:
             return False
@@ -206,7 +206,7 @@ def look_back(execution: Execution) -> bool:
     """Whether no update takes a byte from a later update."""
     place = execution.place
     return not any(
-        read.kind == "x" and writer is not INIT and writer.kind == "x" and place[writer] >= place[read]
+        read.kind == "x" and isinstance(writer, Event) and writer.kind == "x" and place[writer] >= place[read]
         for read in execution.reads
         for writer in read.writers
     )
@@ -262,7 +262,7 @@ def with_writers(kept: set[Event], execution: Execution, past: bool) -> set[Even
     front, found = list(kept), set(kept)
     while front:
         event = front.pop()
-        more = {writer for writer in event.writers if writer is not INIT}
+        more = {writer for writer in event.writers if isinstance(writer, Event)}
         more |= {first for first, last in execution.sequenced if past and last is event}
         front.extend(more - found)
         found |= more

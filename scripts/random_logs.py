@@ -7,16 +7,21 @@ A log is that of a run in which one access is made after the other, with some wr
 plain program knows the memory model (`wmlabtools/model.py`). By it the rule that is named has to be the first that is
 broken, and the fault one of its faults; each link of a chain has to be an edge, and no shorter chain may be there. The
 sentences, the table of events and what the text says of other writers have to be as it would write them, and so the
-whole text on a log that is allowed. The last line is `N passed, N failed`.
+whole text on a log that is allowed. Another witness that the text names has to be allowed, and if it says that there is
+none, all are tried on logs with few choices. The last line is `N passed, N failed`.
 """
 import collections
+import copy
 import itertools
 import re
+from collections.abc import Sequence
+from random import Random
 
 from wmlabtools import harness
-from wmlabtools.explained import LEGEND, Difference, expect, expect_lines, rows
-from wmlabtools.log import document
-from wmlabtools.model import INIT, Event, Execution
+from wmlabtools.explained import LEGEND, Difference, existing, expect, expect_lines, rows
+from wmlabtools.log import Key, LoggedEvent, document
+from wmlabtools.model import INIT, Event, Execution, Writer
+from wmlabtools.witnesses import count_of_writers, has_witness
 
 RULES = {
     "V1": "written values: each byte read has the value that its writer wrote there.",
@@ -66,7 +71,12 @@ SENTENCES = {
 # An event that is its own writer, by whether it writes.
 ITSELF = {True: "itself: an update can't read from its own write", False: "itself, which is a read and writes nothing"}
 # What happens before what in a fault: `r` is its read, `w` the writer and `o` the other write.
-PREMISES = {("V3", 1): ["rw"], ("V3", 2): ["wo", "or"], ("V5", 2): ["wr", "or"], ("V5", 3): ["wr", "wo"]}
+PREMISES: dict[tuple[str, int], list[tuple[str, str]]] = {
+    ("V3", 1): [("r", "w")],
+    ("V3", 2): [("w", "o"), ("o", "r")],
+    ("V5", 2): [("w", "r"), ("o", "r")],
+    ("V5", 3): [("w", "r"), ("w", "o")],
+}
 TABLE = ["The events, with their places in the order:", *LEGEND]
 ALLOWED = [
     "allowed",
@@ -76,11 +86,20 @@ ALLOWED = [
     *LEGEND,
 ]
 ONLY = "No other writer fits: with these values, no witness makes this run allowed."
-SEVERAL = "With other writers, the same accesses may be allowed. Events whose value at the address is the value read:"
+SEVERAL = "Events whose value at the address is the value read:"
 MAX_NAMED = 8
 ANY_ORDER = "This rule doesn't depend on the order of the events."
+BY_ORDER = "This rule depends on the order of the events."
 CYCLE = "Happens-before has a cycle, so no order agrees with it."
-MAY_BE = "the same accesses may be allowed."
+NO_CYCLE = "Happens-before has no cycle: some order agrees with it."
+NO_WITNESS = "No other writers and no other order help: with these values, no witness makes this run allowed."
+WITNESS = "With another witness, the same accesses are allowed:"
+UNKNOWN = "With another witness, the same accesses may be allowed: `wmlab witness` searches for one."
+OTHER_BYTE = re.compile(r"  byte (\d+) of (\S+), at address (\d+), from (\S+) in place of (\S+)")
+MORE_BYTES = re.compile(r"  and \d+ more bytes from other writers")
+OTHER_ORDER = "  in the order "
+# The most events, and the most ways to choose writers, of a log of which all witnesses are tried.
+MOST_EVENTS, MOST_WRITERS = 7, 300
 LINKS = {
     "sequenced": re.compile(r"  (\S+) is sequenced before (\S+): it comes earlier in thread (\d+)"),
     "synchronized": re.compile(
@@ -93,7 +112,7 @@ LINKS = {
 # ---- random logs
 
 
-def random_threads(chance):
+def random_threads(chance: Random) -> list[list[Event]]:
     """One to four threads of one to five accesses near one another, without values."""
     start, mixed, atomic = chance.choice((0, 64, 1000)), chance.random() < 0.5, chance.choice((0.2, 0.5, 0.8, 1))
     threads = []
@@ -111,9 +130,10 @@ def random_threads(chance):
     return threads
 
 
-def run(chance, threads):
+def run(chance: Random, threads: Sequence[Sequence[Event]]) -> list[Event]:
     """Makes the accesses one after the other, in an order of chance, and answers the order."""
-    memory, order, left = collections.defaultdict(lambda: (0, INIT)), [], [list(events) for events in threads]
+    memory: dict[int, tuple[int, Writer]] = collections.defaultdict(lambda: (0, INIT))
+    order, left = [], [list(events) for events in threads]
     while any(left):
         event = chance.choice([events for events in left if events]).pop(0)
         order.append(event)
@@ -128,23 +148,24 @@ def run(chance, threads):
     return order
 
 
-def set_byte(event, byte, value):
+def set_byte(event: Event, byte: int, value: int) -> None:
     event.read = event.read & ~(255 << 8 * byte) | value << 8 * byte
 
 
-def change_writer(chance, event, writes):
+def change_writer(chance: Random, event: Event, writes: Sequence[Event]) -> None:
     """Has some bytes of a read come from another write, mostly one that writes them, with its values."""
     cells = range(event.address, event.address + event.width)
     if chance.random() < 0.85:
         writes = [write for write in writes if write is not event and all(map(write.writes, cells))]
-    writer = chance.choice([INIT, *writes])
+    found: list[Writer] = [INIT, *writes]
+    writer = chance.choice(found)
     for byte in range(event.width) if chance.random() < 0.6 else [chance.randrange(event.width)]:
         event.writers[byte] = writer
         if writer.writes(cells[byte]) and chance.random() < 0.85:
             set_byte(event, byte, writer.byte_written(cells[byte]))
 
 
-def random_execution(chance):
+def random_execution(chance: Random) -> tuple[list[list[Event]], Execution, list[Event]]:
     threads = random_threads(chance)
     order = run(chance, threads)
     reads = [event for event in order if event.kind in "rx"]
@@ -161,17 +182,17 @@ def random_execution(chance):
     return threads, Execution(threads, order), order
 
 
-def key(event):
-    return [] if event is INIT else [event.thread, event.number]
+def key(event: Writer) -> Key:
+    return [event.thread, event.number] if isinstance(event, Event) else []
 
 
-def log_event(event):
+def log_event(event: Event) -> LoggedEvent:
     values = {"r": [event.read], "w": [event.written], "x": [event.read, event.written]}[event.kind]
     writers = [[key(writer) for writer in event.writers]] if event.kind != "w" else []
     return [event.kind, "sc" if event.atomic else "un", event.address, event.width, *values, *writers]
 
 
-def log_of(threads, order):
+def log_of(threads: Sequence[Sequence[Event]], order: Sequence[Event]) -> bytes:
     """The log as a document, whose threads are `t`, cut after no step."""
     parts = [["t", [], ["cut"], 0, [log_event(event) for event in thread]] for thread in threads]
     return document(parts, [key(event) for event in order])
@@ -180,14 +201,16 @@ def log_of(threads, order):
 # ---- the text of an explanation
 
 
+FAULT = re.compile(r"broken (V\d) case (\d) at (\S+) byte (\d) writer (\S+)(?: other (\S+))?")
+
+
 class Explanation:
     """The text that explains a broken run: its fault, the chains that it shows, and the lines around them."""
 
     def __init__(self, execution, lines):
         self.execution, self.lines = execution, lines
         expect(lines, "there is no text")
-        found = re.fullmatch(r"broken (V\d) case (\d) at (\S+) byte (\d) writer (\S+)(?: other (\S+))?", lines[0])
-        expect(found, "its first line is not a fault")
+        found = existing(FAULT.fullmatch(lines[0]), "its first line is not a fault")
         self.rule, self.case, self.byte = found[1], int(found[2]), int(found[4])
         self.read, self.writer = self.named(found[3]), self.named(found[5])
         self.other = self.named(found[6]) if found[6] else None
@@ -202,8 +225,8 @@ class Explanation:
 
     def chain(self, number):
         """The chain whose heading is this line: the events that it leads from and to, and its links as edges."""
-        ends = re.fullmatch(r"Why (\S+) happens before (\S+):", self.lines[number])
-        expect(ends, "a heading is not that of a chain")
+        heading = re.fullmatch(r"Why (\S+) happens before (\S+):", self.lines[number])
+        ends = existing(heading, "a heading is not that of a chain")
         first = self.named(ends[1])
         last = first if ends[2] == "itself" else self.named(ends[2])
         links = itertools.takewhile(lambda line: line.startswith("  "), self.lines[number + 1 :])
@@ -278,24 +301,73 @@ class Explanation:
                 yield read, [byte for byte, own in enumerate(read.writers) if own is writer], writer
 
     def check_last(self, lines):
-        """What the last lines say of other orders and other writers."""
+        """What the last lines say of the order, of the writers, and of other witnesses."""
         expect(lines, "the last lines are missing")
         if self.rule == "V5":
-            expect(lines == [f"With another order of the events, or other writers, {MAY_BE}"], lines)
+            self.check_search(lines, BY_ORDER + " ")
         elif self.rule == "V2" and not self.chains:
-            or_writers = "or with other writers, " if self.case == 2 else ""
-            start = "Happens-before has no cycle: with an order that agrees with it, "
-            expect(lines == [start + or_writers + MAY_BE], lines)
+            self.check_search(lines, NO_CYCLE + " ")
         else:
             start = CYCLE if self.rule == "V2" else ANY_ORDER
             only = all(
                 any(not self.execution.others_that_fit(read, byte, writer) for byte in taken)
                 for read, taken, writer in self.needs()
             )
-            expected = [f"{start} {ONLY if only else SEVERAL}"]
-            if not only:
-                expected += [self.fits_text(read, byte) for read, taken, _ in self.needs() for byte in taken]
-            expect_lines(lines, expected)
+            if only:
+                expect_lines(lines, [f"{start} {ONLY}"])
+                self.check_none()
+                return
+            expected = [f"{start} {SEVERAL}"]
+            expected += [self.fits_text(read, byte) for read, taken, _ in self.needs() for byte in taken]
+            expect_lines(lines[: len(expected)], expected)
+            self.check_search(lines[len(expected) :], "")
+
+    def check_search(self, lines, start):
+        """The answer of the search for another witness, after the beginning of its line."""
+        expect(lines, "the answer of the search is missing")
+        if lines[0] == start + WITNESS:
+            self.check_witness(lines[1:])
+        elif lines[0] == start + NO_WITNESS:
+            expect(len(lines) == 1, lines)
+            self.check_none()
+        else:
+            expect(lines == [start + UNKNOWN], lines)
+
+    def threads(self):
+        """A copy of the events, whose writers may be changed."""
+        events = copy.deepcopy(self.execution.events)
+        return [list(thread) for _, thread in itertools.groupby(events, lambda event: event.thread)]
+
+    def check_none(self):
+        """If the log has few choices: no witness makes it allowed."""
+        threads = self.threads()
+        is_small = len(self.execution.events) <= MOST_EVENTS and count_of_writers(threads) <= MOST_WRITERS
+        expect(not (is_small and has_witness(threads)), "a witness makes the run allowed")
+
+    def check_witness(self, lines):
+        """Other writers of bytes, and another order, with which the model allows the run."""
+        threads = self.threads()
+        by_name = {event.name: event for thread in threads for event in thread}
+        writers = {"init": INIT, **by_name}
+        for event in by_name.values():
+            event.writers = [writers[writer.name] for writer in event.writers]
+        order = sorted(by_name.values(), key=lambda event: self.execution.place[self.execution.by_name[event.name]])
+        is_whole = True
+        for line in lines:
+            found = OTHER_BYTE.fullmatch(line)
+            if found:
+                byte, read = int(found[1]), by_name[found[2]]
+                expect(int(found[3]) == read.address + byte, f"another address: {line}")
+                expect(read.writers[byte].name == found[5] != found[4], f"another writer: {line}")
+                read.writers[byte] = writers[found[4]]
+            elif line.startswith(OTHER_ORDER):
+                order = [by_name[name] for name in line.removeprefix(OTHER_ORDER).split(" ")]
+                expect(sorted(event.name for event in order) == sorted(by_name), f"no order of the events: {line}")
+            else:
+                expect(MORE_BYTES.fullmatch(line), f"not a part of a witness: {line}")
+                is_whole = False
+        expect(lines, "nothing differs from the log's own witness")
+        expect(not is_whole or not Execution(threads, order).first_faults(), "the other witness isn't allowed either")
 
     def fits_text(self, read, byte):
         """The line of a byte of a read: all events that leave its value there, of which eight are named."""

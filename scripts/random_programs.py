@@ -59,7 +59,8 @@ class Case:
 
     def __init__(self, number, chance, is_lowered):
         self.number, self.is_lowered = number, is_lowered
-        self.program = CompiledProgram(chance) if is_lowered else Program(chance)
+        self.lowered = CompiledProgram(chance) if is_lowered else None
+        self.program: Program = self.lowered or Program(chance)
         self.calls = [
             [(BITS[kind], str(argument(chance, kind))) for kind in function.parameters]
             for function in self.program.functions
@@ -72,15 +73,15 @@ class Case:
 
     def layout(self):
         """What node has to know of the memory of a program that is lowered."""
-        if not self.is_lowered:
+        if self.lowered is None:
             return {}
-        own = self.program.own
+        own = self.lowered.own
         block = None if own is None else {"at": BLOCK_AT, "bytes": own.hex()}
-        return {"pages": self.program.most_pages or self.program.pages, "block": block}
+        return {"pages": self.lowered.most_pages or self.lowered.pages, "block": block}
 
     def lowered_place(self, address, index):
         """Where the bytes at an address of wmlab's module are in node's; None if they are not there."""
-        return self.program.lowered_place(address, index) if self.is_lowered else address
+        return self.lowered.lowered_place(address, index) if self.lowered else address
 
     def requests(self):
         """What node is asked: the calls, and whether the changed modules are valid."""

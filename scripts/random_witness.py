@@ -13,12 +13,12 @@ from __future__ import annotations
 
 import itertools
 import random
-from collections.abc import Iterator
 
 from random_logs import log_event
 from wmlabtools import harness
 from wmlabtools.log import document
-from wmlabtools.model import INIT, Event, Execution, execution_of
+from wmlabtools.model import Event, Execution, execution_of
+from wmlabtools.witnesses import count_of_writers, has_witness
 
 MOST_EVENTS = 7
 # The most ways to choose writers of a log that is tried.
@@ -27,8 +27,8 @@ MOST_WRITERS = 3_000
 
 def random_threads(chance: random.Random) -> list[list[Event]]:
     """One to four threads of accesses of a few bytes, with the values that they write."""
-    atomic = chance.choice((0.2, 0.5, 0.8, 1))
-    widths = chance.choice(((1,), (1,), (2,), (1, 2), (1, 2, 4)))
+    atomic = chance.choice((0, 0.2, 0.5, 0.8, 1))
+    widths = chance.choice(((1,), (1,), (2,), (4,), (1, 2), (2, 4), (1, 2, 4)))
     threads: list[list[Event]] = [[] for _ in range(chance.choice((1, 2, 2, 3, 3, 4)))]
     for _ in range(chance.randint(1, MOST_EVENTS)):
         thread = chance.randrange(len(threads))
@@ -57,73 +57,6 @@ def choose_values(chance: random.Random, threads: list[list[Event]]) -> None:
             read.read |= value << 8 * byte
 
 
-def writers_of(read: Event, byte: int, events: list[Event]) -> list[object]:
-    """Who left the value of a byte that was read."""
-    address = read.address + byte
-    others = [event for event in events if event is not read and event.writes(address)]
-    return [event for event in [INIT, *others] if event.byte_written(address) == read.byte_read(byte)]
-
-
-def with_writers(threads: list[list[Event]]) -> Iterator[Execution]:
-    """The executions with each writer of each byte, in no order."""
-    events = [event for thread in threads for event in thread]
-    reads = [event for event in events if event.kind in "rx"]
-    choices = [
-        list(itertools.product(*(writers_of(read, byte, events) for byte in range(read.width)))) for read in reads
-    ]
-    for chosen in itertools.product(*choices):
-        for read, writers in zip(reads, chosen):
-            read.writers = list(writers)
-        yield Execution(threads, events)
-
-
-def count_of_writers(threads: list[list[Event]]) -> int:
-    events = [event for thread in threads for event in thread]
-    count = 1
-    for read in events:
-        for byte in range(read.width if read.kind in "rx" else 0):
-            count *= len(writers_of(read, byte, events))
-    return count
-
-
-def has_order(execution: Execution) -> bool:
-    """Whether some order of the events keeps happens-before and the rule of sequential consistency."""
-    demands: dict[Event, list[tuple[object, Event]]] = {}
-    for read, _, writer in execution.bytes_read():
-        for other in execution.events:
-            if other.is_write() and other.atomic and other is not writer and other is not read:
-                if any(True for _ in execution.consistency_cases(read, writer, other)):
-                    demands.setdefault(read, []).append((writer, other))
-
-    def is_kept(read: Event, place: dict[object, int]) -> bool:
-        return not any(
-            writer in place and other in place and place[writer] < place[other]
-            for writer, other in demands.get(read, [])
-        )
-
-    def goes_on(place: dict[object, int], left: list[Event]) -> bool:
-        if not left:
-            return True
-        for event in left:
-            if any(execution.before(other, event) for other in left if other is not event):
-                continue
-            if is_kept(event, place):
-                rest = [other for other in left if other is not event]
-                if goes_on({**place, event: len(place)}, rest):
-                    return True
-        return False
-
-    return goes_on({INIT: 0}, execution.events)
-
-
-def is_allowed(execution: Execution) -> bool:
-    """Whether these writers are allowed in some order."""
-    if execution.has_cycle():
-        return False
-    unordered = (execution.value_faults(), execution.coherence_faults(), execution.tearing_faults())
-    return not any(True for faults in unordered for _ in faults) and has_order(execution)
-
-
 def threads_of(execution: Execution) -> list[object]:
     """The events of a log without their writers."""
     return [
@@ -134,7 +67,7 @@ def threads_of(execution: Execution) -> list[object]:
 
 def fault_of(text: str, status: int, threads: list[list[Event]]) -> str | None:
     """What is wrong with an answer about the threads, None if nothing is."""
-    if any(map(is_allowed, with_writers(threads))):
+    if has_witness(threads):
         if status != 0:
             return f"a witness is there, and it answers {text!r}"
         found = execution_of(text)

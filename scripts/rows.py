@@ -8,10 +8,12 @@ that differs is shown as a diff. The last line is `N passed, N failed`.
     scripts/rows.py                      all rows
     scripts/rows.py check "two writers"  the rows with one of these words in file or title
     scripts/rows.py --update             writes what the program printed into the .rows files
+    scripts/rows.py --files FOLDER TITLE writes the files of a row, and prints its command
 """
 import concurrent.futures
 import difflib
 import glob
+import itertools
 import os
 import re
 import shlex
@@ -19,10 +21,12 @@ import signal
 import subprocess
 import tempfile
 import time
+from collections.abc import Iterator, Sequence
+from typing import NamedTuple
 
 from wmlabtools import TOP, harness
 
-PAGES = ("README.md", "examples/README.md", "docs/*.md")
+PAGES = ("README.md", "examples/README.md", "docs/*.md", "docs/dev/*.md")
 # `«TEXT»*N` is TEXT N times, joined by commas, with the number of the copy, from 0, for each `%`, and more for
 # `%+MORE`.
 REPEATED = re.compile(r"«([^«»]*)»\*(\d+)")
@@ -34,16 +38,20 @@ MORE = "..."
 class Row:
     """A command line and what is wanted of it."""
 
-    def __init__(self, source, line, title):
+    def __init__(self, source: str, line: int, title: str) -> None:
         self.source, self.line, self.title = source, line, title
-        self.files, self.command, self.last_line = {}, None, line
-        self.out, self.err, self.status = [], [], 0
+        self.files: dict[str, str] = {}
+        # A row that was read has a command.
+        self.command, self.last_line = "", line
+        self.out: list[str] = []
+        self.err: list[str] = []
+        self.status = 0
         self.has_status, self.is_written = False, True
 
-    def name(self):
+    def name(self) -> str:
         return f"{self.source}:{self.line}: {self.title}"
 
-    def wanted(self):
+    def wanted(self) -> list[str]:
         """The wanted lines, in the form in which they are compared and shown."""
         return (
             [expanded(line) for line in self.out]
@@ -52,13 +60,13 @@ class Row:
         )
 
 
-def expanded(text):
+def expanded(text: str) -> str:
     """The text with its repetitions written out."""
 
-    def copies(found):
+    def copies(found: re.Match[str]) -> str:
         return ",".join(numbered(found[1], number) for number in range(int(found[2])))
 
-    def numbered(text, number):
+    def numbered(text: str, number: int) -> str:
         return NUMBER.sub(lambda plus: str(number + int(plus[1] or 0)), text)
 
     return REPEATED.sub(copies, text)
@@ -67,9 +75,12 @@ def expanded(text):
 # ---- reading
 
 
-def rows_of_file(path):
+def rows_of_file(path: str) -> list[Row]:
     """The rows of a .rows file. Files that are given before the first title are there for each of its rows."""
-    source, shared, row, rows = os.path.relpath(path, TOP), {}, None, []
+    source = os.path.relpath(path, TOP)
+    shared: dict[str, str] = {}
+    row: Row | None = None
+    rows: list[Row] = []
     with open(path, encoding="utf-8") as file:
         lines = file.read().split("\n")
     for number, line in enumerate(lines, 1):
@@ -85,20 +96,20 @@ def rows_of_file(path):
         else:
             read_line(row, line[2:], number)
     for row in rows:
-        if row.command is None:
+        if not row.command:
             raise SystemExit(f"{row.name()}: it has no command line")
     return rows
 
 
-def read_line(row, line, number):
+def read_line(row: Row | None, line: str, number: int) -> None:
     """A line of a row: its command, or what is wanted of it."""
     if row is None:
         raise SystemExit(f"line {number} is before the first title: {line}")
     if line.startswith("$ "):
-        if row.command is not None:
+        if row.command:
             raise SystemExit(f"{row.name()}: it has two command lines")
         row.command = line[2:]
-    elif row.command is None:
+    elif not row.command:
         raise SystemExit(f"{row.source}:{number}: neither a file nor a command line: {line}")
     elif line.startswith("! "):
         row.err.append(line[2:])
@@ -109,15 +120,18 @@ def read_line(row, line, number):
     row.last_line = number
 
 
-def status_of(lines):
+def status_of(lines: Sequence[str]) -> int:
     """The status that goes with a verdict."""
     words = [line.split(" ")[0] for line in lines]
     return next((harness.STATUS[word] for word in words if word in harness.STATUS), 0)
 
 
-def rows_of_page(path):
-    """The command lines of the blocks of a page, `$ ./wmlab WORDS`, each with the lines that follow it."""
-    source, rows, row, is_code = os.path.relpath(path, TOP), [], None, False
+def rows_of_page(path: str) -> list[Row]:
+    """The command lines of the blocks of a page, `$ ./wmlab WORDS`, each with the lines that follow it, but for
+    those that the launcher adds."""
+    source, is_code = os.path.relpath(path, TOP), False
+    rows: list[Row] = []
+    row: Row | None = None
     with open(path, encoding="utf-8") as file:
         for number, line in enumerate(file.read().split("\n"), 1):
             if line.startswith("```"):
@@ -128,16 +142,23 @@ def rows_of_page(path):
                     row = Row(source, number, line[2:])
                     row.command = line[2:].replace("./wmlab ", "wmlab ")
                     rows.append(row)
-            elif is_code and row:
+            elif is_code and row and not line.startswith("wmlab: "):
                 row.out.append(line)
     for row in rows:
         row.status = status_of(row.out)
     return rows
 
 
-def cells_of_page(path):
-    """Each row of the tables of a page: the heading above it, the number of its line, and what is between backticks
-    in each cell."""
+class Cells(NamedTuple):
+    """A row of a table: the heading above it, the number of its line, and what is between backticks in each cell."""
+
+    heading: str
+    line: int
+    cells: list[str]
+
+
+def cells_of_page(path: str) -> Iterator[Cells]:
+    """Each row of the tables of a page."""
     heading = ""
     with open(path, encoding="utf-8") as file:
         for number, line in enumerate(file, 1):
@@ -145,14 +166,15 @@ def cells_of_page(path):
                 heading = line.strip("# \n")
             elif line.startswith("| `"):
                 cells = [re.fullmatch(r"`(.*)`", cell.strip()) for cell in line.strip().strip("|").split(" | ")]
-                yield heading, number, [cell[1] for cell in cells if cell]
+                yield Cells(heading, number, [cell[1] for cell in cells if cell])
 
 
-def rows_of_examples():
+def rows_of_examples() -> list[Row]:
     """The tables of the examples: modules with logs, scripts, and logs alone."""
-    source, rows = "examples/README.md", []
+    source = "examples/README.md"
+    rows: list[Row] = []
 
-    def add(number, command, out, status):
+    def add(number: int, command: str, out: list[str], status: int) -> None:
         row = Row(source, number, command)
         row.command, row.out, row.status = command, out, status
         rows.append(row)
@@ -177,25 +199,55 @@ def rows_of_examples():
     return rows
 
 
-def texts_of_explanations():
-    """The texts that docs/EXPLANATIONS.md shows: a line of `check`, with the sentences of `explain` below it."""
+class Shown(NamedTuple):
+    """An output of `explain` that a page shows: the line before it, which names its row, and its lines, the first of
+    which may be a command over examples."""
+
+    source: str
+    lines: list[str]
+
+    def fault(self, rows: Sequence[Row]) -> str:
+        """What is wrong with it; nothing if it is the output of the row that is named, or, after a command, of some
+        row. `scripts/transcripts.py` runs the command."""
+        if self.lines[0].startswith("$ "):
+            is_there = any(row.out == self.lines[1:] for row in rows)
+            return "" if is_there else "no row of `explain` has this output"
+        named = SOURCE.fullmatch(self.source)
+        if not named:
+            return "neither a command nor a line that names its row is before it"
+        found = [row for row in rows if (row.source, row.title, row.command) == named.groups()]
+        return "" if any(row.out == self.lines for row in found) else f"this is no output of {self.source}"
+
+
+SOURCE = re.compile(r'From `(\S+)`, "(.+)": `(.+)`')
+
+
+def outputs_of_explanations() -> list[Shown]:
+    """The outputs that docs/EXPLANATIONS.md shows."""
     with open(f"{TOP}/docs/EXPLANATIONS.md", encoding="utf-8") as file:
-        blocks = re.findall(r"(?m)(?:^    .*\n)+", file.read())
-    texts = [re.sub(r"(?m)^    ", "", block).rstrip("\n").split("\n") for block in blocks]
-    return [text for text in texts if text[0].split(" ")[0] in harness.STATUS]
+        text = file.read()
+    shown = []
+    for block in re.finditer(r"(?m)(?:^    .*\n)+", text):
+        source = text[: block.start()].rstrip("\n").rpartition("\n")[2]
+        shown.append(Shown(source, re.sub(r"(?m)^    ", "", block[0]).rstrip("\n").split("\n")))
+    return [each for each in shown if each.lines[0].split(" ")[0] in ("$", *harness.STATUS)]
 
 
-def texts_without_row(rows):
-    """Those of these texts that no row of `explain` has."""
-    shown = [row.out for row in rows if "wmlab explain " in row.command]
-    return [text for text in texts_of_explanations() if text not in shown]
+def check_explanations(tally: harness.Tally, rows: Sequence[Row]) -> None:
+    """Counts what is wrong with the outputs of that page, also that it has none."""
+    outputs = outputs_of_explanations()
+    tally.check(len(outputs) > 0, "docs/EXPLANATIONS.md shows outputs")
+    explained = [row for row in rows if "wmlab explain " in row.command]
+    for shown in outputs:
+        fault = shown.fault(explained)
+        tally.check(not fault, "docs/EXPLANATIONS.md", f"{fault}: {shown.lines[0]}")
 
 
 # `check` and `rules` of one log, whose answer other ways to the same log keep.
 JUDGED = re.compile(r"wmlab (check \S+|rules) (\S+)")
 
 
-def rows_by_another_way(rows):
+def rows_by_another_way(rows: Sequence[Row]) -> list[Row]:
     """For each row with a verdict: the log migrated has the same one, and is migrated to itself; an allowed log
     completed from its module is allowed too, and is completed to itself."""
     again = []
@@ -220,17 +272,35 @@ def rows_by_another_way(rows):
 # ---- running
 
 
-def write_files(row, folder):
+def write_files(row: Row, folder: str) -> None:
+    """Writes the files of a row, with links to the folders that its command may name."""
+    for name, place in (("examples",) * 2, ("litmus",) * 2, ("files", "tests/files"), ("scripts",) * 2):
+        os.symlink(f"{TOP}/{place}", f"{folder}/{name}")
     for name, text in row.files.items():
         text = expanded(text)
         with open(os.path.join(folder, name), "wb") as file:
             file.write(bytes.fromhex(text) if name.endswith(".wasm") else text.encode())
 
 
-def finished(words, folder, seconds):
+def write_files_of(rows: Sequence[Row], folder: str, titles: Sequence[str]) -> None:
+    """Makes the folder, with the files of the row of this title, and prints the row's command."""
+    found = [row for row in rows if row.title in titles and row.is_written]
+    if len(titles) != 1 or not found:
+        raise SystemExit(f"--files takes the title of one row; {len(found)} rows have {list(titles)}")
+    try:
+        os.mkdir(folder)
+    except OSError as error:
+        raise SystemExit(f"cannot make {folder}: {error.strerror}") from error
+    write_files(found[0], folder)
+    print(f"in {folder}: {found[0].command}")
+
+
+def finished(words: Sequence[str], folder: str, seconds: float) -> subprocess.CompletedProcess[bytes] | None:
     """The process with what it wrote, or nothing if it has not ended after so long; then what it started is ended."""
-    streams = {"stdin": subprocess.DEVNULL, "stdout": subprocess.PIPE, "stderr": subprocess.PIPE}
-    with subprocess.Popen(words, cwd=folder, start_new_session=True, **streams) as started:
+    to = subprocess.PIPE
+    with subprocess.Popen(
+        words, cwd=folder, start_new_session=True, stdin=subprocess.DEVNULL, stdout=to, stderr=to
+    ) as started:
         try:
             out, err = started.communicate(timeout=seconds)
         except subprocess.TimeoutExpired:
@@ -239,15 +309,11 @@ def finished(words, folder, seconds):
     return subprocess.CompletedProcess(words, started.returncode, out, err)
 
 
-def run(row, program, limit):
+def run(row: Row, program: str, limit: float) -> tuple[list[str], float]:
     """The lines that came, in the form in which they are compared, or a sentence on why there are none; and the
     seconds."""
     start = time.monotonic()
     with tempfile.TemporaryDirectory() as folder:
-        os.symlink(f"{TOP}/examples", f"{folder}/examples")
-        os.symlink(f"{TOP}/litmus", f"{folder}/litmus")
-        os.symlink(f"{TOP}/tests/files", f"{folder}/files")
-        os.symlink(f"{TOP}/scripts", f"{folder}/scripts")
         write_files(row, folder)
         # The words are the shell's, but for `*` and `?`: scripts of turns have a `*`.
         words = ["sh", "-f", "-c", f'wmlab() {{ {shlex.quote(program)} "$@"; }}\n{row.command}']
@@ -259,7 +325,7 @@ def run(row, program, limit):
     return out + err + ([f"[{ran.returncode}]"] if ran.returncode else []), time.monotonic() - start
 
 
-def lines_of(data):
+def lines_of(data: bytes) -> list[str]:
     """The lines of what was printed; a last one that is not ended is marked."""
     if not data:
         return []
@@ -267,7 +333,7 @@ def lines_of(data):
     return lines + ([last + "(no newline)"] if last else [])
 
 
-def fits(wanted, got):
+def fits(wanted: Sequence[str], got: Sequence[str]) -> bool:
     """Whether the lines are those that are wanted. `...` alone means one or more lines, at the end of a line for
     the rest of it, and a line `counts of N: A, B` for a table of outcomes among these, sorted, whose counts add up to
     N."""
@@ -279,12 +345,12 @@ def fits(wanted, got):
     counts = COUNTS.fullmatch(first)
     if counts:
         table = [re.fullmatch(r"( *\d+)  (.+)", line) for line in got]
-        length = next((at for at, line in enumerate(table) if not line), len(got))
-        outcomes = [line[2] for line in table[:length]]
-        total = sum(int(line[1]) for line in table[:length])
-        aligned = all(len(line[1]) == 8 for line in table[:length])
+        counted = [line for line in itertools.takewhile(bool, table) if line]
+        outcomes = [line[2] for line in counted]
+        total = sum(int(line[1]) for line in counted)
+        aligned = all(len(line[1]) == 8 for line in counted)
         among = set(outcomes) <= set(counts[2].split(", ")) and outcomes == sorted(set(outcomes))
-        return aligned and among and total == int(counts[1]) and fits(rest, got[length:])
+        return aligned and among and total == int(counts[1]) and fits(rest, got[len(counted) :])
     if not got:
         return False
     if first.endswith(MORE):
@@ -292,11 +358,11 @@ def fits(wanted, got):
     return first == got[0] and fits(rest, got[1:])
 
 
-def shortened(lines):
+def shortened(lines: Sequence[str]) -> list[str]:
     return [line if len(line) <= 400 else f"{line[:200]} .. {line[-150:]} ({len(line)} characters)" for line in lines]
 
 
-def difference(row, got):
+def difference(row: Row, got: Sequence[str]) -> str:
     shown = difflib.unified_diff(shortened(row.wanted()), shortened(got), "wanted", "got", lineterm="")
     return "\n".join(shown)
 
@@ -304,7 +370,7 @@ def difference(row, got):
 # ---- updating
 
 
-def update(row, got):
+def update(row: Row, got: Sequence[str]) -> None:
     """Writes what came into the row's file, in place of the lines after its command."""
     path = f"{TOP}/{row.source}"
     with open(path, encoding="utf-8") as file:
@@ -318,7 +384,7 @@ def update(row, got):
         file.write("\n".join(lines))
 
 
-def can_be_updated(row):
+def can_be_updated(row: Row) -> bool:
     plain = not any(line.endswith(MORE) or COUNTS.fullmatch(line) or REPEATED.search(line) for line in row.out)
     return row.is_written and row.source.endswith(".rows") and plain
 
@@ -326,7 +392,7 @@ def can_be_updated(row):
 # ---- all
 
 
-def all_rows():
+def all_rows() -> list[Row]:
     rows = []
     for path in sorted(glob.glob(f"{TOP}/tests/rows/*.rows")):
         found = rows_of_file(path)
@@ -337,12 +403,13 @@ def all_rows():
     return rows + rows_of_examples()
 
 
-def main():
+def main() -> None:
     parser = harness.arguments(__doc__)
     parser.add_argument("--update", action="store_true", help="write what the program printed into the .rows files")
     parser.add_argument(
         "--without", action="append", default=[], metavar="WORD", help="leave out the rows with this word"
     )
+    parser.add_argument("--files", metavar="FOLDER", help="write the files of the row of this title, and run nothing")
     parser.add_argument("--times", type=int, default=0, metavar="N", help="print the N rows that took longest")
     parser.add_argument("--seconds", type=int, default=120, metavar="N", help="how long a row may take")
     parser.add_argument("--jobs", type=int, default=harness.processors(), help="rows that run side by side")
@@ -350,14 +417,16 @@ def main():
         "words", nargs="*", metavar="WORD", help="run only the rows with one of these words in file or title"
     )
     options = parser.parse_args()
-    program = harness.program_of(options)
     rows = all_rows()
     tally = harness.Tally()
-    for text in texts_without_row(rows):
-        tally.check(False, "docs/EXPLANATIONS.md has a text that no row of `explain` has", text[0])
+    if options.files:
+        write_files_of(rows, options.files, options.words)
+        return
+    check_explanations(tally, rows)
     if options.words:
         rows = [row for row in rows if any(word in row.name() for word in options.words)]
     rows = [row for row in rows if not any(word in row.name() for word in options.without)]
+    program = harness.program_of(options)
     changed, times = [], []
     with concurrent.futures.ThreadPoolExecutor(options.jobs) as pool:
         for row, (got, seconds) in zip(rows, pool.map(lambda row: run(row, program, options.seconds), rows)):

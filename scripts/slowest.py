@@ -19,6 +19,7 @@ import resource
 import shutil
 import subprocess
 import sys
+from collections.abc import Sequence
 
 from wmlabtools import TOP, harness, prover
 
@@ -31,16 +32,16 @@ WRITTEN = re.compile(r'(\d+) .*"(\S*rattle-logic-built-[^/]*/Rattle-\w+-(?:proof
 class Function:
     """What the prover did for a function."""
 
-    def __init__(self):
+    def __init__(self) -> None:
         # Seconds of the processor, by the part of the work.
-        self.parts = collections.Counter()
+        self.parts: dict[str, float] = collections.defaultdict(float)
         self.size = 0
 
-    def seconds(self):
+    def seconds(self) -> float:
         return sum(self.parts.values())
 
 
-def processor_seconds(process):
+def processor_seconds(process: str) -> float | None:
     """How long a process has run on a processor, from the system's count of its ticks; None if it has ended."""
     try:
         with open(f"/proc/{process}/stat", encoding="utf-8") as file:
@@ -50,7 +51,7 @@ def processor_seconds(process):
     return (int(fields[11]) + int(fields[12])) / 100
 
 
-def size_of(path):
+def size_of(path: str) -> int:
     """The size of a file, or 0 if it is not there any more."""
     try:
         return os.path.getsize(path)
@@ -58,20 +59,24 @@ def size_of(path):
         return 0
 
 
-def checked(crate, more):
+def checked(crate: str, more: Sequence[str]) -> dict[str, Function]:
     """What the prover did for each function of a crate; ends if the crate is not proved."""
     words = prover.check_words(crate, *more)
-    functions, before, last, said = collections.defaultdict(Function), None, None, []
+    functions: dict[str, Function] = collections.defaultdict(Function)
+    before: float | None = None
+    last: tuple[Function, str] | None = None
+    said: list[str] = []
     traced = ["strace", "-f", "-e", "trace=openat", "-o", "|cat", *words]
     with subprocess.Popen(
         traced, cwd=f"{TOP}/crates/{crate}", stdout=subprocess.PIPE, stderr=subprocess.STDOUT, text=True
     ) as ran:
+        assert ran.stdout is not None
         for line in ran.stdout:
             if not TRACED.match(line):
                 said.append(line)
             found = WRITTEN.match(line)
             now = processor_seconds(found[1]) if found else None
-            if now is not None:
+            if found and now is not None:
                 # The file before this one is complete. The last one is gone when the prover ends.
                 if last is not None:
                     last[0].size += size_of(last[1])
@@ -86,12 +91,12 @@ def checked(crate, more):
     return functions
 
 
-def children_seconds():
+def children_seconds() -> float:
     usage = resource.getrusage(resource.RUSAGE_CHILDREN)
     return usage.ru_utime + usage.ru_stime
 
 
-def main():
+def main() -> None:
     parser = argparse.ArgumentParser(description=__doc__, formatter_class=argparse.RawDescriptionHelpFormatter)
     parser.add_argument("--count", type=int, default=20, help="how many functions are printed")
     parser.add_argument("--tests", action="store_true", help="check the crates with their tests")
@@ -99,7 +104,7 @@ def main():
     options = parser.parse_args()
     if not shutil.which("strace"):
         sys.exit("this needs strace, of Debian's package of that name")
-    functions = {}
+    functions: dict[str, Function] = {}
     for crate in options.crates or prover.dependencies():
         start = children_seconds()
         found = checked(crate, ["--test"] if options.tests else [])
@@ -109,7 +114,7 @@ def main():
         print(f"{seconds:7.1f} s {size / 1e6:7.1f} MB {crate}, {len(found)} functions and types", flush=True)
     slowest = sorted(functions.items(), key=lambda each: -each[1].seconds())
     for name, function in slowest[: options.count]:
-        part = max(function.parts, key=function.parts.get, default="no part")
+        part = max(function.parts, key=function.parts.__getitem__, default="no part")
         print(f"{function.seconds():7.1f} s {function.size / 1e6:7.1f} MB {name}, {part} {function.parts[part]:.1f} s")
 
 

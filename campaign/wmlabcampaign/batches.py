@@ -2,17 +2,20 @@
 import bz2
 import gzip
 import hashlib
+import importlib
 import json
 import lzma
 import os
 import zlib
+from collections.abc import Iterator, Sequence
 from dataclasses import dataclass
+from typing import IO, Any, NamedTuple
 
 from .faults import Fault
-from .plan import Litmus, Logs, Module, Recording
+from .plan import Litmus, Logs, Module, Part, Recording, Tests
 
 try:
-    from compression import zstd
+    zstd: Any = importlib.import_module("compression.zstd")
 except ImportError:  # before Python 3.14
     zstd = None
 
@@ -25,7 +28,7 @@ TESTS_OF_A_BATCH = 10
 MOST_ITERATIONS = 1_003_520
 INSTANCES = 4096
 LOG_ENDINGS = (".json", ".jsonl", ".ndjson")
-OPENERS = {".gz": gzip.open, ".xz": lzma.open, ".bz2": bz2.open, ".zst": zstd and zstd.open}
+OPENERS: dict[str, Any] = {".gz": gzip.open, ".xz": lzma.open, ".bz2": bz2.open, ".zst": zstd and zstd.open}
 BAD_CONTENT = (OSError, EOFError, zlib.error, lzma.LZMAError, *([zstd.ZstdError] if zstd else []))
 
 
@@ -35,8 +38,20 @@ class Batch:
 
     number: int
     name: str
-    module: Module
+    module: Module | Tests
     logs: int
+
+    def origin(self, number: int) -> str:
+        """Where a log of the batch comes from."""
+        raise NotImplementedError
+
+
+class Origin(NamedTuple):
+    """Lines of a file: its path, the number of the first one, and how many."""
+
+    path: str
+    first: int
+    lines: int
 
 
 @dataclass(frozen=True)
@@ -44,13 +59,13 @@ class LogBatch(Batch):
     """Logs that are there, compressed; `origins` has, for each file, the number of its first line here and how many."""
 
     packed_lines: bytes
-    origins: tuple
+    origins: tuple[Origin, ...]
 
-    def origin(self, number):
-        for path, first, count in self.origins:
-            if number < count:
-                return f"{path} line {first + number}"
-            number -= count
+    def origin(self, number: int) -> str:
+        for origin in self.origins:
+            if number < origin.lines:
+                return f"{origin.path} line {origin.first + number}"
+            number -= origin.lines
         raise IndexError(number)
 
 
@@ -58,14 +73,14 @@ class LogBatch(Batch):
 class RoundBatch(Batch):
     """Rounds to record, the first of which has this seed."""
 
-    options: tuple
-    starts: tuple
+    options: tuple[str, ...]
+    starts: tuple[str, ...]
     seed: int
 
-    def words(self):
+    def words(self) -> tuple[list[str], list[str]]:
         return [*self.options, f"--seed={self.seed}", f"--rounds={self.logs}"], list(self.starts)
 
-    def origin(self, number):
+    def origin(self, number: int) -> str:
         words = [*self.options, f"--seed={self.seed + number}", "--rounds=1", self.module.path, *self.starts]
         return f"engines/node/record.mjs {' '.join(words)}"
 
@@ -74,26 +89,26 @@ class RoundBatch(Batch):
 class LitmusBatch(Batch):
     """Litmus tests to run; `logs` is the number of all iterations. A batch that is repeated has a number of its own."""
 
-    options: tuple
-    tests: tuple
+    options: tuple[str, ...]
+    tests: tuple[str, ...]
     iterations: int
 
-    def words(self):
+    def words(self) -> list[str]:
         return [*self.options, f"--iterations={self.iterations}", *self.tests]
 
-    def origin(self, number):
+    def origin(self, number: int) -> str:
         return f"litmus/run {' '.join([*self.options, self.tests[min(number, len(self.tests) - 1)]])}"
 
 
 # ---- lines of files
 
 
-def is_log_file(name):
+def is_log_file(name: str) -> bool:
     plain, ending = os.path.splitext(name)
     return (plain if ending in OPENERS else name).endswith(LOG_ENDINGS)
 
 
-def files_in(place):
+def files_in(place: str) -> list[str]:
     """A file as it is; of a folder and its folders the files whose names end as those of logs, in order."""
     if not os.path.isdir(place):
         return [place]
@@ -104,15 +119,16 @@ def files_in(place):
     return found
 
 
-def opened(path):
+def opened(path: str) -> IO[bytes]:
     ending = os.path.splitext(path)[1]
     opener = OPENERS.get(ending, open)
     if not opener:
         raise Fault(f"cannot read {path}: this Python has no zstd (3.14 has); unpack it by zstd -d")
-    return opener(path, "rb")
+    file: IO[bytes] = opener(path, "rb")
+    return file
 
 
-def lines_of(file):
+def lines_of(file: IO[bytes]) -> Iterator[bytes]:
     """The lines of a file without their newlines, as `wmlab stream` counts them. Of a line that is too long, as many
     bytes as show that."""
     while line := file.readline(DOCUMENT_BYTES + 1):
@@ -125,13 +141,19 @@ def lines_of(file):
         yield line
 
 
-def placed_lines(places):
+class PlacedLine(NamedTuple):
+    path: str
+    number: int
+    line: bytes
+
+
+def placed_lines(places: Sequence[str]) -> Iterator[PlacedLine]:
     """Each line of some places with its file and number."""
     for place in places:
         for path in files_in(place):
             try:
                 with opened(path) as file:
-                    yield from ((path, number, line) for number, line in enumerate(lines_of(file), 1))
+                    yield from (PlacedLine(path, number, line) for number, line in enumerate(lines_of(file), 1))
             except BAD_CONTENT as error:
                 raise Fault(f"cannot read {path}: {getattr(error, 'strerror', None) or error}") from error
 
@@ -139,29 +161,33 @@ def placed_lines(places):
 # ---- batches
 
 
-def named(kind, module, content):
+def named(kind: str, module: Module | Tests, content: bytes) -> str:
     return hashlib.sha256(f"{kind} {module.digest} ".encode() + content).hexdigest()
 
 
 class LineCutter:
     """Puts lines together until a batch is full."""
 
-    def __init__(self, module, most_logs):
+    def __init__(self, module: Module, most_logs: int) -> None:
         self.module, self.most_logs = module, most_logs
-        self.lines, self.size, self.origins = [], 0, []
+        self.lines: list[bytes] = []
+        self.origins: list[Origin] = []
+        self.size = 0
 
-    def is_full_for(self, line):
-        return self.lines and (len(self.lines) == self.most_logs or self.size + len(line) >= BATCH_BYTES)
+    def is_full_for(self, line: bytes) -> bool:
+        is_full = len(self.lines) == self.most_logs or self.size + len(line) >= BATCH_BYTES
+        return bool(self.lines) and is_full
 
-    def add(self, path, number, line):
+    def add(self, path: str, number: int, line: bytes) -> None:
         self.lines.append(line)
         self.size += len(line) + 1
-        if self.origins and self.origins[-1][0] == path:
-            self.origins[-1][2] += 1
+        if self.origins and self.origins[-1].path == path:
+            last = self.origins[-1]
+            self.origins[-1] = last._replace(lines=last.lines + 1)
         else:
-            self.origins.append([path, number, 1])
+            self.origins.append(Origin(path, number, 1))
 
-    def cut(self, number):
+    def cut(self, number: int) -> LogBatch:
         content = b"".join(line + b"\n" for line in self.lines)
         name = named("logs", self.module, content)
         batch = LogBatch(number, name, self.module, len(self.lines), zlib.compress(content, 1), tuple(self.origins))
@@ -169,7 +195,7 @@ class LineCutter:
         return batch
 
 
-def log_batches(part, most_logs, number):
+def log_batches(part: Logs, most_logs: int, number: int) -> Iterator[Batch]:
     cutter = LineCutter(part.module, most_logs)
     for path, line_number, line in placed_lines(part.places):
         if cutter.is_full_for(line):
@@ -180,7 +206,7 @@ def log_batches(part, most_logs, number):
         yield cutter.cut(number)
 
 
-def round_batches(part, most_logs, number):
+def round_batches(part: Recording, most_logs: int, number: int) -> Iterator[Batch]:
     for first in range(0, part.rounds, most_logs):
         rounds, seed = min(most_logs, part.rounds - first), part.seed + first
         content = json.dumps([part.options, part.starts, seed, rounds]).encode()
@@ -189,7 +215,7 @@ def round_batches(part, most_logs, number):
         number += 1
 
 
-def litmus_batches(part, _most_logs, number):
+def litmus_batches(part: Litmus, _most_logs: int, number: int) -> Iterator[Batch]:
     """Some tests a batch, with at most a million iterations of each."""
     for first in range(0, len(part.tests), TESTS_OF_A_BATCH):
         tests = part.tests[first : first + TESTS_OF_A_BATCH]
@@ -202,10 +228,10 @@ def litmus_batches(part, _most_logs, number):
             number += 1
 
 
-CUTS = {Logs: log_batches, Recording: round_batches, Litmus: litmus_batches}
-
-
-def batches_of(part, most_logs, number):
+def batches_of(part: Part, most_logs: int, number: int) -> Iterator[Batch]:
     """The batches of a part, numbered from `number`."""
-    cut = CUTS[type(part)]
-    return cut(part, most_logs, number)
+    if isinstance(part, Logs):
+        return log_batches(part, most_logs, number)
+    if isinstance(part, Recording):
+        return round_batches(part, most_logs, number)
+    return litmus_batches(part, most_logs, number)

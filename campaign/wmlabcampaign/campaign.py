@@ -1,10 +1,22 @@
 """One campaign: its batches in waves, their results, and the table."""
-import sys
+from __future__ import annotations
 
-from .batches import batches_of
+import sys
+from collections.abc import Callable, Iterator, Sequence
+from typing import TYPE_CHECKING
+
+from .batches import Batch, batches_of
 from .faults import FAILED, Fault
+from .folder import Finished, Folder
 from .histograms import Histograms
+from .plan import Part
 from .table import Table
+
+# These need Dask, which is imported when a campaign runs.
+if TYPE_CHECKING:
+    from distributed import Future
+
+    from .cluster import Cluster
 
 # The batches that the scheduler has at once, so that its memory and ours stay bounded.
 WAVE_BATCHES = 1_000
@@ -15,35 +27,39 @@ MOST_FAILURES_SHOWN = 10
 class Wave:
     """Batches that are sent and not finished. Batches of the same name are one piece of work."""
 
-    def __init__(self):
-        self.batches, self.futures, self.bytes = {}, {}, 0
+    def __init__(self) -> None:
+        self.batches: dict[str, list[Batch]] = {}
+        self.futures: dict[Future, str] = {}
+        self.bytes = 0
 
-    def add(self, batch, submit):
+    def add(self, batch: Batch, submit: Callable[[Batch], Future]) -> None:
         if batch.name not in self.batches:
             self.futures[submit(batch)] = batch.name
             self.bytes += len(getattr(batch, "packed_lines", b""))
         self.batches.setdefault(batch.name, []).append(batch)
 
-    def take(self, future):
+    def take(self, future: Future) -> list[Batch]:
         return self.batches.pop(self.futures.pop(future))
 
     @property
-    def is_full(self):
+    def is_full(self) -> bool:
         return len(self.batches) >= WAVE_BATCHES or self.bytes >= WAVE_BYTES
 
 
 class Campaign:
     """Counts each batch once, by its number, from the one result of its name."""
 
-    def __init__(self, parts, folder, most_logs):
+    def __init__(self, parts: Sequence[Part], folder: Folder, most_logs: int) -> None:
         self.parts, self.folder, self.most_logs = parts, folder, most_logs
         self.table = Table(dict.fromkeys(part.module.path for part in parts))
-        self.kept, self.failures, self.judged = set(), [], set()
+        self.kept: set[str] = set()
+        self.judged: set[str] = set()
+        self.failures: list[Batch] = []
         self.batches = self.finished = self.from_before = 0
         self.is_cut = False
         self.tests = Histograms()
 
-    def numbered_batches(self):
+    def numbered_batches(self) -> Iterator[Batch]:
         for part in self.parts:
             first = self.batches + 1
             for batch in batches_of(part, self.most_logs, first):
@@ -53,13 +69,13 @@ class Campaign:
                 print(f"campaign: no logs: {' '.join(part.places)}", file=sys.stderr)
         self.is_cut = True
 
-    def count(self, batch, result):
-        self.tests.add(result.get("histograms", ()))
+    def count(self, batch: Batch, result: Finished) -> None:
+        self.tests.add(result.get("histograms", []))
         self.table.add(batch.module.path, result["counts"])
         self.kept.update(result["kept"])
         self.finished += 1
 
-    def take_results(self, wave, cluster, is_waited_for):
+    def take_results(self, wave: Wave, cluster: Cluster, is_waited_for: bool) -> None:
         for future in cluster.completed(list(wave.futures), is_waited_for):
             result, batches = cluster.result_of(future), wave.take(future)
             if "failure" in result:
@@ -70,17 +86,17 @@ class Campaign:
             for batch in batches:
                 self.count(batch, written)
 
-    def fail(self, batches, reason):
+    def fail(self, batches: list[Batch], reason: str) -> None:
         self.failures += batches
         if len(self.failures) <= MOST_FAILURES_SHOWN:
             batch = batches[0]
             print(f"campaign: batch {batch.number} ({batch.origin(0)}) failed: {reason}", file=sys.stderr)
 
-    def finish_wave(self, wave, cluster):
+    def finish_wave(self, wave: Wave, cluster: Cluster) -> None:
         with cluster.progress(list(wave.futures)):
             self.take_results(wave, cluster, is_waited_for=True)
 
-    def run(self, cluster):
+    def run(self, cluster: Cluster) -> None:
         wave = Wave()
         for batch in self.numbered_batches():
             written = self.folder.finished(batch)
@@ -97,10 +113,10 @@ class Campaign:
         self.finish_wave(wave, cluster)
 
     @property
-    def status(self):
+    def status(self) -> int:
         return FAILED if self.failures else self.table.status
 
-    def text(self):
+    def text(self) -> str:
         """The table, and below it how far the campaign is and what is kept."""
         lines = list(self.table.lines())
         of = f" of {self.batches:,}" if self.is_cut else ", and there are more"
@@ -114,7 +130,7 @@ class Campaign:
             lines.append(f"kept: {logs} in {self.folder.place('kept')}")
         return "\n".join(lines) + "\n"
 
-    def report(self):
+    def report(self) -> None:
         """Prints the table and writes it beside the results."""
         text = self.text()
         try:

@@ -1,4 +1,5 @@
 """The cluster: Dask's own scheduler and workers, here or elsewhere."""
+import argparse
 import asyncio
 import contextlib
 import logging
@@ -6,18 +7,21 @@ import os
 import signal
 import sys
 import warnings
+from collections.abc import Callable, Iterable, Iterator
 from concurrent.futures import CancelledError
 
 from . import worker
-from .batches import LitmusBatch, LogBatch
+from .batches import Batch, LitmusBatch, LogBatch, RoundBatch
 from .faults import Fault
+from .program import Materials
+from .worker import Failure, Result
 
 # Read by Dask when it is imported, here and in the processes of a local cluster.
 os.environ.setdefault("DASK_LOGGING__DISTRIBUTED", "critical")
 
 try:
     import cloudpickle
-    from distributed import Client, LocalCluster, as_completed
+    from distributed import Client, Future, LocalCluster, as_completed
     from distributed.diagnostics.progressbar import TextProgressBar
 except ImportError as error:
     raise Fault(f"Dask is missing ({error}): install Debian's package python3-distributed") from error
@@ -29,11 +33,11 @@ SECONDS_TO_HEAR = 1
 class SchedulerLost(Fault):
     """The scheduler was closed, or cannot be reached any more."""
 
-    def __init__(self):
+    def __init__(self) -> None:
         super().__init__("the scheduler was closed, or cannot be reached any more")
 
 
-def quiet():
+def quiet() -> None:
     """Leaves out what Dask says of the ends of connections: what a campaign loses is reported by itself."""
     for name in list(logging.root.manager.loggerDict):
         if name.split(".")[0] in ("distributed", "tornado", "asyncio"):
@@ -44,7 +48,7 @@ def quiet():
 
 
 @contextlib.contextmanager
-def ignored_interrupts():
+def ignored_interrupts() -> Iterator[None]:
     """Processes that are started here do not see the Ctrl-C of the terminal."""
     before = signal.signal(signal.SIGINT, signal.SIG_IGN)
     try:
@@ -56,20 +60,24 @@ def ignored_interrupts():
 class Cluster:
     """Sends batches to the workers, and yields their results."""
 
-    def __init__(self, client, materials, most_kept):
+    def __init__(self, client: Client, materials: Materials, most_kept: int) -> None:
         self.client, self.most_kept, self.name = client, most_kept, materials.name[:16]
         self.workers = set(client.scheduler_info()["workers"])
         key = f"materials-{materials.name}"
         self.materials = client.submit(worker.materials_of, materials.packed, key=key)
 
-    def submit(self, batch):
+    def submit(self, batch: Batch) -> Future:
         """A batch has the same key in each campaign that would get the same result."""
+        task: Callable[..., Result | Failure]
+        work: tuple[object, ...]
         if isinstance(batch, LogBatch):
             task, work = worker.logs_result, (batch.packed_lines,)
         elif isinstance(batch, LitmusBatch):
             task, work = worker.tests_result, (batch.words(), batch.logs)
-        else:
+        elif isinstance(batch, RoundBatch):
             task, work = worker.rounds_result, (batch.words(), batch.logs)
+        else:
+            raise TypeError(f"{type(batch).__name__} is no batch that a worker does")
         key = f"{task.__name__}-{batch.name}-{self.name}-{self.most_kept}"
         try:
             return self.client.submit(task, self.materials, batch.module.name, *work, self.most_kept, key=key)
@@ -78,28 +86,32 @@ class Cluster:
                 raise
             raise SchedulerLost from error
 
-    def completed(self, futures, is_waited_for):
+    def completed(self, futures: list[Future], is_waited_for: bool) -> Iterable[Future]:
         """The futures that have ended; if they are waited for, all of them, as they end."""
-        return as_completed(futures) if is_waited_for else [future for future in futures if future.done()]
+        if not is_waited_for:
+            return [future for future in futures if future.done()]
+        ended: Iterable[Future] = as_completed(futures)
+        return ended
 
-    def result_of(self, future):
+    def result_of(self, future: Future) -> Result | Failure:
         try:
             if future.status == "finished":
-                return future.result()
+                result: Result | Failure = future.result()
+                return result
             if future.status == "error":
                 return {"failure": f"Dask gave it up: {future.exception()!r}"}
         except (CancelledError, OSError) as error:
             raise SchedulerLost from error
         raise SchedulerLost
 
-    def report_lost(self):
+    def report_lost(self) -> None:
         """How many of the first workers are not there any more."""
         lost = self.workers - set(self.client.scheduler_info()["workers"])
         if lost:
             print(f"campaign: workers that were lost: {len(lost)}; others had their batches", file=sys.stderr)
 
     @contextlib.contextmanager
-    def progress(self, futures):
+    def progress(self, futures: list[Future]) -> Iterator[None]:
         """Dask's bar, on a terminal."""
         if not futures or not sys.stderr.isatty():
             yield
@@ -118,7 +130,7 @@ class Cluster:
 
 
 @contextlib.contextmanager
-def connected(options):
+def connected(options: argparse.Namespace) -> Iterator[Client]:
     """A client of the scheduler that is named, or of a local cluster."""
     cloudpickle.register_pickle_by_value(worker)
     quiet()
@@ -133,7 +145,7 @@ def connected(options):
         yield client
 
 
-def client_of(options, stack):
+def client_of(options: argparse.Namespace, stack: contextlib.ExitStack) -> Client:
     if options.scheduler:
         return Client(options.scheduler)
     cluster = LocalCluster(
@@ -146,7 +158,7 @@ def client_of(options, stack):
     return Client(stack.enter_context(cluster))
 
 
-def announce(client):
+def announce(client: Client) -> None:
     count = len(client.scheduler_info()["workers"])
     waits = "" if count else "; the batches wait for one"
     print(f"campaign: workers: {count}; dashboard: {client.dashboard_link}{waits}", file=sys.stderr)

@@ -17,12 +17,13 @@ import json
 import os
 import signal
 import sys
+from collections.abc import Sequence
 
 from .campaign import Campaign
 from .faults import FAILED, STOPPED, Fault
-from .folder import Folder
-from .plan import Recording, add_parts, parts_of, positive
-from .program import find_program, materials, require_starts
+from .folder import Folder, Manifest
+from .plan import Part, Recording, add_parts, parts_of, positive
+from .program import Materials, find_program, materials, require_starts
 
 STATUSES = """
 exit status: 0 all logs are allowed; 1 one is broken; 2 one is refused, nothing was judged, or the words are wrong;
@@ -30,7 +31,7 @@ exit status: 0 all logs are allowed; 1 one is broken; 2 one is refused, nothing 
 """
 
 
-def parsers():
+def parsers() -> tuple[argparse.ArgumentParser, argparse.ArgumentParser]:
     """The parser of the command line, and one of a single part, for the lines of a plan."""
     layout = argparse.RawDescriptionHelpFormatter
     whole = argparse.ArgumentParser("campaign/run", description=__doc__, epilog=STATUSES, formatter_class=layout)
@@ -54,7 +55,7 @@ def parsers():
     return whole, single
 
 
-def manifest_of(options, parts, found):
+def manifest_of(options: argparse.Namespace, parts: Sequence[Part], found: Materials) -> Manifest:
     """What has to be the same for results to belong together, as JSON has it."""
     value = {
         "format": 1,
@@ -63,10 +64,11 @@ def manifest_of(options, parts, found):
         "keep": options.keep,
         "parts": [part.description for part in parts],
     }
-    return json.loads(json.dumps(value))
+    manifest: Manifest = json.loads(json.dumps(value))
+    return manifest
 
 
-def run_campaign(options, parts):
+def run_campaign(options: argparse.Namespace, parts: Sequence[Part]) -> int:
     program = find_program(options.wmlab)
     found = materials(program, parts)
     for part in parts:
@@ -94,7 +96,7 @@ def run_campaign(options, parts):
             campaign.report()
 
 
-def main(words):
+def main(words: Sequence[str]) -> int:
     """Runs a campaign as the words ask, and returns the exit status."""
     whole, single = parsers()
     options = whole.parse_args(words)

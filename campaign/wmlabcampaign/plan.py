@@ -9,6 +9,7 @@ import shlex
 import subprocess
 from dataclasses import asdict, dataclass
 from functools import cached_property
+from typing import Any, Protocol
 
 from .faults import Fault, WrongWords
 
@@ -18,7 +19,7 @@ ENGINES = ("node", "chromium", "firefox", "webkit")
 NUMBER = re.compile(r"0*[1-9][0-9]{0,8}")
 
 
-def read_file(path):
+def read_file(path: str) -> bytes:
     try:
         with open(path, "rb") as file:
             return file.read()
@@ -33,15 +34,15 @@ class Module:
     path: str
 
     @cached_property
-    def data(self):
+    def data(self) -> bytes:
         return read_file(self.path)
 
     @cached_property
-    def digest(self):
+    def digest(self) -> str:
         return hashlib.sha256(self.data).hexdigest()
 
     @property
-    def name(self):
+    def name(self) -> str:
         """Its file among the materials of a worker."""
         return f"modules/{self.digest}.wasm"
 
@@ -51,10 +52,10 @@ class Logs:
     """Logs of a module, one a line, in files or folders."""
 
     module: Module
-    places: tuple
+    places: tuple[str, ...]
 
     @property
-    def description(self):
+    def description(self) -> dict[str, Any]:
         return {"logs": list(self.places), "module": self.module.path, "sha256": self.module.digest}
 
 
@@ -63,13 +64,17 @@ class Recording:
     """Rounds of a module to record in node."""
 
     module: Module
-    starts: tuple
-    options: tuple
+    starts: tuple[str, ...]
+    options: tuple[str, ...]
     rounds: int
     seed: int
 
     @property
-    def description(self):
+    def places(self) -> tuple[str, ...]:
+        return (self.module.path, *self.starts)
+
+    @property
+    def description(self) -> dict[str, Any]:
         return {**asdict(self), "module": self.module.path, "sha256": self.module.digest}
 
 
@@ -80,15 +85,15 @@ class Tests:
     engine: str
 
     @property
-    def path(self):
+    def path(self) -> str:
         return f"litmus tests in {self.engine}"
 
     @property
-    def digest(self):
+    def digest(self) -> str:
         return hashlib.sha256(self.path.encode()).hexdigest()
 
     @property
-    def name(self):
+    def name(self) -> str:
         return self.path
 
 
@@ -97,30 +102,40 @@ class Litmus:
     """Litmus tests to run many times in an engine, by litmus/run."""
 
     module: Tests
-    tests: tuple
-    options: tuple
+    tests: tuple[str, ...]
+    options: tuple[str, ...]
     iterations: int
 
     @property
-    def places(self):
+    def places(self) -> tuple[str, ...]:
         return self.tests
 
     @property
-    def description(self):
+    def description(self) -> dict[str, Any]:
         return {"litmus": list(self.tests), "options": list(self.options), "iterations": self.iterations}
+
+
+Part = Logs | Recording | Litmus
 
 
 # ---- the words of a part
 
 
-def positive(text):
+def positive(text: str) -> int:
     """The number that an option has."""
     if not NUMBER.fullmatch(text):
         raise argparse.ArgumentTypeError(f"{text!r} was given; expected an integer from 1 to 999999999")
     return int(text)
 
 
-def add_parts(commands):
+class Commands(Protocol):
+    """The subparsers of a parser, whose class argparse does not name."""
+
+    def add_parser(self, name: str, *, help: str, description: str) -> argparse.ArgumentParser:
+        """The parser of the words of a command."""
+
+
+def add_parts(commands: Commands) -> None:
     """The words of a part, as commands of a parser."""
     add_litmus(commands)
     logs = commands.add_parser("logs", help="judge logs that are there", description="Judges logs, one a line.")
@@ -141,7 +156,7 @@ def add_parts(commands):
     record.add_argument("--wrong", metavar="HOW", help="be an engine that is wrong on purpose, as record.mjs has it")
 
 
-def add_litmus(commands):
+def add_litmus(commands: Commands) -> None:
     """The words of litmus tests."""
     litmus = commands.add_parser("litmus", help="run litmus tests many times", description="Runs tests of litmus/run.")
     litmus.add_argument("tests", metavar="TEST", nargs="*", help="a name or a cycle; without one, each of the suite")
@@ -152,7 +167,7 @@ def add_litmus(commands):
     litmus.add_argument("--wrong", metavar="HOW", help="be an engine that is wrong on purpose, as litmus/run has it")
 
 
-def suite_names():
+def suite_names() -> list[str]:
     """The names of all tests, as litmus/generate lists them."""
     command = [os.path.join(os.path.dirname(__file__), "../../litmus/generate"), "--list"]
     if not os.path.exists(command[0]):
@@ -163,7 +178,7 @@ def suite_names():
     return [line.split("\t")[0] for line in ran.stdout.splitlines()]
 
 
-def litmus_of(options):
+def litmus_of(options: argparse.Namespace) -> Litmus:
     """The litmus tests that the words name."""
     known = suite_names()
     unknown = [name for name in options.tests if name not in known and " " not in name]
@@ -174,7 +189,7 @@ def litmus_of(options):
     return Litmus(Tests(options.engine), tuple(options.tests or known), tuple(words), options.iterations)
 
 
-def part_of(options):
+def part_of(options: argparse.Namespace) -> Part:
     """The part that the words of a command name."""
     if options.command == "litmus":
         return litmus_of(options)
@@ -190,7 +205,7 @@ def part_of(options):
     return Recording(module, tuple(options.starts), tuple(words), options.rounds, options.seed)
 
 
-def parts_of(options, parser):
+def parts_of(options: argparse.Namespace, parser: argparse.ArgumentParser) -> list[Part]:
     """The parts that a command line asks for. `parser` takes the words of a single part."""
     if options.command != "plan":
         return [part_of(options)]

@@ -6,21 +6,22 @@ import re
 import subprocess
 import tarfile
 import zlib
+from collections.abc import Sequence
 from dataclasses import dataclass
 from pathlib import Path
 
 from . import worker
 from .faults import REFUSED, Fault, WrongWords
-from .plan import Litmus, Recording, read_file
+from .plan import Litmus, Part, Recording, read_file
 
 TOP = Path(__file__).resolve().parents[2]
 # Beside an installed campaign, which is in share/wmlab/campaign.
 INSTALLED = TOP.parents[1] / "bin/wmlab"
 
 
-def find_program(given):
+def find_program(given: str | None) -> str:
     """The path of the program: the one given, else the one that the launcher names, else the installed one."""
-    path = given
+    path: str | Path | None = given
     if not given and (TOP / "wmlab").exists():
         named = subprocess.run([TOP / "wmlab", "--which"], stdout=subprocess.PIPE, text=True, check=False)
         if named.returncode:
@@ -33,7 +34,7 @@ def find_program(given):
     return path
 
 
-def require_stream(path):
+def require_stream(path: str) -> None:
     try:
         helped = subprocess.run([path, "help"], capture_output=True, stdin=subprocess.DEVNULL, check=False)
     except OSError as error:
@@ -42,7 +43,7 @@ def require_stream(path):
         raise Fault(f"{path} has no command stream: it is not wmlab, or an older one")
 
 
-def require_starts(program, part):
+def require_starts(program: str, part: Recording) -> None:
     """Refuses rounds of a module that the program refuses, or whose threads do not start. Words that only the recorder
     takes, such as a negative argument, are left to it."""
     words = [program, "drive", part.module.path, "d0", *part.starts]
@@ -60,24 +61,24 @@ class Materials:
     program_digest: str
 
     @property
-    def packed(self):
+    def packed(self) -> worker.Packed:
         return {"name": self.name, "tar": self.tar}
 
 
-def add_file(tar, name, data, mode=0o644):
+def add_file(tar: tarfile.TarFile, name: str, data: bytes, mode: int = 0o644) -> None:
     entry = tarfile.TarInfo(name)
     entry.size, entry.mode = len(data), mode
     tar.addfile(entry, io.BytesIO(data))
 
 
-def litmus_files():
+def litmus_files() -> list[Path]:
     """What litmus/run needs beside the engines."""
     folders = ("litmus/litmustools", "litmus/harness", "scripts/wmlabtools")
     found = [path for folder in folders for path in sorted((TOP / folder).iterdir()) if path.is_file()]
     return [TOP / "litmus/run", *found]
 
 
-def materials(program, parts):
+def materials(program: str, parts: Sequence[Part]) -> Materials:
     """The name changes with any of the files, and with what a worker does."""
     packed, digest, data = io.BytesIO(), hashlib.sha256(), read_file(program)
     with tarfile.open(fileobj=packed, mode="w") as tar:

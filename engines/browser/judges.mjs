@@ -41,7 +41,7 @@ export class Judges {
 
   async close() {
     const opened = await Promise.allSettled(this.judges.values());
-    opened.forEach(({ value }) => value?.judge.close());
+    for (const one of opened) if (one.status === 'fulfilled') one.value.judge.close();
     rmSync(this.folder, { recursive: true, force: true });
   }
 }

@@ -35,7 +35,7 @@ function firstOf(programs) {
 function findWebKit() {
   const [program] = miniBrowsers();
   if (program === undefined || spawnSync('Xvfb', ['-help']).error) return null;
-  const library = program.split('/').at(-2).replace('webkit2gtk', 'libwebkit2gtk');
+  const library = (program.split('/').at(-2) ?? '').replace('webkit2gtk', 'libwebkit2gtk');
   const version = printedBy(
     'dpkg-query',
     ['-W', '-f', '${source:Upstream-Version}', library.endsWith('4.0') ? `${library}-37` : `${library}-0`],

@@ -10,6 +10,11 @@ import { Table, kindOf } from '../shared/table.mjs';
 import { base64Of, bytesOf } from './base64.mjs';
 import { startThread } from './threads.mjs';
 
+/**
+ * A part of the page, which may be an input.
+ *
+ * @returns {any}
+ */
 const part = (id) => document.getElementById(id);
 const show = (text, isBad = false) => {
   part('status').textContent = text;
@@ -178,7 +183,8 @@ function listen() {
   document.ondrop = (event) => {
     event.preventDefault();
     drop.classList.remove('over');
-    if (event.dataTransfer.files[0]) takeFile(event.dataTransfer.files[0]);
+    const file = event.dataTransfer?.files[0];
+    if (file) takeFile(file);
   };
 }
 
@@ -191,7 +197,7 @@ async function begin() {
   if (about.module) takeModule(about.module.name, bytesOf(about.module.bytes));
   const asked = new URLSearchParams(location.hash.slice(1));
   for (const name of ['mode', 'rounds', 'events', 'seed']) if (asked.has(name)) part(name).value = asked.get(name);
-  if (asked.has('starts')) part('starts').value = asked.get('starts').split(',').join('\n');
+  if (asked.has('starts')) part('starts').value = (asked.get('starts') ?? '').split(',').join('\n');
   if (asked.has('start')) await start();
 }
 

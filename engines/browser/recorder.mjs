@@ -15,8 +15,15 @@ const SECONDS_OF_A_ROUND = 120;
 class Desk {
   constructor() {
     this.token = randomUUID();
+    /**
+     * Hands the next task to the page that waits for it.
+     *
+     * @type {(task: any) => void}
+     */
+    this.handOut = (task) => { throw new Error(`no page waits for the task ${task.kind}`); };
+    /** Takes what the page posts. */
+    this.receive = (answer) => {};
     this.posted = this.promised();
-    this.handOut = null;
   }
 
   promised() {
@@ -41,7 +48,10 @@ class Desk {
 /** A browser with one page, which records for one recorder after the other. */
 class Browser {
   constructor({ kind, program, version }) {
-    Object.assign(this, { kind, program, version, desk: new Desk() });
+    this.kind = kind;
+    this.program = program;
+    this.version = version;
+    this.desk = new Desk();
   }
 
   async open() {
@@ -52,11 +62,12 @@ class Browser {
 
   /** What the page posts next. */
   async answer(seconds, complaint) {
-    let timer = null;
+    /** @type {number | undefined} */
+    let timer;
     const late = new Promise((resolve) => {
       timer = setTimeout(() => resolve({ problem: `${complaint} in ${seconds} seconds` }), 1000 * seconds);
     });
-    const gone = this.page.ended.then(() => ({ problem: 'ended' }));
+    const gone = (this.page?.ended ?? Promise.resolve()).then(() => ({ problem: 'ended' }));
     const answer = await Promise.race([this.desk.posted, late, gone]);
     clearTimeout(timer);
     if (answer.problem) throw new UserError(`${this.program}: the browser ${answer.problem}`);
@@ -86,7 +97,9 @@ class Browser {
 
 class BrowserRecorder {
   constructor(browser, initial) {
-    Object.assign(this, { browser, initial, version: browser.version });
+    this.browser = browser;
+    this.initial = initial;
+    this.version = browser.version;
   }
 
   /** Sets the most events of a round. */

@@ -1,4 +1,5 @@
-#!/usr/bin/env node
+#!/bin/sh
+':' //; command -v node >/dev/null || { echo "${0##*/}: node is not installed (Debian: nodejs)" >&2; exit 2; }; exec node "$0" "$@"
 /** Serves the page on which people record modules in their browser. `--help` prints the usage. */
 
 import { readFileSync, realpathSync } from 'node:fs';
@@ -84,7 +85,7 @@ async function main(args) {
     await judges?.close();
     process.exit(status);
   };
-  for (const [signal, status] of [['SIGINT', 130], ['SIGTERM', 143], ['SIGHUP', 129]]) process.once(signal, () => end(status));
+  for (const [signal, status] of Object.entries({ SIGINT: 130, SIGTERM: 143, SIGHUP: 129 })) process.once(signal, () => end(status));
   try {
     const { origin } = await listen(handlersOf(judges, module, print), port);
     return console.log(`the page is ${origin}/`);

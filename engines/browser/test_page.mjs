@@ -48,6 +48,6 @@ async function use(frame) {
 }
 
 const post = (value) => fetch('/used', { method: 'POST', body: JSON.stringify(value) });
-const frame = document.getElementById('page');
+const frame = /** @type {HTMLIFrameElement} */ (document.getElementById('page'));
 await until(() => frame.contentDocument?.readyState === 'complete' && frame.contentDocument.getElementById('form'));
 use(frame).then(post, (error) => post({ error: error.message }));

@@ -1,12 +1,16 @@
-#!/usr/bin/env node
+#!/bin/sh
+':' //; command -v node >/dev/null || { echo "${0##*/}: node is not installed (Debian: nodejs)" >&2; exit 2; }; exec node "$0" "$@"
 /** Runs `wmlab run` with conditions on its outcomes, and keeps a log of each outcome. `--help` prints the usage. */
 
+import { readFileSync } from 'node:fs';
 import { join } from 'node:path';
 import { HELP, SEVERAL, TEXT, countOf, endOnLostOutput, fileOf, wordsOf } from '../shared/command_line.mjs';
-import { UserError } from '../shared/errors.mjs';
+import { UserError, withFile } from '../shared/errors.mjs';
 import { keep, missingPictures, prepareFolder } from '../shared/kept.mjs';
-import { conditionsOf, judgeConditions } from '../shared/outcomes.mjs';
-import { Judge, Stopped, ask, examine, findProgram } from '../shared/wmlab.mjs';
+import { CONDITIONS, conditionsOf, judgeConditions, trapLine, unnamedTraps } from '../shared/outcomes.mjs';
+import { campaignName } from '../shared/report.mjs';
+import { parseStart } from '../shared/starts.mjs';
+import { Judge, STOPPED, Stopped, ask, examine, findProgram, isUsersStop, onStop } from '../shared/wmlab.mjs';
 
 const USAGE = `Runs a module on threads by wmlab run, with conditions on the outcomes, and keeps a log of each outcome.
 
@@ -16,13 +20,19 @@ USAGE
     MODULE, ROUNDS and START are those of wmlab run.
 
 OPTIONS
-    --forbid OUTCOME  fail if a run has this outcome: an end for each thread, such as "0 *"; * is any end; repeatable
-    --want OUTCOME    fail if no run has this outcome; repeatable
-    --kept FOLDER     where the logs are kept (recorded)
+    --~exists OUTCOME, --forbid OUTCOME
+                      fail if a run has this outcome: an end for each thread, such as "0 *"; repeatable
+    --exists OUTCOME, --want OUTCOME
+                      fail if no run has this outcome; repeatable
+    --forall OUTCOME  fail if a run has another outcome; repeatable
+    --kept FOLDER     where the logs are kept (recorded/NAME, with another NAME for another module, other starts or conditions)
     --tries N         the most scripts that are tried for the logs (400)
     --seed N          what the scripts are chosen by (1)
     --wmlab PROGRAM   the program (the one that ./wmlab --which names)
     --help            print this text
+
+An end is a value (5, 0xbad), - for none, cut, trap:NAME or trap:*, one of a set ({0,1}), not such a one (!0, !{0,cut}), or any
+end (*). A trap that no condition names is counted in a line.
 
 wmlab run prints no logs. So each outcome's log is made by wmlab drive, with scripts that a seed gives, until one has the outcome.
 
@@ -31,11 +41,12 @@ EXIT STATUS
     1    a condition failed
     2    a word or the module is refused, in one line on standard error
     3    a fault of this command
+    130  stopped by Ctrl-C or SIGTERM
 `;
 
 function optionsOf(args) {
   const options = {
-    forbid: SEVERAL, want: SEVERAL, kept: TEXT, tries: TEXT, seed: TEXT, wmlab: TEXT, ...HELP,
+    ...Object.fromEntries(CONDITIONS.map((option) => [option, SEVERAL])), kept: TEXT, tries: TEXT, seed: TEXT, wmlab: TEXT, ...HELP,
   };
   const { values, positionals } = wordsOf({ args, allowPositionals: true, options });
   if (values.help) return null;
@@ -44,8 +55,15 @@ function optionsOf(args) {
     throw new UserError('expected MODULE, ROUNDS and at least one START; --help prints the usage');
   }
   const [tries, seed] = [countOf('tries', values.tries ?? '400'), countOf('seed', values.seed ?? '1')];
-  const { kept = 'recorded', wmlab } = values;
+  const { kept, wmlab } = values;
   return { module: fileOf(word), rounds, starts, tries, seed, kept, wmlab, conditions: conditionsOf(values, starts.length) };
+}
+
+/** The folder of the logs, unless the command line names one: another one for another module, other starts or other conditions. */
+function folderOf({ module, starts, conditions }) {
+  const bytes = withFile(`read ${module}`, () => readFileSync(module));
+  const name = campaignName({ module, starts: starts.map(parseStart), mode: 'run', engine: 'wmlab', conditions }, bytes);
+  return join('recorded', name);
 }
 
 /** Numbers below `n` that look random, the same ones for the same seed. */
@@ -104,32 +122,33 @@ async function main(args) {
     process.stdout.write(USAGE);
     return 0;
   }
-  const { module, rounds, starts, kept, conditions } = options;
+  const { module, rounds, starts, conditions } = options;
   const program = findProgram(options.wmlab);
   await examine(program, module);
   const { text, status } = await ask(program, ['run', module, rounds, ...starts], '');
   if (status !== 0) throw new UserError(`wmlab run: ${text.split('\n')[0]}`);
   const rows = rowsOf(text);
   if (!rows.length) throw new UserError(`--wmlab ${program}: this is not wmlab; its table of outcomes is empty`);
+  const kept = options.kept ?? folderOf(options);
   prepareFolder(kept);
   const judge = new Judge(program, module);
   const outcomes = rows.map(({ outcome }) => outcome);
   const { paths, warning } = await keepAll(judge, kept, outcomes, await logsOf(program, options, outcomes));
-  const judged = judgeConditions(
-    conditions,
-    rows.map(({ count, outcome }) => ({ outcome, place: `${count} of ${rounds} rounds` })),
-  );
+  const counted = rows.map(({ count, outcome }) => ({ outcome, count, place: `${count} of ${rounds} rounds` }));
+  const judged = judgeConditions(conditions, counted);
+  const traps = unnamedTraps(conditions, counted).map(trapLine);
   const table = rows.map(({ count, outcome }) => `${String(count).padStart(8)}  ${outcome}  ${paths.get(outcome)}`);
-  console.log([...table, text.split('\n').at(-1), ...judged.map(({ line }) => line)].join('\n'));
+  console.log([...table, text.split('\n').at(-1), ...judged.map(({ line }) => line), ...traps].join('\n'));
   if (warning) console.error(`run-until: ${warning}`);
   return judged.some(({ fails }) => fails) ? 1 : 0;
 }
 
 endOnLostOutput('run-until');
+onStop(() => process.exit(STOPPED));
 try {
   process.exitCode = await main(process.argv.slice(2));
 } catch (error) {
   const isExpected = error instanceof UserError || error instanceof Stopped;
   console.error(isExpected ? `run-until: ${error.message}` : error);
-  process.exit(isExpected ? 2 : 3);
+  process.exit(isUsersStop(error) ? STOPPED : isExpected ? 2 : 3);
 }

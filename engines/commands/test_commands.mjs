@@ -1,6 +1,6 @@
 /** Tests of the commands `reorder` and `run-until`, and of the page of a campaign. */
 
-import { existsSync, mkdirSync, mkdtempSync, readFileSync, readdirSync, rmSync, symlinkSync, writeFileSync } from 'node:fs';
+import { cpSync, existsSync, mkdirSync, mkdtempSync, readFileSync, readdirSync, rmSync, symlinkSync, writeFileSync } from 'node:fs';
 import { tmpdir } from 'node:os';
 import { join } from 'node:path';
 import { fileURLToPath } from 'node:url';
@@ -15,7 +15,11 @@ const runIn = (folder, command, args, input = '') => run(place(command), args, {
 const MISORDERED = '["wasm-litmus-log",2,[["a",[],["cut"],0,[["w","un",0,4,1],["r","un",4,4,1,[[1,0],[1,0],[1,0],[1,0]]]]],'
   + '["b",[],["cut"],0,[["w","un",4,4,1],["r","un",0,4,1,[[0,0],[0,0],[0,0],[0,0]]]]]],[[0,1],[0,0],[1,0],[1,1]]]';
 
-/** Load buffering: no store buffers give it. */
+/** Load buffering in which both threads load 1: the rules permit it, and no store buffers give it. */
+const BUFFERED_LOADS = '["wasm-litmus-log",2,[["a",[],["cut"],0,[["r","un",0,4,1,[]],["w","un",4,4,1]]],'
+  + '["b",[],["cut"],0,[["r","un",4,4,1,[]],["w","un",0,4,1]]]],[]]';
+
+/** Store buffering in which both threads load 1, without a witness. */
 const EVENTS_ALONE = '["wasm-litmus-log",2,[["a",[],["cut"],0,[["w","un",0,4,1],["r","un",4,4,1,[]]]],'
   + '["b",[],["cut"],0,[["w","un",4,4,1],["r","un",0,4,1,[]]]]],[]]';
 
@@ -34,30 +38,41 @@ function testReorder({ note, wmlab, folder }) {
     'reorder finds a witness of events alone',
     alone,
   );
+  const weaker = reorder('load-buffering', BUFFERED_LOADS);
+  const isPermitted = weaker.status === 0 && check('load-buffering', weaker.out).startsWith('allowed');
+  note(isPermitted, 'reorder finds a witness that no machine with store buffers gives', weaker);
   const same = readFileSync(place('examples/store-buffering.json'), 'utf8');
   const kept = reorder('store-buffering', same);
   note(check('store-buffering', kept.out) === check('store-buffering', same), 'an allowed log is printed as it is', kept);
   const none = reorder('load-buffering', readFileSync(place('examples/load-buffering-atomic.json'), 'utf8'));
   const plain = reorder('store-buffering-atomic', readFileSync(place('examples/store-buffering-atomic.json'), 'utf8'));
   note(
-    plain.status === 1 && plain.out === 'no witness exists on a machine with store buffers\n',
-    'reorder reports that no witness exists',
+    plain.status === 1 && plain.out === 'no witness threads=2 events=4\n',
+    'reorder reports that there is no witness',
     plain,
   );
   note(
-    none.status === 1 && /^broken replay |^no witness exists/.test(none.out),
+    none.status === 1 && none.out.startsWith('broken replay '),
     'reorder reports a log that its module does not make',
     none,
   );
   const limited = reorder('two-plus-two-writes', EVENTS_OF_WRITES, '--seconds', '1', '--steps', '1');
-  const isShort = limited.out === '' && /^reorder: [^\n]*gave up after 1 steps\n$/.test(limited.err);
-  note(limited.status === 2 && isShort, 'reorder reports that it gave up, with its steps', limited);
+  const isFound = limited.status === 0 && check('two-plus-two-writes', limited.out).startsWith('allowed');
+  note(isFound, 'the rules find a witness where the search on a machine gave up', limited);
+  const short = reorder('spin-lock', EVENTS_OF_A_LOCK, '--steps', '1', '--nodes', '2');
+  const isShort = short.out === '' && short.err === 'reorder: no witness found: gave up after 2 nodes\n';
+  note(short.status === 2 && isShort, 'reorder reports that it gave up, with its nodes', short);
 }
+
+/** Two threads that held a lock and read 0 both: it takes some nodes to see that there is no witness. */
+const LOCKED = '["work",[1],["cut"],0,[["x","sc",0,4,0,1,[]],["r","un",64,4,0,[]],["w","un",64,4,1],["w","sc",0,4,0],["r","un",64,4,1,[]]]]';
+const EVENTS_OF_A_LOCK = `["wasm-litmus-log",2,[${LOCKED},${LOCKED}],[]]`;
 
 /** Stores of two threads to two places, in an order that takes more than a step to find. */
 const EVENTS_OF_WRITES = '["wasm-litmus-log",2,[["a",[],["cut"],0,[["w","un",0,4,1],["w","un",4,4,2]]],'
-  + '["b",[],["cut"],0,[["w","un",4,4,1],["w","un",0,4,2]]],["c",[],["cut"],0,[["r","un",0,4,2,[]],["r","un",0,4,1,[]]]]],[]]';
+  + '["b",[],["cut"],0,[["w","un",4,4,1],["w","un",0,4,2]]],["c",[],["cut"],0,[["r","un",0,4,2,[]],["r","un",4,4,1,[]]]]],[]]';
 
+/** @type {[string, string[], RegExp][]} */
 const MISTAKES = [
   ['engines/reorder', [], /: expected MODULE and DOC/],
   ['engines/reorder', [module('store-buffering'), 'nothing.json'], /cannot read nothing\.json: no such file/],
@@ -82,6 +97,17 @@ function testMistakes({ note, wmlab, folder }) {
   for (const command of ['engines/reorder', 'engines/run-until']) {
     const help = runIn(folder, command, ['--help']);
     note(help.status === 0 && help.out.includes('EXIT STATUS') && help.err === '', `${command} --help prints the usage`, help);
+  }
+}
+
+/** Each command says in a line that node is missing. */
+function testWithoutNode({ note, folder }) {
+  const tools = join(folder, 'no-tools');
+  mkdirSync(tools);
+  for (const command of ['lower', 'reorder', 'run-until', 'self', 'test.mjs', 'node/record.mjs', 'browser/serve.mjs', 'testing/census.mjs']) {
+    const ran = run(place(`engines/${command}`), ['--help'], { env: { PATH: tools } });
+    const line = `${command.split('/').at(-1)}: node is not installed (Debian: nodejs)\n`;
+    note(ran.status === 2 && ran.out === '' && ran.err === line, `engines/${command} without node`, ran);
   }
 }
 
@@ -128,7 +154,7 @@ function testReport({ note, leftOut, wmlab, folder }) {
   const record = (...args) => runIn(folder, 'engines/node/record.mjs', ['--wmlab', wmlab, '--report', 'report', ...args]);
   const first = record('--mode', 'buffered', '--rounds', '10', '--want', '9 9', module('store-buffering'), 'a', 'b');
   const second = record('--mode', 'locked', '--rounds', '5', module('store-buffering'), 'a', 'b');
-  const races = [place('engines/testing/races.wasm'), 'words:1:6', 'words:2:6'];
+  const races = [place('engines/testing/races.wasm'), 'numbers:0:6', 'numbers:64:6'];
   const wrong = record('--mode', 'buffered', '--rounds', '5', '--wrong', 'stale-load', ...races);
   const page = textOf(join(folder, 'report/index.html'));
   const has = (text) => page.includes(text);
@@ -151,7 +177,48 @@ function testReport({ note, leftOut, wmlab, folder }) {
   else leftOut('pictures of the page', 'dot is not installed');
 }
 
-/** What stands in for dot, and why it is said to give no picture. The one without a script is not there. */
+/** The campaigns of a page that have another module of the same name, other starts or other conditions stay, with what failed. */
+function testReportKeys({ note, wmlab, folder }) {
+  for (const name of ['x', 'y']) mkdirSync(join(folder, name));
+  cpSync(module('store-buffering'), join(folder, 'x/m ü.wasm'));
+  cpSync(module('store-buffering-atomic'), join(folder, 'y/m ü.wasm'));
+  const record = (...args) => runIn(folder, 'engines/node/record.mjs', ['--wmlab', wmlab, '--report', 'keys', '--mode', 'buffered', '--rounds', '12', ...args]);
+  const failing = () => record('--forbid', '0 0', 'x/m ü.wasm', 'a', 'b');
+  const first = failing();
+  const others = [
+    record('x/m ü.wasm', 'a', 'a'), record('--forbid', '0 0', 'y/m ü.wasm', 'a', 'b'), record('--forbid', '7 0xff', 'x/m ü.wasm', 'a', 'b'),
+    record('--wrong', 'plain-atomics', 'x/m ü.wasm', 'a', 'b'), record('x/m ü.wasm', 'a', 'b'), failing(),
+  ];
+  const page = textOf(join(folder, 'keys/index.html'));
+  const count = (text) => page.split(text).length - 1;
+  note(
+    first.status === 1 && page.includes('72 logs of 6 campaigns') && count('FAILED --forbid &quot;0 0&quot;: seen in') === 1,
+    'a campaign is replaced by the same one alone',
+    first,
+    ...others,
+  );
+  const isRed = page.includes('<code class="bad">0 0</code>') && page.includes('<span class="bad">a condition fails</span>');
+  note(isRed && count('class="bad">0 0<') >= 2, 'an outcome that fails a condition is red, and its log too');
+  const numbers = runIn(folder, 'engines/node/record.mjs', ['--wmlab', wmlab, '--report', 'hex', '--rounds', '1', module('own-store'), 'f:0', 'f:-16']);
+  const trapped = textOf(join(folder, 'hex/index.html'));
+  note(trapped.includes('Traps that no condition names</h3><ul><li>thread 1 ends with trap:out-of-bounds in 1 round'), 'the page has traps', numbers);
+}
+
+/** Values of more than one digit are shown in hex too. */
+function testReportHex({ note, wmlab, folder }) {
+  writeFileSync(join(folder, 'big.wasm'), Buffer.from(
+    '0061736d010000000105016000017f030201000504010301010707010362696700000a0601040041700b', 'hex'));
+  const ran = runIn(folder, 'engines/node/record.mjs', ['--wmlab', wmlab, '--report', 'big', '--rounds', '1', '--forbid', '0xfffffff0', 'big.wasm', 'big']);
+  const page = textOf(join(folder, 'big/index.html'));
+  const isShown = page.includes('<code class="bad">4294967280</code> <code class="hex">0xfffffff0</code>');
+  note(ran.status === 1 && isShown, 'a large value is shown in hex too', ran);
+}
+
+/**
+ * What stands in for dot, and why it is said to give no picture. The one without a script is not there.
+ *
+ * @type {[string, string | null, string][]}
+ */
 const DOTS = [
   ['is-missing', null, 'Graphviz is not installed, there is no program dot'],
   ['fails', "cat >/dev/null; echo 'Error: no rank' >&2; exit 1", 'dot -Tsvg ended with status 1: Error: no rank'],
@@ -181,7 +248,11 @@ function hasGraphs(folder) {
   return logs.length > 0 && isWhole && names.length === 3 * logs.length;
 }
 
-/** Each command with its status and its last line. The first is tried with each dot, the others with the first two. */
+/**
+ * Each command with its status and its last line. The first is tried with each dot, the others with the first two.
+ *
+ * @type {[string, string[], number, RegExp][]}
+ */
 const DRAWING = [
   ['engines/node/record.mjs', ['--mode', 'buffered', '--rounds', '20', '--want', '0 0', module('store-buffering'), 'a', 'b'],
     0, /^a smaller run is kept in \S+\/round-0-shrunk\.json: /],
@@ -203,7 +274,7 @@ function testPictures({ note, wmlab, folder }) {
       const isWarned = /^[a-z.-]+: warning: [^\n]+\n$/.test(ran.err) && ran.err.includes(` not made: ${fault}; `);
       const [, first] = / (\S+\.dot)\n$/.exec(ran.err) ?? [];
       const isKept = hasGraphs(join(folder, kept)) && textOf(join(folder, first ?? 'none')).startsWith('digraph');
-      const isSame = ran.status === status && last.test(ran.out.trimEnd().split('\n').at(-1));
+      const isSame = ran.status === status && last.test(ran.out.trimEnd().split('\n').at(-1) ?? '');
       note(isWarned && isKept && isSame, `${command} keeps graphs with a dot that ${name.replaceAll('-', ' ')}, status ${status}`, ran);
     }
   }
@@ -215,9 +286,12 @@ export function testCommands({ note, leftOut, wmlab }) {
     const context = { note, leftOut, wmlab, folder };
     testReorder(context);
     testMistakes(context);
+    testWithoutNode(context);
     testRunUntil(context);
     testPictures(context);
     testReport(context);
+    testReportKeys(context);
+    testReportHex(context);
   } finally {
     rmSync(folder, { recursive: true });
   }

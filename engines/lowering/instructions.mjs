@@ -41,7 +41,7 @@ const FLOAT_OPERATORS = [
   'abs', 'neg', 'ceil', 'floor', 'trunc', 'nearest', 'sqrt', 'add', 'sub', 'mul', 'div', 'min', 'max', 'copysign',
 ];
 const TRUNCATIONS = ['f32_s', 'f32_u', 'f64_s', 'f64_u'];
-for (const [first, names] of [
+for (const [first, names] of /** @type {[number, string[]][]} */ ([
   [0x2a, ['f32.load', 'f64.load']], [0x38, ['f32.store', 'f64.store']], [0x43, ['f32.const', 'f64.const']],
   [0x5b, FLOAT_COMPARISONS.map((name) => `f32.${name}`)], [0x61, FLOAT_COMPARISONS.map((name) => `f64.${name}`)],
   [0x8b, FLOAT_OPERATORS.map((name) => `f32.${name}`)], [0x99, FLOAT_OPERATORS.map((name) => `f64.${name}`)],
@@ -51,7 +51,7 @@ for (const [first, names] of [
   [0xbc, ['i32.reinterpret_f32', 'i64.reinterpret_f64', 'f32.reinterpret_i32', 'f64.reinterpret_i64']],
   [0xfc00, TRUNCATIONS.map((name) => `i32.trunc_sat_${name}`)],
   [0xfc04, TRUNCATIONS.map((name) => `i64.trunc_sat_${name}`)],
-]) names.forEach((name, place) => NAMES.set(first + place, name));
+])) names.forEach((name, place) => NAMES.set(first + place, name));
 
 /** The name of an instruction, or its opcode in hexadecimal digits. */
 export const nameOf = (code) => NAMES.get(code) ?? `opcode ${code.toString(16).padStart(2, '0')}`;
@@ -63,7 +63,7 @@ export const isFloat = (code) => between(code, 0x2a, 0x2b) || between(code, 0x38
   || between(code, 0xfc00, 0xfc07);
 
 /** The features that have no lowering, each with its codes. The names are those of `wmlab`'s refusals. */
-const FEATURES = [
+const FEATURES = /** @type {[string, (code: number) => boolean][]} */ ([
   ['Floats', isFloat],
   ['NarrowCmpxchg', (code) => between(code, 0xfe4a, 0xfe4e)],
   ['PassiveData', (code) => between(code, CODE.memoryInit, CODE.dataDrop)],
@@ -71,7 +71,7 @@ const FEATURES = [
   ['References', (code) => between(code, 0xd0, 0xd6)],
   ['Simd', (code) => code >= 0xfd00 && code < 0xfe00],
   ['Reserved', (code) => between(code, 0x06, 0x0a) || between(code, 0x12, 0x19) || code === 0x1f],
-];
+]);
 
 /** The feature for which an instruction is refused, or undefined if it is taken or lowered. */
 export const featureOf = (code) => FEATURES.find(([, has]) => has(code))?.[0];

@@ -40,7 +40,10 @@ class Types {
 /** The functions that the lowered module has in addition, each under a key. */
 class AddedFunctions {
   constructor(first, types) {
-    Object.assign(this, { first, types, list: [], numbers: new Map() });
+    this.first = first;
+    this.types = types;
+    this.list = [];
+    this.numbers = new Map();
   }
 
   add({ params, results }, bytes) {
@@ -58,7 +61,8 @@ const THREE_OPERANDS = { params: [TYPE.i32, TYPE.i32, TYPE.i32], results: [] };
 
 class Lowering {
   constructor(module, options) {
-    Object.assign(this, { module, options });
+    this.module = module;
+    this.options = options;
     this.changes = [];
     this.types = new Types();
     this.added = new AddedFunctions(module.bodies.length, this.types);
@@ -72,7 +76,10 @@ class Lowering {
     this.pages = module.memories[0]?.minimum ?? 0;
     this.further = new FurtherPages();
     this.blocks = [];
+    /** @type {{ word: number, most: number } | null} */
     this.growth = null;
+    /** @type {number[]} */
+    this.stackUsers = [];
   }
 
   placeOf = (index) => {
@@ -140,8 +147,8 @@ class Lowering {
 
   grow() {
     if (!this.growth) return [failedGrowth(this.pages), `made to fail: the memory has ${this.pages} pages for good`];
-    const { most } = this.growth;
-    return [call(this.added.once('grow', GROW, () => growBody(this.growth))), `replaced by an atomic update (up to ${most} pages)`];
+    const { growth, growth: { most } } = this;
+    return [call(this.added.once('grow', GROW, () => growBody(growth))), `replaced by an atomic update (up to ${most} pages)`];
   }
 
   size() {
@@ -186,7 +193,9 @@ class Lowering {
     return this.types.number(params, results);
   }
 
-  warnOfUsers([first, ...others], text) {
+  /** @param {number[]} users */
+  warnOfUsers(users, text) {
+    const [first, ...others] = users;
     const more = others.length ? ` and ${others.length} more` : '';
     this.note(`warning: ${this.placeOf(first)}${more}`, text);
   }
@@ -210,7 +219,7 @@ class Lowering {
       return pointer;
     }
     if (this.stackUsers.length) {
-      this.warnOfUsers(this.stackUsers, 'the stack pointer moves; all threads start with one stack; --stacks gives each its own');
+      this.warnOfUsers(this.stackUsers, 'the stack is used; all threads start with one; --stacks gives each its own');
     }
     return null;
   }
@@ -250,7 +259,7 @@ class Lowering {
     const entries = entriesOf(this.exported, copies);
     const count = copies || entries.length;
     const pointer = this.ownPointer(anyPointer);
-    const stackPlace = pointer === null ? null : this.further.take(count * stackBytes);
+    const stackPlace = pointer === null ? 0 : this.further.take(count * stackBytes);
     const blockCount = this.blockCount(count);
     const blockBytes = Math.ceil((this.locals?.image?.length ?? 0) / BLOCK_ALIGNMENT) * BLOCK_ALIGNMENT;
     const blockPlace = this.further.take(blockCount * blockBytes, BLOCK_ALIGNMENT);
@@ -261,7 +270,7 @@ class Lowering {
     if (wordPlace !== null) this.growth = { word: base + wordPlace, most: pages };
     this.blocks = Array.from({ length: blockCount }, (_, block) => base + blockPlace + block * blockBytes);
     const topOf = ({ number }) => ({ global: pointer, address: base + stackPlace + stackBytes * (number + 1) });
-    const blockOf = ({ number }) => ({ global: this.locals.global, address: this.blocks[number] });
+    const blockOf = ({ number }) => ({ global: this.locals?.global, address: this.blocks[number] });
     return entries.map((entry) => this.notedEntry({
       ...entry, stack: pointer === null ? null : topOf(entry), block: tls === null ? null : blockOf(entry),
     }));
@@ -280,7 +289,7 @@ class Lowering {
   notedEntry(entry) {
     const place = `export ${entry.name}`;
     if (entry.stack) this.note(place, `its stack begins at ${entry.stack.address}, ${this.options.stackBytes} bytes down`);
-    if (entry.block) this.note(place, `its thread-local variables begin at ${entry.block.address}, ${this.locals.image.length} bytes`);
+    if (entry.block) this.note(place, `its thread-local variables begin at ${entry.block.address}, ${this.locals?.image.length} bytes`);
     return entry;
   }
 
@@ -319,7 +328,7 @@ class Lowering {
   /** The initial memory of what is behind the program's pages, as `[address, bytes]`. */
   furtherSegments() {
     const word = this.growth ? [[this.growth.word, [this.pages]]] : [];
-    return [...this.blocks.map((address) => [address, this.locals.image]), ...word];
+    return [...this.blocks.map((address) => [address, this.locals?.image]), ...word];
   }
 
   /** The active segments, as `[address, bytes]`. */

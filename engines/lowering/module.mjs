@@ -37,6 +37,7 @@ const readGlobal = (reader) => ({ ...readGlobalType(reader), initial: readExpres
 const readExport = (reader) => ({ name: reader.name(), kind: reader.byte(), index: reader.u32() });
 
 /** The function that an element names, or null. */
+/** @param {{ code: number, args: any }[]} instructions */
 const elementOf = ([{ code, args }]) => (code === CODE.refFunc ? args[0] : null);
 
 /** An element segment. Bit 0: passive or declarative; bit 1: has a table index, or declarative; bit 2: expressions. */

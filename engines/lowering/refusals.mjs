@@ -21,11 +21,11 @@ const REASONS = {
   Import: 'only a memory may be imported; link it in',
   SeveralMemories: 'a module has one memory',
   ConstExpression: 'its value is not known before the module runs',
-  Pages: `a module has at most ${LIMITS.pages} initial pages; link with -z stack-size=4096`,
+  Pages: `a module has at most ${LIMITS.pages} initial pages; link with -z stack-size=4096, or make its static data smaller`,
   Functions: `a module has at most ${LIMITS.functions} functions; link with --gc-sections`,
   Locals: `a function has at most ${LIMITS.locals} parameters and locals`,
   Nesting: `blocks are nested at most ${LIMITS.nesting} deep`,
-  Stripped: 'the compiler made its atomic accesses plain ones; compile with -matomics and without thread-local variables',
+  Stripped: 'the compiler made its atomic accesses plain ones; compile with -matomics, and with -mbulk-memory if it has thread-local variables',
 };
 
 /** How much a limit is passed by. */

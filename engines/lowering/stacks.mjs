@@ -22,8 +22,11 @@ function canBeStackPointer({ type, mutable, initial }, globals) {
   return value !== null && value > 0n && value % 16n === 0n;
 }
 
-/** The functions that set the stack pointer, of those that can be called. */
+/**
+ * The functions that use the stack pointer, of those that can be called. One that calls nothing may keep its locals below the
+ * pointer without setting it.
+ */
 export function functionsWithStack(module, called, pointer) {
-  const moves = ({ code, args }) => code === CODE.globalSet && args[0] === pointer;
-  return [...called].filter((index) => module.bodies[index].instructions.some(moves)).sort((a, b) => a - b);
+  const uses = ({ code, args }) => (code === CODE.globalGet || code === CODE.globalSet) && args[0] === pointer;
+  return [...called].filter((index) => module.bodies[index].instructions.some(uses)).sort((a, b) => a - b);
 }

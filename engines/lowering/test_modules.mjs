@@ -11,6 +11,8 @@ const bodyOf = ({ locals = [0], code }) => [...u32(locals.length + code.length +
 /**
  * A module of functions, each `{ code, type = 0, locals, exported }`. The other parts are lists of items as bytes; `custom` is
  * bytes of custom sections.
+ *
+ * @param {Record<string, any>} parts
  */
 export function moduleOf({ functions, types = [NOTHING], memory = ONE_PAGE, custom = [], ...parts }) {
   const exports = functions.flatMap(({ exported }, index) => (exported ? [[...name(exported), 0, ...u32(index)]] : []));

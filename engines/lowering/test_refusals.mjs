@@ -16,7 +16,11 @@ const GROW = [0x41, 1, 0x40, 0, DROP];
 
 const IMPORTED_GLOBAL = [[3, 101, 110, 118, 1, 103, 3, I32, 0]];
 
-/** Each with a module and the refusals that are expected, as `FEATURE PLACE`. */
+/**
+ * Each with a module and the refusals that are expected, as `FEATURE PLACE`.
+ *
+ * @type {[string, Uint8Array, string[]][]}
+ */
 const CASES = [
   ['a narrow compare-exchange', one(NARROW), ['NarrowCmpxchg function 0 (a) instruction 3']],
   ['arithmetic of floats', one(ROOT), ['Floats function 0 (a) instruction 1']],

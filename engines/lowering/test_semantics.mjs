@@ -41,7 +41,8 @@ const ON_THREADS = new Set(['threads.wasm']);
 function outcomeOf(module, exported, args, prepare) {
   const instance = new WebAssembly.Instance(module);
   prepare?.(instance);
-  const { exports } = instance;
+  /** @type {Record<string, any>} */
+  const exports = instance.exports;
   let end;
   try {
     end = String(exports[exported](...args));
@@ -70,7 +71,14 @@ function mostBytes({ changes }) {
   return grown ? Number(grown[1]) * 65_536 : 0;
 }
 
-/** Compares runs of one module; answers how many agree, their ends and the first difference. */
+/**
+ * Compares runs of one module; answers how many agree, their ends and the first difference.
+ *
+ * @param {Uint8Array} bytes
+ * @param {number} runs
+ * @param {() => number} random
+ * @param {{ options?: object, prepare?: (instance: WebAssembly.Instance) => void }} how
+ */
 function compare(bytes, runs, random, { options, prepare } = {}) {
   const lowered = lower(bytes, options);
   const [before, after] = [bytes, lowered.bytes].map((form) => new WebAssembly.Module(form));
@@ -125,7 +133,11 @@ const CHANGES = {
 };
 
 const NAMES = section(0, [...name('name'), 1, 4, 1, 0, 1, 122]);
-/** Small modules with their changes, beside the warning of plain accesses. */
+/**
+ * Small modules with their changes, beside the warning of plain accesses.
+ *
+ * @type {[string, Record<string, any>, string[]][]}
+ */
 const SMALL = [
   ['a memory without a maximum', { memory: [0, 2] }, ['memory: made shared (maximum pages: 2)']],
   ['a memory with a maximum', { memory: [1, 2, 5] }, ['memory: made shared (maximum pages: 5)']],
@@ -184,6 +196,6 @@ export async function testSemantics({ note, wmlab, runs }) {
 
 /** Two starts of the first exported function, which has two arguments. */
 function startsOf(bytes) {
-  const { name } = WebAssembly.Module.exports(new WebAssembly.Module(bytes)).find(({ kind }) => kind === 'function');
-  return [`${name}:7:3`, `${name}:9:2`];
+  const found = WebAssembly.Module.exports(new WebAssembly.Module(bytes)).find(({ kind }) => kind === 'function');
+  return [`${found?.name}:7:3`, `${found?.name}:9:2`];
 }

@@ -22,8 +22,10 @@ const INSTRUCTIONS = [
 
 const BITS_TYPE = new Map([[F32, I32], [F64, I64], [I32, I32], [I64, I64]]);
 /** What makes a float of its bits, and bits of a float. */
-const FROM_BITS = new Map([[F32, [0xbe]], [F64, [0xbf]], [I32, []], [I64, []]]);
-const TO_BITS = new Map([[F32, [0xbc]], [F64, [0xbd]], [I32, []], [I64, []]]);
+const FROM_BITS = new Map([[F32, [0xbe]], [F64, [0xbf]]]);
+const TO_BITS = new Map([[F32, [0xbc]], [F64, [0xbd]]]);
+const fromBits = (type) => FROM_BITS.get(type) ?? [];
+const toBits = (type) => TO_BITS.get(type) ?? [];
 const opcode = (code) => (code > 0xff ? [code >> 8, ...u32(code & 0xff)] : [code]);
 
 /** A module with a function for each instruction, of the bits of its operands, under its name. */
@@ -34,7 +36,7 @@ export function floatModule() {
     types: signatures,
     functions: INSTRUCTIONS.map(({ code, params, result }, place) => ({
       type: place, exported: nameOf(code),
-      code: [...params.flatMap((type, local) => [0x20, local, ...FROM_BITS.get(type)]), ...opcode(code), ...TO_BITS.get(result)],
+      code: [...params.flatMap((type, local) => [0x20, local, ...fromBits(type)]), ...opcode(code), ...toBits(result)],
     })),
   });
 }
@@ -44,7 +46,7 @@ const FORMATS = new Map([[F32, { exponents: 255, fraction: 23 }], [F64, { expone
 
 /** Bits of a float: of any bits, or of chosen exponents and fractions. `near` is another operand, or null. */
 function randomFloat(type, random, near) {
-  const { exponents, fraction } = FORMATS.get(type);
+  const { exponents, fraction } = /** @type {{ exponents: number, fraction: number }} */ (FORMATS.get(type));
   const width = type === F32 ? 32n : 64n;
   const any = BigInt.asUintN(Number(width), (BigInt(random()) << 32n) | BigInt(random()));
   const way = random() % 8;

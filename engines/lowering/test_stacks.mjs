@@ -13,6 +13,11 @@ const types = [[0x60, 1, I32, 1, I32], [0x60, 0, 1, I32]];
 const functions = [{ code: PUSH, exported: 'push' }, { code: SIZE, type: 1, exported: 'size' }];
 const STACKED = moduleOf({ types, functions, globals: [POINTER], exports: [[6, ...Buffer.from('memory'), 2, 0]] });
 
+/** Stores the argument below the stack pointer, which stays where it is, and answers the address: a function that calls nothing. */
+const LEAF = moduleOf({
+  types, functions: [{ code: [0x23, 0, 0x41, 16, 0x6b, 0x20, 0, 0x36, 2, 0, 0x23, 0, 0x41, 16, 0x6b], exported: 'leaf' }], globals: [POINTER],
+});
+
 /** The same with the pointer after globals that cannot be one: a constant, an i64, 0, and no multiple of 16. */
 const OTHERS = [[I32, 0, 0x41, 16, 0x0b], [0x7e, 1, 0x42, 16, 0x0b], [I32, 1, 0x41, 0, 0x0b], [I32, 1, 0x41, 8, 0x0b]];
 const PUSH_HIDDEN = [0x23, 4, 0x41, 16, 0x6b, 0x24, 4, 0x23, 4, 0x20, 0, 0x36, 2, 0, 0x23, 4];
@@ -24,11 +29,13 @@ const globalNames = (global, text) => {
   const names = vector([[global, ...name(text)]]);
   return section(0, [...name('name'), 7, names.length, ...names]);
 };
+/** @type {[string, object][]} */
 const NAMED = [
   ['by its name', { custom: globalNames(1, '__stack_pointer') }],
   ['by its export', { exports: [[...name('__stack_pointer'), 3, 1]] }],
 ];
 
+/** @returns {any} */
 const instance = ({ bytes }) => new WebAssembly.Instance(new WebAssembly.Module(bytes)).exports;
 
 function refusal(bytes, options) {
@@ -43,9 +50,11 @@ function refusal(bytes, options) {
 export function testStacks({ note }) {
   const shared = lower(STACKED);
   note(
-    shared.changes.some((line) => /^warning: function 0 \(push\): the stack pointer moves/.test(line)),
+    shared.changes.some((line) => /^warning: function 0 \(push\): the stack is used; all threads start with one;/.test(line)),
     'a stack that all threads share is warned of',
   );
+  note(lower(LEAF).changes.some((line) => /^warning: function 0 \(leaf\): the stack is used/.test(line)), 'and one below a pointer that stays');
+  note(instance(lower(LEAF, { stacks: 'auto' })).leaf(1) === PAGE + 4_096 - 16, 'with `auto` a function that only reads the pointer has a stack');
   const copies = instance(lower(STACKED, { stacks: 3, stackBytes: 1_024 }));
   const tops = [0, 1, 2].map((copy) => copies[`push.${copy}`](7));
   note(tops.join() === [1_024, 2_048, 3_072].map((top) => PAGE + top - 16).join(), `three copies have their own stacks: ${tops}`);

@@ -19,7 +19,11 @@ const add = (exported) => ({ code: ADD, exported });
 /** What the linker makes: the base is the argument, and a segment is copied there. */
 const INITIALIZER = { type: 1, code: [0x20, 0, 0x24, 0, 0x20, 0, 0x41, 0, 0x41, 4, 0xfc, 8, 0, 0], exported: '__wasm_init_tls' };
 
-/** How a module comes to have thread-local variables: each with its parts. The variable is 7 at first. */
+/**
+ * How a module comes to have thread-local variables: each with its parts. The variable is 7 at first.
+ *
+ * @type {[string, Record<string, any>][]}
+ */
 const PATHS = [
   ['with names', { globals: [UNSET], data: [IMAGE], custom: BASE_NAMED }],
   ['without names', { globals: [UNSET], data: [IMAGE] }],
@@ -32,6 +36,7 @@ const PATHS = [
 ];
 
 const modulePath = ({ more = [], ...parts }) => moduleOf({ types, functions: [add('one'), add('two'), ...more], ...parts });
+/** @returns {any} */
 const instance = ({ bytes }) => new WebAssembly.Instance(new WebAssembly.Module(bytes)).exports;
 const WARNING = /^warning: function 0 .*thread-local variables; all threads share one block/;
 

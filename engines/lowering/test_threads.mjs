@@ -16,7 +16,7 @@ const MOST_NUMBERS = 12;
 function work({ module, memory, start }) {
   parentPort.on('message', (args) => {
     const { exports } = new WebAssembly.Instance(module, { env: { memory } });
-    parentPort.postMessage(exports[start](...args));
+    parentPort.postMessage(/** @type {Function} */ (exports[start])(...args));
   });
 }
 

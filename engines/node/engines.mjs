@@ -5,10 +5,10 @@ import { startThread } from './threads.mjs';
 
 /** Node itself, with the methods of a browser. */
 const NODE = {
+  /** @returns {Promise<wmlab.Recorder>} */
   async openRecorder(bytes, options) {
     const recorder = new Recorder(bytes, options.starts, options, startThread);
-    recorder.version = `node ${process.versions.node} (V8 ${process.versions.v8})`;
-    return recorder;
+    return Object.assign(recorder, { version: `node ${process.versions.node} (V8 ${process.versions.v8})` });
   },
   async close() {},
 };

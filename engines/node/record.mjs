@@ -1,4 +1,5 @@
-#!/usr/bin/env node
+#!/bin/sh
+':' //; command -v node >/dev/null || { echo "${0##*/}: node is not installed (Debian: nodejs)" >&2; exit 2; }; exec node "$0" "$@"
 /** Records runs of an engine's WebAssembly, and checks each. The usage is in options.mjs, and printed by `--help`. */
 
 import { accessSync, appendFileSync, constants, readFileSync, realpathSync, statSync } from 'node:fs';
@@ -8,15 +9,21 @@ import { openRecorder } from './engines.mjs';
 import { sharedStarts } from '../lowering/shared_starts.mjs';
 import { cutComplaint, fitEvents } from '../shared/bound.mjs';
 import { endOnLostOutput } from '../shared/command_line.mjs';
+import { isWithoutWitness } from '../shared/document.mjs';
 import { UserError, withFile } from '../shared/errors.mjs';
-import { hasNoWitness, keep, keepWithShrunk, missingPictures, prepareFolder, writeTo } from '../shared/kept.mjs';
-import { judgeConditions } from '../shared/outcomes.mjs';
+import { keep, keepWithShrunk, missingPictures, prepareFolder, writeTo } from '../shared/kept.mjs';
+import { judgeConditions, trapLine, unnamedTraps } from '../shared/outcomes.mjs';
 import { writeReport } from '../shared/report.mjs';
-import { recordWith } from '../shared/rounds.mjs';
-import { Judge, Stopped, findProgram } from '../shared/wmlab.mjs';
-import { USAGE, optionsOf } from './options.mjs';
+import { Results, recordWith } from '../shared/rounds.mjs';
+import { Judge, STOPPED, Stopped, findProgram, isUsersStop, onStop } from '../shared/wmlab.mjs';
+import { USAGE, optionsOf, withPlaces } from './options.mjs';
 
-/** Shows how many rounds were checked: on a terminal each, else each thousandth. Answers what to call after a round. */
+/**
+ * Shows how many rounds were checked: on a terminal each, else each thousandth. Answers what to call after a round.
+ *
+ * @param {number} rounds
+ * @param {{ isTTY?: boolean, write: (text: string) => void }} stream
+ */
 export function progress(rounds, stream = process.stderr) {
   let checked = 0;
   return () => {
@@ -35,8 +42,8 @@ function preparePlaces({ keep: path, out, answers, kept, report }) {
 }
 
 /** What is printed on a round whose log is not allowed. */
-function keptText(line, path) {
-  if (!hasNoWitness(line)) return `its log is kept in ${path}`;
+function keptText(document, path) {
+  if (!isWithoutWitness(document)) return `its log is kept in ${path}`;
   return `its events are kept in ${path}, in the form of a log without a witness: each read has [] for its writers, and the order is []`;
 }
 
@@ -50,8 +57,19 @@ const MOST_KEPT = 20;
 /** One run of the command: the recorder, the judge and the options, and the logs that it keeps. */
 class Campaign {
   constructor(options, recorder, judge, stop) {
-    Object.assign(this, { options, recorder, judge, stop, kept: [], lines: [], bound: [] });
+    this.options = options;
+    this.recorder = recorder;
+    this.judge = judge;
+    this.stop = stop;
+    this.kept = [];
+    this.lines = [];
+    this.bound = [];
     this.places = new Map(); // outcome: the path of its log
+    this.results = new Results();
+    /** @type {wmlab.Judged[]} */
+    this.conditions = [];
+    /** @type {ReturnType<typeof unnamedTraps>} */
+    this.traps = [];
   }
 
   async record() {
@@ -71,13 +89,15 @@ class Campaign {
     const { kept, conditions } = this.options;
     const firsts = this.results.firstRounds().map((found) => ({ ...found, place: `round ${found.number}` }));
     this.conditions = judgeConditions(conditions, firsts);
+    const counted = firsts.map((found) => ({ ...found, count: this.results.outcomes.counts.get(found.outcome) ?? 0 }));
+    this.traps = unnamedTraps(conditions, counted);
     if (kept === undefined) return;
     const conditionsMet = this.conditions.filter(({ found }) => found);
-    const isNeeded = ({ outcome }) => conditionsMet.some(({ found }) => found.outcome === outcome);
+    const isNeeded = ({ outcome }) => conditionsMet.some(({ found }) => found?.outcome === outcome);
     for (const found of [...firsts.filter(isNeeded), ...firsts.filter((each) => !isNeeded(each)).slice(0, MOST_KEPT)]) {
       const path = `${kept}/round-${found.number}.json`;
       this.places.set(found.outcome, path);
-      const met = conditionsMet.find((each) => each.found.outcome === found.outcome);
+      const met = conditionsMet.find((each) => each.found?.outcome === found.outcome);
       if (met) await this.keepSmaller(path, found, met.condition);
       else this.kept.push(await keep(this.judge, path, found));
     }
@@ -94,7 +114,7 @@ class Campaign {
     const { bad } = this.results;
     if (!bad) return;
     const path = this.options.keep;
-    this.lines.push(`round ${bad.number}: ${bad.line}`, keptText(bad.line, path));
+    this.lines.push(`round ${bad.number}: ${bad.line}`, keptText(bad.document, path));
     await this.keepSmaller(path, bad, null);
   }
 
@@ -105,32 +125,33 @@ class Campaign {
     const place = (outcome) => (this.places.has(outcome) ? `  ${this.places.get(outcome)}` : '');
     const newline = stop.requested && process.stderr.isTTY ? [''] : [];
     return [...newline, ...purposeOf(this.options), ...this.bound, ...results.lines(place), ...stopped,
-      ...this.conditions.map(({ line }) => line), ...this.lines, ...(this.cutComplaint ? [this.cutComplaint.line] : [])].join('\n');
+      ...this.conditions.map(({ line }) => line), ...this.traps.map(trapLine), ...this.lines, ...(this.cutComplaint ? [this.cutComplaint.line] : [])].join('\n');
   }
 
   get cutComplaint() {
-    return cutComplaint(this.results.cut, this.results.checked);
+    return cutComplaint(this.results.cut, this.results.tired, this.results.checked);
   }
 
   get status() {
-    if (this.stop.requested) return 130;
+    if (this.stop.requested) return STOPPED;
     return this.results.bad || this.conditions.some(({ fails }) => fails) || this.cutComplaint?.fails ? 1 : 0;
   }
 }
 
 /** Records as the words of the command line ask. Answers the exit status. */
 async function main(args) {
-  const options = optionsOf(args);
-  if (!options) {
+  const asked = optionsOf(args);
+  if (!asked) {
     process.stdout.write(USAGE);
     return 0;
   }
-  const { module } = options;
+  const { module } = asked;
   const bytes = withFile(`read ${module}`, () => readFileSync(module));
+  const options = withPlaces(asked, bytes);
   preparePlaces(options);
-  const judge = await Judge.open(findProgram(options.wmlab), module);
   const stop = { requested: false };
-  process.once('SIGINT', () => { stop.requested = true; });
+  onStop(() => { stop.requested = true; });
+  const judge = await Judge.open(findProgram(options.wmlab), module);
   const recorder = await openRecorder(bytes, options);
   try {
     for (const name of sharedStarts(bytes, options.starts.map((start) => start.name))) {
@@ -156,11 +177,11 @@ if (process.argv[1] && realpathSync(process.argv[1]) === fileURLToPath(import.me
   try {
     const status = await main(process.argv.slice(2));
     // A search that was stopped would go on otherwise.
-    if (status === 130) process.exit(status);
+    if (status === STOPPED) process.exit(status);
     process.exitCode = status;
   } catch (error) {
     const isExpected = error instanceof UserError || error instanceof Stopped;
     console.error(isExpected ? `record.mjs: ${error.message}` : error);
-    process.exit(isExpected ? 2 : 3);
+    process.exit(isUsersStop(error) ? STOPPED : isExpected ? 2 : 3);
   }
 }

@@ -1,15 +1,17 @@
 /** Tests of record.mjs as a command, and of how it counts and keeps what it finds. */
 
 import { spawn } from 'node:child_process';
-import { chmodSync, cpSync, existsSync, mkdirSync, mkdtempSync, readdirSync, rmSync, symlinkSync, writeFileSync } from 'node:fs';
+import { chmodSync, cpSync, existsSync, mkdirSync, mkdtempSync, readFileSync, readdirSync, rmSync, symlinkSync, writeFileSync } from 'node:fs';
 import { tmpdir } from 'node:os';
 import { join } from 'node:path';
 import { setTimeout } from 'node:timers/promises';
 import { fileURLToPath } from 'node:url';
 import { progress } from './record.mjs';
 import { recordWith } from '../shared/rounds.mjs';
-import { GAVE_UP, NONE_EXISTS } from '../shared/verdict.mjs';
+import { GAVE_UP } from '../shared/verdict.mjs';
 import { Judge } from '../shared/wmlab.mjs';
+import { MODES } from '../shared/recorder.mjs';
+import { COUNTING } from '../shared/test_modes.mjs';
 import { programsOf } from '../testing/programs.mjs';
 import { run, textOf } from '../testing/tally.mjs';
 
@@ -28,7 +30,11 @@ function script(folder, name, text) {
   return path;
 }
 
-/** What is refused: the words, and what the one line on standard error has to say. */
+/**
+ * What is refused: the words, and what the one line on standard error has to say.
+ *
+ * @type {[string[], RegExp][]}
+ */
 const MISTAKES = [
   [['--rounds', 'abc', BUFFERS, 'a', 'b'], /--rounds abc: expected an integer from 1/],
   [['--rounds', '0', BUFFERS, 'a', 'b'], /--rounds 0: expected/],
@@ -152,56 +158,87 @@ async function testStarts({ note, wmlab, folder }) {
 
 const logNamed = (name) => `["wasm-litmus-log",2,[["${name}",[],["cut"],0,[]]],[]]`;
 
-/** A recorder whose rounds have these logs; an item that is not a string is answered at the end. */
+/**
+ * A round of one thread that has these logs.
+ *
+ * @returns {wmlab.Round}
+ */
+const roundOf = (logs) => ({ ends: [['cut']], turns: [], document: '', isOpen: false, logs });
+
+/**
+ * A recorder whose rounds have logs of these names; `events`, if it is given, names events for which no witness was found.
+ *
+ * @param {{ names: string[], events?: string }[]} rounds
+ */
 function played(rounds) {
-  async function* logs(items) {
-    for (const item of items) {
-      if (typeof item !== 'string') return item;
-      yield logNamed(item);
-    }
-    return null;
+  /**
+   * @param {{ names: string[], events?: string }} round
+   * @returns {AsyncGenerator<string, string | null, void>}
+   */
+  async function* logs({ names, events }) {
+    for (const name of names) yield logNamed(name);
+    return events ? logNamed(events) : null;
   }
-  return { round: async (seed) => ({ ends: [['cut']], turns: [], logs: logs(rounds[seed]) }) };
+  const round = async (seed) => roundOf(logs(rounds[seed]));
+  return { round, initial: new Uint8Array() };
 }
 
-/** How rounds are judged, by a program that answers as the logs' names ask it to. */
+/** A program that answers as the logs' names ask it to: `witness` finds a good one unless there is none, or it is hard to find. */
+const PLAYED = `case $1 in
+stream)
+  while read -r log; do
+    case $log in *slow*) sleep 0.3 ;; esac
+    case $log in *broken*) echo 'broken V5 case 3 at 0.1' ;; *) echo 'allowed threads=1 events=0' ;; esac
+  done ;;
+witness)
+  read -r log
+  case $log in
+  *impossible*) echo 'no witness threads=1 events=0'; exit 1 ;;
+  *hard*) echo 'gave up nodes=100000'; exit 2 ;;
+  *endless*) exec sleep 60 ;;
+  *) echo '${logNamed('good')}' ;;
+  esac ;;
+*) exec cat ;;
+esac`;
+
+/** How rounds are judged. */
 async function testJudgement({ note, folder }) {
-  const program = script(folder, 'played', `[ "$1" = stream ] || exec cat
-while read -r log; do
-  case $log in *slow*) sleep 0.3 ;; esac
-  case $log in *broken*) echo 'broken V5 case 3 at 0.1' ;; *) echo 'allowed threads=1 events=0' ;; esac
-done`);
-  const judged = async (rounds) => {
+  const program = script(folder, 'played', PLAYED);
+  const judged = async (rounds, seconds) => {
     const judge = new Judge(program, 'm.wasm');
     try {
-      return await recordWith(played(rounds), judge, { rounds: rounds.length, seed: 0 });
+      return await recordWith(played(rounds), judge, { rounds: rounds.length, seed: 0, seconds });
     } finally {
       judge.close();
     }
   };
-  const order = await judged([['good'], ['slow broken'], ['broken']]);
+  const order = await judged([{ names: ['good'] }, { names: ['slow broken impossible'] }, { names: ['broken impossible'] }]);
   note(order.bad?.number === 1, 'the first log that is not allowed is the first by round');
-  const other = await judged([['broken 1', 'broken 2', 'good']]);
+  const other = await judged([{ names: ['broken impossible', 'broken 2', 'good'] }]);
   note(!other.bad, 'a witness that is allowed counts, and not the refused ones before it');
-  const all = await judged([['broken 1', 'broken 2']]);
-  note(all.bad?.document === logNamed('broken 1'), 'a log is broken if each witness is refused');
-  const end = (line) => ({ document: 'the events', line });
-  const open = await judged([['broken 1', end(`${GAVE_UP}: gave up after 1 steps`)], [end(NONE_EXISTS)]]);
+  const another = await judged([{ names: ['broken 1', 'broken 2'] }, { names: [], events: 'some' }]);
+  note(!another.bad && another.checked === 2, 'an engine is not blamed for what the rules permit, whatever witnesses were found');
+  const all = await judged([{ names: ['broken impossible', 'broken 2'] }]);
+  const isNone = all.bad?.line === 'no witness threads=1 events=0' && all.bad.document === logNamed('broken impossible');
+  note(isNone, 'a log without a witness is kept with the first one that was refused');
+  const open = await judged([{ names: ['broken hard'] }, { names: [], events: 'impossible' }]);
   note(
-    open.verdicts.counts.get(`${GAVE_UP}: gave up after 1 steps`) === 1 && open.verdicts.counts.get(NONE_EXISTS) === 1,
-    'a search that gave up and a certain answer are counted apart',
+    open.verdicts.counts.get(`${GAVE_UP}: gave up after 100000 nodes`) === 1 && open.verdicts.counts.get('no witness threads=1') === 1,
+    'a search that gave up and a proof are counted apart',
   );
   note(open.outcomes.counts.get('cut') === 2, 'the outcome of a round without a witness is counted');
   note(
-    open.bad?.number === 1 && open.bad.document === 'the events',
-    'its events are what is kept; a certain answer comes before a search that gave up',
+    open.bad?.number === 1 && open.bad.document === logNamed('impossible'),
+    'its events are what is kept; a proof comes before a search that gave up',
   );
+  const late = await judged([{ names: ['broken endless'] }], 0.3);
+  note(late.bad?.line === `${GAVE_UP}: gave up after 0.3 seconds`, 'the rules are not asked for longer than the limit', late.bad?.line);
 }
 
 /** A search that is under way when the user stops is not waited for. */
 async function testStop({ note }) {
   const never = { next: () => new Promise(() => {}) };
-  const recorder = { round: async () => ({ ends: [['cut']], turns: [], logs: never }) };
+  const recorder = { round: async () => roundOf(never), initial: new Uint8Array() };
   const stop = { requested: false };
   const ended = recordWith(recorder, new Judge('', ''), { rounds: 1, stop });
   await setTimeout(50);
@@ -210,21 +247,55 @@ async function testStop({ note }) {
   note(first?.checked === 0, 'a stop does not wait for a search');
 }
 
-/** Ctrl-C: the tables so far, and the status 130. */
-async function testInterrupt({ note, wmlab, folder }) {
-  const args = [join(HERE, 'record.mjs'), '--wmlab', wmlab, '--rounds', '100000', '--out', 'stopped', BUFFERS, 'a', 'b'];
-  const child = spawn(process.execPath, args, { cwd: folder });
+/** Starts the recorder, stops it by a signal when something holds, and answers its status and what it printed. */
+async function stopped(folder, words, signal, isTime) {
+  const child = spawn(process.execPath, [join(HERE, 'record.mjs'), ...words], { cwd: folder });
   const printed = [];
   child.stdout.on('data', (bytes) => printed.push(bytes));
   const ended = new Promise((resolve) => { child.on('close', resolve); });
-  const logs = join(folder, 'stopped');
-  for (let tries = 0; tries < 300 && !(existsSync(logs) && readdirSync(logs).length > 2); tries++) await setTimeout(100);
-  child.kill('SIGINT');
+  for (let tries = 0; tries < 300 && !isTime(); tries++) await setTimeout(100);
+  child.kill(signal);
   const status = await ended;
-  const text = Buffer.concat(printed).toString();
+  return { status, text: Buffer.concat(printed).toString() };
+}
+
+/** Ctrl-C, or the signal of a batch system: the tables so far, and the status 130. */
+async function testInterrupt({ note, wmlab, folder }) {
+  for (const signal of /** @type {const} */ (['SIGINT', 'SIGTERM'])) {
+    const logs = join(folder, `stopped-${signal}`);
+    const words = ['--wmlab', wmlab, '--rounds', '100000', '--out', logs, BUFFERS, 'a', 'b'];
+    const { status, text } = await stopped(folder, words, signal, () => existsSync(logs) && readdirSync(logs).length > 2);
+    note(
+      status === 130 && /^outcomes\n[^]*\nverdicts\n *\d+ {2}allowed threads=2\nstopped after \d+ of 100000 rounds\n$/.test(text),
+      `${signal} prints the tables so far`,
+      `status ${status}: ${text}`,
+    );
+  }
+}
+
+/** The processes whose command line has a word. */
+const processesWith = (word) => readdirSync('/proc').filter((name) => /^\d+$/.test(name) && wordsOfProcess(name).includes(word));
+
+/** The command line of a process; none if it has ended. */
+function wordsOfProcess(name) {
+  try {
+    return readFileSync(`/proc/${name}/cmdline`, 'utf8').split('\0');
+  } catch {
+    return [];
+  }
+}
+
+/** A search that is under way ends with the recorder. */
+async function testStoppedSearch({ note, wmlab, folder }) {
+  const place = join(folder, 'searches-for-good');
+  const seconds = `600.${process.pid}`;
+  writeFileSync(place, `#!/bin/sh\nif [ "$1" = witness ]; then exec sleep ${seconds}; fi\nexec '${wmlab}' "$@"\n`, { mode: 0o755 });
+  const words = ['--wmlab', place, '--mode', 'buffered', '--wrong', 'plain-atomics', '--seconds', '500', example('store-buffering-atomic'), 'a', 'b'];
+  const { status, text } = await stopped(folder, words, 'SIGTERM', () => processesWith(seconds).length > 0);
+  for (let tries = 0; tries < 50 && processesWith(seconds).length; tries++) await setTimeout(100);
   note(
-    status === 130 && /^outcomes\n[^]*\nverdicts\n *\d+ {2}allowed threads=2\nstopped after \d+ of 100000 rounds\n$/.test(text),
-    'Ctrl-C prints the tables so far',
+    status === 130 && /^stopped after \d+ of 100 rounds$/m.test(text) && processesWith(seconds).length === 0,
+    'SIGTERM leaves no search of a witness',
     `status ${status}: ${text}`,
   );
 }
@@ -239,6 +310,23 @@ function testProgress({ note }) {
   note(shownOn(true, 2) === '\r1 of 2 rounds\r2 of 2 rounds\n' && shownOn(false, 999) === '', 'progress is shown on a terminal');
 }
 
+/** Recordings of which each run is cut, by the bound on events or for its loops; and one of runs that end with the last read of their share. */
+function testCutRuns({ note, folder, words, spinning }) {
+  const counting = join(folder, 'counting.wasm');
+  writeFileSync(counting, COUNTING);
+  for (const mode of MODES) {
+    const cut = record(folder, [...words, '--mode', mode, '--events', '8', ...spinning]);
+    const isTold = /^each run was cut, so that no log is of a whole run; a larger --events may let their threads end$/m.test(cut.out);
+    note(cut.status === 1 && isTold, `${mode}: a recording of cut runs alone is no success`, cut);
+    const tired = record(folder, [...words, '--mode', mode, counting, 'loops:20001', 'loops:1']);
+    const why = /^each run was cut, so that no log is of a whole run; a thread is cut when it has entered 20000 loops and functions, /m;
+    const isAllowed = /^ +6 {2}allowed threads=2$/m.test(tired.out) && /^ +6 {2}cut -$/m.test(tired.out) && !/^of 6 runs/m.test(tired.out);
+    note(tired.status === 1 && isAllowed && why.test(tired.out), `${mode}: a thread that was cut in its loops, and would end, is not at fault`, tired);
+  }
+  const share = record(folder, [...words, '--mode', 'free', '--events', '2', BUFFERS, 'a', 'b']);
+  note(share.status === 0 && !/cut/.test(share.out), 'free: threads whose last read is the last of their share end', share);
+}
+
 /** Programs that spin, on modes and bounds: a bound is found, and a recording of cut runs alone is no success. */
 function testBound({ note, wmlab, folder }) {
   const spinning = [example('c/spin'), 'work:20', 'work:20'];
@@ -249,8 +337,7 @@ function testBound({ note, wmlab, folder }) {
   note(same[0].out === same[1].out, 'the same options find the same bound, and the same runs');
   const given = record(folder, [...words, '--events', '1024', ...spinning]);
   note(given.status === 0 && !/were cut/.test(given.out), 'with --events no bound is looked for', given);
-  const cut = record(folder, [...words, '--events', '8', ...spinning]);
-  note(cut.status === 1 && /^each run was cut, so that no log is of a whole run; /m.test(cut.out), 'a recording of cut runs alone is no success', cut);
+  testCutRuns({ note, folder, words, spinning });
   const shared = record(folder, [...words, example('c/thread-locals'), 'first', 'first']);
   note(/^record\.mjs: warning: threads that start with first share its stack /.test(shared.err), 'two threads of a start with thread-local variables of its own are warned of', shared);
   const apart = record(folder, [...words, example('c/thread-locals'), 'first', 'second']);
@@ -274,6 +361,7 @@ export async function testCommand({ note, wmlab }) {
     await testJudgement(context);
     await testStop(context);
     await testInterrupt(context);
+    await testStoppedSearch(context);
     testProgress(context);
   } finally {
     rmSync(folder, { recursive: true });

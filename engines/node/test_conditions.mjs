@@ -2,10 +2,10 @@
 
 import { existsSync, mkdirSync, mkdtempSync, readdirSync, rmSync, writeFileSync } from 'node:fs';
 import { tmpdir } from 'node:os';
-import { join } from 'node:path';
+import { dirname, join } from 'node:path';
 import { fileURLToPath } from 'node:url';
 import { scheduleText, shrink } from '../shared/shrink.mjs';
-import { satisfies } from '../shared/outcomes.mjs';
+import { conditionsOf, judgeConditions, satisfies, trapLine, unnamedTraps } from '../shared/outcomes.mjs';
 import { run, textOf } from '../testing/tally.mjs';
 
 const COMMAND = fileURLToPath(new URL('./record.mjs', import.meta.url));
@@ -71,15 +71,28 @@ function testWant({ note, wmlab, folder }) {
 
 function testShrunkFault({ note, wmlab, folder }) {
   const args = ['--mode', 'buffered', '--rounds', '20', '--wrong', 'stale-load', '--keep', 'bad.json'];
-  const torn = [fileURLToPath(new URL('../testing/races.wasm', import.meta.url)), 'words:1:8', 'words:2:8'];
-  const ran = record(folder, wmlab, [...args, ...torn]);
+  const races = fileURLToPath(new URL('../testing/races.wasm', import.meta.url));
+  const ran = record(folder, wmlab, [...args, races, 'numbers:0:8', 'numbers:64:8']);
   const sizes = /a smaller run is kept in (\S+): (\d+) turns and (\d+) moves instead of (\d+) turns and (\d+) moves/.exec(ran.out);
-  const [path, turns, moves, turnsBefore, movesBefore] = sizes ? [sizes[1], ...sizes.slice(2).map(Number)] : [];
+  const path = sizes?.[1];
+  const [turns, moves, turnsBefore, movesBefore] = sizes?.slice(2).map(Number) ?? [NaN, NaN, NaN, NaN];
   const isSmall = turns < 4 && turns <= turnsBefore && moves < 12 && moves < movesBefore;
-  note(/^round \d+: broken V3 [^\n]+\nits log is kept in bad\.json$/m.test(ran.out), 'the round and the file of its log are printed', ran);
+  note(/^round \d+: no witness threads=2 [^\n]+\nits log is kept in bad\.json$/m.test(ran.out), 'the round and the file of its log are printed', ran);
   note(ran.status === 1 && isSmall, `a run that is not allowed is shrunk: ${sizes?.[0] ?? 'it was not'}`, ran);
-  const answer = checked(wmlab, torn[0], join(folder, `${path}`));
-  note(/^broken V3 case 2 /.test(answer.out), 'the smaller run has the same fault', answer);
+  const answer = checked(wmlab, races, join(folder, `${path}`));
+  note(/^broken V3 case 2 /.test(answer.out), 'its log shows a rule that the smaller run breaks', answer);
+  const settled = run(wmlab, ['witness', races, join(folder, `${path}`)]);
+  note(settled.status === 1 && settled.out.startsWith('no witness '), 'and the rules permit no other log of its values', settled);
+}
+
+/** An engine is not blamed for what the rules permit: a plain load of an older value that races, though its recorder's log is refused. */
+function testPermitted({ note, wmlab, folder }) {
+  const races = fileURLToPath(new URL('../testing/races.wasm', import.meta.url));
+  const stale = ['--wrong', 'stale-load', races, 'words:1:8', 'words:2:8'];
+  const ran = record(folder, wmlab, ['--mode', 'buffered', '--rounds', '20', '--out', 'stale', ...stale]);
+  note(ran.status === 0 && /^ +20 {2}allowed threads=2$/m.test(ran.out), 'values that the rules permit are no fault', ran);
+  const answers = readdirSync(join(folder, 'stale')).map((name) => checked(wmlab, races, join(folder, 'stale', name)).out);
+  note(answers.length === 20 && answers.every((line) => line.startsWith('allowed ')), 'their logs have a witness that is allowed', answers.join(''));
 }
 
 /** The search alone: what holds is that 3 comes before 5. */
@@ -97,10 +110,67 @@ async function testShrink({ note }) {
   note(tries === 2, 'the search ends at its tries, at its seconds and when the user stops', `${tries}`);
   note(scheduleText([0, 0, 0, 1, 2, 3, 3]) === '0*3,d0,1,d1*2', 'a schedule as text', scheduleText([0, 0, 0, 1, 2, 3, 3]));
   note(await shrink([3, 5], holds) === null, 'a schedule that is smallest stays');
-  note(
-    satisfies('0 trap:overflow -', { ends: ['*', 'trap:overflow', '-'] }) && !satisfies('0 1', { ends: ['0', '*', '*'] }),
-    'outcomes and patterns',
-  );
+}
+
+/**
+ * Each pattern of one thread, with ends that fit it, and ends that do not.
+ *
+ * @type {[string, string[], string[]][]}
+ */
+const PATTERNS = [
+  ['*', ['0', '-', 'cut', 'trap:overflow'], []],
+  ['16', ['16'], ['1', '160', 'cut', '-']],
+  ['0x10', ['16'], ['10', '0']],
+  ['0xFFFFFFFFFFFFFFFF', ['18446744073709551615'], ['4294967295']],
+  ['{0,1}', ['0', '1'], ['2', '01', 'cut']],
+  ['{ 0 , cut,trap:unaligned }', ['0', 'cut', 'trap:unaligned'], ['1', 'trap:overflow']],
+  ['!0', ['1', '-', 'cut', 'trap:overflow'], ['0']],
+  ['!{0,0x1,cut}', ['2', '-'], ['0', '1', 'cut']],
+  ['trap:*', ['trap:overflow', 'trap:unaligned'], ['0', 'cut', '-']],
+  ['!trap:*', ['0', 'cut', '-'], ['trap:overflow']],
+  ['-', ['-'], ['0', 'cut']],
+];
+
+/** What ends mean in conditions. */
+function testPatterns({ note }) {
+  for (const [pattern, fitting, others] of PATTERNS) {
+    const [condition] = conditionsOf({ forbid: [pattern] }, 1);
+    const wrong = [...fitting.filter((end) => !satisfies(end, condition)), ...others.filter((end) => satisfies(end, condition))];
+    note(wrong.length === 0, `the pattern ${pattern}`, wrong.join(' '));
+  }
+  const [two] = conditionsOf({ want: ['{0, 1} !{2, 3}'] }, 2);
+  note(satisfies('1 0', two) && !satisfies('1 2', two) && !satisfies('2 0', two) && !satisfies('0', two), 'patterns of two threads');
+  const given = { forbid: ['7 7'], '~exists': ['0 *'], want: ['1 0'], exists: ['9 9'], forall: ['{0,1} {0,1}', '0 *'] };
+  const list = ['0 1', '1 0'].map((outcome, number) => ({ outcome, place: `round ${number}` }));
+  const lines = judgeConditions(conditionsOf(given, 2), list).map(({ line }) => line).join('\n');
+  note(lines === `ok --forbid "7 7": never seen
+FAILED --~exists "0 *": seen in round 0
+ok --want "1 0": seen in round 1
+FAILED --exists "9 9": never seen
+ok --forall "{0,1} {0,1}": seen in each round
+FAILED --forall "0 *": not in round 1, which has 1 0`, 'conditions on two rounds', lines);
+  const ended = ['trap:overflow 1', '0 trap:unaligned', 'trap:overflow trap:unaligned'].map((outcome, number) => ({ outcome, number, count: 2 }));
+  const traps = (conditions) => unnamedTraps(conditionsOf(conditions, 2), ended).map(trapLine).join('; ');
+  note(traps({ forbid: ['* trap:*'] }) === 'thread 0 ends with trap:overflow in 4 rounds, first in round 0; no condition names it', 'traps that no condition names', traps({}));
+  note(traps({ forall: ['!{trap:overflow} {1,trap:unaligned}'] }) === '' && traps({ forbid: ['* *'] }).includes('; thread 1'), 'traps that conditions name');
+}
+
+/** A condition on all runs, and a trap that no condition names, as a command; and logs of different modules are kept apart. */
+function testForall({ note, wmlab, folder }) {
+  const args = ['--mode', 'buffered', '--rounds', '20', '--forall', '!{0,0x1} *'];
+  const ran = record(folder, wmlab, [...args, ...BUFFERS]);
+  const [, path] = /^FAILED --forall "!\{0,0x1\} \*": not in round 0, which has \d \d$[^]*a smaller run is kept in (\S+): /m.exec(ran.out) ?? [];
+  const other = record(folder, wmlab, [...args, example('store-buffering-atomic'), 'a', 'b']);
+  const [, another] = /a smaller run is kept in (\S+): /.exec(other.out) ?? [];
+  const isKept = [path, another].every((each) => each !== undefined && existsSync(join(folder, each)));
+  const areApart = dirname(`${path}`) !== dirname(`${another}`);
+  const isWhole = /\["done",\[[01]\]\]/.test(textOf(join(folder, `${path}`)));
+  note(ran.status === 1 && isKept && areApart && isWhole, 'a condition on all runs fails, and each module has a folder of its own', ran, other);
+  const traps = ['--rounds', '3', '--forbid', 'trap:overflow *', example('every-trap')];
+  const starts = ['unreachable', 'overflow'];
+  const trapped = record(folder, wmlab, [...traps, ...starts]);
+  const line = 'thread 0 ends with trap:unreachable in 3 rounds, first in round 0; no condition names it';
+  note(trapped.status === 0 && trapped.out.includes(line) && trapped.out.includes('thread 1 ends with trap:overflow'), 'traps are counted', trapped);
 }
 
 export async function testConditions({ note, wmlab }) {
@@ -110,7 +180,10 @@ export async function testConditions({ note, wmlab }) {
     testSeeds(context);
     testForbid(context);
     testWant(context);
+    testPatterns(context);
+    testForall(context);
     testShrunkFault(context);
+    testPermitted(context);
     await testShrink(context);
   } finally {
     rmSync(folder, { recursive: true });

@@ -9,8 +9,10 @@ import { run, textOf } from '../testing/tally.mjs';
 const RECORD = fileURLToPath(new URL('./record.mjs', import.meta.url));
 const BUFFERS = fileURLToPath(new URL('../../examples/store-buffering.wasm', import.meta.url));
 
+const HELP = '    stream MODULE    answer a document on each line\n    witness [MODULE] DOC    find a witness';
+
 /** A program that notes its commands in `commands`; `stream` answers as this shell script, which has each line in `$line`. */
-function program(folder, wmlab, answer, help = '    stream MODULE    answer a document on each line') {
+function program(folder, wmlab, answer, help = HELP) {
   const path = join(folder, 'wmlab');
   writeFileSync(path, `#!/bin/sh
 echo "$1" >>'${join(folder, 'commands')}'
@@ -56,6 +58,12 @@ export function testStream({ note, wmlab }) {
       older.status === 2 && /^record\.mjs: \S+ has no command stream: it is older than this recorder; [^\n]+\n$/.test(older.err),
       'a program without the command is refused in one line',
       older,
+    );
+    const undecided = record(folder, program(folder, wmlab, 'exit 3', HELP.split('\n')[0]));
+    note(
+      undecided.status === 2 && /^record\.mjs: \S+ has no command witness: it is older than this recorder; [^\n]+\n$/.test(undecided.err),
+      'so is a program that cannot ask the rules',
+      undecided,
     );
   } finally {
     rmSync(folder, { recursive: true });

@@ -40,7 +40,9 @@ function readThreads({ view, layout, counts }, starts) {
     const args = start.params.map((type, k) => unsigned(type, row + THREAD.arguments + 8 * k));
     const results = start.results.map((type) => unsigned(type, row + THREAD.result));
     const isDone = view.getUint32(row + THREAD.isDone, true) === 1;
-    return { start: { name: start.name, args }, end: isDone ? ['done', results] : null, events: [] };
+    /** @type {{ event: wmlab.LogEvent, writers: wmlab.Key[] }[]} */
+    const events = [];
+    return { start: { name: start.name, args }, end: isDone ? ['done', results] : null, events };
   });
 }
 

@@ -26,12 +26,12 @@ const TYPED = moduleOf({
   ],
 });
 
-const STARTS = [
+const STARTS = /** @type {[Uint8Array, string][]} */ ([
   ...[{}, IMPORTED].map((more) => [allAccesses(TAKEN, more), 'a']),
   ...ADDRESSES.map(([word]) => [ADDRESSED, word]),
   ...['long:-1:-2', 'short:-3:-4', 'none:9'].map((word) => [TYPED, word]),
   ...['calls:255', 'calls:256'].map((word) => [COUNTING, word]),
-];
+]);
 
 /** Whether a start has the same document as in the mode locked, and the same end if it was done. */
 async function isSame([bytes, word]) {
@@ -44,6 +44,7 @@ async function isSame([bytes, word]) {
 /** Modules that cannot be made to record themselves, and what the refusal says. */
 const one = (code, more = {}) => moduleOf({ functions: [{ code, exported: 'a' }], ...more });
 const parameters = (count) => [[0x60, count, ...Array(count).fill(I32), 0]];
+/** @type {[Uint8Array, RegExp][]} */
 const REFUSED = [
   [one([], { memory: [0, 1] }), /^a memory that is not there, or not shared: lower the module first/],
   [one([], { memory: null }), /^a memory that is not there, or not shared: lower/],

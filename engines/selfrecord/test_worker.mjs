@@ -8,7 +8,7 @@ const { exports } = new WebAssembly.Instance(module, { [importedAs.module]: { [i
 Atomics.add(waiting, 0, 1);
 while (Atomics.load(waiting, 0) < threads);
 try {
-  exports[start](...args);
+  /** @type {Function} */ (exports[start])(...args);
   parentPort.postMessage('done');
 } catch (error) {
   if (!(error instanceof WebAssembly.RuntimeError) && !(error instanceof RangeError)) throw error;

@@ -6,19 +6,28 @@
 
 import { OP } from './binary.mjs';
 
+/** @type {Map<number, wmlab.Access>} */
 const TABLE = new Map();
 
+/**
+ * @param {number} code
+ * @param {wmlab.Access['kind']} kind
+ * @param {wmlab.ValueType} type
+ * @param {number} width
+ * @param {Partial<wmlab.Access>} [more]
+ */
 function add(code, kind, type, width, more = {}) {
-  const access = { code, kind, type, width, atomic: code > 0xff, signed: false, operator: '', ...more };
-  access.name = `${access.kind}_${code.toString(16)}`;
-  TABLE.set(code, access);
+  const name = `${kind}_${code.toString(16)}`;
+  TABLE.set(code, { code, name, kind, type, width, atomic: code > 0xff, signed: false, operator: '', ...more });
 }
 
 const SIGNED_LOADS = new Set([0x2c, 0x2e, 0x30, 0x32, 0x34]);
+/** @type {[number, wmlab.ValueType, number][]} */
 const PLAIN_LOADS = [
   [0x28, 'i32', 4], [0x29, 'i64', 8], [0x2c, 'i32', 1], [0x2d, 'i32', 1], [0x2e, 'i32', 2], [0x2f, 'i32', 2],
   [0x30, 'i64', 1], [0x31, 'i64', 1], [0x32, 'i64', 2], [0x33, 'i64', 2], [0x34, 'i64', 4], [0x35, 'i64', 4],
 ];
+/** @type {[number, wmlab.ValueType, number][]} */
 const PLAIN_STORES = [
   [0x36, 'i32', 4], [0x37, 'i64', 8], [0x3a, 'i32', 1], [0x3b, 'i32', 2], [0x3c, 'i64', 1], [0x3d, 'i64', 2],
   [0x3e, 'i64', 4],
@@ -26,8 +35,13 @@ const PLAIN_STORES = [
 for (const [code, type, width] of PLAIN_LOADS) add(code, 'load', type, width, { signed: SIGNED_LOADS.has(code) });
 for (const [code, type, width] of PLAIN_STORES) add(code, 'store', type, width);
 
-/** The seven shapes in which each atomic access comes, in the order of their opcodes. */
+/**
+ * The seven shapes in which each atomic access comes, in the order of their opcodes.
+ *
+ * @type {[wmlab.ValueType, number][]}
+ */
 const SHAPES = [['i32', 4], ['i64', 8], ['i32', 1], ['i32', 2], ['i64', 1], ['i64', 2], ['i64', 4]];
+/** @type {(base: number, kind: wmlab.Access['kind'], more?: Partial<wmlab.Access>) => void} */
 const addAtomic = (base, kind, more) => SHAPES.forEach(([type, width], k) => add(base + k, kind, type, width, more));
 addAtomic(0xfe10, 'load');
 addAtomic(0xfe17, 'store');

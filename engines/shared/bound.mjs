@@ -1,5 +1,8 @@
 /** The most events of a run, for users who give none: enough that most runs end. */
 
+import { isTired } from './document.mjs';
+import { MOST_TURNS } from './rewrite.mjs';
+
 export const LEAST_EVENTS = 128;
 const MOST_EVENTS = 4_096;
 const TRIALS = 6;
@@ -7,12 +10,15 @@ const TRIALS = 6;
 /** Whether a thread of a run was cut. */
 export const isCut = (ends) => ends.some(([kind]) => kind === 'cut');
 
+/** Whether a thread of a run was cut by the bound on events: a larger one may let it end. */
+const isBounded = (ends) => ends.some((end) => isCut([end]) && !isTired(end));
+
 /** How many of some runs are cut at the bound that a recorder has. */
 async function cutRuns(recorder, seed, stop) {
   let count = 0;
   for (let number = 0; number < TRIALS && !stop.requested; number++) {
     const { ends } = await recorder.round(seed + number);
-    if (isCut(ends)) count++;
+    if (isBounded(ends)) count++;
   }
   return count;
 }
@@ -33,10 +39,17 @@ export async function fitEvents(recorder, seed, stop = {}) {
   return [`${cut}, and most with ${MOST_EVENTS} too: a thread may not end; --events sets the bound`];
 }
 
-/** What there is to tell of a recording of which some runs were cut: a line, and whether it is no success. */
-export function cutComplaint(cut, runs) {
+/**
+ * What there is to tell of a recording of which some runs were cut: a line, and whether it is no success.
+ *
+ * @param {number} cut how many were cut
+ * @param {number} tired in how many a thread was cut for its loops and calls
+ * @param {number} runs how many there were
+ */
+export function cutComplaint(cut, tired, runs) {
   if (!runs || 2 * cut <= runs) return null;
-  const hint = 'a larger --events may let their threads end';
+  const hint = 2 * tired > cut ? `a thread is cut when it has entered ${MOST_TURNS} loops and functions, whatever --events is`
+    : 'a larger --events may let their threads end';
   if (cut < runs) return { line: `${cut} of ${runs} runs were cut; ${hint}`, fails: false };
   return { line: `each run was cut, so that no log is of a whole run; ${hint}`, fails: true };
 }

@@ -25,7 +25,11 @@ function withJoinedTexts(args, options) {
   return joined;
 }
 
-/** The words of a command line as `parseArgs` answers them; its complaints become a `UserError`. */
+/**
+ * The words of a command line as `parseArgs` answers them; its complaints become a `UserError`.
+ *
+ * @param {{ args?: string[], options: Record<string, import('node:util').Option>, allowPositionals?: boolean }} config
+ */
 export function wordsOf({ args = process.argv.slice(2), ...config }) {
   try {
     return parseArgs({ args: withJoinedTexts(args, config.options), ...config });
@@ -47,6 +51,9 @@ export function endOnLostOutput(program) {
 }
 
 /** Options of `parseArgs`: a word, a word that can be repeated, and `--help`. */
+/** @type {import('node:util').Option} */
 export const TEXT = { type: 'string' };
+/** @type {import('node:util').Option} */
 export const SEVERAL = { type: 'string', multiple: true };
+/** @type {Record<string, import('node:util').Option>} */
 export const HELP = { help: { type: 'boolean', short: 'h' } };

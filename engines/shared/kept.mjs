@@ -3,11 +3,12 @@
 import { spawnSync } from 'node:child_process';
 import { accessSync, constants, mkdirSync, rmSync, statSync, writeFileSync } from 'node:fs';
 import { basename, dirname, join } from 'node:path';
+import { isWithoutWitness } from './document.mjs';
 import { withFile } from './errors.mjs';
-import { outcomeOf, satisfies } from './outcomes.mjs';
+import { outcomeOf, standsFor } from './outcomes.mjs';
 import { judgeRound } from './rounds.mjs';
 import { runsOf, scheduleText, shrink } from './shrink.mjs';
-import { GAVE_UP, NONE_EXISTS } from './verdict.mjs';
+import { GAVE_UP } from './verdict.mjs';
 
 export const writeTo = (path, text) => withFile(`write ${path}`, () => writeFileSync(path, text));
 
@@ -32,17 +33,18 @@ export function prepareFolder(folder) {
   });
 }
 
-/** Whether a line is about events for which no witness is known. */
-export const hasNoWitness = (line) => line.startsWith(GAVE_UP) || line === NONE_EXISTS;
-
-/** Why a run of Graphviz gave no picture, with the first line of what it complained. */
+/**
+ * Why a run of Graphviz gave no picture, with the first line of what it complained.
+ *
+ * @param {{ error?: NodeJS.ErrnoException, status: number | null, signal: string | null, stderr: string }} ran
+ */
 function drawingFault({ error, status, signal, stderr }) {
   const complaint = stderr?.trim().split('\n')[0].slice(0, 200);
   const because = complaint ? `: ${complaint}` : '';
   if (error?.code === 'ENOENT') return 'Graphviz is not installed, there is no program dot';
   if (signal) return `dot -Tsvg was ended by ${signal}${because}`;
   if (status) return `dot -Tsvg ended with status ${status}${because}`;
-  return status === null ? `dot -Tsvg cannot be run (${error.code})` : `dot -Tsvg printed no whole picture${because}`;
+  return status === null ? `dot -Tsvg cannot be run (${error?.code})` : `dot -Tsvg printed no whole picture${because}`;
 }
 
 /** The picture of a graph as SVG, by Graphviz; null if there is none, and then its `fault` is why. */
@@ -57,19 +59,25 @@ const MOST_DRAWN = 200;
 const NOT_DRAWN = { graph: null, svg: null, fault: null };
 
 async function explanationOf(judge, { document, line }) {
-  return hasNoWitness(line) ? `${line}\n` : `${(await judge.ask('explain', document)).text}\n`;
+  const head = line.startsWith('no witness') ? `${line}\n` : '';
+  return isWithoutWitness(document) ? head : `${head}${(await judge.ask('explain', document)).text}\n`;
 }
 
 /** The graph of a log and its picture, and the `fault` if dot does not make it; a log that is not drawn has none of them. */
-async function pictureOf(judge, { document, line }) {
-  if (hasNoWitness(line)) return NOT_DRAWN;
+async function pictureOf(judge, { document }) {
+  if (isWithoutWitness(document)) return NOT_DRAWN;
   const graph = await judge.ask('graph', document);
   const events = document.split(/"[rwx]"/).length - 1;
   if (graph.status > 1 || !graph.text.startsWith('digraph') || events > MOST_DRAWN) return NOT_DRAWN;
   return { graph: graph.text, ...drawn(graph.text) };
 }
 
-/** The explanation of a log, its graph and its picture; null for the last two if there is none. */
+/**
+ * The explanation of a log, its graph and its picture; null for the last two if there is none.
+ *
+ * @param {wmlab.Judge} judge
+ * @param {wmlab.Answer} found
+ */
 export async function explained(judge, found) {
   return { explanation: await explanationOf(judge, found), ...await pictureOf(judge, found) };
 }
@@ -86,6 +94,11 @@ function writeBeside(path, ending, text) {
 /**
  * Keeps a log at a path that ends in `.json`, with its explanation (`.txt`) and its picture beside it: `.svg`, or `.dot` with the
  * graph alone if dot does not make the picture. A picture of an earlier log at this path is removed.
+ *
+ * @param {wmlab.Judge} judge
+ * @param {string} path
+ * @param {wmlab.Found} found
+ * @returns {Promise<wmlab.Kept>}
  */
 export async function keep(judge, path, found) {
   writeTo(path, found.document);
@@ -108,27 +121,46 @@ export function missingPictures(kept) {
   return `warning: ${missing.length} pictures are not made: ${fault}; their graphs are kept in .dot files, the first in ${place}`;
 }
 
-/** What has to hold for a smaller run: the condition, or a verdict that begins as the one found. */
-const holdsFor = (condition, line) => (outcome, answer) => {
-  if (condition) return satisfies(outcome, condition) && answer.line.startsWith(line.split(' ')[0]);
-  return answer.line.split(' ', 2).join(' ') === line.split(' ', 2).join(' ');
-};
+/** The kind of a verdict: its first two words. A search that gave up is of another kind than a proof that there is no witness. */
+const kindOf = (line) => (line.startsWith(GAVE_UP) ? GAVE_UP : line.split(' ', 2).join(' '));
 
-/** The smaller run of what was found in a round, for a condition or (null) for its verdict; null if there is none. */
+/** What has to hold for the answer to a smaller run: a verdict of the kind that was found, or for a condition of its first word. */
+const holdsFor = (condition, line) => ({ line: smaller }) => (
+  condition ? smaller.startsWith(line.split(' ')[0]) : kindOf(smaller) === kindOf(line));
+
+/**
+ * The smaller run of what was found in a round, for a condition or (null) for its verdict; null if there is none.
+ *
+ * @param {wmlab.Recorder} recorder
+ * @param {wmlab.Judge} judge
+ * @param {wmlab.Found} found
+ * @param {wmlab.Condition | null} condition
+ * @param {wmlab.Limits} limits
+ * @returns {Promise<wmlab.Found | null>}
+ */
 export async function shrunk(recorder, judge, found, condition, { seconds, stop }) {
   if (!found.turns.length) return null;
   const holds = holdsFor(condition, found.line);
   const attempt = async (items) => {
     const round = await recorder.round(0, items);
     const outcome = outcomeOf(round.ends);
-    if (condition && !satisfies(outcome, condition)) return null;
+    if (condition && !standsFor(outcome, condition, found.outcome)) return null;
     const answer = await judgeRound(judge, round, recorder.initial, { seconds });
-    return holds(outcome, answer) ? { ...found, ...answer, outcome, turns: round.turns } : null;
+    return answer && holds(answer) ? { ...found, ...answer, outcome, turns: round.turns } : null;
   };
   return shrink(found.turns, attempt, { seconds, stop });
 }
 
-/** Keeps what was found beside a smaller run, if there is one. Answers both, and the line that is printed. */
+/**
+ * Keeps what was found beside a smaller run, if there is one. Answers both, and the line that is printed.
+ *
+ * @param {wmlab.Recorder} recorder
+ * @param {wmlab.Judge} judge
+ * @param {string} path
+ * @param {wmlab.Found} found
+ * @param {wmlab.Condition | null} condition
+ * @param {wmlab.Limits} limits
+ */
 export async function keepWithShrunk(recorder, judge, path, found, condition, limits) {
   const first = await keep(judge, path, found);
   const smaller = await shrunk(recorder, judge, found, condition, limits);

@@ -1,7 +1,6 @@
 /** The logs of events whose writers and order are not known: one for each witness that a search finds. */
 
 import { documentOf, parse } from './document.mjs';
-import { GAVE_UP, NONE_EXISTS } from './verdict.mjs';
 import { witnessesOf } from './witness.mjs';
 
 /** An event of a document without its writers, with its address and width as numbers. */
@@ -15,15 +14,14 @@ const threadsOf = (document) => parse(document)[2].map(([name, args, , , events]
   { start: { name, args }, events: events.map(withoutWriters) }));
 
 /**
- * Yields a document for each witness of a document's events that a search finds. At its end it answers the document given,
- * with a line that gives the reason why there is no further one.
+ * Yields a document for each witness of a document's events that a search finds. At its end it answers the document given.
  */
 export async function* logsOf(document, initial, limits = {}) {
   const threads = threadsOf(document);
   const witnesses = witnessesOf(threads.map(({ events }) => events), initial, limits);
   for (;;) {
     const { value, done } = await witnesses.next();
-    if (done) return { document, line: value.gaveUp ? `${GAVE_UP}: gave up after ${value.gaveUp}` : NONE_EXISTS };
+    if (done) return document;
     const written = threads.map(({ start, events }, t) => (
       { start, events: events.map((event, i) => ({ event, writers: value.writers[t][i] })) }));
     yield documentOf(written, value.order);

@@ -11,6 +11,7 @@
  */
 
 import { ACCESSES, eventOf, loaded, operation, reads, cut, trapOf } from './accesses.mjs';
+import { TIRED } from './document.mjs';
 import { CONTROL, Cut, Turns, nextRandom } from './turns.mjs';
 
 /** A trap of the profile, by its name in the log. */
@@ -24,7 +25,7 @@ export const writerOf = (shadow) => (shadow === 0 ? [] : [Math.floor((shadow - 1
 /** The hooks that end a thread, in every mode. */
 const ENDS = {
   exhausted() { throw new Trap('exhausted'); },
-  tired() { throw new Cut('tired'); },
+  tired() { throw new Cut(TIRED); },
 };
 
 const hooksFor = (made) => ({ ...ENDS, ...Object.fromEntries(ACCESSES.map((access) => [access.name, made(access)])) });
@@ -77,7 +78,9 @@ export function locked(env) {
 /** The waiting stores of a thread, over a memory with its shadow. */
 class StoreBuffer {
   constructor(bytes, shadow) {
-    Object.assign(this, { bytes, shadow, waiting: [] });
+    this.bytes = bytes;
+    this.shadow = shadow;
+    this.waiting = [];
   }
 
   publish({ address, width, value, writer }) {
@@ -115,7 +118,10 @@ function halvesOf({ address, width, value, writer }) {
 /** One thread of the mode buffered. */
 class BufferedThread {
   constructor(env) {
-    Object.assign(this, env);
+    this.thread = env.thread;
+    this.control = env.control;
+    this.events = env.events;
+    this.wrong = env.wrong;
     this.bytes = new Uint8Array(env.memory.buffer);
     this.buffer = new StoreBuffer(this.bytes, env.shadow);
     this.turns = new Turns(env, () => this.buffer.publishOldest());
@@ -178,29 +184,41 @@ const halfStore = ({ width, type }) => ACCESSES.find((access) => (
 
 /** A hook that makes a store natively in two halves. */
 const tornStore = (access, native) => (address, value, offset) => {
-  const half = halfStore(access);
+  const half = /** @type {wmlab.Access} */ (halfStore(access));
   const at = (address >>> 0) + (offset >>> 0);
   const upper = access.type === 'i64' ? value >> BigInt(8 * half.width) : value >> (8 * half.width);
   native[half.name](at, value);
   native[half.name](at + half.width, upper);
 };
 
-/** After how many values that are not new a thread sleeps before it goes on, and for how many milliseconds. */
+/** After how many values that are not new a thread sleeps, and for how many milliseconds. */
 const REPEATS = 32, NAP = 1;
 const KNOWN = 4;
 
-/** A thread that spins reads the same few values again: it sleeps, so that the other threads come to what it waits for. */
+/**
+ * A thread that spins reads the same few values again: it sleeps, so that the other threads come to what it waits for. It does so at
+ * the head of its next loop: right after the read it might hold a lock that the others need.
+ */
 class Naps {
   constructor(control) {
-    Object.assign(this, { control, known: [], repeats: 0 });
+    this.control = control;
+    this.known = [];
+    this.repeats = 0;
+    this.isDue = false;
+  }
+
+  rest() {
+    if (this.isDue) Atomics.wait(this.control, CONTROL.nap, 0, NAP);
+    this.isDue = false;
   }
 
   see(value) {
     if (this.known.includes(value)) {
-      if (++this.repeats > REPEATS) Atomics.wait(this.control, CONTROL.nap, 0, NAP);
+      this.isDue = ++this.repeats > REPEATS;
       return;
     }
     this.repeats = 0;
+    this.isDue = false;
     this.known.push(value);
     if (this.known.length > KNOWN) this.known.shift();
   }
@@ -221,22 +239,21 @@ export function free({ limit, values, wrong, native, control }) {
   };
   const stores = wrong === 'torn-store' ? ACCESSES.filter(({ kind, width }) => kind === 'store' && width > 1) : [];
   const torn = Object.fromEntries(stores.map((access) => [access.name, tornStore(access, native)]));
-  return { hooks: { ...ENDS, ...torn, note_i32: note('i32'), note_i64: note('i64') }, finish() {} };
+  return { hooks: { ...ENDS, ...torn, note_i32: note('i32'), note_i64: note('i64'), rest: () => naps.rest() }, finish() {} };
 }
 
 /**
  * No memory at all: the values to be read come from a list, so that a thread of the free mode can be run again for its
- * events. If it was cut after the last read of its share, it is cut there again.
+ * events. It is cut before the first access after the last value: one that was cut after the last read of its share made no other.
  */
 export function again({ values, limit, size, events }) {
   let next = 0;
   const make = (access, args) => {
     const made = operation(access, args);
     refuse(made, size);
-    if (reads(access) && next === values.length) throw new Cut('before an access');
+    if (next === limit || (reads(access) && next === values.length)) throw new Cut('before an access');
     const read = reads(access) ? cut(values[next++], access.width) : 0n;
     events.push(eventOf(made, read));
-    if (reads(access) && next === limit) throw new Cut('after a read');
     return reads(access) ? loaded(access, read) : undefined;
   };
   return { hooks: hooksFor((access) => (...args) => make(access, args)), finish() {} };
@@ -264,14 +281,14 @@ const TRAPS = {
 const trapNamed = (error) => (
   error instanceof WebAssembly.RuntimeError ? TRAPS[error.message.replace(/ \(evaluating [^]*\)$/, '').toLowerCase()] : undefined);
 
-/** How a call ended, in the form of a log. */
+/** How a call ended, in the form of a log; `['cut', 'tired']` if it was cut for its many loops and calls, maybe right before its end. */
 export function endOf(call) {
   try {
     const result = call();
     if (result === undefined) return ['done', []];
     return ['done', [typeof result === 'bigint' ? BigInt.asUintN(64, result) : BigInt(result >>> 0)]];
   } catch (error) {
-    if (error instanceof Cut) return ['cut'];
+    if (error instanceof Cut) return error.message === TIRED ? ['cut', TIRED] : ['cut'];
     if (error instanceof Trap) return ['trap', error.message];
     const trap = trapNamed(error);
     if (trap) return ['trap', trap];

@@ -21,7 +21,12 @@ export const startsOf = (bytes, starts) => {
   return starts.map((start) => unsignedStart(start, parameters));
 };
 
-/** Refuses options that do not go together. */
+/**
+ * Refuses options that do not go together.
+ *
+ * @param {{ mode: string, wrong?: string | null }} options
+ * @param {unknown[]} starts
+ */
 export function refuseOptions({ mode, wrong }, starts) {
   if (!MODES.includes(mode)) throw new UserError(`mode ${mode}: the modes are ${MODES.join(', ')}`);
   if (wrong && !WRONG.includes(wrong)) throw new UserError(`--wrong ${wrong}: expected ${WRONG.join(', ')}`);
@@ -100,15 +105,18 @@ export class Recorder {
     this.scheduler.begin(seed, items, this.options.events);
     const limit = Math.max(1, Math.floor(this.options.events / this.starts.length));
     const answers = await Promise.all(this.threads.map(({ ask }, thread) => ask({ args: this.args[thread], limit })));
-    const ends = answers.map((answer) => answer.end);
-    const isOpen = this.options.mode === 'free';
-    // A free round is run again at once, for its events, since that uses the memory.
-    const document = isOpen ? this.openDocument(answers, ends, limit) : this.document(answers);
-    return { ends, document, isOpen, turns: isOpen ? [] : this.scheduler.made() };
+    if (this.options.mode === 'free') return this.openRound(answers, limit);
+    return { ends: answers.map(({ end }) => end), document: this.document(answers), isOpen: false, turns: this.scheduler.made() };
   }
 
-  openDocument(answers, ends, limit) {
-    return eventsAlone(this.started(answers.map(({ values }, thread) => this.eventsOf(values, limit, thread))), ends);
+  /**
+   * A free round. It is run again at once, for its events, since that uses the memory. A thread that was cut after the last read of
+   * its share may have had nothing left to do but to end: then the second run ends.
+   */
+  openRound(answers, limit) {
+    const runs = answers.map(({ values }, thread) => this.runAgain(values, limit, thread));
+    const ends = answers.map(({ end, values }, thread) => (values.length === limit ? runs[thread].end : end));
+    return { ends, document: eventsAlone(this.started(runs.map(({ events }) => events)), ends), isOpen: true, turns: [] };
   }
 
   document(answers) {
@@ -120,16 +128,16 @@ export class Recorder {
     return threads.map((events, thread) => ({ start: this.starts[thread], events }));
   }
 
-  /** The events of a free round's thread, by running it again on the values that it read, of which there are at most `limit`. */
-  eventsOf(values, limit, thread) {
+  /** The events and the end of a free round's thread that is run again on the values that it read, of which there are at most `limit`. */
+  runAgain(values, limit, thread) {
     const events = [];
     const { bytes } = this.hooked;
     const { hooks } = again({ values, limit, size: bytes.length, events });
     const before = bytes.slice();
-    const run = this.hooked.instance(hooks).exports[this.starts[thread].name];
+    const run = /** @type {Function} */ (this.hooked.instance(hooks).exports[this.starts[thread].name]);
     bytes.set(before);
-    endOf(() => run(...this.args[thread]));
-    return events;
+    const end = endOf(() => run(...this.args[thread]));
+    return { events, end };
   }
 
   async close() {

@@ -1,33 +1,45 @@
 /** The page of a campaign: one static HTML file with everything in it, made of the data of each campaign in its folder. */
 
+import { createHash } from 'node:crypto';
 import { readFileSync, readdirSync, writeFileSync } from 'node:fs';
 import { basename, join, relative } from 'node:path';
 import { withFile } from './errors.mjs';
 import { makeFolder } from './kept.mjs';
+import { isFault, trapLine } from './outcomes.mjs';
 
 const ESCAPES = { '&': '&amp;', '<': '&lt;', '>': '&gt;', '"': '&quot;' };
 const escaped = (value) => `${value}`.replace(/[&<>"]/g, (character) => ESCAPES[character]);
 
-/** The name of a campaign's files: its program, mode and engine. */
-export function campaignName({ mode, engine }, module) {
-  return `${basename(module, '.wasm').replace(/[^\w.-]/g, '_')}-${mode}-${engine}`;
-}
-
 const startText = ({ name, args }) => [name, ...args].join(':');
+
+/**
+ * The name of a campaign's files: its program, mode, engine, and a checksum of all that makes it another campaign: the module's
+ * bytes, the starts, the mode, the engine and how it is wrong, and the conditions.
+ *
+ * @param {Record<string, any>} options
+ * @param {Uint8Array} bytes
+ */
+export function campaignName({ module, starts, mode, engine, wrong = null, conditions }, bytes) {
+  const key = [starts.map(startText), mode, engine, wrong, conditions.map(({ kind, text }) => [kind, text])];
+  const sum = createHash('sha256').update(JSON.stringify(key)).update('\0').update(bytes);
+  return `${basename(module, '.wasm').replace(/[^\w.-]/g, '_')}-${mode}-${engine}-${sum.digest('hex').slice(0, 12)}`;
+}
 
 /** What the page has to know of a campaign, as JSON. */
 async function dataOf(folder, campaign) {
-  const { options, results, recorder, judge, conditions, kept, stop } = campaign;
-  const { module, starts, mode, engine, wrong, rounds, events, seed } = options;
+  const { options, results, recorder, judge, conditions, traps, kept, stop } = campaign;
+  const { name, module, bytes, starts, mode, engine, wrong, rounds, events, seed } = options;
   const wmlab = await judge.version();
   return {
-    name: campaignName(options, module), program: basename(module), starts: starts.map(startText), mode, engine, wrong, events, seed,
+    name, program: basename(module), checksum: createHash('sha256').update(bytes).digest('hex'),
+    starts: starts.map(startText), mode, engine, wrong, events, seed,
     rounds, checked: results.checked, isStopped: Boolean(stop.requested), version: recorder.version, wmlab,
     date: new Date().toISOString().slice(0, 16).replace('T', ' '), isAllowed: !results.bad,
-    outcomes: results.outcomes.rows(), verdicts: results.verdicts.rows(),
-    conditions: conditions.map(({ line, fails }) => ({ line, fails })),
+    outcomes: results.outcomes.rows(), faults: results.outcomes.rows().map(([outcome]) => outcome).filter((outcome) => isFault(conditions, outcome)),
+    verdicts: results.verdicts.rows(),
+    conditions: conditions.map(({ line, fails }) => ({ line, fails })), traps: traps.map(trapLine),
     kept: kept.map(({ path, number, outcome, line, explanation, svg }) => (
-      { path: relative(folder, path), number, outcome, line, explanation, svg })),
+      { path: relative(folder, path), number, outcome, fails: isFault(conditions, outcome), line, explanation, svg })),
   };
 }
 
@@ -46,6 +58,7 @@ code, summary { overflow-wrap: anywhere; }
 .bar div { background: var(--bar); height: 1.1rem; min-width: 1px; }
 .bad { color: var(--bad); font-weight: 600; }
 .good { color: var(--good); }
+.hex { opacity: .7; }
 details { border: 1px solid var(--line); border-radius: .3rem; margin: .4rem 0; padding: .3rem .6rem; }
 summary { cursor: pointer; }
 pre { font-size: .85rem; white-space: pre-wrap; }
@@ -55,6 +68,13 @@ pre { font-size: .85rem; white-space: pre-wrap; }
 `;
 
 const isGood = (line) => line.startsWith('allowed');
+
+/** An outcome with its values in hex beside it, if one of them has another digit there. */
+function outcomeText(outcome, isRight = true) {
+  const hex = outcome.replace(/\d{2,}/g, (value) => `0x${BigInt(value).toString(16)}`);
+  const code = `<code${isRight ? '' : ' class="bad"'}>${escaped(outcome)}</code>`;
+  return hex === outcome ? code : `${code} <code class="hex">${escaped(hex)}</code>`;
+}
 const marked = (isRight, text) => `<span class="${isRight ? 'good' : 'bad'}">${escaped(text)}</span>`;
 
 function bars(rows, textOf) {
@@ -69,9 +89,10 @@ function bars(rows, textOf) {
 /** The picture of a kept log without the prologue of its file. */
 const pictureOf = (svg) => `<div class="picture">${svg.slice(Math.max(0, svg.indexOf('<svg')))}</div>`;
 
-function keptPart({ path, number, outcome, line, explanation, svg }) {
+function keptPart({ path, number, outcome, fails, line, explanation, svg }) {
   const which = /-shrunk\.json$/.test(path) ? ', smaller run' : '';
-  return `<details><summary>round ${number}${which}: outcome <code>${escaped(outcome)}</code>, ${marked(isGood(line), line)}</summary>
+  const condition = fails ? `, ${marked(false, 'a condition fails')}` : '';
+  return `<details><summary>round ${number}${which}: outcome ${outcomeText(outcome, !fails)}${condition}, ${marked(isGood(line), line)}</summary>
 <p>Log: <a href="${escaped(encodeURI(path))}">${escaped(path)}</a></p>
 <pre>${escaped(explanation)}</pre>
 ${svg ? pictureOf(svg) : '<p>No picture.</p>'}</details>`;
@@ -81,28 +102,37 @@ ${svg ? pictureOf(svg) : '<p>No picture.</p>'}</details>`;
 function campaignPart(data) {
   const rounds = `${data.checked} of ${data.rounds} rounds${data.isStopped ? ', stopped' : ''}`;
   const limits = `${rounds}, at most ${data.events} events, seed ${data.seed}`;
+  const { faults = [], traps = [] } = data; // earlier pages have none
   const conditions = data.conditions.map(({ line, fails }) => `<li>${marked(!fails, line)}</li>`).join('');
+  const trapItems = traps.map((line) => `<li>${escaped(line)}</li>`).join('');
   return `<h2 id="${escaped(data.name)}">${escaped(data.program)}, ${escaped(data.mode)}, ${escaped(data.engine)}</h2>
 <p>Threads: ${data.starts.map((start) => `<code>${escaped(start)}</code>`).join(' ')}. ${escaped(limits)}.
 ${data.wrong ? `<span class="bad">The engine is wrong on purpose: ${escaped(data.wrong)}.</span>` : ''}
+Module: SHA-256 <code>${escaped(data.checksum ?? 'unknown')}</code>.
 Engine: ${escaped(data.version)}. Checked by ${escaped(data.wmlab)} on ${escaped(data.date)} UTC.</p>
-<h3>Outcomes</h3>${bars(data.outcomes, (text) => `<code>${escaped(text)}</code>`)}
+<h3>Outcomes</h3>${bars(data.outcomes, (text) => outcomeText(text, !faults.includes(text)))}
 <h3>Verdicts</h3>${bars(data.verdicts, (text) => marked(isGood(text), text))}
 ${conditions ? `<h3>Conditions</h3><ul>${conditions}</ul>` : ''}
+${trapItems ? `<h3>Traps that no condition names</h3><ul>${trapItems}</ul>` : ''}
 <h3>Kept logs</h3>${data.kept.map(keptPart).join('\n') || '<p>None.</p>'}`;
 }
 
-/** What came of a campaign in a few words: its verdicts, and the conditions that failed. */
-function resultOf({ isAllowed, conditions }) {
+/** What came of a campaign in a few words: its verdicts, the conditions that failed, and the traps that none names. */
+function resultOf({ isAllowed, conditions, traps = [] }) {
+  const counted = (count, thing) => `${count} ${thing}${count === 1 ? '' : 's'}`;
   const failed = conditions.filter(({ fails }) => fails).length;
-  const verdicts = marked(isAllowed, isAllowed ? 'all allowed' : 'not all allowed');
-  return failed ? `${verdicts}, ${marked(false, `${failed} ${failed === 1 ? 'condition' : 'conditions'} failed`)}` : verdicts;
+  return [
+    marked(isAllowed, isAllowed ? 'all allowed' : 'not all allowed'),
+    ...(failed ? [marked(false, `${counted(failed, 'condition')} failed`)] : []),
+    ...(traps.length ? [counted(traps.length, 'unnamed trap')] : []),
+  ].join(', ');
 }
 
 function overview(all) {
-  const row = (data) => `<tr><td><a href="#${escaped(data.name)}">${escaped(data.program)}</a></td><td>${resultOf(data)}</td>`
+  const row = (data) => `<tr><td><a href="#${escaped(data.name)}">${escaped(data.program)}</a></td>`
+    + `<td><code>${escaped(data.starts.join(' '))}</code></td><td>${resultOf(data)}</td>`
     + `<td>${escaped(data.mode)}</td><td>${escaped(data.engine)}</td><td>${data.checked}</td><td>${data.outcomes.length}</td></tr>`;
-  const heads = ['Program', 'Result', 'Mode', 'Engine', 'Logs', 'Outcomes'].map((head) => `<th>${head}</th>`).join('');
+  const heads = ['Program', 'Threads', 'Result', 'Mode', 'Engine', 'Logs', 'Outcomes'].map((head) => `<th>${head}</th>`).join('');
   return `<div class="wide"><table><tr>${heads}</tr>${all.map(row).join('\n')}</table></div>`;
 }
 

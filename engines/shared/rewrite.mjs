@@ -2,7 +2,8 @@
  * Rewrites a module so that its accesses can be recorded. Its memory becomes an import, and
  *
  * - in the style `hooked` each access becomes a call of a function `recorder.<access>(address, operands.., offset)`;
- * - in the style `noted` accesses stay as they are, and each value that one reads goes through `recorder.note_<type>`.
+ * - in the style `noted` accesses stay as they are, each value that one reads goes through `recorder.note_<type>`, and each loop
+ *   calls `recorder.rest` at its head.
  *
  * In both, a call while 256 calls are active ends the thread (V8 allows more), and so does a thread that enters too many
  * loops and functions without an end (`recorder.exhausted`, `recorder.tired`).
@@ -14,6 +15,8 @@ import { ACCESSES, accessOf, opcode, operandsOf, plainOf, reads, resultsOf } fro
 const VALUE_TYPE = { i32: 0x7f, i64: 0x7e };
 const FUNCTION = 0, MEMORY = 2;
 const ACTIVE_CALLS = 256;
+/** How many loops and functions a thread may enter. */
+export const MOST_TURNS = 20_000;
 
 const functionType = (params, results) => {
   const types = (list) => vector(list.map((type) => [VALUE_TYPE[type]]));
@@ -31,19 +34,20 @@ function limitsOf(reader) {
 
 /** The memory, imported or not. Nothing else may be imported. */
 function outside(sections) {
-  const found = { memory: null, isImported: false };
+  /** @type {wmlab.ImportedMemory | null} */
+  let memory = null;
+  let isImported = false;
   const imports = sections.get(SECTION.imports)?.();
   for (let left = imports?.u32() ?? 0; left > 0; left--) {
     const module = imports.name();
     const item = imports.name();
     if (imports.byte() !== MEMORY) throw new NotRecorded('an import that is not a memory');
-    found.memory = { module, name: item, ...limitsOf(imports) };
-    found.isImported = true;
+    memory = { module, name: item, ...limitsOf(imports) };
+    isImported = true;
   }
   const own = sections.get(SECTION.memories)?.();
-  if (own && own.u32() > 0) found.memory = { module: 'recorder', name: 'memory', ...limitsOf(own) };
-  found.memory ??= { module: 'recorder', name: 'memory', bytes: [3, 0, 0], initial: 0, maximum: 0 };
-  return found;
+  if (own && own.u32() > 0) memory = { module: 'recorder', name: 'memory', ...limitsOf(own) };
+  return { memory: memory ?? { module: 'recorder', name: 'memory', bytes: [3, 0, 0], initial: 0, maximum: 0 }, isImported };
 }
 
 /** The functions that are imported for the hooks, in the order in which they are first used. */
@@ -61,7 +65,11 @@ class Hooks {
 /** Rewrites the code of a module's functions. */
 class CodeRewriter {
   constructor({ hooks, style, wrong, shift, firstGlobal, limit }) {
-    Object.assign(this, { hooks, style, wrong, shift, limit });
+    this.hooks = hooks;
+    this.style = style;
+    this.wrong = wrong;
+    this.shift = shift;
+    this.limit = limit;
     this.depth = firstGlobal;
     this.turns = firstGlobal + 1;
   }
@@ -82,6 +90,11 @@ class CodeRewriter {
   /** The code at the head of each loop and function. */
   turn() {
     return [...this.add(this.turns, 1), ...this.endAt(this.turns, this.limit, 'tired')];
+  }
+
+  /** The code at the head of each loop at which a thread that spins may rest. */
+  rest() {
+    return this.style === 'noted' ? [OP.call, ...u32(this.hooks.number('rest', [], []))] : [];
   }
 
   call(index) {
@@ -115,7 +128,7 @@ class CodeRewriter {
     if (first === OP.call) return this.call(reader.u32());
     skipImmediates(reader, first);
     const same = [...reader.bytes.subarray(at, reader.at)];
-    return first === OP.loop ? [...same, ...this.turn()] : same;
+    return first === OP.loop ? [...same, ...this.turn(), ...this.rest()] : same;
   }
 
   /** A function's locals and code, with their size. */
@@ -179,7 +192,7 @@ function parametersOf(sections, functions) {
  * A module rewritten in a style, with what a recorder has to know of it: its memory (how it is imported, its limits), and
  * the parameters of its exported functions. With `wrong` the accesses of the style `noted` are made as a wrong engine makes them.
  */
-export function rewrite(bytes, style, { wrong = null, turns = 20_000 } = {}) {
+export function rewrite(bytes, style, { wrong = null, turns = MOST_TURNS } = {}) {
   const sections = sectionsOf(bytes);
   const { memory, isImported } = outside(sections);
   const firstGlobal = sections.get(SECTION.globals)?.().u32() ?? 0;

@@ -1,11 +1,12 @@
 /** Records rounds, has each log judged, and counts outcomes and verdicts. */
 
 import { isCut } from './bound.mjs';
+import { isTired } from './document.mjs';
 import { logsOfRound } from './logs.mjs';
 import { outcomeOf } from './outcomes.mjs';
 import { Table, kindOf } from './table.mjs';
 import { GAVE_UP, verdictOf } from './verdict.mjs';
-import { Stopped } from './wmlab.mjs';
+import { isUsersStop } from './wmlab.mjs';
 
 const AT_ONCE = 4;
 
@@ -17,23 +18,30 @@ function comesFirst(one, other) {
 
 /**
  * The tables of outcomes and verdicts; `bad`, the log to look at first, if one is not allowed: the first by round (a search
- * that gave up is shown only if no log is at fault); `first`, the first round of each outcome; and how many were cut.
+ * that gave up is shown only if no log is at fault); `first`, the first round of each outcome; how many rounds were cut, and in how
+ * many a thread was `tired`.
  */
-class Results {
+export class Results {
   outcomes = new Table();
   verdicts = new Table();
+  /** @type {Map<wmlab.Outcome, wmlab.Found>} */
   first = new Map();
   checked = 0;
   cut = 0;
+  tired = 0;
+  /** @type {wmlab.Found | null} */
   bad = null;
 
+  /** @param {wmlab.Found} found */
   add(found) {
     const { number, outcome, line, ends } = found;
     this.checked++;
     if (isCut(ends)) this.cut++;
+    if (ends.some(isTired)) this.tired++;
     this.outcomes.add(outcome);
     this.verdicts.add(kindOf(line));
-    if (!(this.first.get(outcome)?.number <= number)) this.first.set(outcome, found);
+    const first = this.first.get(outcome);
+    if (!first || first.number > number) this.first.set(outcome, found);
     if (!line.startsWith('allowed') && (!this.bad || comesFirst(found, this.bad) < 0)) this.bad = found;
   }
 
@@ -47,15 +55,28 @@ class Results {
   }
 }
 
-/** The verdict on a round of a recorder; null if it was stopped before. */
+/**
+ * The verdict on a round of a recorder; null if it was stopped before.
+ *
+ * @param {Pick<wmlab.Judge, 'judge' | 'settle'>} judge
+ * @param {Omit<wmlab.Round, 'turns'>} round
+ * @param {Uint8Array} initial
+ * @param {wmlab.Limits} limits
+ * @returns {Promise<wmlab.Answer | null>}
+ */
 export function judgeRound(judge, round, initial, { seconds, stop } = {}) {
   const logs = round.logs ?? logsOfRound(round, initial, { seconds });
-  return verdictOf((document) => judge.judge(document, round.ends), logs, stop);
+  const settle = (document) => judge.settle(document, round.ends, { seconds });
+  return verdictOf((document) => judge.judge(document, round.ends), settle, logs, stop);
 }
 
 /**
  * Records the given number of rounds of a recorder, and has each log judged. `seen` is called with what was found in each round:
  * its number, outcome, document, line and turns, in the order of the answers. `stop.requested` ends it before the next round.
+ *
+ * @param {Pick<wmlab.Recorder, 'round' | 'initial'>} recorder
+ * @param {Pick<wmlab.Judge, 'judge' | 'settle'>} judge
+ * @param {{ rounds: number, seed?: number, seconds?: number, seen?: (found: wmlab.Found) => void, stop?: wmlab.Stop }} options
  */
 export async function recordWith(recorder, judge, { rounds, seed = 1, seconds, seen = () => {}, stop = {} }) {
   const results = new Results();
@@ -66,11 +87,14 @@ export async function recordWith(recorder, judge, { rounds, seed = 1, seconds, s
   };
   let failure = null;
   const fail = (error) => {
-    // Ctrl-C in a terminal reaches the questions too.
-    if (error instanceof Stopped && error.signal === 'SIGINT') stop.requested = true;
+    if (isUsersStop(error)) stop.requested = true;
     else failure ??= error;
   };
+  /** @type {Set<Promise<unknown>>} */
   const asked = new Set();
+  // A search that is under way when the user stops is not waited for.
+  const tick = () => new Promise((resolve) => { setTimeout(resolve, 200); });
+  const fewerThan = async (count) => { while (asked.size >= count && !stop.requested) await Promise.race([...asked, tick()]); };
   for (let number = 0; number < rounds && !stop.requested && !failure; number++) {
     const round = await recorder.round(seed + number);
     const question = judgeRound(judge, round, recorder.initial, { seconds, stop })
@@ -78,11 +102,9 @@ export async function recordWith(recorder, judge, { rounds, seed = 1, seconds, s
       .catch(fail)
       .finally(() => asked.delete(question));
     asked.add(question);
-    if (asked.size >= AT_ONCE) await Promise.race(asked);
+    await fewerThan(AT_ONCE);
   }
-  // A search that is under way when the user stops is not waited for.
-  const tick = () => new Promise((resolve) => { setTimeout(resolve, 200); });
-  while (asked.size && !stop.requested) await Promise.race([...asked, tick()]);
+  await fewerThan(1);
   if (failure) throw failure;
   return results;
 }

@@ -3,11 +3,17 @@
  * of one item, and then fewer items.
  */
 
-/** A schedule as runs of one item, each as [item, count]. */
+/**
+ * A schedule as runs of one item, each as [item, count].
+ *
+ * @param {wmlab.Turn[]} items
+ */
 export function runsOf(items) {
+  /** @type {[wmlab.Turn, number][]} */
   const runs = [];
   for (const item of items) {
-    if (runs.at(-1)?.[0] === item) runs.at(-1)[1]++;
+    const last = runs.at(-1);
+    if (last?.[0] === item) last[1]++;
     else runs.push([item, 1]);
   }
   return runs;
@@ -40,10 +46,20 @@ function* exchanged(items) {
 /**
  * The smallest run that was found, as `attempt` answered it, or null if there is none that is smaller. `attempt(items)` makes a
  * run by a schedule and answers it with the `turns` made, or null if what has to hold does not.
+ *
+ * @template {{ turns: wmlab.Turn[] }} Run
+ * @param {wmlab.Turn[]} items
+ * @param {(items: wmlab.Turn[]) => Run | null | Promise<Run | null>} attempt
+ * @param {wmlab.Limits} limits
+ * @returns {Promise<Run | null>}
  */
 export async function shrink(items, attempt, { tries = 1_000, seconds = 20, stop = {} } = {}) {
   const end = performance.now() + 1000 * seconds;
-  let best = { turns: items }, found = null, left = tries;
+  /** @type {{ turns: wmlab.Turn[] }} */
+  let best = { turns: items };
+  /** @type {Run | null} */
+  let found = null;
+  let left = tries;
   const improve = async (candidates) => {
     for (const candidate of candidates) {
       if (left-- <= 0 || performance.now() > end || stop.requested) return false;

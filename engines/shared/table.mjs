@@ -1,5 +1,6 @@
 /** Counts strings. */
 export class Table {
+  /** @type {Map<string, number>} */
   counts = new Map();
 
   add(text) {
@@ -12,7 +13,11 @@ export class Table {
     return [...this.counts].sort(([one, a], [other, b]) => b - a || (one < other ? -1 : 1));
   }
 
-  /** The rows as lines; `more(text)` is put at the end of each. */
+  /**
+   * The rows as lines; `more(text)` is put at the end of each.
+   *
+   * @param {(text: string) => string} [more]
+   */
   lines(more = () => '', most = 20) {
     const rows = this.rows();
     const shown = rows.slice(0, most).map(([text, count]) => `${String(count).padStart(8)}  ${text}${more(text)}`);

@@ -14,7 +14,8 @@ function partsOfEvent([kind, order, address, width, ...values], isWeak) {
 /** A state: the bytes of the memory, and for each thread its next event, the parts of it that were read, and its waiting stores. */
 class State {
   constructor(memory, threads) {
-    Object.assign(this, { memory, threads });
+    this.memory = memory;
+    this.threads = threads;
   }
 
   copy() {
@@ -82,8 +83,7 @@ export function hasRun(threads, size, { isWeak = false } = {}) {
   const start = new State(Array(size).fill(0), threads.map(() => ({ next: 0, taken: [], waiting: [] })));
   const seen = new Set([start.key()]);
   const open = [start];
-  while (open.length) {
-    const state = open.pop();
+  for (let state = open.pop(); state; state = open.pop()) {
     if (state.threads.every(({ next }, thread) => next === events[thread].length)) return true;
     for (const [thread] of threads.entries()) {
       for (const after of movesOf(state, events[thread], thread)) {

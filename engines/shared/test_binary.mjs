@@ -2,10 +2,15 @@
 
 import { Reader, s32, skipImmediates, u32 } from './binary.mjs';
 
-/** Numbers with their bytes, without a sign and as the immediate of an `i32.const`. */
+/**
+ * Numbers with their bytes, without a sign and as the immediate of an `i32.const`.
+ *
+ * @type {[number, number[]][]}
+ */
 const UNSIGNED = [
   [0, [0]], [127, [0x7f]], [128, [0x80, 1]], [16_383, [0xff, 0x7f]], [16_384, [0x80, 0x80, 1]], [0xffff_ffff, [0xff, 0xff, 0xff, 0xff, 0x0f]],
 ];
+/** @type {[number, number[]][]} */
 const SIGNED = [
   [0, [0]], [63, [0x3f]], [64, [0xc0, 0]], [-1, [0x7f]], [-64, [0x40]], [-65, [0xbf, 0x7f]], [8_191, [0xff, 0x3f]], [8_192, [0x80, 0xc0, 0]],
   [0x7fff_ffff, [0xff, 0xff, 0xff, 0xff, 7]], [-0x8000_0000, [0x80, 0x80, 0x80, 0x80, 0x78]], [0xffff_ffff, [0x7f]],

@@ -7,8 +7,9 @@ import { startThread } from '../node/threads.mjs';
 import { programsOf } from '../testing/programs.mjs';
 import { s32, u32 } from './binary.mjs';
 import { json, parse } from './document.mjs';
-import { endOf } from './modes.mjs';
+import { endOf, free } from './modes.mjs';
 import { MODES, Recorder } from './recorder.mjs';
+import { rewrite } from './rewrite.mjs';
 import { parseStart } from './starts.mjs';
 import { threadOf } from './thread.mjs';
 import { CONTROL, CONTROL_WORDS, MOST_ITEMS, Scheduler } from './turns.mjs';
@@ -21,7 +22,14 @@ function ownThread(data) {
   return { ask: async (question) => round(question), close() {} };
 }
 
-/** One round of one thread: its document, its end, and its events without their writers. */
+/**
+ * One round of one thread: its document, its end, and its events without their writers.
+ *
+ * @param {Uint8Array} bytes
+ * @param {wmlab.Start} start
+ * @param {string} mode
+ * @param {{ events?: number, wrong?: string | null }} more
+ */
 export async function runAlone(bytes, start, mode, { events = 600, wrong = null } = {}) {
   const { document, ends } = await new Recorder(bytes, [start], { mode, events, wrong }, ownThread).round(1);
   const values = parse(document)[2][0][4].map((event) => json(event[0] === 'w' ? event : event.slice(0, -1)));
@@ -30,7 +38,7 @@ export async function runAlone(bytes, start, mode, { events = 600, wrong = null 
 
 /** Whether a thread had the same end and events in two modes; if one was cut, the other one may have gone on. */
 function isSameRun(one, other) {
-  const isCut = [one, other].some(({ end }) => end === '["cut"]');
+  const isCut = [one, other].some(({ end }) => end.startsWith('["cut"'));
   const count = isCut ? Math.min(one.events.length, other.events.length) : Infinity;
   return (isCut || one.end === other.end) && one.events.slice(0, count).join() === other.events.slice(0, count).join();
 }
@@ -114,7 +122,7 @@ async function testAccesses({ note }) {
   const difference = await differenceOf(bytes, start);
   const { events, end } = await runAlone(bytes, start, 'locked');
   const wrong = PLACES.findIndex((place, k) => !events[k]?.startsWith(beginningOf(place)));
-  const sum = BigInt.asUintN(64, new WebAssembly.Instance(new WebAssembly.Module(bytes)).exports.a());
+  const sum = BigInt.asUintN(64, /** @type {Function} */ (new WebAssembly.Instance(new WebAssembly.Module(bytes)).exports.a)());
   const holds = !difference && wrong < 0 && events.length === PLACES.length && end === `["done",[${sum}]]`;
   note(holds, `${PLACES.length} accesses of ${ACCESSES.length} kinds are the same in each mode, and those of the engine`, `${difference} ${wrong}`);
 }
@@ -159,6 +167,7 @@ const SCHEDULES = [
       [[0, 0], [1, 0], [1, 1], [0, 1]]), 'done:287454020 done:3148493636'],
 ];
 const ATOMIC = ['["w","un",0,4,1]', '["w","sc",4,4,2]', '["x","sc",4,4,2,7,[[0,1],[0,1],[0,1],[0,1]]]'];
+/** @type {any[][]} */
 const ATOMIC_ALONE = [
   ['an atomic access publishes all that waits', { mode: 'buffered' }, [0, 0, 1, 0], [0, 0, 0],
     log([['atomic', ...ATOMIC]], [[0, 0], [0, 1], [0, 2]]), 'done:2'],
@@ -167,6 +176,7 @@ const ATOMIC_ALONE = [
 ];
 
 const READ = log([['reading', '["w","un",0,4,1]', '["r","sc",0,4,1,[[0,0],[0,0],[0,0],[0,0]]]']], [[0, 0], [0, 1]]);
+/** @type {any[][]} */
 const READING_ALONE = [
   ['an atomic load publishes all that waits', { mode: 'buffered' }, [0, 0, 1], [0, 0], READ, 'done:1'],
   ['an atomic load that is made as a plain one does not', { mode: 'buffered', wrong: 'plain-atomics' }, [0, 0, 1], [0, 0, 1], READ, 'done:1'],
@@ -223,7 +233,7 @@ export const COUNTING = moduleOf({
 });
 /** 256 calls may be active, of which the start is one; and 20,000 heads of functions and loops are passed. */
 const COUNTS = [
-  ['calls:255', '["done",[]]'], ['calls:256', '["trap","exhausted"]'], ['loops:19998', '["done",[]]'], ['loops:19999', '["cut"]'],
+  ['calls:255', '["done",[]]'], ['calls:256', '["trap","exhausted"]'], ['loops:19998', '["done",[]]'], ['loops:19999', '["cut","tired"]'],
 ];
 
 async function testCounts({ note }) {
@@ -313,14 +323,56 @@ const STORING = moduleOf({
   ],
 });
 
+/** Threads that load once, and then end, store, trap, or load past the end of the memory. */
+const AFTER_A_READ = moduleOf({
+  functions: Object.entries({ ends: [], stores: [0x41, 0, 0x41, 7, 0x36, 2, 0], traps: [0x00], leaves: [0x41, 0x7f, 0x28, 2, 0, 0x1a] })
+    .map(([exported, more]) => ({ code: [0x41, 0, 0x28, 2, 0, 0x1a, ...more], exported })),
+});
+const UNREACHABLE = '["trap","unreachable"]';
+
 /** A thread is cut right after the last read of its share. One that stores until it is cut has all of its stores in the log. */
 async function testCuts({ note }) {
   const both = await runAlone(STORING, parseStart('both'), 'free', { events: 4 });
   note(both.events.length === 7 && both.end === '["cut"]', 'free: a thread is cut after its last read', both.events.join());
   const stores = await runAlone(STORING, parseStart('stores'), 'free', { events: 4 });
   const count = stores.events.length;
-  const isWhole = count === 1 + 19_998 && stores.end === '["cut"]';
+  const isWhole = count === 1 + 19_998 && stores.end === '["cut","tired"]';
   note(isWhole, `free: the stores after the last read of a thread that is cut are in the log: ${count} events`);
+  const ends = await Promise.all(['ends', 'stores', 'traps', 'leaves'].map(async (name) => (
+    (await runAlone(AFTER_A_READ, parseStart(name), 'free', { events: 1 })).end)));
+  const expected = ['["done",[]]', '["cut"]', UNREACHABLE, OUTSIDE];
+  note(ends.join() === expected.join(), 'free: a thread whose last read is the last of its share ends as it would', ends.join());
+}
+
+/** How often a thread in the mode free sleeps, while a function calls its hooks. */
+function napsOf(call) {
+  const { wait } = Atomics;
+  let count = 0;
+  Atomics.wait = /** @type {typeof wait} */ (() => { count++; return 'timed-out'; });
+  try {
+    const { hooks } = free({ limit: 1_000, values: [], wrong: null, native: {}, control: new Int32Array(CONTROL_WORDS) });
+    call(hooks);
+  } finally {
+    Atomics.wait = wait;
+  }
+  return count;
+}
+
+/** A thread that reads the same values again sleeps at the head of its next loop, once for a read, and never right after a read. */
+function testNaps({ note }) {
+  const read = (hooks, values) => values.forEach((value) => hooks.note_i32(value));
+  const same = Array(40).fill(7);
+  const naps = [
+    napsOf((hooks) => read(hooks, same)),
+    napsOf((hooks) => { read(hooks, same); hooks.rest(); hooks.rest(); }),
+    napsOf((hooks) => { read(hooks, same.slice(0, 33)); hooks.rest(); }),
+    napsOf((hooks) => { read(hooks, [...same, 8]); hooks.rest(); }),
+    napsOf((hooks) => same.forEach((value) => { read(hooks, [value]); hooks.rest(); })),
+  ];
+  note(naps.join() === '0,1,0,0,7', 'free: a thread that spins sleeps at the heads of its loops', naps.join());
+  const calls = (bytes) => WebAssembly.Module.imports(new WebAssembly.Module(bytes)).filter(({ name }) => name === 'rest').length;
+  const [noted, hooked] = ['noted', 'hooked'].map((style) => calls(rewrite(COUNTING, style).bytes));
+  note(noted === 1 && hooked === 0, 'free: loops have a place to sleep, and in no other mode', `${noted} ${hooked}`);
 }
 
 export async function testModes(context) {
@@ -331,6 +383,7 @@ export async function testModes(context) {
   await testSame(context);
   await testTraps(context);
   await testCuts(context);
+  testNaps(context);
   await testSchedules(context);
   await testAlone(context);
 }

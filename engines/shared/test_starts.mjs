@@ -12,7 +12,7 @@ const TAKING = moduleOf({
 const ODDLY_NAMED = moduleOf({ functions: [{ code: [], exported: 'a\nb' }, { code: [], exported: 'c' }] });
 
 /** What cannot be recorded, or is not there, and what the refusal says. */
-const REFUSED = [
+const REFUSED = /** @type {[() => unknown, RegExp][]} */ ([
   [() => startsOf(moduleOf({ functions: [], types: [], memory: null }), [parseStart('a')]), /no function is exported under this name; exported are none$/],
   [() => startsOf(TAKING, [parseStart('none:1:2')]), /^start none:1:2: none takes 0 arguments, and 2 are given; write none$/],
   [() => startsOf(TAKING, [parseStart('two:1')]), /^start two:1: two takes 2 arguments, and 1 is given; write two:I32:I64$/],
@@ -26,7 +26,7 @@ const REFUSED = [
     [() => startsOf(moduleOf({ functions: [{ code, exported: 'a' }] }), []), /^opcode [0-9a-f ]+ cannot be recorded$/])),
   ...[[0, 0], [1, 0x70, 0, 1], [3, 0x7f, 0]].map((item) => (
     [() => startsOf(moduleOf({ functions: [], imports: [[1, 101, 1, 116, ...item]] }), []), /^an import that is not a memory cannot be recorded$/])),
-];
+]);
 
 function testRefused({ note }) {
   const saysSo = ([action, pattern]) => {

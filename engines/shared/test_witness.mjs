@@ -82,10 +82,13 @@ function randomFrom(seed) {
 /** A run of a machine with store buffers and torn accesses over some places, with random moves; values are 0, 1 or 257. */
 class RandomRun {
   constructor(seed, threads, length, { places = 16, widths = [1, 2, 4, 8] } = {}) {
-    Object.assign(this, { places, widths });
+    this.places = places;
+    this.widths = widths;
     this.random = randomFrom(seed);
     this.memory = new Uint8Array(24);
+    /** @type {{ address: number, bytes: number[], parts: number[][] }[][]} */
     this.buffers = Array.from({ length: threads }, () => []);
+    /** @type {wmlab.LogEvent[][]} */
     this.threads = this.buffers.map(() => []);
     while (this.threads.some((events) => events.length < length)) {
       const thread = this.random(threads);
@@ -212,17 +215,18 @@ async function testAllRuns({ note }) {
 
 export async function testWitness({ note, wmlab }) {
   const weak = [[store(0, 1), load(4, 0)], [store(4, 1), load(0, 0)]];
+  const weakest = await first(weak);
   note(
-    (await rulesOn(wmlab, weak, await first(weak))).startsWith('allowed'),
+    weakest !== null && (await rulesOn(wmlab, weak, weakest)).startsWith('allowed'),
     'a witness of weak store buffering is found and allowed',
   );
 
   const none = await search(LOAD_BUFFERING);
-  note(none.list.length === 0 && none.end.gaveUp === null, 'it is certain that store buffers do not give load buffering');
+  note(none.list.length === 0 && none.end?.gaveUp === null, 'it is certain that store buffers do not give load buffering');
   const limited = await search([[store(0, 1)], [store(0, 2)], [1, 2, 1].map((value) => load(0, value))], { steps: 0 });
-  note(limited.list.length === 0 && limited.end.gaveUp === '0 steps', 'a search that ends at its limit of steps gives up');
+  note(limited.list.length === 0 && limited.end?.gaveUp === '0 steps', 'a search that ends at its limit of steps gives up');
   const late = await search(contended(60), { seconds: 0.01 });
-  note(late.list.length === 0 && / seconds$/.test(late.end.gaveUp ?? ''), 'a search that ends at its limit of time gives up');
+  note(late.list.length === 0 && / seconds$/.test(late.end?.gaveUp ?? ''), 'a search that ends at its limit of time gives up');
 
   note((await first(longRun(16_384)))?.order.length === 16_384, '16,384 events are explained');
   for (const address of [60, 64, 67]) {

@@ -14,7 +14,7 @@ export function threadOf(data) {
     const { hooks, finish } = { locked, buffered, free }[mode]({ ...shared, events, values, limit });
     const imports = { recorder: { ...hooks } };
     (imports[importedAs.module] ??= {})[importedAs.name] = memory;
-    const run = new WebAssembly.Instance(module, imports).exports[start];
+    const run = /** @type {Function} */ (new WebAssembly.Instance(module, imports).exports[start]);
     // All threads begin together.
     Atomics.add(control, CONTROL.ready, 1);
     while (Atomics.load(control, CONTROL.ready) < threads);

@@ -35,7 +35,10 @@ export function nextRandom(control) {
 /** Chooses the next item, for the one thread that has the turn. */
 export class Scheduler {
   constructor({ threads, turn, control, schedule }) {
-    Object.assign(this, { threads, turn, control, schedule });
+    this.threads = threads;
+    this.turn = turn;
+    this.control = control;
+    this.schedule = schedule;
   }
 
   random(below) {
@@ -104,13 +107,18 @@ export class Scheduler {
 export class Turns {
   constructor(env, publish = () => {}) {
     this.scheduler = new Scheduler(env);
+    /** @type {Int32Array} */
     this.control = env.control;
     this.thread = env.thread;
     this.publish = publish;
     this.hasTurn = false;
   }
 
-  /** Waits for an item of this thread's; answers null if the schedule is over. */
+  /**
+   * Waits for an item of this thread's; answers null if the schedule is over.
+   *
+   * @returns {wmlab.Turn | null}
+   */
   wait() {
     const { control, thread } = this;
     for (let spins = 0; ; spins++) {

@@ -1,28 +1,30 @@
-/** The verdict on a round: that on its log, or on the witnesses of its events, one after the other. */
+/**
+ * The verdict on a round: that on its log, or on the logs of its events that a search finds, one after the other. If a rule refuses
+ * each, or there is none, `wmlab witness` is asked: it alone says that the rules do not permit the values.
+ */
 
 /** The beginning of the line of a round whose search ended at a limit. The line says nothing about the engine. */
 export const GAVE_UP = 'no witness found';
 
-/** The line of a round whose events no interleaving of the machines of `witness.mjs` gives. */
-export const NONE_EXISTS = 'no witness exists on a machine with store buffers';
+/** The beginning of the line of a round whose values the rules do not permit, whatever the writers and the order: as `witness` prints it. */
+export const NO_WITNESS = 'no witness threads=';
 
 /** Whether a rule refuses a log with its witness. Another witness of the same events may be allowed. */
 const isBrokenByRule = (line) => /^broken V\d/.test(line);
 
 /**
- * The first answer to a round's logs that another witness cannot change; null if it was stopped before. `logs` yields
- * documents of the same events, and at its end answers why there is no further one: null if the last one was the only one,
- * else a document of the events alone with a line.
+ * The answer to a round that another witness cannot change; null if it was stopped before. `logs` yields documents of the same
+ * events, and at its end answers a document of the events alone if there is none, else null.
  *
- * A round counts as broken only if each of its logs is, and if no search gave up where an engine that is right is found.
- * `judge` answers a document and its line.
+ * `judge` answers a document and its line. `settle` does the same for a document whose witness does not count: it asks the rules. The
+ * first log that a rule refuses is what is kept of events without a witness, since it can be explained.
  */
-export async function verdictOf(judge, logs, stop = {}) {
+export async function verdictOf(judge, settle, logs, stop = {}) {
   let broken = null;
   while (!stop.requested) {
     const { value, done } = await logs.next();
     if (stop.requested) break;
-    if (done) return value && (!broken || value.line.startsWith(GAVE_UP)) ? value : broken;
+    if (done) return settle(broken ? broken.document : value);
     const answer = await judge(value);
     if (!isBrokenByRule(answer.line)) return answer;
     broken ??= answer;

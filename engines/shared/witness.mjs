@@ -25,7 +25,8 @@ function jitterFrom(seed) {
 /** What all searches of a round may use together. */
 class Budget {
   constructor({ steps = STEPS, seconds = 20 } = {}) {
-    Object.assign(this, { steps, seconds });
+    this.steps = steps;
+    this.seconds = seconds;
     this.milliseconds = 1000 * seconds;
   }
 

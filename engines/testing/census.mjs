@@ -1,4 +1,5 @@
-#!/usr/bin/env node
+#!/bin/sh
+':' //; command -v node >/dev/null || { echo "${0##*/}: node is not installed (Debian: nodejs)" >&2; exit 2; }; exec node "$0" "$@"
 /** Counts the verdicts on many logs of each program of examples/, in each mode of an engine. `--help` prints the usage. */
 
 import { fileURLToPath } from 'node:url';

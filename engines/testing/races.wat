@@ -9,6 +9,15 @@
       (local.set $seen (i32.load (i32.const 0)))
       (br_if $again (local.tee $count (i32.sub (local.get $count) (i32.const 1)))))
     (local.get $seen))
+  ;; As `words`, with another word each time: each of its bytes is BYTE at first, and 2 more than before. So with BYTE 1 and 2 two
+  ;; threads write no byte twice, and the writers of a torn value are known: that it has no witness is seen at once.
+  (func (export "halves") (param $byte i32) (param $count i32) (result i32) (local $seen i32)
+    (loop $again
+      (i32.store (i32.const 0) (i32.mul (local.get $byte) (i32.const 0x01010101)))
+      (local.set $seen (i32.load (i32.const 0)))
+      (local.set $byte (i32.add (local.get $byte) (i32.const 2)))
+      (br_if $again (local.tee $count (i32.sub (local.get $count) (i32.const 1)))))
+    (local.get $seen))
   ;; Stores 1, 2 and so on to COUNT at a place of the thread's own, and loads each. Any other value is a stale load.
   (func (export "numbers") (param $address i32) (param $count i32) (result i32) (local $number i32)
     (loop $again

@@ -9,7 +9,7 @@ const inOneLine = (text) => text.trim().replaceAll(/\s*\n\s*/g, ' | ').slice(0, 
 /** Runs a command to its end. Answers its status (or the signal, or why it was not started) and what it printed. */
 export function run(command, args, options = {}) {
   const { status, signal, error, stdout, stderr } = spawnSync(command, args, { encoding: 'utf8', ...options });
-  return { status: status ?? signal ?? error.code, out: stdout ?? '', err: stderr ?? '' };
+  return { status: status ?? signal ?? error?.code, out: stdout ?? '', err: stderr ?? '' };
 }
 
 /** The text of a file, or nothing if it is not there. */

@@ -1,6 +1,6 @@
 /**
  * Every import of engines/ is of a file that is there, by a name that it exports; also in the scripts that only browsers load. And
- * docs/RECORDING.md names every program in C and Rust, with their counts.
+ * docs/PROGRAMS.md names every program in C and Rust, with their counts.
  */
 
 import { existsSync, readFileSync, readdirSync } from 'node:fs';
@@ -9,7 +9,7 @@ import { fileURLToPath } from 'node:url';
 
 const ENGINES = fileURLToPath(new URL('..', import.meta.url));
 const EXAMPLES = join(ENGINES, '../examples');
-const RECORDING = join(ENGINES, '../docs/RECORDING.md');
+const PROGRAMS = join(ENGINES, '../docs/PROGRAMS.md');
 const IMPORT = /^import (?:\{([^}]*)\} from )?'(\.[^']+)';/gm;
 const DYNAMIC = /import\('(\.[^']+)'\)/g;
 const EXPORT = /^export (?:async )?(?:const|let|class|function\*?) (?:\{([^}]*)\}|(\w+))/gm;
@@ -36,7 +36,7 @@ function faultsOf(script) {
   });
 }
 
-/** The rows of a table in the section of docs/RECORDING.md with this title: the names in their first or second column. */
+/** The rows of a table in the section of docs/PROGRAMS.md with this title: the names in their first or second column. */
 function namesOfSection(page, title, column) {
   const section = page.split(`\n## ${title}\n`)[1].split('\n## ')[0];
   const cells = section.split('\n').filter((line) => line.startsWith('|')).map((line) => line.split('|')[column + 1]);
@@ -51,17 +51,17 @@ function testPrograms({ note }, page, { folder, ending, title, column }) {
   const named = namesOfSection(page, title, column).sort();
   note(
     page.includes(`\`examples/${folder}\` has ${programs.length} programs`) && named.join() === programs.join(),
-    `RECORDING names the ${programs.length} programs of examples/${folder}`,
+    `PROGRAMS names the ${programs.length} programs of examples/${folder}`,
     `named: ${named}; there: ${programs}`,
   );
   return programs.length;
 }
 
 function testPage(context) {
-  const page = readFileSync(RECORDING, 'utf8');
+  const page = readFileSync(PROGRAMS, 'utf8');
   const c = testPrograms(context, page, { folder: 'c', ending: '.c', title: 'C programs', column: 1 });
   const rust = testPrograms(context, page, { folder: 'rust', ending: '.rs', title: 'Rust programs', column: 0 });
-  context.note(page.includes(`all ${c + rust} programs in C and Rust`), `RECORDING states that ${c + rust} programs are recorded`);
+  context.note(page.includes(`all ${c + rust} programs in C and Rust`), `PROGRAMS states that ${c + rust} programs are recorded`);
 }
 
 export function testLinks({ note }) {

@@ -10,12 +10,18 @@ import { RESULTS, WITHOUT_EVENTS, programsOf } from './programs.mjs';
 import { WRONG } from '../shared/recorder.mjs';
 import { recordWith } from '../shared/rounds.mjs';
 import { parseStart } from '../shared/starts.mjs';
+import { NO_WITNESS } from '../shared/verdict.mjs';
 import { Judge } from '../shared/wmlab.mjs';
 
 const EXAMPLES = fileURLToPath(new URL('../../examples', import.meta.url));
 
-/** What is weak: an outcome that no interleaving gives. */
+/**
+ * What is weak: an outcome that no interleaving gives.
+ *
+ * @param {bigint[]} ends
+ */
 const bothAreZero = ([a, b]) => a === 0n && b === 0n;
+/** @param {bigint[]} ends */
 const someTimeBothAreZero = ([a, b]) => (~(a | b) & 0xffffn) !== 0n;
 const WEAK = {
   'store-buffering.wasm': bothAreZero,
@@ -90,23 +96,24 @@ export async function run(program, wmlab, options) {
 const RACES = fileURLToPath(new URL('./races.wasm', import.meta.url));
 const WRONG_STARTS = {
   'plain-atomics': ['pairs:0:50', 'pairs:64:50'],
-  'torn-store': ['words:0x10001:50', 'words:0x20002:50'],
+  'torn-store': ['halves:1:50', 'halves:2:50'],
   'stale-load': ['numbers:0:50', 'numbers:64:50'],
 };
 
-/** Whether an answer is about the engine: a memory rule, or no witness. */
-const isCaught = (line) => /^broken V[1345] |^no witness exists/.test(line);
+/** Whether the rules do not permit what the engine answered. */
+const isCaught = (line) => line.startsWith(NO_WITNESS);
 
 /** The first round in which a wrong engine is caught, with its answer, or null after the given number of rounds. */
 async function firstCaught(how, wmlab, mode, rounds) {
-  let first = null;
+  /** @type {{ number: number, line: string }[]} */
+  const caught = [];
   const stop = { requested: false };
   const seen = ({ number, line }) => {
-    if (isCaught(line)) first ??= { number, line };
-    stop.requested = first !== null;
+    if (isCaught(line)) caught.push({ number, line });
+    stop.requested = caught.length > 0;
   };
-  await record({ path: RACES, starts: WRONG_STARTS[how] }, wmlab, { mode, events: 512, wrong: how, rounds, seen, stop });
-  return first;
+  await record({ name: 'races.wasm', path: RACES, starts: WRONG_STARTS[how] }, wmlab, { mode, events: 512, wrong: how, rounds, seen, stop });
+  return caught[0] ?? null;
 }
 
 /** Plays the engines that are wrong on purpose until they are caught. In the mode free the threads have to meet. */

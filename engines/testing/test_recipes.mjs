@@ -121,6 +121,58 @@ const LARGE = `static volatile char room[1024 * 1024];
 __attribute__((export_name("a"))) char a(int at) { return room[at]++; }
 `;
 
+/** Functions of math.h, and what they give: those of a double, and the others by the names of their exports. */
+const UNARY = { fabs: Math.abs, sqrt: Math.sqrt, floor: Math.floor, ceil: Math.ceil, trunc: Math.trunc, nearbyint: toEven, round: away };
+const BINARY = { fmin: Math.min, fmax: Math.max, copysign: (x, y) => (Object.is(Math.sign(y), -0) || y < 0 ? -Math.abs(x) : Math.abs(x)) };
+const MATH = ['// lower: --soft-floats', '#include <math.h>', ...Object.keys(UNARY).flatMap((name) => [
+  `__attribute__((export_name("${name}"))) double a_${name}(double x) { return ${name}(x); }`,
+  `__attribute__((export_name("${name}f"))) float a_${name}f(float x) { return ${name}f(x); }`,
+]), ...Object.keys(BINARY).map((name) => `__attribute__((export_name("${name}"))) double a_${name}(double x, double y) { return ${name}(x, y); }`),
+'__attribute__((export_name("kind"))) int kind(double x) { return isnan(x) * 4 + isinf(x) * 2 + isfinite(x); }',
+'__attribute__((export_name("lround"))) int a_lround(double x) { return lround(x); }', ''].join('\n');
+const NUMBERS = [0, -0, 0.25, -0.5, 0.5, 1.5, -1.5, 2.5, -2.75, 0.49999999999999994, 1e9 + 0.5, -4, 1e300];
+
+/** The nearest integer: the even one of two, or the one farther from zero. */
+function toEven(x) {
+  const whole = Math.floor(x), part = x - whole;
+  return part < 0.5 || (part === 0.5 && whole % 2 === 0) ? (whole || (x < 0 || Object.is(x, -0) ? -0 : 0)) : (whole + 1 || (x < 0 ? -0 : 0));
+}
+function away(x) {
+  const whole = Math.trunc(x);
+  return Math.abs(x - whole) >= 0.5 ? whole + Math.sign(x) : whole;
+}
+
+/** A function of doubles or floats of a lowered module, which takes and gives their bits. */
+function onNumbers(exported, isSingle) {
+  const view = new DataView(new ArrayBuffer(8));
+  const bits = (x) => (isSingle ? (view.setFloat32(0, x), view.getInt32(0)) : (view.setFloat64(0, x), view.getBigInt64(0)));
+  const number = (given) => (isSingle ? (view.setInt32(0, given), view.getFloat32(0)) : (view.setBigInt64(0, given), view.getFloat64(0)));
+  return { bits, call: (...args) => number(exported(...args.map(bits))) };
+}
+
+/** What math.h has gives the results that JavaScript's functions give. */
+function testMath({ note, room }) {
+  const made = buildSource(room, MATH);
+  const exports = /** @type {Record<string, any>} */ (made.bytes ? new WebAssembly.Instance(new WebAssembly.Module(made.bytes)).exports : {});
+  const wrong = [];
+  const compare = (name, expected, found) => { if (!Object.is(expected, found)) wrong.push(`${name}: ${found}, expected ${expected}`); };
+  for (const x of made.bytes ? NUMBERS : []) {
+    for (const [name, expected] of Object.entries(UNARY)) {
+      compare(`${name} ${x}`, expected(x), onNumbers(exports[name], false).call(x));
+      compare(`${name}f ${x}`, Math.fround(expected(Math.fround(x))), onNumbers(exports[`${name}f`], true).call(x));
+    }
+    for (const [name, expected] of Object.entries(BINARY)) compare(`${name} ${x} -1`, expected(x, -1), onNumbers(exports[name], false).call(x, -1));
+  }
+  if (made.bytes) {
+    const { bits } = onNumbers(exports.kind, false);
+    compare('kinds', '4,2,1', [NaN, -Infinity, 1].map((x) => exports.kind(bits(x))).join());
+    compare('lround', '3,-3,0', [2.5, -2.5, 0.25].map((x) => exports.lround(bits(x))).join());
+    compare('fmin of a NaN', 7, onNumbers(exports.fmin, false).call(NaN, 7));
+    compare('fmax of a NaN', 7, onNumbers(exports.fmax, false).call(7, NaN));
+  }
+  note(made.status === 0 && made.bytes && !wrong.length, `math.h has what C says${wrong.slice(0, 4).map((line) => `; ${line}`).join('')}`, made);
+}
+
 /** Builds a C program of this source; answers what the command did, and the module's bytes if there is one. */
 function buildSource(room, source, environment) {
   const [from, to] = ['program.c', 'program.wasm'].map((name) => join(room, name));
@@ -172,8 +224,9 @@ function testStrippedC({ note, room }) {
   const large = buildSource(room, LARGE);
   note(large.status === 2 && !large.bytes && /17 pages, 1 too many \(Pages\)/.test(large.err), 'a program that is too large is refused, with how much', large);
   const copy = buildSource(room, COPY);
-  const copied = copy.bytes && new WebAssembly.Instance(new WebAssembly.Module(copy.bytes)).exports.a(7);
+  const copied = copy.bytes && /** @type {Function} */ (new WebAssembly.Instance(new WebAssembly.Module(copy.bytes)).exports.a)(7);
   note(copy.status === 0 && copied === 7, 'a C program that copies and fills large structures is built', copy);
+  testMath({ note, room });
   const without = buildSource(room, COPY, { CLANG: join(room, 'none') });
   note(without.status === 2 && !without.bytes && /apt-get install/.test(without.err), 'a missing C compiler is named', without);
 }
@@ -187,7 +240,8 @@ function testStrippedRust({ note, room }) {
   const stripped = build(RUST, source, out, { RUSTC: compiler });
   const isNamed = /atomic accesses plain ones/.test(stripped.err);
   note(stripped.status === 2 && !existsSync(out) && isNamed, 'Rust without atomics is refused, and the cause named', stripped);
-  writeFileSync(compiler, `#!/bin/bash\n[ "$*" = --version ] && exec echo 'rustc 9.9.9'\nexec ${RUSTC} "$@"\n`);
+  const answers = `case $* in --version) exec echo 'rustc 9.9.9' ;; '--print sysroot') exec echo '${room}' ;; esac`;
+  writeFileSync(compiler, `#!/bin/bash\n${answers}\nexec ${RUSTC} "$@"\n`);
   const single = build(RUST, join(EXAMPLES, 'rust', 'std-mutex.rs'), out, { RUSTC: compiler });
   const isAsked = /one thread only .*apt-get install rust-src/.test(single.err);
   note(single.status === 2 && !existsSync(out) && isAsked, 'std\'s locks without the source of std are refused', single);

@@ -42,3 +42,30 @@ size_t strlen(const char *text) {
   while (text[length]) length++;
   return length;
 }
+
+void *memchr(const void *from, int value, size_t count) {
+  const unsigned char *bytes = from;
+  for (size_t i = 0; i < count; i++) {
+    if (bytes[i] == (unsigned char)value) return (void *)(bytes + i);
+  }
+  return 0;
+}
+
+int strncmp(const char *one, const char *other, size_t count) {
+  for (size_t i = 0; i < count; i++) {
+    unsigned char a = (unsigned char)one[i], b = (unsigned char)other[i];
+    if (a != b || a == 0) return a - b;
+  }
+  return 0;
+}
+
+int strcmp(const char *one, const char *other) { return strncmp(one, other, SIZE_MAX); }
+
+char *strchr(const char *text, int value) {
+  for (;; text++) {
+    if (*text == (char)value) return (char *)text;
+    if (!*text) return 0;
+  }
+}
+
+char *strcpy(char *restrict to, const char *restrict from) { return memcpy(to, from, strlen(from) + 1); }

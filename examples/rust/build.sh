@@ -40,7 +40,7 @@ make_library() {
     local rustlib made crate version source args=()
     version=$("$rustc" --version | cut -d' ' -f2)
     rustlib=$("$rustc" --print sysroot)/lib/rustlib
-    source=/usr/src/rustc-$version/library/std/src/lib.rs
+    source=$rustlib/src/rust/library/std/src/lib.rs
     [ ! -d "$library/$version" ] || return 0
     if [ ! -f "$source" ]; then
         echo "build.sh: $1: it uses what the standard library of $rustc has for one thread only (locks," \
@@ -64,7 +64,7 @@ make_library() {
     RUSTC_BOOTSTRAP=1 STD_ENV_ARCH=wasm32 "$rustc" --crate-name std --edition 2021 --crate-type rlib \
         --target "$target" -O -C embed-bitcode=yes -C panic=abort -C codegen-units=1 -C target-cpu=mvp \
         -C target-feature=+atomics,+bulk-memory,+mutable-globals -C metadata=wmlab --cap-lints allow \
-        -Z force-unstable-if-unmarked --cfg backtrace_in_libstd --remap-path-prefix "/usr/src/rustc-$version=." \
+        -Z force-unstable-if-unmarked --cfg backtrace_in_libstd --remap-path-prefix "$rustlib/src/rust=." \
         -L "$made" "${args[@]}" --out-dir "$made" --sysroot "$room/none" "$source"
     mkdir -p "$library"
     mv -T "$room/library" "$library/$version" 2>/dev/null || [ -d "$library/$version" ]

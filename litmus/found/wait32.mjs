@@ -1,4 +1,5 @@
-#!/usr/bin/env node
+#!/bin/sh
+':' //; command -v node >/dev/null || { echo "${0##*/}: node is not installed (Debian: nodejs)" >&2; exit 2; }; exec node "$0" "$@"
 // @ts-check
 /**
  * Whether an engine keeps a local over memory.atomic.wait32 (docs/FOUND.md).
@@ -11,6 +12,7 @@
 
 import { randomUUID } from 'node:crypto';
 import { readFileSync } from 'node:fs';
+import { setTimeout as after } from 'node:timers/promises';
 import { openPage, requireBrowser } from '../../engines/browser/launch.mjs';
 import { serve } from '../../engines/browser/server.mjs';
 import { UserError } from '../../engines/shared/errors.mjs';
@@ -35,7 +37,7 @@ async function inBrowser(kind) {
     'POST /found/answer': (body, query) => { if (query.get('token') === token) receive(JSON.parse(body)); return {}; },
   }, 0, { ...pages, '/found/wait32.wasm': '../litmus/found/wait32.wasm' });
   const page = openPage(kind, program, `${server.origin}/found/page.html?token=${token}`);
-  const late = new Promise((resolve) => { setTimeout(() => resolve(null), 1000 * SECONDS).unref(); });
+  const late = after(1000 * SECONDS, null, { ref: false });
   const results = await Promise.race([answer, late, page.ended.then(() => null)]);
   await page.close();
   server.close();

@@ -2,6 +2,7 @@
 /** The harness in a browser without a window: a server on the loopback hands out tests to a page, whose workers run them. */
 
 import { randomUUID } from 'node:crypto';
+import { setTimeout as after } from 'node:timers/promises';
 import { openPage, requireBrowser } from '../../engines/browser/launch.mjs';
 import { serve } from '../../engines/browser/server.mjs';
 import { Pins, workersOf } from './pinning.mjs';
@@ -96,7 +97,7 @@ class BrowserHarness {
     }, 0, PAGES);
     this.page = openPage(this.kind, this.program, `${this.server.origin}/litmus/harness/page.html?token=${this.token}`);
     const error = `it did not open the page in ${SECONDS_TO_OPEN} seconds`;
-    const late = new Promise((resolve) => { setTimeout(() => resolve({ error }), 1000 * SECONDS_TO_OPEN).unref(); });
+    const late = after(1000 * SECONDS_TO_OPEN, { error }, { ref: false });
     await this.answer(late);
     return this;
   }

@@ -1,4 +1,5 @@
-#!/usr/bin/env node
+#!/bin/sh
+':' //; command -v node >/dev/null || { echo "${0##*/}: node is not installed (Debian: nodejs)" >&2; exit 2; }; exec node "$0" "$@"
 // @ts-check
 /**
  * The part of litmus/run that runs tests in an engine. Standard input has a line of JSON with the engine and the options, and then one

@@ -1,4 +1,5 @@
-#!/usr/bin/env node
+#!/bin/sh
+':' //; command -v node >/dev/null || { echo "${0##*/}: node is not installed (Debian: nodejs)" >&2; exit 2; }; exec node "$0" "$@"
 // @ts-check
 /**
  * Every way in which each thread of a test can go, if its reads get values that some thread writes. Standard input is JSON with the
@@ -14,7 +15,7 @@ import { UserError } from '../../engines/shared/errors.mjs';
 import { rewrite } from '../../engines/shared/rewrite.mjs';
 import { argumentsOf, unsignedStart } from '../../engines/shared/starts.mjs';
 
-/** @typedef {{ address: number, bytes: number[] }} Write */
+/** @typedef {{ address: number, bytes: number[], isTearFree: boolean }} Write */
 /** @typedef {{ events: any[], results: bigint[], end: string }} Path */
 
 /** A path goes no further. */
@@ -32,15 +33,21 @@ class Cut extends Error {
 
 const byteOf = (/** @type {bigint} */ value, /** @type {number} */ k) => Number((value >> BigInt(8 * k)) & 255n);
 
+/** Whether an access may not tear: an atomic one, or an aligned one of at most 4 bytes. */
+const isTearFree = (/** @type {boolean} */ isAtomic, /** @type {number} */ address, /** @type {number} */ width) => (
+  isAtomic || (width <= 4 && address % width === 0));
+
 /** The writes that are known, and what a read may get of them. */
 class Writes {
   /**
    * @param {Uint8Array} initial
    * @param {boolean} isByBytes
+   * @param {boolean} isWhole whether reads that may not tear are whole, as V4 demands
    */
-  constructor(initial, isByBytes) {
+  constructor(initial, isByBytes, isWhole) {
     this.initial = initial;
     this.isByBytes = isByBytes;
+    this.isWhole = isWhole;
     /** @type {Map<string, Write>} */
     this.known = new Map();
   }
@@ -52,12 +59,13 @@ class Writes {
    */
   add(events) {
     let isNew = false;
-    for (const [kind, , address, width, ...values] of events) {
+    for (const [kind, order, address, width, ...values] of events) {
       if (kind === 'r') continue;
       const bytes = Array.from({ length: width }, (_, k) => byteOf(values.at(-1), k));
-      const key = `${address} ${bytes}`;
+      const write = { address, bytes, isTearFree: isTearFree(order === 'sc', address, width) };
+      const key = `${address} ${write.isTearFree} ${bytes}`;
       if (this.known.has(key)) continue;
-      this.known.set(key, { address, bytes });
+      this.known.set(key, write);
       isNew = true;
     }
     return isNew;
@@ -78,23 +86,40 @@ class Writes {
   }
 
   /**
-   * The values that a read may get.
+   * The values of a range whose parts are read from the memory as it begins and from these writes.
    *
    * @param {number} address
    * @param {number} width
+   * @param {Write[]} writes
    */
-  valuesAt(address, width) {
+  mixed(address, width, writes) {
     let values = [0n];
     for (const [from, end] of this.partsOf(address, width)) {
       const shift = BigInt(8 * (from - address));
       const valueOf = (/** @type {(at: number) => number} */ byte) => (
         Array.from({ length: end - from }, (_, k) => BigInt(byte(from + k)) << BigInt(8 * k)).reduce((one, other) => one | other, 0n));
-      const writers = [...this.known.values()].filter(({ address: at, bytes }) => at <= from && from < at + bytes.length);
+      const writers = writes.filter(({ address: at, bytes }) => at <= from && from < at + bytes.length);
       const written = writers.map(({ address: at, bytes }) => valueOf((place) => bytes[place - at]));
       const options = new Set([valueOf((at) => this.initial[at]), ...written]);
       values = values.flatMap((value) => [...options].map((option) => value | (option << shift)));
     }
     return values;
+  }
+
+  /**
+   * The values that a read may get. A whole one takes bytes from at most one write of its own range that may not tear.
+   *
+   * @param {any} made
+   */
+  valuesAt({ isAtomic, address, width }) {
+    const mayNotTear = this.isWhole && isTearFree(isAtomic, address, width);
+    const writes = [...this.known.values()];
+    const isAlike = (/** @type {Write} */ write) => (
+      mayNotTear && write.isTearFree && write.address === address && write.bytes.length === width);
+    const others = writes.filter((write) => !isAlike(write));
+    const alike = writes.filter(isAlike);
+    if (!alike.length) return this.mixed(address, width, others);
+    return [...new Set(alike.flatMap((write) => this.mixed(address, width, [...others, write])))];
   }
 }
 
@@ -143,7 +168,7 @@ class Thread {
       const trap = trapOf(made, this.memory.buffer.byteLength);
       if (trap) throw new Cut(trap);
       if (events.length === most) throw new Cut('limit');
-      if (reads(access) && next === values.length) throw new Cut('read', writes.valuesAt(made.address, access.width));
+      if (reads(access) && next === values.length) throw new Cut('read', writes.valuesAt({ isAtomic: access.atomic, address: made.address, width: access.width }));
       const value = reads(access) ? cut(values[next++], access.width) : 0n;
       events.push(eventOf(made, value));
       return reads(access) ? loaded(access, value) : undefined;
@@ -176,7 +201,8 @@ class Thread {
       const before = values;
       waiting.push(...options.map((value) => [...before, value]));
     }
-    return { found, isCut: waiting.length > 0 || found.some(({ end }) => end === 'limit') };
+    const isFull = waiting.length > 0;
+    return { found, isFull, isCut: isFull || found.some(({ end }) => end === 'limit') };
   }
 }
 
@@ -196,18 +222,18 @@ function initialOf(made) {
 /**
  * @param {any} given
  */
-function pathsOf({ module, threads, byBytes, ...limits }) {
+function pathsOf({ module, threads, byBytes, isWhole, ...limits }) {
   const made = rewrite(Uint8Array.from(atob(module), (character) => character.charCodeAt(0)), 'hooked');
   const { memory, bytes } = initialOf(made);
-  const writes = new Writes(bytes, byBytes);
+  const writes = new Writes(bytes, byBytes, isWhole);
   const each = threads.map((/** @type {any} */ thread) => new Thread(made, thread, memory));
   for (;;) {
-    /** @type {{ found: Path[], isCut: boolean }[]} */
+    /** @type {{ found: Path[], isFull: boolean, isCut: boolean }[]} */
     const found = each.map((/** @type {Thread} */ thread) => thread.paths(writes, limits));
     const isNew = found.flatMap(({ found: paths }) => paths.map(({ events }) => writes.add(events))).includes(true);
-    const isCut = found.some((one) => one.isCut);
+    const [isCut, isFull] = [found.some((one) => one.isCut), found.some((one) => one.isFull)];
     const initial = [...bytes.entries()].filter(([, byte]) => byte);
-    if (!isNew || isCut) return { threads: found.map(({ found: paths }) => paths), isCut, initial };
+    if (!isNew || isFull) return { threads: found.map(({ found: paths }) => paths), isCut, initial };
   }
 }
 

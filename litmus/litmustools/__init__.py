@@ -4,8 +4,5 @@ pages (`gallery`, `page`)."""
 import os
 import sys
 
+# The scripts of litmus/ import this package first, and find `wmlabtools` by it.
 sys.path.insert(0, os.path.join(os.path.dirname(os.path.abspath(__file__)), "../../scripts"))
-
-from wmlabtools import TOP, harness, log, wabt, wasm  # noqa: E402
-
-__all__ = ["TOP", "harness", "log", "wabt", "wasm"]

@@ -19,20 +19,20 @@ class Access:
     offset: int
 
     @property
-    def is_atomic(self):
+    def is_atomic(self) -> bool:
         return self.order != "un"
 
     @property
-    def word(self):
+    def word(self) -> str:
         width = "" if self.width == 4 else str(self.width)
         return f"{self.order}{width}" + (f"@{self.offset}" if self.offset else "")
 
     @property
-    def range(self):
+    def range(self) -> "range":
         return range(self.offset, self.offset + self.width)
 
 
-def access_of(word):
+def access_of(word: str) -> Access:
     """The access that a word names."""
     found = WORD.fullmatch(word)
     if not found:

@@ -6,8 +6,10 @@ import os
 from collections.abc import Iterator
 from typing import Any
 
-from . import TOP
-from .decisions import Asking, Judge, Question
+from wmlabtools import TOP
+
+from .decisions import Asking, Question
+from .judges import Judge
 from .logs import cycle_log
 from .specimens import Outcome, Specimen
 from .tests import LitmusTest

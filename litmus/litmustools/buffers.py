@@ -1,10 +1,15 @@
 """A machine with store buffers, as `wmlab drive` has them, and the search for the shortest script with an outcome.
 
 With `wrong` it is an engine that is wrong on purpose, for tests of the suite."""
+import itertools
 from collections import deque
+from collections.abc import Iterable, Iterator
 from dataclasses import dataclass, replace
+from typing import TypeVar
 
+from .candidates import Values
 from .modules import instructions_of
+from .tests import Event, LitmusTest
 
 WRONG = {
     "plain-atomics": "atomic loads and stores are made as plain ones",
@@ -16,24 +21,30 @@ WRONG = {
 }
 
 
+# The bytes that are not 0, by their addresses; and a thread with nothing, or with the number of older stores.
+Memory = tuple[tuple[int, int], ...]
+Move = tuple[int, int | None]
+Item = TypeVar("Item")
+
+
 @dataclass(frozen=True)
 class State:
     """How far each thread is, its waiting stores (the oldest first), the memory, what it was before the last store, the
     values read, and in wrong engines the stores of which a part or all is still to come."""
 
-    done: tuple
-    buffers: tuple
-    memory: tuple
-    before: tuple
-    reads: tuple
-    halves: tuple = ()
+    done: tuple[int, ...]
+    buffers: tuple[tuple[int, ...], ...]
+    memory: Memory
+    before: Memory
+    reads: tuple[tuple[tuple[int, int], int], ...]
+    halves: tuple[Event, ...] = ()
 
 
-def changed(items, index, item):
+def changed(items: tuple[Item, ...], index: int, item: Item) -> tuple[Item, ...]:
     return (*items[:index], item, *items[index + 1 :])
 
 
-def written(memory, event, part=None):
+def written(memory: Memory, event: Event, part: range | None = None) -> Memory:
     """The memory after a store, or after a part of its bytes."""
     contents = dict(memory)
     for at in part or event.bytes:
@@ -45,19 +56,19 @@ class Machine:
     """The moves of a test. A move is `(thread, None)`, its next access, or `(thread, K)`, the store with K older ones
     leaves the buffer."""
 
-    def __init__(self, test, wrong=None):
+    def __init__(self, test: LitmusTest, wrong: str | None = None) -> None:
         self.test, self.wrong = test, wrong
 
-    def start(self):
+    def start(self) -> State:
         count = len(self.test.threads)
         return State((0,) * count, ((),) * count, (), (), ())
 
-    def is_atomic(self, event):
+    def is_atomic(self, event: Event) -> bool:
         if self.wrong == "plain-atomics" and not (event.reads and event.writes):
             return False
         return event.access.is_atomic
 
-    def publish(self, state, thread, index):
+    def publish(self, state: State, thread: int, index: int) -> State:
         """The state after a store left its buffer."""
         buffer = state.buffers[thread]
         event = self.test.threads[thread][buffer[index]]
@@ -65,26 +76,26 @@ class Machine:
         state = replace(state, buffers=changed(state.buffers, thread, rest))
         return self.store(state, event)
 
-    def store(self, state, event):
+    def store(self, state: State, event: Event) -> State:
         if self.wrong == "torn-store" and event.access.width > 1:
             middle = event.address + event.access.width // 2
             first = written(state.memory, event, range(event.address, middle))
             return replace(state, memory=first, before=state.memory, halves=(*state.halves, event))
         return replace(state, memory=written(state.memory, event), before=state.memory)
 
-    def value(self, state, thread, event, memory):
+    def value(self, state: State, thread: int, event: Event, memory: Memory) -> int:
         contents = dict(memory)
         for index in state.buffers[thread]:
             waiting = self.test.threads[thread][index]
             contents.update((at, waiting.byte(at)) for at in waiting.bytes)
         return sum(contents.get(at, 0) << 8 * (at - event.address) for at in event.bytes)
 
-    def drained(self, state, thread):
+    def drained(self, state: State, thread: int) -> State:
         while state.buffers[thread]:
             state = self.publish(state, thread, 0)
         return state
 
-    def accesses(self, state, thread):
+    def accesses(self, state: State, thread: int) -> Iterator[State]:
         """The states after the next access of a thread."""
         index = state.done[thread]
         event = self.test.threads[thread][index]
@@ -111,13 +122,13 @@ class Machine:
             else:
                 yield self.store(after, event) if event.writes else after
 
-    def keeps_buffer(self, event):
+    def keeps_buffer(self, event: Event) -> bool:
         """Whether a wrong engine makes an atomic access while stores wait."""
         if self.wrong == "no-release":
             return event.writes and not event.reads
         return self.wrong == "early-load" and event.reads and not event.writes
 
-    def leaves(self, state, thread):
+    def leaves(self, state: State, thread: int) -> Iterator[int]:
         """Which stores may leave the buffer: those that overlap none of the older ones."""
         buffer, events = state.buffers[thread], self.test.threads[thread]
         if self.wrong == "early-load":
@@ -127,7 +138,7 @@ class Machine:
             if not older & set(events[index].bytes):
                 yield k
 
-    def moves(self, state):
+    def moves(self, state: State) -> Iterator[tuple[Move | None, State]]:
         """Each move, with the state after it."""
         for event in state.halves:
             rest = tuple(other for other in state.halves if other is not event)
@@ -139,20 +150,22 @@ class Machine:
             for k in self.leaves(state, thread):
                 yield (thread, k), self.publish(state, thread, k)
 
-    def outcome(self, state):
+    def outcome(self, state: State) -> Values:
         values = dict(state.reads)
         return tuple(
             tuple(values[thread, i] for i, event in enumerate(events) if event.is_observed)
             for thread, events in enumerate(self.test.threads)
         )
 
-    def is_done(self, state):
+    def is_done(self, state: State) -> bool:
         return all(done == len(events) for done, events in zip(state.done, self.test.threads))
 
 
-def outcomes(machine, most=200_000):
+def outcomes(machine: Machine, most: int = 200_000) -> dict[Values, tuple[Move | None, ...]]:
     """Every outcome of a machine, each with the shortest list of moves to it."""
-    waiting, seen, found = deque([(machine.start(), ())]), set(), {}
+    waiting: deque[tuple[State, tuple[Move | None, ...]]] = deque([(machine.start(), ())])
+    seen: set[State] = set()
+    found: dict[Values, tuple[Move | None, ...]] = {}
     while waiting and len(seen) < most:
         state, moves = waiting.popleft()
         key = replace(state, reads=tuple(sorted(state.reads)))
@@ -166,20 +179,17 @@ def outcomes(machine, most=200_000):
     return found
 
 
-def repeated(turns):
+def repeated(turns: Iterable[str]) -> str:
     """TURNS, with `*K` for turns that are repeated."""
-    found = []
-    for turn in turns:
-        if found and found[-1][0] == turn:
-            found[-1][1] += 1
-        else:
-            found.append([turn, 1])
-    return ",".join(turn if count == 1 else f"{turn}*{count}" for turn, count in found)
+    runs = ((turn, len(list(run))) for turn, run in itertools.groupby(turns))
+    return ",".join(turn if count == 1 else f"{turn}*{count}" for turn, count in runs)
 
 
-def script(test, moves):
+def script(test: LitmusTest, moves: Iterable[Move]) -> str:
     """The TURNS of `wmlab drive` that make these moves, and then run each thread to its end."""
-    steps, at, turns = [], [0] * len(test.threads), []
+    at = [0] * len(test.threads)
+    steps: list[list[int]] = []
+    turns: list[str] = []
     for thread, _ in enumerate(test.threads):
         code = instructions_of(test, thread)
         steps.append([number + 1 for number, each in enumerate(code) if each.event] + [len(code) + 1])

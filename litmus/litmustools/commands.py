@@ -1,32 +1,35 @@
 """What the commands of litmus/ share: their words, and how they end."""
 import argparse
 import os
+import signal
 import sys
 from collections.abc import Callable
 
-from . import harness
+from wmlabtools import harness
+
 from .accesses import BadCycle
-from .judges import Failed, has_stream
+from .judges import Failed, missing_command
 from .names import cycle_named, named
 from .tests import LitmusTest, test_of
 
 
-def arguments(description):
+def arguments(description: str | None) -> argparse.ArgumentParser:
     """A parser of the words of a command that asks the program."""
     return harness.arguments(description)
 
 
 def program_of(options: argparse.Namespace) -> str:
-    """The program that the options name, or the one that ./wmlab runs; it has to have `stream`."""
+    """The program that the options name, or the one that ./wmlab runs; it has to have the commands that judge."""
     if options.wmlab and not (os.path.isfile(options.wmlab) and os.access(options.wmlab, os.X_OK)):
         raise Failed(f"{options.wmlab}: this is not a program; name one by --wmlab PATH")
     program = harness.program_of(options)
-    if not has_stream(program):
-        raise Failed(f"{program}: this program has no command stream")
+    missing = missing_command(program)
+    if missing:
+        raise Failed(f"{program}: this program has no command {missing}")
     return program
 
 
-def positive(word):
+def positive(word: str) -> int:
     """An integer of at least 1."""
     if not word.isdecimal() or int(word) < 1:
         raise argparse.ArgumentTypeError(f"{word}: expected an integer of at least 1")
@@ -39,7 +42,7 @@ def test_named(text: str) -> LitmusTest:
     return test_of(form, name)
 
 
-def folder_for(path):
+def folder_for(path: str) -> str:
     """A folder to write to."""
     os.makedirs(path, exist_ok=True)
     return path
@@ -51,7 +54,9 @@ def write(path: str, data: bytes | str) -> None:
 
 
 def ending(main: Callable[[], int]) -> None:
-    """Runs a command. A mistake of its user, or a program that fails, is one line and status 2; Ctrl-C is 130."""
+    """Runs a command. A mistake of its user, or a program that fails, is one line and status 2; Ctrl-C and SIGTERM are
+    130."""
+    signal.signal(signal.SIGTERM, signal.default_int_handler)
     try:
         sys.exit(main())
     except (BadCycle, Failed) as error:

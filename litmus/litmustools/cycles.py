@@ -3,7 +3,7 @@ import re
 from dataclasses import dataclass
 from functools import cached_property
 
-from .accesses import PLAIN, BadCycle, access_of
+from .accesses import PLAIN, Access, BadCycle, access_of
 
 PROGRAM_ORDER = re.compile(r"Po([ds])([RW])([RW])")
 COMMUNICATION = {"Rf": ("W", "R"), "Fr": ("R", "W"), "Co": ("W", "W")}
@@ -20,13 +20,13 @@ class Edge:
     is_same_location: bool
 
     @property
-    def word(self):
+    def word(self) -> str:
         if self.kind == "Po":
             return f"Po{'s' if self.is_same_location else 'd'}{self.source}{self.target}"
         return self.kind + ("e" if self.is_external else "i")
 
 
-def edge_of(word):
+def edge_of(word: str) -> Edge:
     """The edge that a word names."""
     found = PROGRAM_ORDER.fullmatch(word)
     if found:
@@ -41,72 +41,73 @@ def edge_of(word):
 class Cycle:
     """Edge k leads from access k to the next one."""
 
-    edges: tuple
-    accesses: tuple
+    edges: tuple[Edge, ...]
+    accesses: tuple[Access, ...]
 
-    def __len__(self):
+    def __len__(self) -> int:
         return len(self.edges)
 
     @property
-    def text(self):
+    def text(self) -> str:
         words = " ".join(edge.word for edge in self.edges)
         if all(access == PLAIN for access in self.accesses):
             return words
         return f"{words} : {' '.join(access.word for access in self.accesses)}"
 
     @property
-    def shape(self):
+    def shape(self) -> str:
         return " ".join(edge.word for edge in self.edges)
 
-    def edge_to(self, k):
+    def edge_to(self, k: int) -> Edge:
         """The edge that leads to access k."""
         return self.edges[k - 1]
 
-    def direction(self, k):
+    def direction(self, k: int) -> str:
         """What the edges make of access k: `R`, `W`, or `RW` for an update of which they need both."""
         before, after = self.edge_to(k).target, self.edges[k].source
         return before if before == after else "RW"
 
-    def rotated(self, k):
+    def rotated(self, k: int) -> "Cycle":
         return Cycle(self.edges[k:] + self.edges[:k], self.accesses[k:] + self.accesses[:k])
 
     @cached_property
-    def beginnings(self):
+    def beginnings(self) -> list[int]:
         """The accesses at which a thread begins; of a cycle of one thread, the first."""
         return [k for k in range(len(self)) if self.edge_to(k).is_external] or [0]
 
     @property
-    def canonical(self):
+    def canonical(self) -> "Cycle":
         """The form that all cycles which differ by where they begin have in common."""
         forms = [self.rotated(k) for k in self.beginnings]
         return min(forms, key=lambda cycle: (cycle.shape, [access.word for access in cycle.accesses]))
 
-    def threads(self):
+    def threads(self) -> list[list[int]]:
         """The accesses of each thread, in program order, by their numbers."""
-        found = []
+        found: list[list[int]] = []
         for k, _ in enumerate(self.edges):
             if k == 0 or self.edge_to(k).is_external:
                 found.append([])
             found[-1].append(k)
         return found
 
-    def locations(self):
+    def locations(self) -> list[int]:
         """The location of each access."""
-        count, at, found = max(1, sum(not edge.is_same_location for edge in self.edges)), 0, []
+        count, at = max(1, sum(not edge.is_same_location for edge in self.edges)), 0
+        found: list[int] = []
         for edge in self.edges:
             found.append(at)
             at = at if edge.is_same_location else (at + 1) % count
         return found
 
 
-def check_joints(cycle):
+def check_joints(cycle: Cycle) -> None:
     for k, access in enumerate(cycle.accesses):
         before, after = cycle.edge_to(k), cycle.edges[k]
         if before.target != after.source and access.order != "rmw":
             raise BadCycle(f"{before.word} leads to {before.target} and {after.word} begins at {after.source}")
 
 
-def check_counts(cycle):
+def check_counts(cycle: Cycle) -> None:
     external = sum(edge.is_external for edge in cycle.edges)
     if external == 1:
         raise BadCycle("one edge to another thread: expected none or at least two")
@@ -118,7 +119,7 @@ def check_counts(cycle):
         raise BadCycle("a cycle of one thread ends with Rfi, Fri or Coi")
 
 
-def cycle_of(text):
+def cycle_of(text: str) -> Cycle:
     """The cycle that a text spells."""
     shape, _, accesses = text.partition(":")
     edges = tuple(edge_of(word) for word in shape.split())

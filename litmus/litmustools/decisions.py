@@ -1,5 +1,6 @@
-"""Which outcomes of a specimen the memory rules permit. `decide` is the one place that knows how this is found: by
-every candidate execution, each judged by `wmlab stream`. Its answers are kept in a folder."""
+"""Which outcomes of a specimen the memory rules permit. `decide` is the one place that knows how this is found:
+candidate executions are judged by `wmlab stream`, and of an outcome that none of them shows `wmlab witness` is asked,
+which alone says that one is not permitted. The verdicts are kept in a folder."""
 import hashlib
 import json
 import os
@@ -9,19 +10,21 @@ from collections.abc import Iterator
 from dataclasses import asdict, dataclass, field
 from functools import cache, cached_property
 from itertools import islice
-from typing import Protocol
 
-from . import commands, judges
+from . import commands, judges, witnesses
 from .candidates import ANSWER, CHUNK, Candidates
 from .executions import Executions, Limits
-from .judges import Failed, Stream
+from .judges import Failed, Judge, Stream
 from .modules import bytes_of
 from .specimens import Outcome, Specimen, is_flag
 from .tests import Event
+from .witnesses import Answer, Kind
 
 PERMITTED, FORBIDDEN, UNDECIDED = "permitted", "not permitted", "not decided"
-MOST_CANDIDATES = 400_000
-FORMAT = 5
+# An outcome that none of so many candidates shows is left to `wmlab witness`; by bytes they serve explanations alone.
+MOST_CANDIDATES = 100_000
+MOST_BY_BYTE = 2_000
+FORMAT = 6
 # The rules whose answer depends on the order of a candidate.
 ORDER_RULES = ("broken V2", "broken V5")
 
@@ -110,22 +113,20 @@ class Question:
         return self.specimen.logged.judged
 
     @cached_property
-    def is_whole(self) -> bool:
-        """Whether accesses that overlap have one range, and none may tear."""
-        if self.specimen.cycle:
-            events = self.specimen.cycle.events.values()
-            ranges = {(event.address, event.access.width, event.access.is_atomic) for event in events}
-        else:
-            assert isinstance(self.source, Executions)
-            ranges = self.source.ranges()
-        tears = [not is_atomic and (width == 8 or address % width > 0) for address, width, is_atomic in ranges]
-        spans = sorted({(address, address + width) for address, width, _ in ranges})
-        overlaps = [one[1] > other[0] for one, other in zip(spans, spans[1:])]
-        return not any(tears) and not any(overlaps)
+    def by_bytes(self) -> Executions:
+        """The executions of a specimen that is no cycle, with each value that its reads may have."""
+        return Executions(self.specimen, self.limits, by_byte=True, is_whole=True)
 
     @property
     def is_cut(self) -> bool:
-        return isinstance(self.source, Executions) and self.source.is_cut
+        """Whether a thread may have other values or go on further than its paths."""
+        return not self.specimen.cycle and self.by_bytes.is_cut
+
+    def logs_of_values(self, outcome: Outcome) -> Iterator[str]:
+        """A log for each choice of the values that an outcome leaves open."""
+        if self.specimen.cycle:
+            return witnesses.logs_of_cycle(self.specimen.cycle, values_of_cycle(self.specimen, outcome))
+        return self.by_bytes.logs_of_values(outcome)
 
     def groups(self) -> Iterator[tuple[Outcome, Iterator[str]]]:
         source = self.source
@@ -137,13 +138,6 @@ class Question:
         for outcome, lines in self.groups():
             if self.outcome is None or outcome == self.outcome:
                 yield Group(outcome, lines)
-
-
-class Judge(Protocol):
-    """Who answers to candidates: `wmlab stream`, or for tests the rules as a plain program."""
-
-    def answers(self, lines: list[str]) -> list[str]:
-        """The answer to each log."""
 
 
 @dataclass
@@ -203,6 +197,18 @@ class Asking:
         return not active
 
 
+def settled(question: Question, asked: Asked, answer: Answer) -> Verdict:
+    """The verdict on an outcome of which no candidate was allowed, by what the program answered about its values."""
+    candidates = asked.reason if asked.answers else "no candidate has it"
+    if answer.kind is Kind.FOUND:
+        return Verdict(PERMITTED, f"a witness of `wmlab witness`; {candidates}", answer.log)
+    if answer.kind is not Kind.NONE:
+        return Verdict(UNDECIDED, f"{answer.kind.value}; {candidates}", asked.log)
+    if question.is_cut:
+        return Verdict(UNDECIDED, f"a thread may make more events or read other values; {candidates}", asked.log)
+    return Verdict(FORBIDDEN, f"no witness; {candidates}", asked.log)
+
+
 def decide(program: str, question: Question) -> dict[Outcome, Verdict]:
     """The verdict on each outcome that a candidate has, or on the one that the question names."""
     with tempfile.TemporaryDirectory() as room:
@@ -210,18 +216,18 @@ def decide(program: str, question: Question) -> dict[Outcome, Verdict]:
         commands.write(module, question.module)
         with Stream(program, module) as stream:
             asking = Asking(question, stream)
-            is_cut = not asking.all(MOST_CANDIDATES) or question.is_cut
-        found = asking.found
+            asking.all(MOST_BY_BYTE if question.by_byte else MOST_CANDIDATES)
         if question.outcome is not None:
-            found.setdefault(question.outcome, Asked())
-        otherwise = UNDECIDED if is_cut else FORBIDDEN
-        limit = "; there are more candidates than were asked" if is_cut else ""
+            asking.found.setdefault(question.outcome, Asked())
         verdicts = {}
-        for outcome, each in found.items():
-            document = judges.completed(program, module, each.log) if each.log else None
-            kind = PERMITTED if each.is_permitted else otherwise
-            verdicts[outcome] = Verdict(kind, each.reason + ("" if each.is_permitted else limit), document)
-    return verdicts
+        for outcome, each in asking.found.items():
+            each.log = judges.completed(program, module, each.log) if each.log else None
+            if each.is_permitted:
+                verdicts[outcome] = Verdict(PERMITTED, each.reason, each.log)
+            else:
+                answer = witnesses.witness_of_any(program, module, question.logs_of_values(outcome))
+                verdicts[outcome] = settled(question, each, answer)
+        return verdicts
 
 
 @cache
@@ -245,7 +251,7 @@ class Cache:
             hashlib.sha256(logged.traced if logged else b"").hexdigest(),
             [thread.word for thread in (logged or question.specimen).threads],
             [asdict(column) for column in question.specimen.columns],
-            [question.by_byte, question.outcome, asdict(question.limits), MOST_CANDIDATES],
+            [question.by_byte, question.outcome, asdict(question.limits), MOST_CANDIDATES, MOST_BY_BYTE],
         ]
         name = hashlib.sha256(json.dumps(parts).encode()).hexdigest()
         return os.path.join(self.folder, f"{name}.json")
@@ -290,15 +296,12 @@ class Decisions:
         self.all = kept.decided(self.question)
 
     def of(self, outcome: Outcome) -> Verdict:
-        """The verdict on an outcome. If no candidate has it in which the bytes that accesses cover together come from
-        one write, a writer is chosen for each byte. If accesses that overlap have one range and none may tear, more
-        writers only add to what the rules demand, so that this is not needed for an outcome with candidates."""
+        """The verdict on an outcome, also on one that no candidate has in which the bytes that accesses cover together
+        come from one write."""
         found = self.all.get(outcome)
-        if found and (found.kind != FORBIDDEN or self.question.is_whole):
+        if found:
             return found
-        question = Question(self.specimen, by_byte=True, outcome=outcome, limits=self.limits)
-        by_byte = self.kept.decided(question)[outcome]
-        return by_byte if by_byte.kind != FORBIDDEN or not found or not found.log else found
+        return self.kept.decided(Question(self.specimen, True, outcome, self.limits))[outcome]
 
     @property
     def permitted(self) -> list[Outcome]:

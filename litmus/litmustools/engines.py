@@ -11,7 +11,8 @@ from dataclasses import dataclass, field
 from types import TracebackType
 from typing import Any
 
-from . import TOP
+from wmlabtools import TOP
+
 from .judges import Failed
 from .specimens import Specimen
 

@@ -7,10 +7,11 @@ import shutil
 import subprocess
 from collections.abc import Iterator
 from dataclasses import dataclass
-from itertools import product
+from itertools import islice, product
 from typing import Any
 
-from . import TOP, log
+from wmlabtools import TOP, log
+
 from .judges import Failed
 from .orders import Access, Key, Pair, orders_of
 from .specimens import Outcome, Specimen
@@ -21,10 +22,12 @@ Events = list[list[Any]]
 
 @dataclass(frozen=True)
 class Limits:
-    """The most events of a thread, and the most paths of one."""
+    """The most events of a thread, and the most paths of one; and of one if each byte that is read has a writer of its
+    own."""
 
     events: int = 12
     paths: int = 2_000
+    paths_by_byte: int = 20_000
 
 
 @dataclass(frozen=True)
@@ -40,7 +43,7 @@ def path_of(row: dict[str, Any]) -> Path:
     return Path(events, tuple(map(int, row["results"])))
 
 
-def asked(specimen: Specimen, limits: Limits, by_byte: bool) -> dict[str, Any]:
+def asked(specimen: Specimen, limits: Limits, by_byte: bool, is_whole: bool) -> dict[str, Any]:
     """What paths.mjs answers."""
     node = shutil.which("node")
     if not node:
@@ -50,8 +53,9 @@ def asked(specimen: Specimen, limits: Limits, by_byte: bool) -> dict[str, Any]:
         "module": base64.b64encode(specimen.logged.traced).decode(),
         "threads": [{"start": each.start, "args": list(each.args)} for each in specimen.logged.threads],
         "byBytes": by_byte,
+        "isWhole": is_whole,
         "mostEvents": limits.events,
-        "mostPaths": limits.paths,
+        "mostPaths": limits.paths_by_byte if by_byte else limits.paths,
     }
     ran = subprocess.run([node, COMMAND], input=json.dumps(question), capture_output=True, text=True, check=False)
     if ran.returncode:
@@ -73,21 +77,23 @@ def accesses_of(paths: tuple[Path, ...]) -> dict[Key, Access]:
     }
 
 
-class Executions:
-    """The candidates of a specimen, as texts of logs. `is_cut` if a limit was reached, so that there may be others."""
+def has_results(path: Path, wanted: list[int | None]) -> bool:
+    return all(one in (None, value) for one, value in zip(wanted, path.results, strict=True))
 
-    def __init__(self, specimen: Specimen, limits: Limits, by_byte: bool = False) -> None:
+
+class Executions:
+    """The candidates of a specimen, as texts of logs. `is_cut` if a limit was reached, so that there may be others. If
+    `is_whole`, values are left out that V4 refuses."""
+
+    def __init__(
+        self, specimen: Specimen, limits: Limits, by_byte: bool = False, is_whole: bool = False
+    ) -> None:
         assert specimen.logged
         self.specimen, self.logged, self.by_byte = specimen, specimen.logged, by_byte
-        answer = asked(specimen, limits, by_byte)
+        answer = asked(specimen, limits, by_byte, is_whole)
         self.is_cut: bool = answer["isCut"]
         self.initial: dict[int, int] = dict(answer["initial"])
         self.paths = [[path_of(row) for row in rows if row["end"] == "done"] for rows in answer["threads"]]
-
-    def ranges(self) -> set[tuple[int, int, bool]]:
-        """The address and the width of each access, and whether it is atomic."""
-        events = [event for paths in self.paths for path in paths for event in path.events]
-        return {(event[2], event[3], event[1] == "sc") for event in events}
 
     def combinations(self) -> list[tuple[Path, ...]]:
         """A path for each thread, those with the fewest events first."""
@@ -145,6 +151,32 @@ class Executions:
     def ordered(self, threads: str, orders: Iterator[str]) -> Iterator[str]:
         for order in orders:
             yield f'["wasm-litmus-log",2,[{threads}],{order}]'
+
+    def wanted_results(self, outcome: Outcome) -> list[list[int | None]]:
+        """What the results of each thread are in an outcome, None if any; the reader of the final values, the last
+        thread, first reads 1 from the flag of each other one."""
+        rest = iter(outcome)
+        values = iter([next(rest) if column.is_observed else None for column in self.specimen.columns])
+        last, found = len(self.paths) - 1, []
+        for thread, paths in enumerate(self.paths):
+            flags: list[int | None] = [1] * last if self.logged.has_finals and thread == last else []
+            count = len(paths[0].results) - len(flags) if paths else 0
+            found.append([*flags, *islice(values, count)])
+        return found
+
+    def logs_of_values(self, outcome: Outcome) -> Iterator[str]:
+        """A log for each choice of the threads' paths that gives an outcome; its writers and its order are not meant
+        (`witnesses`). With the option `by_byte` these are all values that its reads may have, unless `is_cut`."""
+        kept = [
+            [path for path in paths if has_results(path, wanted)]
+            for paths, wanted in zip(self.paths, self.wanted_results(outcome))
+        ]
+        for paths in product(*kept):
+            keys = [(t, i) for t, path in enumerate(paths) for i, _ in enumerate(path.events)]
+            nobody: dict[Key, list[list[int]]] = {
+                (t, i): [[]] * paths[t].events[i][3] for t, i in keys if paths[t].events[i][0] != "w"
+            }
+            yield f'["wasm-litmus-log",2,[{self.threads_text(paths, nobody)}],{log.compact(keys)}]'
 
     def threads_text(self, paths: tuple[Path, ...], writers: dict[Key, list[list[int]]]) -> str:
         rows = []

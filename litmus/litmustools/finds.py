@@ -39,8 +39,8 @@ What is to blame
        {command} --pin none
 3. The lowering, if the module was made by engines/lower: run the module's own instructions in the text format, by
    docs/LITMUS.md, without it.
-4. The judge, if `wmlab check` allows a log with this outcome. `litmus/candidates` prints how many candidates there are
-   and which rule each one breaks; `engines/reorder` looks for another witness of the log's events.
+4. The judge, if `wmlab witness` finds a witness of a log with this outcome. It is proved that there is none where it
+   answers `no witness`. `litmus/candidates` prints which rule each candidate breaks.
 """
 
 

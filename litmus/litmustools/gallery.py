@@ -4,14 +4,19 @@ import os
 import subprocess
 import tempfile
 from collections import Counter
+from collections.abc import Iterable, Sequence
 from dataclasses import dataclass, field
+from typing import Any
 
-from . import TOP, judges
+from wmlabtools import TOP
+
+from . import judges
 from .buffers import Machine, outcomes, script
 from .candidates import Candidates, ask
 from .judges import Failed, Stream
 from .modules import bytes_of
 from .tests import LitmusTest
+from .witnesses import Kind, witness_of_cycle
 
 RUN_COMMAND = os.path.join(TOP, "litmus/run")
 
@@ -20,8 +25,8 @@ RUN_COMMAND = os.path.join(TOP, "litmus/run")
 class Seen:
     """What an engine gave of a test: how often each outcome and each verdict came, in how many iterations."""
 
-    outcomes: dict
-    verdicts: dict
+    outcomes: dict[str, int]
+    verdicts: dict[str, int]
     iterations: int = 0
 
 
@@ -33,35 +38,53 @@ class Row:
     test: LitmusTest
     module: str
     is_permitted: bool = False
-    answers: Counter = field(default_factory=Counter)
+    answers: Counter[str] = field(default_factory=Counter)
     log: str = ""
     script: str | None = None
     runs: int = 0
-    engines: dict = field(default_factory=dict)
+    engines: dict[str, Seen] = field(default_factory=dict)
 
     @property
-    def asked(self):
+    def asked(self) -> int:
         return sum(self.answers.values())
 
-    def times(self, engine):
+    def times(self, engine: str) -> int:
         """How often an engine gave the cycle's outcome."""
         return self.engines[engine].outcomes.get(self.test.outcome, 0) if engine in self.engines else 0
 
     @property
-    def finds(self):
-        """What an engine or the program showed that no candidate permits, in sentences."""
-        found = []
+    def finds(self) -> list[str]:
+        """What an engine or the program showed that is not permitted, in sentences."""
+        found: list[str] = []
         for engine, seen in self.engines.items():
             if self.times(engine) and not self.is_permitted:
-                found.append(f"{self.test.name}: {engine} gave the cycle's outcome, which no candidate permits")
+                found.append(f"{self.test.name}: {engine} gave the cycle's outcome, which is not permitted")
             others = [line for line in seen.verdicts if not line.startswith("allowed")]
             found += [f"{self.test.name}: an outcome of {engine} is {line}" for line in others]
         if (self.script or self.runs) and not self.is_permitted:
-            found.append(f"{self.test.name}: the store buffers gave the cycle's outcome, which no candidate permits")
+            found.append(f"{self.test.name}: the store buffers gave the cycle's outcome, which is not permitted")
         return found
 
 
-def row_of(test, folder):
+@dataclass
+class Collected:
+    """The rows, and how they were made. `engines` has the version of each engine that ran."""
+
+    date: str
+    version: str
+    iterations: int
+    run_rounds: int
+    engines: dict[str, str] = field(default_factory=dict)
+    failed: list[str] = field(default_factory=list)
+    rows: list[Row] = field(default_factory=list)
+    seconds: float = 0.0
+
+    @property
+    def asked(self) -> int:
+        return sum(row.asked for row in self.rows)
+
+
+def row_of(test: LitmusTest, folder: str) -> Row:
     """The row of a test, whose module is written to a folder."""
     module = os.path.join(folder, f"{test.name}.wasm")
     with open(module, "wb") as file:
@@ -69,42 +92,54 @@ def row_of(test, folder):
     return Row(test, module)
 
 
-def judge(row, program):
-    """Asks about each candidate with the cycle's outcome."""
+def judge(row: Row, program: str) -> None:
+    """Asks about each candidate with the cycle's outcome, and has it proved if none is allowed that none can be."""
     with Stream(program, row.module) as stream:
         found = ask(Candidates(row.test, outcome=row.test.cycle_values), stream)
     cycle = found[row.test.cycle_values]
     row.answers, row.is_permitted = cycle.answers, cycle.is_permitted
-    row.log = judges.completed(program, row.module, cycle.witness or cycle.last)
+    log = cycle.witness or cycle.last
+    assert log is not None
+    row.log = judges.completed(program, row.module, log)
+    if not row.is_permitted:
+        settle(row, program)
     if row.is_permitted:
         check(row, program)
 
 
-def printed(program, words, given=None):
+def settle(row: Row, program: str) -> None:
+    """The verdict of `wmlab witness` on the cycle's outcome."""
+    answer = witness_of_cycle(program, row.module, row.test, row.test.cycle_values)
+    if answer.kind not in (Kind.FOUND, Kind.NONE):
+        raise Failed(f"{row.test.name}: the cycle's outcome is not decided: {answer.kind.value}")
+    row.is_permitted, row.log = answer.kind is Kind.FOUND, answer.log or row.log
+
+
+def printed(program: str, words: Sequence[str], given: str | None = None) -> str:
     ran = subprocess.run([program, *words], input=given, stdout=subprocess.PIPE, text=True, check=False)
     return ran.stdout
 
 
-def check(row, program):
+def check(row: Row, program: str) -> None:
     """The witness has to be allowed by `check` too."""
     answer = printed(program, ["check", row.module, "-"], row.log)
     if not answer.startswith("allowed"):
         raise Failed(f"{row.test.name}: check answers {answer.strip()}")
 
 
-def find_script(row, program):
+def find_script(row: Row, program: str) -> None:
     """The script with the fewest moves by which the store buffers give the cycle's outcome, tried by `drive`."""
     found = outcomes(Machine(row.test))
     if row.test.cycle_values not in found:
         return
-    turns = script(row.test, found[row.test.cycle_values])
+    turns = script(row.test, [move for move in found[row.test.cycle_values] if move])
     lines = printed(program, ["drive", row.module, turns, *row.test.starts]).split("\n")
     if lines[0] != f"outcome {row.test.outcome}" or not lines[1].startswith("allowed"):
         raise Failed(f"{row.test.name}: drive {turns} prints {lines[:2]}")
     row.script = turns
 
 
-def run_rounds(row, program, rounds):
+def run_rounds(row: Row, program: str, rounds: int) -> None:
     """How often the cycle's outcome came in rounds of `run`."""
     lines = printed(program, ["run", row.module, str(rounds), *row.test.starts]).split("\n")
     if f"allowed rounds={rounds}" not in lines:
@@ -113,15 +148,15 @@ def run_rounds(row, program, rounds):
     row.runs = counts.get(row.test.outcome, 0)
 
 
-def seen_of(row, run):
+def seen_of(row: Row, run: dict[str, Any]) -> Seen:
     """What a line of `litmus/run --json` tells of the row's test."""
-    verdicts = Counter()
+    verdicts: Counter[str] = Counter()
     for state in run["states"]:
         verdicts["allowed" if state["verdict"] == "permitted" else state["verdict"]] += state["count"]
     return Seen({row.test.outcome: run["positive"]}, dict(verdicts), run["iterations"])
 
 
-def take_runs(rows, engine, lines):
+def take_runs(rows: Sequence[Row], engine: str, lines: Iterable[str]) -> str:
     """Gives the rows what an engine's lines of `litmus/run --json` tell. Answers its version."""
     runs = {run["name"]: run for run in map(json.loads, lines)}
     missing = [row.test.name for row in rows if row.test.name not in runs]
@@ -129,10 +164,11 @@ def take_runs(rows, engine, lines):
         raise Failed(f"{engine} did not run {missing[0]} and {len(missing) - 1} other tests")
     for row in rows:
         row.engines[engine] = seen_of(row, runs[row.test.name])
-    return next(iter(runs.values()))["engine"]
+    version: str = next(iter(runs.values()))["engine"]
+    return version
 
 
-def engine_runs(rows, program, engine, iterations):
+def engine_runs(rows: Sequence[Row], program: str, engine: str, iterations: int) -> str:
     """Has an engine run each test so many times by litmus/run. Answers its version."""
     command = [RUN_COMMAND, "--json", "--engine", engine, "--iterations", str(iterations), "--wmlab", program]
     with tempfile.TemporaryDirectory() as folder:

@@ -1,12 +1,20 @@
 """Who answers for candidates: the program's `stream`, one process for a module."""
 import subprocess
 import tempfile
+from typing import Protocol
 
 BATCH = 500
 
 
 class Failed(Exception):
     """The program did not answer as it should, in a sentence."""
+
+
+class Judge(Protocol):
+    """Who answers for candidates: `wmlab stream`, or for tests the rules as a plain program."""
+
+    def answers(self, lines: list[str]) -> list[str]:
+        """The answer to each log."""
 
 
 class Stream:
@@ -18,7 +26,7 @@ class Stream:
     def __enter__(self) -> "Stream":
         self.errors = tempfile.TemporaryFile()
         try:
-            self.process = subprocess.Popen(
+            process = subprocess.Popen(
                 [self.program, "stream", self.module],
                 stdin=subprocess.PIPE,
                 stdout=subprocess.PIPE,
@@ -26,15 +34,17 @@ class Stream:
             )
         except OSError as error:
             raise Failed(f"{self.program}: {error.strerror}") from error
+        assert process.stdin is not None and process.stdout is not None
+        self.process, self.given, self.printed = process, process.stdin, process.stdout
         return self
 
     def __exit__(self, *_: object) -> None:
-        self.process.stdin.close()
-        self.process.stdout.close()
+        self.given.close()
+        self.printed.close()
         self.process.wait()
         self.errors.close()
 
-    def failure(self):
+    def failure(self) -> Failed:
         status = self.process.wait()
         self.errors.seek(0)
         said = self.errors.read(200).decode(errors="replace").strip()
@@ -47,22 +57,23 @@ class Stream:
         for start in range(0, len(lines), BATCH):
             batch = lines[start : start + BATCH]
             try:
-                self.process.stdin.write(("\n".join(batch) + "\n").encode())
-                self.process.stdin.flush()
+                self.given.write(("\n".join(batch) + "\n").encode())
+                self.given.flush()
             except BrokenPipeError:
                 raise self.failure() from None
             for _ in batch:
-                answer = self.process.stdout.readline()
+                answer = self.printed.readline()
                 if not answer.endswith(b"\n"):
                     raise self.failure()
                 found.append(answer[:-1].decode())
         return found
 
 
-def has_stream(program):
-    """Whether the program has the command `stream`."""
+def missing_command(program: str) -> str | None:
+    """The command that the program does not have, of those that judge."""
     ran = subprocess.run([program, "help"], stdout=subprocess.PIPE, stderr=subprocess.DEVNULL, text=True, check=False)
-    return "stream MODULE" in ran.stdout
+    usages = {"stream": "stream MODULE", "witness": "witness [MODULE]"}
+    return next((name for name, usage in usages.items() if usage not in ran.stdout), None)
 
 
 def completed(program: str, module: str, document: str) -> str:

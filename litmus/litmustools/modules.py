@@ -1,7 +1,8 @@
 """The module of a test, as text and as bytes. Each line of a function is one instruction, which is one step."""
 from dataclasses import dataclass
 
-from . import wasm
+from wmlabtools import wasm
+
 from .tests import EXPORTS, Event, LitmusTest
 
 I32, I64 = b"\x7f", b"\x7e"
@@ -39,7 +40,7 @@ class Instruction:
     event: Event | None = None
 
 
-def signed(value):
+def signed(value: int) -> bytes:
     """A signed integer in LEB128."""
     out = b""
     while not -64 <= value < 64:
@@ -55,7 +56,7 @@ def constant(value: int, width: int = 4) -> Instruction:
     return Instruction(f"{name}.const {value}", opcode + signed(wrapped))
 
 
-def opcode_of(event):
+def opcode_of(event: Event) -> tuple[str, bytes]:
     access = event.access
     if event.reads and event.writes:
         return EXCHANGE[access.width]
@@ -81,23 +82,24 @@ WRAP = Instruction("i32.wrap_i64", b"\xa7")
 EQUAL = {4: Instruction("i32.eq", b"\x46"), 8: Instruction("i64.eq", b"\x51")}
 
 
-def reading(event, is_first, is_uniform):
+def reading(event: Event, is_first: bool, is_uniform: bool) -> list[Instruction]:
     """What is made of the value that is read: a digit of the result, or whether it is the expected one."""
     width = event.access.width
     if is_uniform:
         return ([WRAP] if width == 8 else []) + ([] if is_first else [ADD])
-    compared = [constant(event.expected, width), EQUAL[8 if width == 8 else 4]]
+    compared = [constant(event.value, width), EQUAL[8 if width == 8 else 4]]
     return compared + ([] if is_first else [AND])
 
 
-def instructions_of(test, thread):
+def instructions_of(test: LitmusTest, thread: int) -> list[Instruction]:
     """The instructions of a thread. Its result stays on the operand stack while it goes on."""
-    code, is_first = [], True
+    code: list[Instruction] = []
+    is_first = True
     for event in test.threads[thread]:
         if event.is_observed and not is_first and test.is_uniform:
             code += [constant(10), MULTIPLY]
         code.append(constant(event.address))
-        if event.writes:
+        if event.written is not None:
             code.append(constant(event.written, event.access.width))
         code.append(access_of(event))
         if event.is_observed:
@@ -108,11 +110,11 @@ def instructions_of(test, thread):
     return code
 
 
-def has_result(test, thread):
+def has_result(test: LitmusTest, thread: int) -> bool:
     return bool(test.observed(thread))
 
 
-def text_of(test):
+def text_of(test: LitmusTest) -> str:
     """The module in the text format."""
     lines = [f";; {test.name}", f";; {test.cycle.text}", "(module", "  (memory 1 1 shared)"]
     for thread, name in enumerate(test.starts):
@@ -125,7 +127,8 @@ def text_of(test):
 
 def bytes_of(test: LitmusTest) -> bytes:
     """The module in the binary format, as wat2wasm makes it of the text."""
-    kinds, types = [], []
+    kinds: list[int] = []
+    types: list[bytes] = []
     for thread, _ in enumerate(test.threads):
         kind = b"\x60\0" + (b"\1" + I32 if has_result(test, thread) else b"\0")
         if kind not in types:

@@ -1,6 +1,6 @@
 """The names of cycles: that of the shape, then the accesses of each thread."""
-from .accesses import PLAIN, BadCycle, access_of
-from .cycles import Cycle, check_joints, cycle_of
+from .accesses import PLAIN, Access, BadCycle, access_of
+from .cycles import Cycle, check_joints, cycle_of, edge_of
 
 # The shapes that the field has names for, and those of this suite with internal edges or updates.
 SHAPES = {
@@ -60,11 +60,11 @@ SHAPES = {
 RANK = {"un": 0, "sc": 1, "rmw": 2}
 
 
-def rank(cycle):
+def rank(cycle: Cycle) -> list[tuple[int, int, int]]:
     return [(RANK[access.order], access.width, access.offset) for access in cycle.accesses]
 
 
-def displayed(cycle):
+def displayed(cycle: Cycle) -> tuple[str, Cycle]:
     """The name of a cycle's shape, and the form of the cycle that begins as this shape does."""
     forms = [cycle.rotated(k) for k in cycle.beginnings]
     for name, shape in SHAPES.items():
@@ -75,7 +75,7 @@ def displayed(cycle):
     return "+".join(pieces), form
 
 
-def suffix(cycle):
+def suffix(cycle: Cycle) -> str:
     """The accesses of each thread, as a name has them."""
     threads = []
     for accesses in cycle.threads():
@@ -86,20 +86,20 @@ def suffix(cycle):
     return "".join(f"+{thread}" for thread in threads)
 
 
-def named(cycle):
+def named(cycle: Cycle) -> tuple[str, Cycle]:
     """The name of a cycle, and its displayed form."""
     name, form = displayed(cycle)
     return name + suffix(form), form
 
 
-def accesses_of(shape, words):
+def accesses_of(shape: Cycle, words: list[str]) -> tuple[Access, ...]:
     """The accesses that the end of a name gives to the threads of a shape."""
     sizes = [len(accesses) for accesses in shape.threads()]
     if len(words) == 1:
         words *= len(sizes)
     if len(words) != len(sizes):
         raise BadCycle(f"accesses for {len(words)} threads; the shape has {len(sizes)}")
-    found = []
+    found: list[Access] = []
     for text, size in zip(words, sizes):
         each = text.split("-")
         if len(each) not in (1, size):
@@ -108,13 +108,24 @@ def accesses_of(shape, words):
     return tuple(found)
 
 
-def shape_of(text):
+def shape_of(text: str) -> Cycle:
     """The edges of a shape, with accesses that fit any of them."""
     edges = text.split()
     return cycle_of(f"{text} : {' '.join(['rmw'] * len(edges))}")
 
 
-def cycle_named(text):
+def names_test(text: str) -> bool:
+    """Whether a word is meant as a test: edges, or a name that begins with that of a shape."""
+    edges = text.partition(":")[0].split()
+    if len(edges) < 2:
+        return any(text == name or text.startswith(f"{name}+") for name in SHAPES)
+    try:
+        return all(map(edge_of, edges))
+    except BadCycle:
+        return False
+
+
+def cycle_named(text: str) -> Cycle:
     """The cycle that a name or the text of a cycle spells."""
     if " " in text.strip():
         return cycle_of(text)

@@ -1,76 +1,82 @@
 """The gallery as Markdown and as HTML."""
 import html
+from collections.abc import Callable, Iterator, Sequence
 
-from . import log
+from wmlabtools import log
+
 from .candidates import is_flag
 from .literature import PUBLISHED
+from .gallery import Collected, Row
 from .names import SHAPES
+from .tests import LitmusTest
 
 NEVER = "no"
 
 
-def shape_name(row):
+def shape_name(row: Row) -> str:
     """The name of the row's shape: the longest that its name begins with."""
     name = row.test.name
     fitting = [shape for shape in SHAPES if name == shape or name.startswith(f"{shape}+")]
     return max(fitting, key=len)
 
 
-def by_shape(rows):
-    found = {}
+def by_shape(rows: Sequence[Row]) -> dict[str, list[Row]]:
+    found: dict[str, list[Row]] = {}
     for row in rows:
         found.setdefault(shape_name(row), []).append(row)
     return found
 
 
-def outcome_text(test):
+def outcome_text(test: LitmusTest) -> str:
     """The values that the reads of each thread have in the outcome, by location."""
     threads = []
     for thread, _ in enumerate(test.threads):
         reads = [event for event in test.observed(thread) if not is_flag(event)]
-        value = str if test.is_uniform else hex
-        threads.append(", ".join(f"{event.location}={value(event.expected)}" for event in reads) or "-")
+        value: Callable[[int], str] = hex
+        if test.is_uniform:
+            value = str
+        threads.append(", ".join(f"{event.location}={value(event.value)}" for event in reads) or "-")
     return "; ".join(threads)
 
 
-def rules_text(row):
+def rules_text(row: Row) -> str:
     if row.is_permitted:
         return f"permitted by {row.answers['allowed']} of {row.asked}"
     answers = ", ".join(f"{count} {answer.removeprefix('broken ')}" for answer, count in sorted(row.answers.items()))
-    return f"not found among {row.asked}: {answers}"
+    return f"not permitted: {answers}"
 
 
-def buffers_text(row, collected):
+def buffers_text(row: Row, collected: Collected) -> str:
     if row.script is None:
         return NEVER if not row.runs else f"{row.runs} of {collected.run_rounds}"
     return f"`{row.script}`; {row.runs}"
 
 
-def engine_text(row, engine):
+def engine_text(row: Row, engine: str) -> str:
     """How often an engine gave the outcome; nothing if it did not run the test."""
     return str(row.times(engine)) if engine in row.engines else ""
 
 
-def engine_cells(row, collected):
+def engine_cells(row: Row, collected: Collected) -> list[str]:
     return [engine_text(row, engine) for engine in collected.engines]
 
 
-def counts(rows):
+def counts(rows: Sequence[Row]) -> dict[str, int]:
     permitted = [row for row in rows if row.is_permitted]
     shown = [row for row in permitted if row.script]
     return {
         "tests": len(rows),
         "of two to four threads": sum(len(row.test.threads) > 1 for row in rows),
         "permitted": len(permitted),
-        "not found": len(rows) - len(permitted),
+        "not permitted": len(rows) - len(permitted),
         "permitted, and shown by the store buffers": len(shown),
         "permitted, and not by the store buffers": len(permitted) - len(shown),
         "permitted, and seen in an engine": sum(any(map(row.times, row.engines)) for row in permitted),
-        "seen, and not found among the candidates": sum(bool(row.finds) for row in rows),
+        "seen, and not permitted": sum(bool(row.finds) for row in rows),
     }
 
 
-def literature_rows(rows):
+def literature_rows(rows: Sequence[Row]) -> Iterator[tuple[str, bool, bool, str, str]]:
     """Each published verdict beside ours."""
     by_name = {row.test.name: row for row in rows}
     for name, is_permitted, statement, source in PUBLISHED:
@@ -79,15 +85,15 @@ def literature_rows(rows):
             yield name, is_permitted, row.is_permitted, statement, source
 
 
-def word(is_permitted):
+def word(is_permitted: bool) -> str:
     return "permitted" if is_permitted else "forbidden"
 
 
-def literature_lines(rows):
+def literature_lines(rows: Sequence[Row]) -> Iterator[str]:
     yield "| Test | Published | Here | By | Source |"
     yield "|---|---|---|---|---|"
     for name, published, here, statement, source in literature_rows(rows):
-        ours = "permitted" if here else "not found"
+        ours = "permitted" if here else "not permitted"
         differs = "" if published == here else " **differs**"
         yield f"| `{name}` | {word(published)} | {ours}{differs} | {statement} | {source} |"
 
@@ -106,8 +112,8 @@ Made on {date} with {version}: {run_rounds} rounds of `wmlab run`; {asked} candi
 {counts}
 
 - **Rules**: *permitted by M of N* means that `wmlab stream` allows M of the N candidates with this outcome, and
-  `wmlab check` the first of them. *Not found among N* means that it allows none. How many break which rule follows:
-  `V3 case 2` is the second case of coherence.
+  `wmlab check` the first of them. *Not permitted* is what `wmlab witness` proves: no writers and no order make the
+  outcome allowed. How many candidates break which rule follows: `V3 case 2` is the second case of coherence.
 - **Store buffers**: the script with the fewest moves for `wmlab drive`, found by a search; then how often `wmlab run`
   gave the outcome. *no*: a search over all moves of such buffers found none.
   - The buffers make loads in order, and all threads see a published store at once. So load buffering (`LB`), and what
@@ -117,7 +123,7 @@ Made on {date} with {version}: {run_rounds} rounds of `wmlab run`; {asked} candi
 """
 
 
-def theorem_line(rows):
+def theorem_line(rows: Sequence[Row]) -> str:
     """What SC-DRF says of the tests without races, and what came."""
     free = [row for row in rows if row.test.is_free_of_races]
     permitted = [row.test.name for row in free if row.is_permitted]
@@ -127,22 +133,22 @@ def theorem_line(rows):
     )
 
 
-def engines_line(collected, date):
+def engines_line(collected: Collected, date: str) -> str:
     """Which engines ran, and how often each test."""
     names = []
     for engine, version in collected.engines.items():
         most = max((row.engines[engine].iterations for row in collected.rows if engine in row.engines), default=0)
         names.append(f"{version}, about {round(most, -4):,} iterations of each test")
-    return f"Engines ({date}), by `litmus/run`: {'; '.join(names)}."
+    return f"Engines ({date}), by `litmus/run`: {'; '.join(names) or 'none'}."
 
 
-def head(collected):
+def head(collected: Collected) -> str:
     rows = "\n".join(f"| {name} | {count} |" for name, count in counts(collected.rows).items())
     return HEAD.format(
         date=collected.date,
         version=collected.version,
         engines=engines_line(collected, collected.date),
-        names=", ".join(collected.engines),
+        names=", ".join(collected.engines) or "no engine",
         run_rounds=collected.run_rounds,
         asked=collected.asked,
         seconds=collected.seconds,
@@ -150,7 +156,7 @@ def head(collected):
     )
 
 
-def table_lines(collected):
+def table_lines(collected: Collected) -> Iterator[str]:
     for shape, rows in by_shape(collected.rows).items():
         yield ""
         yield f"### {shape}: `{SHAPES[shape]}`"
@@ -163,7 +169,7 @@ def table_lines(collected):
             yield f"| {' | '.join([*cells, *engine_cells(row, collected)])} |"
 
 
-def markdown(collected):
+def markdown(collected: Collected) -> str:
     lines = [head(collected), "## Beside the literature", "", *literature_lines(collected.rows), ""]
     lines += [theorem_line(collected.rows), ""]
     lines += ["[MODEL.md](MODEL.md#beside-the-literature) explains where the rules could be read differently.", ""]
@@ -184,11 +190,11 @@ table { border-collapse: collapse; } td, th { border: 1px solid var(--line); pad
 """
 
 
-def escaped(text):
+def escaped(text: object) -> str:
     return html.escape(str(text))
 
 
-def html_row(row, collected):
+def html_row(row: Row, collected: Collected) -> str:
     tone = "good" if row.is_permitted else "bad"
     name = escaped(row.test.name)
     engines = ", ".join(f"{engine}: {row.times(engine)} of {seen.iterations}" for engine, seen in row.engines.items())
@@ -204,8 +210,8 @@ def html_row(row, collected):
     )
 
 
-def html_page(collected):
-    engines = ", ".join(collected.engines.values())
+def html_page(collected: Collected) -> str:
+    engines = ", ".join(collected.engines.values()) or "no engine ran"
     parts = ["<!doctype html>", '<html lang="en"><head><meta charset="utf-8">']
     parts += ['<meta name="viewport" content="width=device-width, initial-scale=1">']
     parts.append(f"<title>Gallery of litmus tests</title><style>{STYLE}</style></head>")
@@ -218,7 +224,7 @@ def html_page(collected):
     parts.append("</table></div><h2>Beside the literature</h2><div class=scroll><table>")
     parts.append("<tr><th>Test<th>Published<th>Here<th>By<th>Source</tr>")
     for name, published, here, statement, source in literature_rows(collected.rows):
-        cells = [name, word(published), "permitted" if here else "not found", statement, source.replace("*", "")]
+        cells = [name, word(published), "permitted" if here else "not permitted", statement, source.replace("*", "")]
         parts.append("<tr>" + "".join(f"<td>{escaped(cell)}</td>" for cell in cells) + "</tr>")
     parts.append("</table></div>")
     for shape, rows in by_shape(collected.rows).items():
@@ -227,11 +233,11 @@ def html_page(collected):
     return "\n".join([*parts, "</body></html>", ""])
 
 
-def data(collected):
+def data(collected: Collected) -> str:
     """The table as JSON lines: name, cycle, outcome, verdict, answers, script, times in `run` and in each engine."""
     lines = []
     for row in collected.rows:
-        verdict = "permitted" if row.is_permitted else "not found"
+        verdict = "permitted" if row.is_permitted else "not permitted"
         item = [row.test.name, row.test.cycle.text, row.test.outcome, verdict, dict(row.answers), row.script, row.runs]
         lines.append(log.compact([*item, {engine: row.times(engine) for engine in row.engines}]))
     return "\n".join(lines) + "\n"

@@ -6,12 +6,15 @@ import signal
 import subprocess
 import time
 from collections.abc import Iterator
-from typing import Protocol
 
-from . import TOP, commands, harness
+from wmlabtools import TOP, harness
+from wmlabtools.harness import Tally
+
+from . import commands
 from .accesses import BadCycle
 from .beyond import beyond, malformed, wrong_permission
 from .conditions import condition_of
+from .decision_tests import test_decisions
 from .judges import Stream
 from .model import CASES, Model
 from .modules import bytes_of
@@ -97,13 +100,6 @@ Environment = dict[str, str] | None
 Process = subprocess.Popen[str]
 # What a command prints, what it writes to standard error, and its status.
 Ended = tuple[str, str, int]
-
-
-class Tally(Protocol):
-    """Counts what holds and what does not."""
-
-    def check(self, holds: object, shows: str, got: object = "") -> None:
-        """Counts one case; if it does not hold, prints what it shows and what came."""
 
 
 class Commands:
@@ -252,17 +248,18 @@ def test_browsers(tally: Tally, run: Commands) -> None:
 
 
 def test_interruption(tally: Tally, run: Commands) -> None:
-    """Ctrl-C ends with the tables and status 130. On a busy machine the test may not have begun, so that there is no
-    table yet; then it is tried again later."""
-    for seconds in (3, 10, 30):
-        process = run.start("SB", "--iterations", "1000000000000")
-        time.sleep(seconds)
-        process.send_signal(signal.SIGINT)
-        out, err = process.communicate(timeout=60)
-        if "Histogram" in out:
-            break
-    holds = process.returncode == 130 and "Histogram" in out and "stopped after" in err
-    tally.check(holds, "Ctrl-C prints the tables", f"{process.returncode} {out} {err}")
+    """Ctrl-C and SIGTERM end with the tables and status 130. On a busy machine the test may not have begun, so that
+    there is no table yet; then it is tried again later."""
+    for sign in (signal.SIGINT, signal.SIGTERM):
+        for seconds in (3, 10, 30):
+            process = run.start("SB", "--iterations", "1000000000000")
+            time.sleep(seconds)
+            process.send_signal(sign)
+            out, err = process.communicate(timeout=60)
+            if "Histogram" in out:
+                break
+        holds = process.returncode == 130 and "Histogram" in out and "stopped after" in err
+        tally.check(holds, f"{sign.name} prints the tables", f"{process.returncode} {out} {err}")
 
 
 def test_pipes(tally: Tally, run: Commands) -> None:
@@ -338,6 +335,10 @@ def test_run(tally: Tally, program: str, room: str) -> None:
     if not shutil.which("node"):
         print("node is not there: litmus/run is left out")
         return
+    if shutil.which("wat2wasm"):
+        test_decisions(tally, program, room)
+    else:
+        print("wat2wasm is not there: tests of decisions are left out")
     run = Commands(program, room)
     test_output(tally, run)
     test_modules(tally, run)

@@ -1,7 +1,8 @@
 """The exported functions of a module, with their types."""
 from dataclasses import dataclass
 
-from . import wasm
+from wmlabtools import wasm
+
 from .accesses import BadCycle
 
 BITS = {0x7F: 32, 0x7E: 64}

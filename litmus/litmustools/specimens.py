@@ -1,7 +1,8 @@
 """What an engine runs: a module, its threads, and what of its results is the outcome."""
 from dataclasses import dataclass, field
 
-from . import wasm
+from wmlabtools import wasm
+
 from .conditions import Condition, conjunction
 from .modules import access_of, constant
 from .tests import EXPORTS, Event, LitmusTest

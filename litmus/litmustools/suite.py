@@ -1,4 +1,5 @@
 """The suite: which tests there are, each once."""
+from collections.abc import Iterator, Sequence
 from itertools import product
 
 from .accesses import BadCycle, access_of
@@ -30,7 +31,7 @@ MIXED = (
 )
 
 
-def with_words(shape, words):
+def with_words(shape: str, words: Sequence[str]) -> Cycle | None:
     """The cycle of a shape with these accesses; None if they do not fit, as an atomic access that is not aligned."""
     edges = shape_of(SHAPES[shape]).edges
     try:
@@ -39,13 +40,13 @@ def with_words(shape, words):
         return None
 
 
-def each_access(shape, orders=ORDERS):
+def each_access(shape: str, orders: Sequence[str] = ORDERS) -> list[Cycle | None]:
     """Each choice for each access."""
     count = len(SHAPES[shape].split())
     return [with_words(shape, words) for words in product(orders, repeat=count)]
 
 
-def by_group(shape, group_of, orders=ORDERS):
+def by_group(shape: str, group_of: Sequence[int], orders: Sequence[str] = ORDERS) -> list[Cycle | None]:
     """Each choice for groups of accesses: `group_of` has the group of each access."""
     groups = sorted(set(group_of))
     return [
@@ -54,33 +55,34 @@ def by_group(shape, group_of, orders=ORDERS):
     ]
 
 
-def by_thread(shape, orders=ORDERS):
+def by_thread(shape: str, orders: Sequence[str] = ORDERS) -> list[Cycle | None]:
     threads = shape_of(SHAPES[shape]).threads()
     group_of = {k: thread for thread, accesses in enumerate(threads) for k in accesses}
     return by_group(shape, [group_of[k] for k in sorted(group_of)], orders)
 
 
-def by_location(shape, orders=ORDERS):
+def by_location(shape: str, orders: Sequence[str] = ORDERS) -> list[Cycle | None]:
     return by_group(shape, shape_of(SHAPES[shape]).locations(), orders)
 
 
-def of_width(shape):
+def of_width(shape: str) -> list[Cycle | None]:
     """All accesses of 1, 2 or 8 bytes."""
     count = len(SHAPES[shape].split())
     return [with_words(shape, [f"{order}{width}"] * count) for order in ORDERS for width in (1, 2, 8)]
 
 
-def range_word(order, place):
+def range_word(order: str, place: str) -> str:
     """The word of an access: `place` is a width with or without an offset."""
     return order + (place[1:] if place[0] == "4" else place)
 
 
-def mixed(shape):
+def mixed(shape: str) -> list[Cycle | None]:
     """The accesses of location x with different ranges; those of other locations plain, atomic, or atomic alone."""
     at = shape_of(SHAPES[shape]).locations()
     found = []
     for (first, later), (here, elsewhere) in product(MIXED, (("un", "un"), ("un", "sc"), ("sc", "sc"))):
-        words, is_first = [], True
+        words: list[str] = []
+        is_first = True
         for location in at:
             words.append(elsewhere if location else range_word(here, first if is_first else later))
             is_first = is_first and location != 0
@@ -88,7 +90,7 @@ def mixed(shape):
     return found
 
 
-def updates(shape):
+def updates(shape: str) -> list[Cycle | None]:
     """Exchanges: for all accesses, for those of one location, and of other widths."""
     count, at = len(SHAPES[shape].split()), shape_of(SHAPES[shape]).locations()
     found = [with_words(shape, [f"rmw{width}"] * count) for width in ("", "1", "2", "8")]
@@ -97,7 +99,7 @@ def updates(shape):
     return found
 
 
-def lost_updates():
+def lost_updates() -> list[Cycle | None]:
     """Two updates of one location, and an update beside a write."""
     words = [[f"rmw{width}"] * 2 for width in ("", "1", "2", "8")]
     words += [["rmw", "rmw2@2"], ["rmw8", "rmw@4"], ["rmw2", "rmw"]]
@@ -105,7 +107,7 @@ def lost_updates():
     return found + [with_words("X+W", ["rmw", order]) for order in ("un", "sc", "rmw")]
 
 
-def cycles():
+def cycles() -> Iterator[Cycle | None]:
     """Every cycle of the suite, some more than once."""
     for shape in (*TWO_THREADS, *COHERENCE, "WRC", "RWC"):
         yield from each_access(shape)
@@ -129,7 +131,8 @@ def cycles():
 
 def suite() -> dict[str, LitmusTest]:
     """The tests of the suite by their names."""
-    found, seen = {}, set()
+    found: dict[str, LitmusTest] = {}
+    seen: set[Cycle] = set()
     for cycle in cycles():
         if cycle is None or cycle.canonical in seen:
             continue

@@ -1,10 +1,13 @@
-"""The verdict on the outcome of a cycle, and what it has to be."""
+"""The verdict on the outcome of a cycle: by its candidates, by `wmlab witness`, and what it has to be."""
 import os
 
-from . import TOP
+from wmlabtools import TOP
+
 from .candidates import Candidates, ask
-from .decisions import Judge
+from .decisions import FORBIDDEN, PERMITTED, UNDECIDED
+from .judges import Judge
 from .tests import LitmusTest
+from .witnesses import Answer, Kind
 
 PATH = os.path.join(TOP, "litmus/verdicts.txt")
 
@@ -16,6 +19,11 @@ def expected_verdicts() -> dict[str, str]:
 
 
 def verdict_of(test: LitmusTest, judge: Judge) -> tuple[str, str | None]:
-    """`permitted` with a log that is allowed, or `not found` with nothing."""
+    """The verdict by the candidates that a judge allows, with the first of them. A judge may be wrong on purpose."""
     found = ask(Candidates(test, outcome=test.cycle_values), judge, until_allowed=True)[test.cycle_values]
-    return "permitted" if found.is_permitted else "not found", found.witness
+    return PERMITTED if found.is_permitted else FORBIDDEN, found.witness
+
+
+def proved_verdict(answer: Answer) -> str:
+    """The verdict by what `wmlab witness` answers of an outcome."""
+    return {Kind.FOUND: PERMITTED, Kind.NONE: FORBIDDEN}.get(answer.kind, UNDECIDED)

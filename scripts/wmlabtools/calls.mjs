@@ -35,8 +35,10 @@ function made(module, { name, args }, { pages = 0, block = null }) {
   let instance = null;
   try {
     instance = new WebAssembly.Instance(module, {});
-    if (block) placeBlock(instance.exports, block);
-    end.result = resultOf(instance.exports[name](...args.map(argument)));
+    /** @type {any} */
+    const exports = instance.exports;
+    if (block) placeBlock(exports, block);
+    end.result = resultOf(exports[name](...args.map(argument)));
   } catch (error) {
     end.trap = error.message;
   }

@@ -4,6 +4,7 @@ import difflib
 import glob
 import os
 import re
+from collections.abc import Iterator
 
 from . import TOP, edits
 
@@ -14,9 +15,10 @@ CONSTANT = re.compile(r"(?m)^(?:pub(?:\([a-z]+\))? )?const (\w+)")
 END = re.compile(r"(?m)^\}")
 
 
-def parts_of(head):
+def parts_of(head: str) -> tuple[list[str], list[str]]:
     """The parts of a text outside of < and >, and those between them; the > of an arrow is no bracket."""
-    outside, inside, depth = [""], [], 0
+    outside, depth = [""], 0
+    inside: list[str] = []
     for before, character in zip(" " + head, head):
         if character == "<":
             depth += 1
@@ -35,11 +37,11 @@ def parts_of(head):
     return outside, inside
 
 
-def last_name(path):
+def last_name(path: str) -> str:
     return path.strip(" &").split("::")[-1]
 
 
-def owner_of(head):
+def owner_of(head: str) -> str:
     """The prover's name for what an `impl` is of: `Type`, `TypeTrait`, or `TypeTraitArgument`."""
     outside, inside = parts_of(head)
     if head.startswith("<"):
@@ -52,40 +54,41 @@ def owner_of(head):
     return name + last_name(of_trait.split("<>")[0]) + last_name(arguments)
 
 
-def module_of(path):
+def module_of(path: str) -> list[str]:
     parts = path.removeprefix("src/").removesuffix(".rt").split("/")
     return [] if parts in (["lib"], ["main"]) else parts
 
 
-def sources_of(crate):
+def sources_of(crate: str) -> dict[str, str]:
     """The sources of a crate, each with its path from `src/` on."""
     files = sorted(glob.glob(f"{TOP}/crates/{crate}/src/**/*.rt", recursive=True))
     return {file[file.index("/src/") + 1 :]: edits.text_of(file) for file in files}
 
 
-def module_of_type(crate, name, path):
+def module_of_type(crate: str, name: str, path: str) -> list[str]:
     """The module that declares a type, or that of this file if none of the crate does."""
     declares = re.compile(rf"(?m)^(?:pub(?:\([a-z]+\))? )?(?:struct|enum) {re.escape(name)}\b")
     declared = [module_of(each) for each, text in sources_of(crate).items() if declares.search(text)]
     return declared[0] if len(declared) == 1 else module_of(path)
 
 
-def function_at(crate, text, path, offset):
+def function_at(crate: str, text: str, path: str, offset: int) -> str | None:
     """The function of a file that has this offset in it, or None if there is none."""
-    module, owner, start = module_of(path), [], 0
+    module, start = module_of(path), 0
+    owner: list[str] = []
     for found in IMPL.finditer(text, 0, offset):
         end = END.search(text, found.end())
         if not end or end.start() >= offset:
             owner, start = [owner_of(found["head"])], found.end()
             module = module_of_type(crate, owner[0], path)
     indent = "    " if owner else ""
-    found = [each for each in FUNCTION.finditer(text, start, offset) if each["indent"] == indent]
-    if not found or re.search(rf"(?m)^{indent}\}}", text[found[-1].end() : offset]):
+    heads = [each for each in FUNCTION.finditer(text, start, offset) if each["indent"] == indent]
+    if not heads or re.search(rf"(?m)^{indent}\}}", text[heads[-1].end() : offset]):
         return None
-    return "::".join([*module, *owner, found[-1]["name"]])
+    return "::".join([*module, *owner, heads[-1]["name"]])
 
 
-def functions_in(crate, text, path):
+def functions_in(crate: str, text: str, path: str) -> dict[str, int]:
     """The functions of a file's text, each with the offset of its head."""
     heads = {}
     for found in FUNCTION.finditer(text):
@@ -96,13 +99,13 @@ def functions_in(crate, text, path):
     return heads
 
 
-def is_of_trait(text, offset):
+def is_of_trait(text: str, offset: int) -> bool:
     """Whether this offset is in an `impl` of a trait."""
     impls = [found for found in IMPL.finditer(text, 0, offset) if not END.search(text, found.end(), offset)]
     return bool(impls) and " for " in impls[-1]["head"]
 
 
-def functions_that_name(crate, word):
+def functions_that_name(crate: str, word: str) -> list[str]:
     """The functions of a crate that have a word in them."""
     functions = []
     for path, text in sources_of(crate).items():
@@ -111,7 +114,7 @@ def functions_that_name(crate, word):
     return [function for function in dict.fromkeys(functions) if function]
 
 
-def functions_of_file(crate, path, text):
+def functions_of_file(crate: str, path: str, text: str) -> list[str]:
     """The function in which a file's new text first differs; or if that is a constant, the functions that name it."""
     before, inside = edits.text_of(path), path[path.index("/src/") + 1 :]
     offset = len(os.path.commonprefix([before, text]))
@@ -122,14 +125,14 @@ def functions_of_file(crate, path, text):
     return functions_that_name(crate, constants[-1]) if constants else []
 
 
-def changed_functions(edit):
+def changed_functions(edit: str) -> list[str]:
     """The functions that an edit changes, or that name a constant that it changes."""
     crate = edit.split("/")[1]
-    changed = edits.changed_files(edit).items()
+    changed = edits.applied(edit).items()
     return [function for path, text in changed for function in functions_of_file(crate, path, text)]
 
 
-def changed_lines(before, text):
+def changed_lines(before: str, text: str) -> Iterator[int]:
     """The offsets at which the lines that differ begin, after their indentation."""
     lines = before.split("\n")
     starts = [0]
@@ -142,12 +145,17 @@ def changed_lines(before, text):
                 yield starts[number] + len(lines[number]) - len(lines[number].lstrip())
 
 
-def bodies_changed(edit):
+def bodies_changed(edit: str) -> set[str] | None:
     """The functions whose bodies an edit changes, or None if it changes anything else."""
-    crate, functions = edit.split("/")[1], set()
-    for path, text in edits.changed_files(edit).items():
+    crate = edit.split("/")[1]
+    functions: set[str] = set()
+    for path, text in edits.applied(edit).items():
         before, inside = edits.text_of(path), path[path.index("/src/") + 1 :]
         if re.findall(r"\bfn \w+", before) != re.findall(r"\bfn \w+", text):
             return None
-        functions |= {function_at(crate, before, inside, offset) for offset in changed_lines(before, text)}
-    return None if None in functions else functions
+        for offset in changed_lines(before, text):
+            function = function_at(crate, before, inside, offset)
+            if function is None:
+                return None
+            functions.add(function)
+    return functions

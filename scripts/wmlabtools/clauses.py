@@ -8,7 +8,7 @@ COLUMNS = 140
 CLAUSE = re.compile(r"^[ \t]*(?:requires|ensures)\b[^\n{]*\{", re.MULTILINE)
 
 
-def end_of(text, start):
+def end_of(text: str, start: int) -> int:
     """The offset of the bracket that closes the one before `start`."""
     depth = 1
     for offset in range(start, len(text)):
@@ -18,9 +18,10 @@ def end_of(text, start):
     return len(text)
 
 
-def wide_lines():
+def wide_lines() -> tuple[int, list[str]]:
     """How many clauses there are, and the places of lines that are too wide, as lines."""
-    count, wide = 0, []
+    count = 0
+    wide: list[str] = []
     for path in sorted(glob.glob(f"{TOP}/crates/*/src/**/*.rt", recursive=True)):
         with open(path, encoding="utf-8") as file:
             text = file.read()

@@ -2,8 +2,11 @@
 import itertools
 import json
 import re
+from collections.abc import Callable, Iterable, Sequence
+from typing import Any, TypeVar
 
-from .model import INIT, execution_of
+from .log import LoggedThread
+from .model import Event, Execution, Initial, Writer, execution_of
 
 LEGEND = ["  (T.N is event N of thread T, both from 0; init writes the initial memory)", "  place  event"]
 RUN = [
@@ -14,17 +17,26 @@ RUN = [
 EVENTS = "The events in their order, with who wrote what was read:"
 SITE = re.compile(r'(.*); at 0x([0-9a-f]+), instruction (\d+) of "(\w+)"')
 
+Value = TypeVar("Value")
+
 
 class Difference(Exception):
     """What the text should not have."""
 
 
-def expect(holds, shows):
+def expect(holds: object, shows: str) -> None:
     if not holds:
         raise Difference(shows)
 
 
-def expect_lines(found, wanted):
+def existing(value: Value | None, shows: str) -> Value:
+    """What the text should have."""
+    if value is None:
+        raise Difference(shows)
+    return value
+
+
+def expect_lines(found: Iterable[str], wanted: Iterable[str]) -> None:
     for line, expected in itertools.zip_longest(found, wanted):
         expect(line == expected, f"{line!r} in place of {expected!r}")
 
@@ -32,11 +44,11 @@ def expect_lines(found, wanted):
 # ---- events
 
 
-def value_text(value, width, is_hex):
+def value_text(value: int, width: int, is_hex: bool) -> str:
     return f"{value} (0x{value:0{2 * width}x})" if is_hex else str(value)
 
 
-def writers_text(event):
+def writers_text(event: Event) -> str:
     runs = [(writer, list(run)) for writer, run in itertools.groupby(range(event.width), event.writers.__getitem__)]
     if len(runs) == 1:
         return f"from {runs[0][0].name}"
@@ -44,10 +56,10 @@ def writers_text(event):
     return ", ".join(f"{span} from {writer.name}" for span, (writer, _) in zip(spans, runs))
 
 
-def row(execution, event, is_hex):
+def row(execution: Execution, event: Writer, is_hex: bool) -> str:
     """The row of an event in the table."""
     start = f"{execution.place[event]:7}  {event.name}  "
-    if event is INIT:
+    if isinstance(event, Initial):
         return start + "writes the initial memory"
     kind = {"r": "read", "w": "write", "x": "update"}[event.kind]
     count = "1 byte" if event.width == 1 else f"{event.width} bytes"
@@ -59,28 +71,28 @@ def row(execution, event, is_hex):
     return f"{start}{order} {kind} of {count} at address {event.address}, which {does}{source}"
 
 
-def rows(execution, events):
+def rows(execution: Execution, events: Iterable[Writer]) -> list[str]:
     """The rows of these events, in the order. Values are in hex too around a read with several writers."""
-    events = sorted(events, key=execution.place.get)
-    accesses = [event for event in events if event is not INIT]
+    events = sorted(events, key=execution.place.__getitem__)
+    accesses = [event for event in events if isinstance(event, Event)]
     mixed = [event for event in accesses if len(set(event.writers)) > 1]
 
-    def is_hex(event):
+    def is_hex(event: Event) -> bool:
         return any(
             event.address < read.address + read.width and read.address < event.address + event.width for read in mixed
         )
 
-    return [row(execution, event, event is not INIT and is_hex(event)) for event in events]
+    return [row(execution, event, isinstance(event, Event) and is_hex(event)) for event in events]
 
 
 # ---- a run of a module
 
 
-def counted(number, word):
+def counted(number: int, word: str) -> str:
     return f"{number} {word}" + ("" if number == 1 else "s")
 
 
-def end_text(end):
+def end_text(end: Sequence[Any]) -> str:
     kind, *rest = end
     if kind == "cut":
         return "and has not ended"
@@ -89,14 +101,14 @@ def end_text(end):
     return f"and then it returns {rest[0][0] if rest[0] else 'nothing'}"
 
 
-def thread_row(number, thread):
+def thread_row(number: int, thread: LoggedThread) -> str:
     """The row of a thread of a log."""
     name, arguments, end, steps, events = thread
     counts = f"{counted(steps, 'step')}, {counted(len(events), 'event')}"
     return f'  thread {number} runs "{name}" on {counted(len(arguments), "argument")}: {counts}, {end_text(end)}'
 
 
-def expect_run(lines, log, site_fault):
+def expect_run(lines: Sequence[str], log: str | bytes, site_fault: Callable[[Event, int, int, str], object]) -> None:
     """Compares the text on the run of a log that is allowed. `site_fault` is told an event, and the offset, the number
     and the function of its instruction."""
     threads = json.loads(log)[2]
@@ -104,9 +116,10 @@ def expect_run(lines, log, site_fault):
     wanted = [*RUN, *itertools.starmap(thread_row, enumerate(threads)), EVENTS]
     wanted += LEGEND if execution.events else ["  none"]
     expect_lines(lines[1 : 1 + len(wanted)], wanted)
-    events = sorted(execution.events, key=execution.place.get)
-    sites = [SITE.fullmatch(line) for line in lines[1 + len(wanted) :]]
-    expect(all(sites), "a row has no instruction")
+    events = sorted(execution.events, key=execution.place.__getitem__)
+    found = [SITE.fullmatch(line) for line in lines[1 + len(wanted) :]]
+    sites = [site for site in found if site]
+    expect(len(sites) == len(found), "a row has no instruction")
     expect_lines([site[1] for site in sites], rows(execution, events))
     for event, site in zip(events, sites):
         fault = site_fault(event, int(site[2], 16), int(site[3]), site[4])

@@ -1,7 +1,9 @@
 """Random code that computes with floats, and code that waits. Every NaN that an instruction makes becomes the canonical
 one at once, since the standard leaves its bits open."""
+from random import Random
+
 from . import wasm
-from .programs import DROP, I32, I64, PREFIX, SELECT, constant
+from .programs import DROP, I32, I64, PREFIX, SELECT, Code, Coder, Kind, constant
 
 F32, F64 = 0x7D, 0x7C
 FLOATS = (F32, F64)
@@ -34,7 +36,7 @@ WAYS = ("unary", "binary", "binary", "sign", "copysign", "convert", "other", "bi
 FORMAT = {F32: (8, 23), F64: (11, 52)}
 
 
-def bits(chance, kind):
+def bits(chance: Random, kind: Kind) -> int:
     """The bits of a float: special ones, numbers near 1 or an integer's range, or any."""
     exponents, fraction = FORMAT[kind]
     most, width = (1 << exponents) - 1, 1 + exponents + fraction
@@ -44,18 +46,19 @@ def bits(chance, kind):
     return (chance.getrandbits(1) << width - 1 | (exponent % (most + 1)) << fraction | low) % (1 << width)
 
 
-class FloatCode:
+class FloatCode(Coder):
     """The part of a coder that writes code of floats."""
 
-    def add_float_locals(self):
+    def add_float_locals(self) -> None:
         """Two locals of each type: one for the code that finds a NaN, and one for values."""
-        self.scratch, self.kept = {}, {}
+        self.scratch: dict[Kind, int] = {}
+        self.kept: dict[Kind, int] = {}
         for kind in FLOATS:
             self.scratch[kind] = len(self.function.locals)
             self.kept[kind] = len(self.function.locals) + 1
             self.function.locals += [kind, kind]
 
-    def canonical(self, kind):
+    def canonical(self, kind: Kind) -> Code:
         """Code that makes a NaN the canonical one."""
         exponents, fraction = FORMAT[kind]
         nan = ((1 << exponents + 1) - 1) << fraction - 1
@@ -64,15 +67,15 @@ class FloatCode:
         return [put, self.float_constant(kind, nan), get, get, EQUAL[kind], SELECT]
 
     @staticmethod
-    def float_constant(kind, value):
+    def float_constant(kind: Kind, value: int) -> bytes:
         return CONSTANT[kind] + value.to_bytes(WIDTH[kind], "little")
 
-    def float_leaf(self, kind):
+    def float_leaf(self, kind: Kind) -> Code:
         if self.chance.random() < 0.3:
             return [b"\x20" + wasm.number(self.kept[kind])]
         return [self.float_constant(kind, bits(self.chance, kind))]
 
-    def float_value(self, kind, depth):
+    def float_value(self, kind: Kind, depth: int) -> Code:
         """Code that leaves a float of this type."""
         self.room -= 1
         if depth <= 0 or self.room < 0:
@@ -100,7 +103,7 @@ class FloatCode:
             return self.address(WIDTH[kind], depth, False) + [LOAD[kind] + self.place(WIDTH[kind], False)]
         return self.float_leaf(kind)
 
-    def of_floats(self, kind, depth):
+    def of_floats(self, kind: Kind, depth: int) -> Code:
         """Code that leaves an integer of this type, which floats give."""
         source = self.chance.choice(FLOATS)
         way = self.chance.random()
@@ -115,16 +118,16 @@ class FloatCode:
             return [*code, bytes([self.chance.choice(TRUNCATIONS[kind][source])])]
         return [*code, b"\xfc" + bytes([self.chance.choice(SATURATING[kind][source])])]
 
-    def float_store(self, depth):
+    def float_store(self, depth: int) -> Code:
         kind = self.chance.choice(FLOATS)
         value = self.float_value(kind, depth)
         return self.address(WIDTH[kind], depth, False) + value + [STORE[kind] + self.place(WIDTH[kind], False)]
 
 
-class WaitingCode:
+class WaitingCode(Coder):
     """The part of a coder that writes waits, each with a time, and notifications."""
 
-    def wait(self, depth):
+    def wait(self, depth: int) -> Code:
         """Code that leaves what a wait or a notification answers."""
         if self.chance.random() < 0.4:
             operands = self.address(4, depth, True) + self.value(I32, depth - 1)
@@ -133,5 +136,5 @@ class WaitingCode:
         operands = self.address(width, depth, True) + self.value(kind, depth - 1)
         return operands + [constant(I64, self.chance.choice((0, 1, 1_000))), PREFIX + opcode + self.place(width, True)]
 
-    def dropped_wait(self, depth):
+    def dropped_wait(self, depth: int) -> Code:
         return [*self.wait(depth), DROP]

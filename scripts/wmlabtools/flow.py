@@ -1,15 +1,20 @@
 """Where each instruction of a function leads, by one reading of its code."""
+from collections.abc import Sequence
+from typing import Literal
+
 from wmlabtools import wasm
 
 BLOCK, LOOP, IF, ELSE, END = 0x02, 0x03, 0x04, 0x05, 0x0B
 BR, BR_IF, BR_TABLE, RETURN, CALL = 0x0C, 0x0D, 0x0E, 0x0F, 0x10
 # What comes after an instruction that leaves its function.
-LEAVES = "leaves"
+LEAVES: Literal["leaves"] = "leaves"
+Target = int | Literal["leaves"]
 
 
-def numbers_of(instruction):
+def numbers_of(instruction: bytes) -> list[int]:
     """The numbers after an opcode, if it is a branch or a call."""
-    numbers, at = [], 1
+    numbers: list[int] = []
+    at = 1
     while at < len(instruction):
         number, at = wasm.number_at(instruction, at)
         numbers.append(number)
@@ -20,10 +25,12 @@ class Flow:
     """The code of a function, a list of instructions, as places that lead to others. Its last instruction is the `end`
     of its body."""
 
-    def __init__(self, code):
+    def __init__(self, code: Sequence[bytes]) -> None:
         self.code = code
-        self.around, self.elses, self.ends = [], {}, {}
-        opened = []
+        self.around: list[list[int]] = []
+        self.elses: dict[int, int] = {}
+        self.ends: dict[int, int] = {}
+        opened: list[int] = []
         for place, instruction in enumerate(code):
             opcode = instruction[0]
             if opcode == ELSE:
@@ -34,7 +41,7 @@ class Flow:
             if opcode in (BLOCK, LOOP, IF):
                 opened.append(place)
 
-    def target(self, place, label):
+    def target(self, place: int, label: int) -> Target:
         """Where a branch goes on: at a loop, or after another block."""
         blocks = self.around[place]
         if label == len(blocks):
@@ -42,11 +49,11 @@ class Flow:
         opener = blocks[-1 - label]
         return opener if self.code[opener][0] == LOOP else self.ends[opener] + 1
 
-    def call_at(self, place):
+    def call_at(self, place: int) -> int | None:
         """The function that the instruction calls; None if it calls none."""
         return numbers_of(self.code[place])[0] if self.code[place][0] == CALL else None
 
-    def next_places(self, place):
+    def next_places(self, place: int) -> set[Target]:
         """The places to which the instruction leads within its function, or LEAVES. A call leads to what follows it."""
         instruction = self.code[place]
         opcode = instruction[0]
@@ -66,7 +73,7 @@ class Flow:
         return {place + 1}
 
 
-def path_fault(functions, places):
+def path_fault(functions: Sequence[Sequence[bytes]], places: Sequence[tuple[int, int]]) -> str | None:
     """Where a path through functions breaks off; None if each of its places follows from those before it. A place is
     the index of a function and the number of an instruction; the path begins at the start of a function."""
     flows = [Flow(code) for code in functions]

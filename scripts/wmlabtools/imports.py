@@ -4,6 +4,7 @@ A trait that is imported for its methods alone is named nowhere else, so it has 
 """
 import glob
 import re
+from collections.abc import Collection
 
 from . import TOP
 
@@ -13,7 +14,7 @@ IMPORT = re.compile(
 )
 
 
-def is_named(name, text, words):
+def is_named(name: str, text: str, words: Collection[str]) -> bool:
     """Whether a text with these words has a name, or the first part of an operator, as `◌≡◌`."""
     word = name.strip("◌").split("◌")[0]
     if re.fullmatch(r"\w+", word):
@@ -23,9 +24,10 @@ def is_named(name, text, words):
     return re.search(before + re.escape(word) + after, text) is not None
 
 
-def unused(crate):
+def unused(crate: str) -> list[str]:
     """Each name that a file of a crate imports in braces and doesn't name again, with its file."""
-    found, top = [], f"{TOP}/crates/{crate}"
+    top = f"{TOP}/crates/{crate}"
+    found: list[str] = []
     files = glob.glob("src/**/*.rt", root_dir=top, recursive=True)
     files += glob.glob("specs/**/*.antt", root_dir=top, recursive=True)
     files += glob.glob("proofs/**/*.antt", root_dir=top, recursive=True)

@@ -5,7 +5,7 @@ import sys
 from . import TOP
 
 
-def write_measured(document, command, text):
+def write_measured(document: str, command: str, text: str) -> None:
     """Replaces what a document has between the two marks of a command."""
     path, begin, end = os.path.join(TOP, document), f"<!-- {command} -->\n", f"<!-- end of {command} -->\n"
     with open(path, encoding="utf-8") as file:

@@ -2,11 +2,12 @@
 import os
 import shutil
 import sys
+from collections.abc import Mapping, Sequence
 
 from . import TOP
 
 
-def dependencies():
+def dependencies() -> dict[str, list[str]]:
     """The libraries that each crate uses, as crates.txt has them."""
     found = {}
     with open(f"{TOP}/crates.txt", encoding="utf-8") as file:
@@ -17,9 +18,9 @@ def dependencies():
     return found
 
 
-def below(crate, used):
+def below(crate: str, used: Mapping[str, Sequence[str]]) -> list[str]:
     """The crates that a crate uses, directly or not, each once."""
-    found = []
+    found: list[str] = []
     for name in used[crate]:
         for each in [*(below(name, used) if name in used else []), name]:
             if each in used and each not in found:
@@ -27,7 +28,7 @@ def below(crate, used):
     return found
 
 
-def kit():
+def kit() -> str:
     """The folder of the toolchain."""
     command = shutil.which("rt")
     if not command:
@@ -35,7 +36,7 @@ def kit():
     return os.path.dirname(os.path.dirname(os.path.realpath(command)))
 
 
-def check_words(crate, *more):
+def check_words(crate: str, *more: str) -> list[str]:
     """The command that checks a crate in its folder."""
     used, place = dependencies(), kit()
     if crate not in used:

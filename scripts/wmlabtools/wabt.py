@@ -4,7 +4,7 @@ import subprocess
 import tempfile
 
 
-def assembled(text, *words):
+def assembled(text: str, *words: str) -> bytes:
     """The bytes of the module of a text, as wat2wasm assembles it with these words."""
     with tempfile.TemporaryDirectory() as folder:
         source, module = os.path.join(folder, "text.wat"), os.path.join(folder, "it.wasm")
@@ -15,7 +15,7 @@ def assembled(text, *words):
             return file.read()
 
 
-def said(tool, module, *words):
+def said(tool: str, module: bytes, *words: str) -> tuple[str, str]:
     """What a tool prints of a module, and what it writes to standard error."""
     ran = subprocess.run([tool, *words, "-"], input=module, capture_output=True, check=False)
     return ran.stdout.decode(), ran.stderr.decode()

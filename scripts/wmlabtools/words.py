@@ -1,47 +1,48 @@
-"""Command lines for the tests of the launcher: what it refuses, with its reason, and what it leaves to the program."""
+"""Command lines for the tests of the launcher and of the program: what each refuses, with its reason."""
 from . import TOP
 
 
-def no_command(word):
-    return f"there is no command {word}; ./wmlab help lists them"
+def no_command(word: str) -> str:
+    return f"there is no command {word}; `wmlab help` lists them"
 
 
-def hyphen(word):
+def hyphen(word: str) -> str:
     return f"the word '{word}' begins with a hyphen, as none of a command does; a file named -x is written ./-x"
 
 
-HELP = "./wmlab help lists the commands and their words"
-# Words, and the reason why they are refused.
-WRONG_WORDS = (
-    (["rules"], "expected: ./wmlab rules DOC"),
-    (["rules", "a", "b"], "expected: ./wmlab rules DOC"),
-    (["check"], "expected: ./wmlab check MODULE DOC"),
-    (["check", "a"], "expected: ./wmlab check MODULE DOC"),
-    (["check", "a", "b", "c"], "expected: ./wmlab check MODULE DOC"),
-    (["explain"], "expected: ./wmlab explain [MODULE] DOC"),
+# Words whose first is no command, and the reason why they are refused.
+UNKNOWN_COMMANDS: tuple[tuple[list[str], str], ...] = (
     (["judge", "-"], no_command("'judge'")),
     (["-"], no_command("'-'")),
     (["", "-"], no_command("''")),
     (["Rules", "-"], no_command("'Rules'")),
+    (["--json", "check", "a", "b"], hyphen("--json")),
+    (["--", "rules", "-"], hyphen("--")),
+    (["rules.", "-"], no_command("'rules.'")),
+)
+# Words too few or too many for a command, or with a hyphen, and the reason why they are refused.
+WRONG_WORDS: tuple[tuple[list[str], str], ...] = (
+    (["rules"], "expected: wmlab rules DOC"),
+    (["rules", "a", "b"], "expected: wmlab rules DOC"),
+    (["check"], "expected: wmlab check MODULE DOC"),
+    (["check", "a"], "expected: wmlab check MODULE DOC"),
+    (["check", "a", "b", "c"], "expected: wmlab check MODULE DOC"),
+    (["explain"], "expected: wmlab explain [MODULE] DOC"),
     (["rules", "-x"], hyphen("-x")),
     (["rules", "--help"], hyphen("--help")),
-    (["--json", "check", "a", "b"], hyphen("--json")),
     (["check", "-x", "-"], hyphen("-x")),
     (["check", "--", "-"], hyphen("--")),
-    (["help", "rules"], HELP),
-    (["version", "now"], HELP),
-    (["--prove", "now"], hyphen("--prove")),
-    (["drive"], "expected: ./wmlab drive MODULE TURNS START.."),
-    (["drive", "a"], "expected: ./wmlab drive MODULE TURNS START.."),
+    (["help", "rules"], "expected: wmlab help"),
+    (["version", "now"], "expected: wmlab version"),
+    (["drive"], "expected: wmlab drive MODULE TURNS START.."),
+    (["drive", "a"], "expected: wmlab drive MODULE TURNS START.."),
     (["drive", "-m", "0", "a"], hyphen("-m")),
     (["drive", "m", "-1", "a"], hyphen("-1")),
     (["drive", "m", "0", "-a"], hyphen("-a")),
-    (["trace"], "expected: ./wmlab trace MODULE TURNS START.."),
+    (["trace"], "expected: wmlab trace MODULE TURNS START.."),
     (["trace", "m", "0", "-a"], hyphen("-a")),
-    (["run", "m"], "expected: ./wmlab run MODULE ROUNDS START.."),
+    (["run", "m"], "expected: wmlab run MODULE ROUNDS START.."),
     (["run", "m", "1", "a", "--help"], hyphen("--help")),
-    (["--", "rules", "-"], hyphen("--")),
-    (["rules.", "-"], no_command("'rules.'")),
 )
 MODULE = f"{TOP}/examples/store-buffering.wasm"
 ITEM = (
@@ -52,7 +53,7 @@ ROUNDS = "Expected: an integer from 1 to 10000"
 ARGUMENT = "Expected: an unsigned decimal of at most 64 bits"
 NOT_UTF8 = "a word is not UTF-8, as all words have to be, also the names of files"
 # Words, the last word of the refusal, and the reason.
-WRONG_SPELLINGS = (
+WRONG_SPELLINGS: tuple[tuple[list[str], str, str], ...] = (
     (["check", MODULE, "-x.json"], "words", hyphen("-x.json")),
     (["run", MODULE, "-1", "a", "b"], "words", hyphen("-1")),
     (["check", MODULE, "\udcff.json"], "words", NOT_UTF8),
@@ -110,7 +111,7 @@ WRONG_SPELLINGS = (
         f"argument 1 of START 1 is '18446744073709551616'. {ARGUMENT}",
     ),
 )
-RIGHT_SPELLINGS = (
+RIGHT_SPELLINGS: tuple[list[str], ...] = (
     ["drive", MODULE, "00*01,d0/00*2,4294967295,d4294967295/4294967295", "a"],
     ["drive", MODULE, "0*4294967295", "a"],
     ["drive", MODULE, "0", "", "b:18446744073709551615:0"],
@@ -121,8 +122,8 @@ RIGHT_SPELLINGS = (
     ["run", MODULE, "1", "b" + ":0" * 40000],
     ["drive", MODULE, ",".join(["0", "1"] * 20000), "a", "b"],
 )
-# Words, the program's refusal, and the launcher's hint.
-WRONG_PLANS = (
+# Words, the program's refusal, and its reason.
+WRONG_PLANS: tuple[tuple[list[str], str, str], ...] = (
     (
         ["drive", MODULE, "5", "a", "b"],
         "Turn 5",
@@ -143,7 +144,7 @@ WRONG_PLANS = (
     (["run", MODULE, "10", *"a" * 17], "Threads", "there are 17 STARTs. Expected: 1 to 16, one for each thread"),
 )
 NO_FILE = "No such file or directory"
-MISSING_FILES = (
+MISSING_FILES: tuple[tuple[list[str], str, str], ...] = (
     (["rules", "nowhere"], "nowhere", f"DOC: {NO_FILE}"),
     (["rules", "file1"], "file1", f"DOC: {NO_FILE}"),
     (["rules", ""], "", f"DOC: {NO_FILE}"),

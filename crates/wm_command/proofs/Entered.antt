@@ -11,7 +11,7 @@ use Rattle.clap.specs.declared.parser.matches.Found.{Found}
 use Rattle.clap.proofs.WalkLemmas.{first_value-rows}
 use Rattle.wm_command.specs.Commands.{HasFields, IsNamed, LacksField, LacksFields, Means, NamesNoCommand, absent_of, fields_of, name_of, required_of}
 use Rattle.wm_command.specs.declared.command.Command.{Command}
-use Rattle.wm_command.specs.declared.command.Command.TheVariants.{OfRun, OfDocument, Witness, Stream, Drive, Trace, Run, Help, Version}
+use Rattle.wm_command.specs.declared.command.Command.TheVariants.{OfRun, OfDocument, Witness, Stream, Drive, Trace, Run, Explore, Witnesses, Help, Version}
 use Rattle.wm_command.specs.declared.command.WitnessWords.TheVariants.{One, Two, Three}
 use Rattle.wm_command.specs.declared.command.DocumentTask.TheVariants as document
 use Rattle.wm_command.specs.declared.command.RunTask.TheVariants as run
@@ -72,6 +72,8 @@ fields_begin (Stream m) = ([], refl)
 fields_begin (Drive m t) = ([], refl)
 fields_begin (Trace m t) = ([], refl)
 fields_begin (Run m r) = ([], refl)
+fields_begin (Explore m n) = ([], refl)
+fields_begin (Witnesses m n) = ([], refl)
 fields_begin Help = ([], refl)
 fields_begin Version = ([], refl)
 

@@ -1,2 +1,10 @@
+pub mod Digits
 pub mod Entered
-pub mod Words
+pub mod Every
+pub mod Keeping
+pub mod Missing
+pub mod Parting
+pub mod Reading
+pub mod Rows
+pub mod Spelling
+pub mod ParsedWords

@@ -11,7 +11,7 @@ use Rattle.clap.specs.declared.builder.action.ArgAction.TheVariants.{Append, Set
 use Rattle.clap.specs.declared.error.kind.ErrorKind.{ErrorKind}
 use Rattle.clap.specs.declared.error.kind.ErrorKind.TheVariants as kind
 use Rattle.wm_command.specs.declared.command.Command.{Command}
-use Rattle.wm_command.specs.declared.command.Command.TheVariants.{OfRun, OfDocument, Witness, Stream, Drive, Trace, Run, Help, Version}
+use Rattle.wm_command.specs.declared.command.Command.TheVariants.{OfRun, OfDocument, Witness, Stream, Drive, Trace, Run, Explore, Witnesses, Help, Version}
 use Rattle.wm_command.specs.declared.command.DocumentTask.{DocumentTask}
 use Rattle.wm_command.specs.declared.command.DocumentTask.TheVariants as document
 use Rattle.wm_command.specs.declared.command.RunTask.{RunTask}
@@ -67,6 +67,7 @@ form_of name shape.Log = log_form name
 form_of name shape.Search = search_form name
 form_of name shape.Turns = started_form name (codes "turns")
 form_of name shape.Rounds = started_form name (codes "rounds")
+form_of name shape.Events = started_form name (codes "events")
 
 -- the form of a row of a table
 abbrev pub form_in : Bor Text × Shape → Form
@@ -87,6 +88,8 @@ forms =
     ∷ log_form (codes "explain")
     ∷ log_form (codes "graph")
     ∷ search_form (codes "witness")
+    ∷ started_form (codes "explore") (codes "events")
+    ∷ started_form (codes "witnesses") (codes "events")
     ∷ plain_form (codes "help")
     ∷ plain_form (codes "version")
     ∷ []
@@ -157,6 +160,8 @@ name_of (Stream file) = codes "stream"
 name_of (Drive file turns) = codes "drive"
 name_of (Trace file turns) = codes "trace"
 name_of (Run file rounds) = codes "run"
+name_of (Explore file events) = codes "explore"
+name_of (Witnesses file events) = codes "witnesses"
 name_of Help = codes "help"
 name_of Version = codes "version"
 
@@ -175,6 +180,8 @@ fields_of (Stream file) = (codes "file", file.now) ∷ []
 fields_of (Drive file turns) = (codes "file", file.now) ∷ (codes "turns", turns.now) ∷ []
 fields_of (Trace file turns) = (codes "file", file.now) ∷ (codes "turns", turns.now) ∷ []
 fields_of (Run file rounds) = (codes "file", file.now) ∷ (codes "rounds", rounds.now) ∷ []
+fields_of (Explore file events) = (codes "file", file.now) ∷ (codes "events", events.now) ∷ []
+fields_of (Witnesses file events) = (codes "file", file.now) ∷ (codes "events", events.now) ∷ []
 fields_of Help = []
 fields_of Version = []
 

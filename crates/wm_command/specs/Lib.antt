@@ -1,1 +1,9 @@
 pub mod Commands
+pub mod Each
+pub mod Faults
+pub mod Limits
+pub mod Nodes
+pub mod Numbers
+pub mod Starts
+pub mod Turns
+pub mod Words

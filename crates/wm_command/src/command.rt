@@ -86,6 +86,16 @@ pub enum Command<'a> {
         module: &'a str,
         rounds: &'a str,
     },
+    /// Lists the outcomes that the memory rules permit of a module; the remaining words are the starts of its threads.
+    Explore {
+        module: &'a str,
+        events: &'a str,
+    },
+    /// Prints a document for each of these outcomes.
+    Witnesses {
+        module: &'a str,
+        events: &'a str,
+    },
     /// Prints how the program is used.
     Help,
     /// Prints the version.
@@ -213,6 +223,8 @@ enum Shape {
     Turns,
     /// A module, a number of rounds and starts of threads.
     Rounds,
+    /// A module, a number of events and starts of threads.
+    Events,
 }
 
 /// A command whose words have this shape.
@@ -227,6 +239,7 @@ fn shaped_parser<'a>(alloc: Global, name: &'a str, shape: Shape) -> Result<Parse
         Shape::Search => search_parser(alloc, name),
         Shape::Turns => started_parser(alloc, name, "turns"),
         Shape::Rounds => started_parser(alloc, name, "rounds"),
+        Shape::Events => started_parser(alloc, name, "events"),
     }
 }
 
@@ -274,6 +287,8 @@ fn with_commands<'a>(alloc: Global, parser: Parser<'a>) -> Result<Parser<'a>, Al
         ("explain", Shape::Log),
         ("graph", Shape::Log),
         ("witness", Shape::Search),
+        ("explore", Shape::Events),
+        ("witnesses", Shape::Events),
         ("help", Shape::Plain),
         ("version", Shape::Plain),
     ];
@@ -418,6 +433,14 @@ fn command_of<'a>(name: &str, words: &ArgMatches<'a>) -> Option<Command<'a>>
         "explain" => log_command(name, RunTask::Explain, DocumentTask::Explain, words),
         "graph" => log_command(name, RunTask::Graph, DocumentTask::Graph, words),
         "witness" => witness_command(name, words),
+        "explore" => {
+            let (module, events) = two_words(words, "file", "events")?;
+            Some(Command::Explore { module, events })
+        }
+        "witnesses" => {
+            let (module, events) = two_words(words, "file", "events")?;
+            Some(Command::Witnesses { module, events })
+        }
         "help" => Some(Command::Help),
         "version" => Some(Command::Version),
         _ => None,

@@ -1,6 +1,11 @@
 //! The reasons for a verdict.
+ghost use Rattle.std.specs.Prelude.{IfOk};
+ghost use Rattle.wm_event.specs.Faults.{Judges};
+ghost use Rattle.wm_event.specs.LoggedRun.{execution};
+ghost use Rattle.wm_explain.specs.Parts.{AllHold};
 
 use crate::allowed::{allowed_reason, permitted_reason};
+use crate::explanation::Explanation;
 use crate::named_site::NamedSites;
 use crate::replay::replay_reason;
 use crate::row::EventTables;
@@ -76,12 +81,14 @@ pub fn explain_judged(
     candidate: &Candidate,
     positions: Vec<List<CodePosition>>,
     judgement: &Judgement,
-) -> Result<String, AllocError> {
+) -> Result<Explanation, AllocError>
+    ensures { IfOk result (λ parts. Judges (execution candidate.now) judgement.now → AllHold candidate.now parts) }
+{
     let sites = NamedSites::at(alloc, code, candidate.log(), positions)?;
     let mut tables = EventTables::over(alloc, candidate, sites);
     match judgement {
-        Judgement::Valid => allowed_reason(&mut tables),
-        Judgement::Broken(fault) => rule_reason(&mut tables, fault),
+        Judgement::Valid => Explanation::of_prose(alloc, allowed_reason(&mut tables)?),
+        Judgement::Broken(fault) => rule_reason(&mut tables, candidate, fault),
     }
 }
 
@@ -110,10 +117,12 @@ pub fn explain_events(
     alloc: Global,
     judgement: &Judgement,
     candidate: &Candidate,
-) -> Result<String, AllocError> {
+) -> Result<Explanation, AllocError>
+    ensures { IfOk result (λ parts. Judges (execution candidate.now) judgement.now → AllHold candidate.now parts) }
+{
     let mut tables = EventTables::without_code(alloc, candidate);
     match judgement {
-        Judgement::Valid => permitted_reason(&mut tables),
-        Judgement::Broken(fault) => rule_reason(&mut tables, fault),
+        Judgement::Valid => Explanation::of_prose(alloc, permitted_reason(&mut tables)?),
+        Judgement::Broken(fault) => rule_reason(&mut tables, candidate, fault),
     }
 }

@@ -1,14 +1,21 @@
 //! Why a memory rule is broken.
-ghost use Rattle.std.specs.Prelude.{◌≡◌, ◌+◌};
-ghost use Rattle.wm_event.specs.LoggedRun.{execution};
+ghost use Rattle.std.specs.Prelude.{◌≡◌, ◌+◌, All, IfOk, true};
+ghost use Rattle.wm_event.specs.Faults.{Breaks};
+ghost use Rattle.wm_event.specs.LoggedRun.{LoggedRun, execution};
+ghost use Rattle.wm_event.specs.declared.event.EventId.{EventId as Id};
+ghost use Rattle.wm_hb.specs.Chain.{Leads};
+ghost use Rattle.wm_writers.specs.Answer.{IsAnswer};
+ghost use Rattle.wm_explain.specs.Parts.{Adds, AllHold, IsChain};
 ghost use Rattle.wm_explain.specs.Said.{IsAddressOf, IsReadAt, IsSaidOf};
 
+use crate::explanation::Explanation;
+use crate::part::Part;
 use crate::remedy::add_remedy;
 use crate::row::EventTables;
 use std::alloc::{AllocError, Global};
 use std::fmt;
 use wm_event::{Candidate, Event, EventId, Rule, RuleFault, byte_of};
-use wm_hb::{FaultChain, Link, LinkKind, fault_chains};
+use wm_hb::{FaultChain, Link, fault_chains};
 use wm_list::List;
 use wm_writers::{Writers, writers_that_fit};
 
@@ -238,58 +245,53 @@ impl fmt::Display for RuleName {
     }
 }
 
-/// A link after the event that it leaves.
-#[derive(Clone, Copy)]
-struct LinkSentence(EventId, Link);
-
-impl fmt::Display for LinkSentence {
-    fn fmt<W: fmt::Write>(&self, f: &mut fmt::Formatter<W>) -> fmt::Result {
-        let LinkSentence(from, Link { kind, event }) = *self;
-        match kind {
-            LinkKind::Initial => write!(
-                f,
-                "{from} writes the initial memory, before {event} as before every event"
-            ),
-            LinkKind::Sequenced => write!(
-                f,
-                "{from} is sequenced before {event}: it comes earlier in thread {}",
-                event.thread
-            ),
-            LinkKind::Synchronizes => write!(
-                f,
-                "{from} synchronizes with {event}: {event} reads from it, and both are atomic accesses of one range"
-            ),
-        }
-    }
-}
-
-/// The end of a chain, as it prints after its beginning.
-#[derive(Clone, Copy)]
-struct EndName {
-    from: EventId,
-    to: EventId,
-}
-
-impl fmt::Display for EndName {
-    fn fmt<W: fmt::Write>(&self, f: &mut fmt::Formatter<W>) -> fmt::Result {
-        if self.from == self.to {
-            f.write_str("itself")
-        } else {
-            write!(f, "{}", self.to)
-        }
-    }
-}
-
-/// Adds the reason why one event happens before another, or before itself.
-fn add_chain(text: &mut String, chain: &FaultChain) -> Result<(), AllocError> {
-    let FaultChain { from, to, .. } = *chain;
-    let end = EndName { from, to };
-    writeln!(text, "Why {from} happens before {end}:")?;
+/// Adds the links of a chain from an id.
+fn add_links(parts: &mut Vec<Part>, from: EventId, links: &[Link]) -> Result<(), AllocError>
+    ensures { (run : LoggedRun) (to : Id) → Leads (execution run) from links.now to → Adds result run parts.old.items parts.new.items }
+{
     let mut last = from;
-    for link in chain.links.as_slice() {
-        let sentence = LinkSentence(last, *link);
-        writeln!(text, "  {sentence}")?;
+    for link in links {
+        parts.push(Part::Edge {
+            from: last,
+            link: *link,
+        })?;
         last = EventId::At(link.event);
+    }
+    Ok(())
+}
+
+/// Whether two ids are the same.
+fn is_same(one: EventId, other: EventId) -> bool
+    ensures { result ≡ true → one ≡ other }
+{
+    match (one, other) {
+        (EventId::Init, EventId::Init) => true,
+        (EventId::At(one), EventId::At(other)) => {
+            one.thread == other.thread && one.number == other.number
+        }
+        _ => false,
+    }
+}
+
+/// Adds the reason why one id happens before another, or before itself.
+fn add_chain(parts: &mut Vec<Part>, chain: &FaultChain) -> Result<(), AllocError>
+    ensures { (run : LoggedRun) → IsChain (execution run) chain.now → Adds result run parts.old.items parts.new.items }
+{
+    let FaultChain { from, to, .. } = *chain;
+    if is_same(from, to) {
+        parts.push(Part::BeforeItself(from))?;
+    } else {
+        parts.push(Part::Before { from, to })?;
+    }
+    add_links(parts, from, chain.links.as_slice())
+}
+
+/// Adds the reasons of chains.
+fn add_chains(parts: &mut Vec<Part>, chains: &[FaultChain]) -> Result<(), AllocError>
+    ensures { (run : LoggedRun) → All (IsChain (execution run)) chains.now → Adds result run parts.old.items parts.new.items }
+{
+    for chain in chains {
+        add_chain(parts, chain)?;
     }
     Ok(())
 }
@@ -322,69 +324,99 @@ pub(crate) fn events_of(
     Ok(ids)
 }
 
-/// Adds the events of a fault in a table, and the chains that it rests on.
-fn add_grounds(
-    text: &mut String,
+/// The events of a fault and of chains, in a table.
+fn event_table(
     tables: &mut EventTables,
     fault: &RuleFault,
     chains: &[FaultChain],
-) -> Result<(), AllocError> {
-    text.push_str("The events, with their places in the order:\n")?;
+) -> Result<String, AllocError> {
+    let mut text = String::from_str(
+        tables.alloc,
+        "The events, with their places in the order:\n",
+    )?;
     let ids = events_of(tables.alloc, tables.candidate, fault, chains)?;
-    tables.add(text, ids.as_slice())?;
-    for chain in chains {
-        add_chain(text, chain)?;
-    }
-    Ok(())
+    tables.add(&mut text, ids.as_slice())?;
+    Ok(text)
 }
 
-/// Adds the events of a fault that another order may mend, and a shortest chain for each happens-before of the fault.
-fn add_order_grounds(
-    text: &mut String,
+/// Adds the events of a fault in a table, and the chains that it rests on.
+fn add_grounds(
+    parts: &mut Vec<Part>,
     tables: &mut EventTables,
     fault: &RuleFault,
-) -> Result<(), AllocError> {
-    let chains = match fault_chains(tables.alloc, tables.candidate, fault)? {
-        Some(chains) => chains,
-        None => List::new(tables.alloc),
-    };
-    add_grounds(text, tables, fault, chains.as_slice())
+    chains: &[FaultChain],
+) -> Result<(), AllocError>
+    ensures { (run : LoggedRun) → All (IsChain (execution run)) chains.now → Adds result run parts.old.items parts.new.items }
+{
+    parts.push(Part::Prose(event_table(tables, fault, chains)?))?;
+    add_chains(parts, chains)
 }
 
-/// Adds what a fault rests on, and whether other writers or another order could mend it.
+/// A shortest chain for each happens-before of a fault; none if the fault isn't the first of its run.
+fn chains_of(
+    alloc: Global,
+    candidate: &Candidate,
+    fault: &RuleFault,
+) -> Result<List<FaultChain>, AllocError>
+    ensures { IfOk result (All (IsChain (execution candidate.now))) }
+{
+    match fault_chains(alloc, candidate, fault)? {
+        Some(chains) => Ok(chains),
+        None => Ok(List::new(alloc)),
+    }
+}
+
+/// Adds what a fault rests on.
 fn add_reason(
-    text: &mut String,
+    parts: &mut Vec<Part>,
     tables: &mut EventTables,
+    candidate: &Candidate,
     fault: &RuleFault,
     writers: &Writers,
-) -> Result<(), AllocError> {
+) -> Result<(), AllocError>
+    ensures { IsAnswer candidate.now fault.now writers.now → Adds result candidate.now parts.old.items parts.new.items }
+{
     match writers {
-        Writers::Only(found) => add_grounds(text, tables, fault, found.chains.as_slice())?,
-        Writers::Several(found) => add_grounds(text, tables, fault, found.chains.as_slice())?,
-        Writers::Other => add_order_grounds(text, tables, fault)?,
+        Writers::Only(found) | Writers::Several(found) => {
+            add_grounds(parts, tables, fault, found.chains.as_slice())
+        }
+        Writers::Other => {
+            let chains = chains_of(tables.alloc, candidate, fault)?;
+            add_grounds(parts, tables, fault, chains.as_slice())
+        }
     }
-    add_remedy(text, writers, fault)
 }
 
-/// Why a run breaks a memory rule: the rule, the fault in a sentence, its events, a shortest chain for each
-/// happens-before that it rests on, or a cycle of happens-before, and whether other writers or another order could mend
-/// it.
+/// The rule that a fault breaks, and the fault in a sentence.
+fn fault_text(
+    alloc: Global,
+    candidate: &Candidate,
+    fault: &RuleFault,
+) -> Result<String, AllocError> {
+    let rule = RuleName(fault.rule);
+    let sentence = RuleSentence::of(candidate, fault);
+    format!(in alloc; "{rule}\n{sentence}\n")
+}
+
+/// Why a candidate breaks a memory rule: the rule, the fault in a sentence, its events, a shortest chain for each
+/// happens-before that it rests on, or a cycle of happens-before, and whether another witness could mend it. `tables` are
+/// those of the candidate's events.
 ///
 /// # Errors
 ///
 /// Only if an allocation fails.
 pub(crate) fn rule_reason(
     tables: &mut EventTables,
+    candidate: &Candidate,
     fault: &RuleFault,
-) -> Result<String, AllocError> {
+) -> Result<Explanation, AllocError>
+    ensures { IfOk result (λ parts. Breaks (execution candidate.now) fault.now → AllHold candidate.now parts) }
+{
     let alloc = tables.alloc;
-    let candidate = tables.candidate;
-    let rule = RuleName(fault.rule);
-    let sentence = RuleSentence::of(candidate, fault);
-    let mut text = format!(in alloc; "{rule}\n{sentence}\n")?;
+    let mut parts = Vec::new(alloc);
+    parts.push(Part::Prose(fault_text(alloc, candidate, fault)?))?;
     let writers = writers_that_fit(alloc, candidate, fault)?;
-    let added = add_reason(&mut text, tables, fault, &writers);
-    drop(writers);
-    added?;
-    Ok(text)
+    add_reason(&mut parts, tables, candidate, fault, &writers)?;
+    add_remedy(alloc, &mut parts, candidate, fault, &writers)?;
+    Ok(Explanation::of(parts))
 }

@@ -13,7 +13,9 @@ use Rattle.wm_litmus.specs.Races.{AnswersEventRaces, ReportsOwnRaces}
 use Rattle.wm_litmus.specs.Races.AnswersEventRaces.{listed}
 use Rattle.wm_rules.specs.declared.scan.Finding.{Finding}
 use Rattle.wm_rules.specs.Finding.{judgement_of}
-use Rattle.wm_litmus.specs.EventExplanation.{AnswersEventGraph}
+use Rattle.wm_explain.specs.Parts.{AllHold}
+use Rattle.wm_litmus.specs.EventExplanation.{AnswersEventGraph, AreStatedBy, HaveEventGrounds}
+use Rattle.wm_litmus.specs.EventExplanation.HaveEventGrounds.{refused as groundless, stated}
 use Rattle.wm_litmus.specs.EventExplanation.AnswersEventGraph.{pictured}
 use Rattle.wm_litmus.specs.Lines.{judgement_status}
 use Rattle.wm_litmus.specs.Prints.{Gives, ended}
@@ -28,6 +30,17 @@ answers_rules bytes (Misshapen m) status text is status_is text_is = read m.log 
 answers_rules bytes (Judged run finding) status text is status_is text_is =
     read run.log run.witness is.0
     (subst (λ (r : LoggedRun). AnswersRun r status text) is.1.run_is (judged (judgement_of finding) is.1.shape is.1.judged status_is text_is))
+
+-- the sentences on it are grounds, too
+pub event_grounds : (bytes : List ℕ) (found : JudgedDocument) (status : ℕ) (reasons : List ℕ) → IsJudgedDocument bytes (zeros 16) found
+    → status ≡ judged_status found → AreStatedBy found reasons → HaveEventGrounds bytes status reasons
+event_grounds bytes (Refused fault) status reasons is status_is are = groundless status_is
+event_grounds bytes (Misshapen m) status reasons is status_is are = groundless status_is
+event_grounds bytes (Judged run finding) status reasons is status_is are =
+    stated run.log run.witness is.0
+    (subst IsWellShaped is.1.run_is is.1.shape)
+    are.0 are.1
+    (subst (λ (r : LoggedRun). AllHold r are.0) is.1.run_is (are.2 is.1.judged))
 
 -- a picture with the status of its judgement, too
 pub answers_picture : (bytes : List ℕ) (run : LoggedRun) (finding : Finding) (status : ℕ) (text : List ℕ) → IsJudgedDocument bytes (zeros 16) (Judged run finding)

@@ -12,5 +12,6 @@ pub mod Explaining
 pub mod Streaming
 pub mod Statuses
 pub mod TraceTexts
+pub mod Listings
 pub mod Telling
 pub mod Witnessing

@@ -1,5 +1,5 @@
 -- The status of each answer is below 3.
-use Rattle.std.proofs.Common.{ℕ, ◌<◌, List, [], ◌∷◌, Option, arith}
+use Rattle.std.proofs.Common.{ℕ, ◌<◌, List, [], ◌∷◌, Option, None, Some, arith}
 use Rattle.wm_ast.specs.declared.module.Module.{Module}
 use Rattle.wm_check.specs.declared.verdict.Verdict.{Verdict}
 use Rattle.wm_check.specs.declared.verdict.Verdict.TheVariants as verdict
@@ -9,6 +9,8 @@ use Rattle.wm_command.specs.declared.command.DocumentTask.TheVariants as documen
 use Rattle.wm_command.specs.declared.command.RunTask.{RunTask}
 use Rattle.wm_command.specs.declared.command.RunTask.TheVariants as run
 use Rattle.wm_command.specs.declared.command.WitnessWords.{WitnessWords}
+use Rattle.wm_command.specs.declared.words.Exploration.{Exploration}
+use Rattle.wm_explore.specs.declared.bound.Bound.{Bound}
 use Rattle.wm_event.specs.declared.rule.Judgement.{Judgement}
 use Rattle.wm_event.specs.declared.rule.Judgement.TheVariants as judgement
 use Rattle.wm_event.specs.LoggedRun.{LoggedRun}
@@ -20,6 +22,10 @@ use Rattle.wm_stream.specs.Answers.{overall, status_code, worse}
 use Rattle.wm_litmus.specs.Drive.{AnswersDrive, IsScriptAnswer}
 use Rattle.wm_litmus.specs.Drive.AnswersDrive.{no_module as drive_no_module, refused as drive_refused, driven as drive_driven}
 use Rattle.wm_litmus.specs.Drive.IsScriptAnswer.{played as script_played, no_script as script_no_script}
+use Rattle.wm_litmus.specs.Explore.{AnswersExplore, IsExplorationAnswer, status_by}
+use Rattle.wm_litmus.specs.Explore.AnswersExplore.{no_module as explore_no_module, refused as explore_refused, explored as explore_explored}
+use Rattle.wm_litmus.specs.Explore.IsExplorationAnswer.{made as explore_words_made, no_exploration as explore_words_none}
+use Rattle.wm_litmus.specs.declared.explore.Listing.{Listing}
 use Rattle.wm_litmus.specs.EventExplanation.{AnswersEventGraph}
 use Rattle.wm_litmus.specs.EventExplanation.AnswersEventGraph.{pictured as event_graph_pictured, told as event_graph_told}
 use Rattle.wm_litmus.specs.Explanation.{AnswersGraph}
@@ -29,7 +35,7 @@ use Rattle.wm_litmus.specs.Races.{AnswersEventRaces, AnswersRaces, races_status}
 use Rattle.wm_litmus.specs.Races.AnswersEventRaces.{listed as event_races_listed, told as event_races_told}
 use Rattle.wm_litmus.specs.Races.AnswersRaces.{listed as races_listed, told as races_told}
 use Rattle.wm_litmus.specs.Replies.{Given, IsAnswer, IsWitnessAnswer}
-use Rattle.wm_litmus.specs.Replies.IsAnswer.{document_task_of, drive_of, help_of, no_command, run_of, run_task_of, stream_of, trace_of, version_of, witness_of}
+use Rattle.wm_litmus.specs.Replies.IsAnswer.{document_task_of, drive_of, explore_of, help_of, no_command, run_of, run_task_of, stream_of, trace_of, version_of, witness_of, witnesses_of}
 use Rattle.wm_litmus.specs.Replies.IsWitnessAnswer.{of_run as witness_of_run, of_document as witness_of_document, no_nodes}
 use Rattle.wm_litmus.specs.Rounds.{AnswersRounds, IsRoundsAnswer}
 use Rattle.wm_litmus.specs.Rounds.AnswersRounds.{no_module as rounds_no_module, refused as rounds_refused, too_large as rounds_too_large, made as rounds_made}
@@ -173,12 +179,25 @@ of_script Answers known turns starts status text below (script_no_script fault o
 of_rounds : (status : ℕ) (text bytes : List ℕ) (plan : Plan) (count : ℕ) → AnswersRounds bytes plan count status text → status < 3
 of_rounds status text bytes plan count (rounds_no_module refusal refused is line) = omega (arith, is)
 of_rounds status text bytes plan count (rounds_refused code fault of other at is line) = omega (arith, is)
-of_rounds status text bytes plan count (rounds_too_large code r of round over is line) = omega (arith, is)
+of_rounds status text bytes plan count (rounds_too_large code rs r of few all over is line) = omega (arith, is)
 of_rounds status text bytes plan count (rounds_made code runs table of long all sorted is line) = omega (arith, is)
 
 of_rounds_words : (known : Option (List ℕ)) (count : List ℕ) (starts : List (List ℕ)) (status : ℕ) (text : List ℕ) → IsRoundsAnswer known count starts status text → status < 3
 of_rounds_words known count starts status text (rounds_words_ran made bytes spelled read answers) = of_rounds status text bytes made.plan made.count answers
 of_rounds_words known count starts status text (rounds_words_no_rounds fault other none is line) = omega (arith, is)
+
+of_explore : (status : ℕ) (text bytes : List ℕ) (listing : Listing) (words : Exploration) → AnswersExplore listing bytes words status text → status < 3
+of_explore status text bytes listing words (explore_no_module refusal refused is line) = omega (arith, is)
+of_explore status text bytes listing words (explore_refused code fault of other at is line) = omega (arith, is)
+of_explore status text bytes listing words (explore_explored code e rows of explores are is line) = omega (arith, is, of_met e.met)
+  where
+    of_met : (met : Option Bound) → status_by met < 2
+    of_met None = omega arith
+    of_met (Some bound) = omega arith
+
+of_explore_words : (listing : Listing) (known : Option (List ℕ)) (events : List ℕ) (starts : List (List ℕ)) (status : ℕ) (text : List ℕ) → IsExplorationAnswer listing known events starts status text → status < 3
+of_explore_words listing known events starts status text (explore_words_made words bytes spelled read answers) = of_explore status text bytes listing words answers
+of_explore_words listing known events starts status text (explore_words_none fault other none is line) = omega (arith, is)
 
 -- ---- the statuses of the program
 
@@ -191,5 +210,7 @@ below_three given status text (stream_of file bytes command read answers) = omeg
 below_three given status text (drive_of file turns command answers) = of_script AnswersDrive _ _ _ status text (λ bytes plan turns. of_drive status text bytes plan turns) answers
 below_three given status text (trace_of file turns command answers) = of_script AnswersTrace _ _ _ status text (λ bytes plan turns. of_trace status text bytes plan turns) answers
 below_three given status text (run_of file rounds command answers) = of_rounds_words _ _ _ status text answers
+below_three given status text (explore_of file events command answers) = of_explore_words _ _ _ _ status text answers
+below_three given status text (witnesses_of file events command answers) = of_explore_words _ _ _ _ status text answers
 below_three given status text (help_of command is line) = omega (arith, is)
 below_three given status text (version_of command is line) = omega (arith, is)

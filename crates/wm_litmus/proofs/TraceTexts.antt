@@ -8,7 +8,7 @@ use Rattle.wm_event.specs.declared.event.EventKey.{EventKey}
 use Rattle.wm_event.specs.declared.log.ThreadLog.{ThreadLog}
 use Rattle.wm_event.specs.Log.{event_in}
 use Rattle.wm_races.specs.declared.site.Site.{Site}
-use Rattle.wm_run.specs.declared.traced.TracedTurn.{TracedTurn}
+use Rattle.wm_run.specs.declared.scripts.traced.TracedTurn.{TracedTurn}
 use Rattle.wm_run.specs.Run.{Record}
 use Rattle.wm_litmus.specs.Prints.{ended}
 use Rattle.wm_litmus.specs.Trace.{from_text, ids_text, keys_text, line_text, lines_text, pending_text}

@@ -22,10 +22,10 @@ use Rattle.wm_litmus.specs.Lines.{run_fault_line_text, word_line_text}
 use Rattle.wm_litmus.specs.Outcomes.{outcome_text}
 use Rattle.wm_litmus.specs.Own.{IsMadeOf, IsOwnVerdict, run_text}
 use Rattle.wm_litmus.specs.Prints.{ended}
-use Rattle.wm_words.specs.declared.fault.WordFault.{WordFault}
-use Rattle.wm_words.specs.declared.fault.WordFault.TheVariants as word
-use Rattle.wm_words.specs.declared.words.Script.{Script}
-use Rattle.wm_words.specs.Words.{IsScriptOf, SpellNoScript}
+use Rattle.wm_command.specs.declared.fault.WordFault.{WordFault}
+use Rattle.wm_command.specs.declared.fault.WordFault.TheVariants as word
+use Rattle.wm_command.specs.declared.words.Script.{Script}
+use Rattle.wm_command.specs.Words.{IsScriptOf, SpellNoScript}
 
 -- the outcome, the verdict and the document, a line each
 abbrev pub driven_text : List ℕ → Verdict → List ℕ → List ℕ

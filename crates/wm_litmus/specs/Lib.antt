@@ -4,6 +4,7 @@ pub mod Trace
 pub mod EventExplanation
 pub mod Explanation
 pub mod Rounds
+pub mod Explore
 pub mod Outcomes
 pub mod Own
 pub mod Counts

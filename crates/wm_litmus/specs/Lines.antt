@@ -6,8 +6,8 @@ use Rattle.wm_event.specs.declared.rule.Judgement.TheVariants.{Valid, Broken}
 use Rattle.wm_event.specs.declared.shape_fault.ShapeFault.{ShapeFault}
 use Rattle.wm_run.specs.declared.fault.RunFault.{RunFault}
 use Rattle.wm_run.specs.Texts.{run_fault_text}
-use Rattle.wm_words.specs.declared.fault.WordFault.{WordFault}
-use Rattle.wm_words.specs.declared.fault.WordFault.TheVariants.{Turns, Rounds, Nodes, Start, OutOfMemory}
+use Rattle.wm_command.specs.declared.fault.WordFault.{WordFault}
+use Rattle.wm_command.specs.declared.fault.WordFault.TheVariants.{Turns, Rounds, Nodes, Events, Start, OutOfMemory}
 use Rattle.wm_logfile.specs.Texts.{doc_fault_text}
 use Rattle.wm_logfile.specs.declared.fault.DocFault.{DocFault}
 
@@ -30,6 +30,7 @@ word_text Turns = codes "turns"
 word_text Rounds = codes "rounds"
 word_text Start = codes "start"
 word_text Nodes = codes "nodes"
+word_text Events = codes "events"
 word_text OutOfMemory = []
 
 abbrev pub word_line_text : WordFault → List ℕ

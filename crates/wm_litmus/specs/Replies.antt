@@ -4,16 +4,18 @@ use Rattle.std.specs.Borrow.{Bor}
 use Rattle.std.specs.Io.KnownBytes.{Appends}
 use Rattle.wm_decode.specs.Bounds.{max_module_bytes}
 use Rattle.clap.specs.Words.{Text}
-use Rattle.wm_command.specs.declared.command.Command.TheVariants.{OfRun, OfDocument, Witness, Stream, Drive, Trace, Run, Help, Version}
+use Rattle.wm_command.specs.declared.command.Command.TheVariants.{OfRun, OfDocument, Witness, Stream, Drive, Trace, Run, Explore, Witnesses, Help, Version}
 use Rattle.wm_command.specs.declared.command.DocumentTask.{DocumentTask}
 use Rattle.wm_command.specs.declared.command.RunTask.{RunTask}
 use Rattle.wm_command.specs.declared.command.WitnessWords.{WitnessWords}
-use Rattle.wm_words.specs.declared.fault.WordFault.TheVariants.{Nodes}
+use Rattle.wm_command.specs.declared.fault.WordFault.TheVariants.{Nodes}
 use Rattle.wm_litmus.specs.declared.witness_task.WitnessTask.TheVariants.{OfRun as OfRunTask, OfDocument as OfDocumentTask}
 use Rattle.wm_command.specs.Commands.{IsCommand, IsNoCommand}
 use Rattle.wm_litmus.specs.Drive.{AnswersDrive, IsScriptAnswer}
 use Rattle.wm_litmus.specs.Help.{help_text, version_text}
 use Rattle.wm_litmus.specs.Rounds.{IsRoundsAnswer}
+use Rattle.wm_litmus.specs.Explore.{IsExplorationAnswer}
+use Rattle.wm_litmus.specs.declared.explore.Listing.TheVariants.{Outcomes, Documents}
 use Rattle.wm_litmus.specs.Tasks.{AnswersDocumentTask, AnswersRunTask}
 use Rattle.wm_litmus.specs.Trace.{AnswersTrace}
 use Rattle.wm_litmus.specs.Input.{IsDocumentRead, IsReadOf}
@@ -78,6 +80,10 @@ pub data IsAnswer (given : Given) (status : ℕ) (text : List ℕ) : Type 0 wher
       → IsScriptAnswer AnswersTrace (given.files file.now) turns.now (drop 3 given.words) status text → IsAnswer given status text
   run_of : (file rounds : Bor Text) → IsCommand given.words (Run file rounds)
       → IsRoundsAnswer (given.files file.now) rounds.now (drop 3 given.words) status text → IsAnswer given status text
+  explore_of : (file events : Bor Text) → IsCommand given.words (Explore file events)
+      → IsExplorationAnswer Outcomes (given.files file.now) events.now (drop 3 given.words) status text → IsAnswer given status text
+  witnesses_of : (file events : Bor Text) → IsCommand given.words (Witnesses file events)
+      → IsExplorationAnswer Documents (given.files file.now) events.now (drop 3 given.words) status text → IsAnswer given status text
   help_of : IsCommand given.words Help → status ≡ 0 → text ≡ help_text → IsAnswer given status text
   version_of : IsCommand given.words Version → status ≡ 0 → text ≡ version_text → IsAnswer given status text
 

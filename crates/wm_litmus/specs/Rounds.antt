@@ -21,7 +21,7 @@ use Rattle.wm_logfile.specs.declared.fault.DocFault.TheVariants.{TooLarge}
 use Rattle.wm_run.specs.declared.fault.RunFault.{RunFault}
 use Rattle.wm_run.specs.declared.fault.RunFault.TheVariants.{OutOfMemory}
 use Rattle.wm_run.specs.declared.plan.Plan.{Plan}
-use Rattle.wm_run.specs.Rounds.{IsRound, IsRoundFault}
+use Rattle.wm_run.specs.RoundPlans.{IsRound, IsRoundFault}
 use Rattle.wm_run.specs.Run.{Record}
 use Rattle.wm_litmus.specs.declared.answer.Answer.{Answer}
 use Rattle.wm_litmus.specs.Counts.{CountsOneMore, Counts}
@@ -31,16 +31,31 @@ use Rattle.wm_litmus.specs.Lines.{run_fault_line_text, word_line_text}
 use Rattle.wm_litmus.specs.Outcomes.{outcome_text}
 use Rattle.wm_litmus.specs.Prints.{ended}
 use Rattle.wm_litmus.specs.Table.{IsTableText}
-use Rattle.wm_words.specs.declared.fault.WordFault.{WordFault}
-use Rattle.wm_words.specs.declared.fault.WordFault.TheVariants as word
-use Rattle.wm_words.specs.declared.words.Rounds.{Rounds}
-use Rattle.wm_words.specs.Words.{IsRoundsOf, SpellNoRounds}
+use Rattle.wm_command.specs.declared.fault.WordFault.{WordFault}
+use Rattle.wm_command.specs.declared.fault.WordFault.TheVariants as word
+use Rattle.wm_command.specs.declared.words.Rounds.{Rounds}
+use Rattle.wm_command.specs.Words.{IsRoundsOf, SpellNoRounds}
 
 -- a round of the plan whose document's verdict is allowed, whichever bytes spell the module
 pub record IsAllowedRound («module» : Module) (plan : Plan) (run : Record) : Type 0 where
   pub round : IsRound true «module» plan run
   pub certificate : Certificate
   pub says : SaysOver «module» (run_text run) (Allowed certificate)
+
+-- a round of the plan whose document is over the limit of bytes
+pub record IsTooLarge («module» : Module) (plan : Plan) (run : Record) : Type 0 where
+  pub round : IsRound true «module» plan run
+  pub past : max_document_bytes < length (run_text run)
+
+-- the refusal of such a document
+abbrev pub too_large_text : List ℕ
+too_large_text = ended (verdict_text (Refused (refusal.Document TooLarge)))
+
+-- an answer that prints it
+pub record PrintsTooLarge («module» : Module) (plan : Plan) (run : Record) (answer : Answer) : Type 0 where
+  pub is_too_large : IsTooLarge «module» plan run
+  pub status_is : answer.status ≡ 2
+  pub text_is : string_bytes answer.text ≡ too_large_text
 
 -- the outcome of each run
 abbrev pub outcomes : List Record → List (List ℕ)
@@ -76,9 +91,10 @@ pub data AnswersRounds (module_bytes : List ℕ) (plan : Plan) (count : ℕ) (st
       → status ≡ 2 → text ≡ ended (verdict_text (Refused refusal)) → AnswersRounds module_bytes plan count status text
   refused : («module» : Module) (fault : RunFault) → IsModuleOf module_bytes «module» → fault ≢ OutOfMemory → IsRoundFault «module» plan fault
       → status ≡ 2 → text ≡ ended (run_fault_line_text fault) → AnswersRounds module_bytes plan count status text
-  -- the document of a round is over the limit of bytes
-  too_large : («module» : Module) (run : Record) → IsModuleOf module_bytes «module» → IsRound true «module» plan run → max_document_bytes < length (run_text run)
-      → status ≡ 2 → text ≡ ended (verdict_text (Refused (refusal.Document TooLarge))) → AnswersRounds module_bytes plan count status text
+  -- fewer than this number of rounds, all allowed, and then a round whose document is over the limit of bytes
+  too_large : («module» : Module) (runs : List Record) (run : Record) → IsModuleOf module_bytes «module»
+      → length runs < count → All (IsAllowedRound «module» plan) runs → IsTooLarge «module» plan run
+      → status ≡ 2 → text ≡ too_large_text → AnswersRounds module_bytes plan count status text
   -- this number of rounds, all allowed, and the table of their outcomes
   made : («module» : Module) (runs : List Record) (table : List ℕ) → IsModuleOf module_bytes «module»
       → length runs ≡ count → All (IsAllowedRound «module» plan) runs → IsTableText (outcomes runs) table
@@ -89,9 +105,13 @@ abbrev pub RunsOver : Module → Rounds → Answer → Type 0
 RunsOver «module» rounds answer =
     (module_bytes : List ℕ) → IsModuleOf module_bytes «module» → AnswersRounds module_bytes rounds.plan rounds.count answer.status (string_bytes answer.text)
 
+-- the answer to a round whose document is over the limit of bytes, whichever bytes spell the module
+abbrev pub IsRefusedRound : Module → Rounds → Record → Answer → Type 0
+IsRefusedRound «module» rounds run answer = (module_bytes : List ℕ) → IsModuleOf module_bytes «module» → PrintsTooLarge «module» rounds.plan run answer
+
 -- what judging a round gives: nothing if it is allowed, else the answer to all
 abbrev pub IsJudged : Module → Rounds → Record → Option Answer → Type 0
-IsJudged «module» rounds run answer = MatchOption answer (IsAllowedRound «module» rounds.plan run) (RunsOver «module» rounds)
+IsJudged «module» rounds run answer = MatchOption answer (IsAllowedRound «module» rounds.plan run) (IsRefusedRound «module» rounds run)
 
 -- the answer to all was found
 abbrev pub HasAnswer : Module → Rounds → Option Answer → Type 0

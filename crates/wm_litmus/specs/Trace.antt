@@ -23,18 +23,18 @@ use Rattle.wm_races.specs.declared.site.Site.{Site}
 use Rattle.wm_run.specs.declared.fault.RunFault.{RunFault}
 use Rattle.wm_run.specs.declared.fault.RunFault.TheVariants.{OutOfMemory}
 use Rattle.wm_run.specs.declared.plan.Plan.{Plan}
-use Rattle.wm_run.specs.declared.traced.Rest.{Rest}
-use Rattle.wm_run.specs.declared.traced.Rest.TheVariants.{Ended, Spent, Full}
-use Rattle.wm_run.specs.declared.traced.TracedTurn.{TracedTurn}
-use Rattle.wm_run.specs.declared.traced.TurnDone.{TurnDone}
-use Rattle.wm_run.specs.declared.traced.TurnDone.TheVariants.{Stepped, Accessed, Rested, Drained, Absent, Held}
+use Rattle.wm_run.specs.declared.scripts.traced.Rest.{Rest}
+use Rattle.wm_run.specs.declared.scripts.traced.Rest.TheVariants.{Ended, Spent, Full}
+use Rattle.wm_run.specs.declared.scripts.traced.TracedTurn.{TracedTurn}
+use Rattle.wm_run.specs.declared.scripts.traced.TurnDone.{TurnDone}
+use Rattle.wm_run.specs.declared.scripts.traced.TurnDone.TheVariants.{Stepped, Accessed, Rested, Drained, Absent, Held}
 use Rattle.wm_run.specs.declared.turn.Turn.{Turn}
 use Rattle.wm_run.specs.declared.turn.Turn.TheVariants.{Step, Drain, DrainAt}
 use Rattle.wm_run.specs.Refusal.{IsScriptFault}
 use Rattle.wm_run.specs.Run.{Record}
 use Rattle.wm_run.specs.Scripted.{IsScripted}
 use Rattle.wm_run.specs.Traced.{IsTraced}
-use Rattle.wm_words.specs.declared.words.Script.{Script}
+use Rattle.wm_command.specs.declared.words.Script.{Script}
 use Rattle.wm_litmus.specs.declared.answer.Answer.{Answer}
 use Rattle.wm_litmus.specs.Lines.{run_fault_line_text}
 use Rattle.wm_litmus.specs.Outcomes.{outcome_text}

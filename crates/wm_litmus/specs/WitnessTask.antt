@@ -5,7 +5,7 @@ use Rattle.std.specs.List.{list_all}
 use Rattle.std.specs.Option.{option_map}
 use Rattle.wm_command.specs.declared.command.WitnessWords.{WitnessWords}
 use Rattle.wm_command.specs.declared.command.WitnessWords.TheVariants.{One, Two, Three}
-use Rattle.wm_words.specs.Nodes.{nodes_of}
+use Rattle.wm_command.specs.Nodes.{nodes_of}
 use Rattle.wm_litmus.specs.declared.witness_task.WitnessTask.{WitnessTask}
 use Rattle.wm_litmus.specs.declared.witness_task.WitnessTask.TheVariants.{OfRun, OfDocument}
 

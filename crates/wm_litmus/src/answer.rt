@@ -12,10 +12,10 @@ ghost use Rattle.wm_litmus.specs.Rounds.{PrintsRounds};
 use crate::line::{rules_line, verdict_line};
 use std::alloc::{AllocError, Global};
 use wm_check::{Unread, Verdict};
+use wm_command::WordFault;
 use wm_event::{Judgement, ShapeFault};
 use wm_logfile::DocFault;
 use wm_run::RunFault;
-use wm_words::WordFault;
 
 /// What a command prints, and the exit status.
 #[derive(Drop)]
@@ -117,6 +117,7 @@ impl Answer {
             WordFault::Rounds => "rounds",
             WordFault::Start => "start",
             WordFault::Nodes => "nodes",
+            WordFault::Events => "events",
             WordFault::OutOfMemory => return Err(AllocError),
         };
         let line = format!(in alloc; "refused command {word}")?;

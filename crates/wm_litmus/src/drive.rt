@@ -8,9 +8,9 @@ use crate::own::check_own;
 use std::alloc::AllocError;
 use std::thread::Threads;
 use wm_check::read_module;
+use wm_command::Script;
 use wm_run::{Run, RunFault, drive};
 use wm_valid::ValidModule;
-use wm_words::Script;
 
 /// The answer for a run.
 fn driven<R: AllocGlobal + Threads + Sync>(

@@ -1,7 +1,7 @@
 //! The commands `explain` and `graph` for a document without a module: why `rules` gives its answer, in sentences and
 //! as a picture. The document is read and judged once.
-ghost use Rattle.std.specs.Prelude.{◌≡◌, IfOk};
-ghost use Rattle.wm_litmus.specs.EventExplanation.{AnswersEventExplain, AnswersEventGraph};
+ghost use Rattle.std.specs.Prelude.{◌≡◌, IfOk, string_bytes};
+ghost use Rattle.wm_litmus.specs.EventExplanation.{AnswersEventExplain, AnswersEventGraph, AreStatedBy};
 ghost use Rattle.wm_litmus.specs.Lines.{judgement_status};
 ghost use Rattle.wm_litmus.specs.Prints.{Gives};
 
@@ -22,12 +22,17 @@ fn reasons_of(
     judged: &JudgedDocument,
     bytes: &[u8],
     memory_bytes: usize,
-) -> Result<String, AllocError> {
+) -> Result<String, AllocError>
+    ensures { IfOk result (λ reasons. AreStatedBy judged.now (string_bytes reasons)) }
+{
     match judged {
         JudgedDocument::Refused(fault) => explain_document(alloc, fault, bytes),
         JudgedDocument::Misshapen(misshapen) => explain_shape(alloc, misshapen, memory_bytes),
         JudgedDocument::Judged { candidate, finding } => {
-            explain_events(alloc, &finding.judgement(), candidate)
+            let explanation = explain_events(alloc, &finding.judgement(), candidate)?;
+            let mut reasons = String::new(alloc);
+            explanation.add_to(&mut reasons)?;
+            Ok(reasons)
         }
     }
 }

@@ -4,7 +4,7 @@ ghost use Rattle.std.specs.Prelude.{IfOk, string_bytes};
 ghost use Rattle.wm_check.specs.Checked.{verdict_by, verdict_of};
 ghost use Rattle.wm_check.specs.declared.verdict.Breach.TheVariants.{Replay};
 ghost use Rattle.wm_check.specs.declared.verdict.Verdict.TheVariants.{Broken, Refused};
-ghost use Rattle.wm_litmus.specs.Explanation.{AnswersExplain, AnswersGraph, Explains, ExplainsOver, GraphsOver, Shows};
+ghost use Rattle.wm_litmus.specs.Explanation.{AnswersExplain, AnswersGraph, Explains, ExplainsChecked, ExplainsOver, ExplainsRun, GraphsOver, Shows};
 
 use crate::answer::Answer;
 use crate::event_explanation::breach_of;
@@ -39,6 +39,22 @@ fn explain_refused(
     Answer::explained(alloc, &Verdict::Refused(refusal), reasons)
 }
 
+/// The line of a judged run, and its explanation.
+fn explain_judged_run(
+    alloc: Global,
+    code: ModuleCode,
+    candidate: &Candidate,
+    positions: Vec<List<CodePosition>>,
+    judgement: &Judgement,
+) -> Result<Answer, AllocError>
+    ensures { IfOk result (ExplainsRun candidate.now judgement.now) }
+{
+    let explanation = explain_judged(alloc, code, candidate, positions, judgement)?;
+    let mut reasons = String::new(alloc);
+    explanation.add_to(&mut reasons)?;
+    Answer::explained(alloc, &judged_verdict(candidate, judgement), reasons)
+}
+
 /// The line of a check, and its explanation.
 fn explain_checked<R: AllocGlobal + Threads + Sync>(
     rt: &R,
@@ -46,7 +62,7 @@ fn explain_checked<R: AllocGlobal + Threads + Sync>(
     checked: CheckedLog,
     document_bytes: &[u8],
 ) -> Result<Answer, AllocError>
-    ensures { IfOk result (Explains (verdict_of checked.entry)) }
+    ensures { IfOk result (ExplainsChecked checked.entry) }
 {
     let alloc = rt.alloc();
     match checked {
@@ -66,11 +82,7 @@ fn explain_checked<R: AllocGlobal + Threads + Sync>(
             candidate,
             positions,
             finding,
-        } => {
-            let judgement = finding.judgement();
-            let reasons = explain_judged(alloc, code, &candidate, positions, &judgement)?;
-            Answer::explained(alloc, &judged_verdict(&candidate, &judgement), reasons)
-        }
+        } => explain_judged_run(alloc, code, &candidate, positions, &finding.judgement()),
     }
 }
 

@@ -16,21 +16,23 @@ USAGE
     wmlab COMMAND ARGUMENT..
 
 COMMANDS
-    check MODULE DOC              check a log against its module and the memory rules
-    explain [MODULE] DOC          check a log, and explain the answer in sentences
-    graph [MODULE] DOC            draw a log for Graphviz, with the first violation in red
-    races [MODULE] DOC            list the data races of an allowed log
-    witness [MODULE] DOC [NODES]  find writers and an order that make a log allowed, or show that none do
-    rules DOC                     judge a log by the memory rules alone, over 16 pages of zeros
-    complete MODULE DOC           print a log with the steps and ends that its module gives it
-    verify MODULE DOC             complete a log, and check it
-    stream MODULE                 verify each line of standard input as a log; answer each by a line
-    migrate DOC                   print a log in version 2 of its format
-    drive MODULE TURNS START..    run threads by a script; print the outcome and the log
-    trace MODULE TURNS START..    show what each turn of a script did, and the outcome
-    run MODULE ROUNDS START..     run threads in parallel; check each log and count the outcomes
-    help                          print this text
-    version                       print the versions of the program, the log format and the logic
+    check MODULE DOC                 check a log against its module and the memory rules
+    explain [MODULE] DOC             check a log, and explain the answer in sentences
+    graph [MODULE] DOC               draw a log for Graphviz, with the first violation in red
+    races [MODULE] DOC               list the data races of an allowed log
+    witness [MODULE] DOC [NODES]     find writers and an order that make a log allowed, or show that none do
+    rules DOC                        judge a log by the memory rules alone, over 16 pages of zeros
+    complete MODULE DOC              print a log with the steps and ends that its module gives it
+    verify MODULE DOC                complete a log, and check it
+    stream MODULE                    verify each line of standard input as a log; answer each by a line
+    migrate DOC                      print a log in version 2 of its format
+    drive MODULE TURNS START..       run threads by a script; print the outcome and the log
+    trace MODULE TURNS START..       show what each turn of a script did, and the outcome
+    run MODULE ROUNDS START..        run threads in parallel; check each log and count the outcomes
+    explore MODULE EVENTS START..    list outcomes that the rules permit of a module, and all causal ones
+    witnesses MODULE EVENTS START..  print a log for each of these outcomes
+    help                             print this text
+    version                          print the versions of the program, the log format and the logic
 
 ARGUMENTS
     MODULE    a file with a WebAssembly module in the binary format
@@ -40,6 +42,7 @@ ARGUMENTS
               store, dN/I the store with I older ones, and *K after an item repeats it K times
     ROUNDS    how many rounds to run, from 1 to 10,000
     NODES     how many nodes a search may take, from 1 to 4,294,967,295; without it 100,000
+    EVENTS    how many events a thread may have, from 1 to 1,024
 
 EXAMPLES
     wmlab check store-buffering.wasm store-buffering.json
@@ -55,6 +58,8 @@ EXAMPLES
     wmlab drive store-buffering.wasm 0*3,d0,0*3,1*6 a b
     wmlab trace store-buffering.wasm 0*3,d0,0*3,1*6 a b
     wmlab run store-buffering.wasm 100 a b
+    wmlab explore store-buffering.wasm 16 a b
+    wmlab witnesses store-buffering.wasm 16 a b > permitted.jsonl
     wmlab help
     wmlab version
 
@@ -63,6 +68,7 @@ EXIT STATUS
     1    the execution is broken: the module does not perform it, or a memory rule forbids it;
          of races: it is allowed, and has a data race
          of witness: no writers and no order make it allowed
+         of explore and witnesses: a bound was met, so outcomes may be missing
     2    the command line, the module or the log is refused
          of witness: the search took its number of nodes
     3    out of memory, or a file could not be read or the answer not written (see stderr)

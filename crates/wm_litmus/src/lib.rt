@@ -30,6 +30,7 @@ mod completion;
 mod drive;
 mod event_explanation;
 mod explanation;
+mod explore;
 mod files;
 mod help;
 mod input;

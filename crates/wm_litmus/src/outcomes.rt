@@ -4,7 +4,7 @@ ghost use Rattle.wm_litmus.specs.Outcomes.{end_text, outcome_text, separator_tex
 
 use std::alloc::{AllocError, Global};
 use std::fmt;
-use wm_event::End;
+use wm_event::{End, ThreadLog};
 use wm_run::Run;
 
 /// The end of a thread, as it prints.
@@ -43,7 +43,13 @@ fn separator(number: usize) -> &'static str
 pub fn outcome(alloc: Global, run: &Run) -> Result<String, AllocError>
     ensures { IfOk result (λ text. string_bytes text ≡ outcome_text run.now.log) }
 {
-    let threads = run.log().threads();
+    outcome_of(alloc, run.log().threads())
+}
+
+/// The same of the threads of a log.
+pub(crate) fn outcome_of(alloc: Global, threads: &[ThreadLog]) -> Result<String, AllocError>
+    ensures { IfOk result (λ text. string_bytes text ≡ outcome_text threads.now) }
+{
     let mut text = String::new(alloc);
     for (number, thread) in threads.iter().enumerate() {
         let end = EndText(thread.end);

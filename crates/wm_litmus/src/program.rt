@@ -6,6 +6,7 @@ ghost use Rattle.wm_litmus.specs.Prints.{Gives};
 ghost use Rattle.wm_litmus.specs.Serving.{IsOfLines, IsReply, StreamsAll, StreamsFront};
 ghost use Rattle.wm_litmus.specs.Drive.{AnswersDrive, IsScriptAnswer};
 ghost use Rattle.wm_litmus.specs.Trace.{AnswersTrace};
+ghost use Rattle.wm_litmus.specs.Explore.{IsExplorationAnswer};
 ghost use Rattle.wm_litmus.specs.Failures.{IsUnreadFile, TellsFailure, failure_text, unread_text};
 ghost use Rattle.wm_litmus.specs.Input.{IsDocumentRead, IsReadOf};
 ghost use Rattle.wm_stream.specs.Output.{AppendsFront};
@@ -14,6 +15,7 @@ ghost use Rattle.wm_litmus.specs.declared.program.Failure.TheVariants.{OutOfMemo
 
 use crate::answer::Answer;
 use crate::drive::drive_answer;
+use crate::explore::{Listing, explore_answer};
 use crate::files::{FileFault, Files};
 use crate::help::{help_answer, version_answer};
 use crate::input::read_limited;
@@ -27,11 +29,13 @@ use std::alloc::{AllocError, Global};
 use std::io::{Read, Write};
 use std::sync::Wait;
 use std::thread::Threads;
-use wm_command::{Command, CommandFault, DocumentTask, RunTask, WitnessWords, read_command};
+use wm_command::{
+    Command, CommandFault, DocumentTask, RunTask, WitnessWords, read_command, read_exploration,
+    read_rounds, read_script,
+};
 use wm_decode::MAX_MODULE_BYTES;
 use wm_logfile::MAX_DOCUMENT_BYTES;
 use wm_stream::{StreamFault, answer_lines, write_text};
-use wm_words::{read_rounds, read_script};
 
 /// Why there is no answer.
 #[derive(Clone, Copy)]
@@ -303,6 +307,33 @@ fn rounds_of<'a, R: AllocGlobal + Threads + Wait + Sync, F: Files>(
     }
 }
 
+/// The answer to an exploration of the module `name`.
+fn exploration_of<'a, R: AllocGlobal, F: Files>(
+    rt: &R,
+    files: &mut F,
+    name: &'a str,
+    listing: Listing,
+    events: &str,
+    starts: &[&str],
+) -> Result<Answer, Failure<'a>>
+    requires { F.failures_of files.old + 1 < 2 ^ 64 }
+    ensures answers { IfOk result (Gives (IsExplorationAnswer listing (F.content_of files.old name.now) events.now (words_of starts.now))) }
+    ensures unread { IfErr result (λ stop. IsUnreadFile stop
+        → F.failures_of files.old < F.failures_of files.new) }
+{
+    match read_exploration(rt.alloc(), events, starts) {
+        Ok(exploration) => {
+            let bytes = read_file(files, name, MAX_MODULE_BYTES)?;
+            let answer = explore_answer(rt.alloc(), bytes.as_slice(), listing, &exploration)?;
+            Ok(answer)
+        }
+        Err(fault) => {
+            let answer = Answer::refused_word(rt.alloc(), fault)?;
+            Ok(answer)
+        }
+    }
+}
+
 /// Answers each line of the input as a document over the module `name`, and returns the status of all answers and of
 /// the module by itself.
 fn stream_lines<'a, R: AllocGlobal + Threads + Sync, F: Files, I: Read, O: Write>(
@@ -383,6 +414,14 @@ fn reply_to<'a, R: AllocGlobal + Threads + Wait + Sync, F: Files, I: Read>(
         }
         Ok(Command::Run { module, rounds }) => {
             let answer = rounds_of(rt, files, module, rounds, starts)?;
+            Ok(Reply::Answer(answer))
+        }
+        Ok(Command::Explore { module, events }) => {
+            let answer = exploration_of(rt, files, module, Listing::Outcomes, events, starts)?;
+            Ok(Reply::Answer(answer))
+        }
+        Ok(Command::Witnesses { module, events }) => {
+            let answer = exploration_of(rt, files, module, Listing::Documents, events, starts)?;
             Ok(Reply::Answer(answer))
         }
         Ok(Command::Help) => Ok(Reply::Answer(help_answer(rt.alloc())?)),

@@ -1,11 +1,11 @@
 //! The command `run`: rounds of a module's threads, which run at the same time.
-ghost use Rattle.std.specs.Prelude.{IfOk, string_bytes, true};
+ghost use Rattle.std.specs.Prelude.{◌≡◌, ◌<◌, ◌^◌, IfOk, string_bytes, true};
 ghost use Rattle.std.specs.Thread.{IsSync};
 ghost use Rattle.wm_ast.specs.declared.module.Module.{Module};
 ghost use Rattle.wm_litmus.specs.Rounds.{AnswersRounds, CanJudge, HasAnswer, HasCounted, IsJudged, RunsOver};
 ghost use Rattle.wm_run.specs.Own.{IsWithinPlan};
-ghost use Rattle.wm_run.specs.Rounds.{IsRound};
-ghost use Rattle.wm_words.specs.declared.words.Rounds.{Rounds};
+ghost use Rattle.wm_run.specs.RoundPlans.{IsRound};
+ghost use Rattle.wm_command.specs.declared.words.Rounds.{Rounds};
 
 use crate::answer::Answer;
 use crate::own::check_own;
@@ -14,9 +14,9 @@ use std::alloc::{AllocError, Global};
 use std::sync::Wait;
 use std::thread::Threads;
 use wm_check::{Verdict, read_module};
+use wm_command::Rounds;
 use wm_run::{OpenGate, Run, RunFault, Taker, run_rounds};
 use wm_valid::ValidModule;
-use wm_words::Rounds;
 
 /// Judges a round. None if it is allowed, else the answer to the whole command.
 fn judge_round<R: AllocGlobal + Threads + Sync>(
@@ -53,6 +53,8 @@ impl<'a, J: Fn(&Run) -> Result<Option<Answer>, AllocError>> Taker for Counter<'a
     ghost task = { λ c. (c.module.now, c.rounds.now, c.judge) };
 
     ghost takes = { λ task run. CanJudge J.Fn task.2 task.0 task.1 run };
+
+    ghost may_make = { λ c count. (count ≡ c.rounds.now.count) × (count < 2 ^ 64) };
 
     ghost has_taken = { λ c taken. HasCounted c.module.now c.rounds.now.plan taken c.table.counts };
 

@@ -3,7 +3,7 @@ ghost use Rattle.std.specs.Prelude.{◌≡◌, IfOk, Some, length, map, string_b
 ghost use Rattle.wm_sites.specs.Sites.{AreSitesOf, code_in};
 ghost use Rattle.wm_litmus.specs.Prints.{Gives, ended};
 ghost use Rattle.wm_litmus.specs.Trace.{AnswersTrace, ShowsTrace, TracesOver, before_text, done_text, from_text, ids_text, kind_event_text, keys_text, line_text, lines_text, order_text, pending_text, range_text, rest_text, turn_text};
-ghost use Rattle.wm_run.specs.declared.traced.TracedTurn.{TracedTurn};
+ghost use Rattle.wm_run.specs.declared.scripts.traced.TracedTurn.{TracedTurn};
 
 use crate::answer::Answer;
 use crate::outcomes::outcome;
@@ -11,13 +11,13 @@ use crate::races::SitePhrase;
 use std::alloc::{AllocError, Global};
 use std::fmt;
 use wm_check::read_module;
+use wm_command::Script;
 use wm_event::{Event, EventId, EventKey, EventKind};
 use wm_list::List;
 use wm_machine::CodePosition;
 use wm_races::Site;
 use wm_run::{Rest, Run, RunFault, Trace, TracedTurn, Turn, TurnDone, trace};
 use wm_sites::{ModuleCode, position_sites};
-use wm_words::Script;
 
 /// A turn, as TURNS spells it.
 #[derive(Clone, Copy)]

@@ -3,8 +3,7 @@ ghost use Rattle.std.specs.Prelude.{◌≡◌, None, Some, IfErr, IfOk};
 ghost use Rattle.wm_litmus.specs.WitnessTask.{spelled};
 
 use crate::witness::DEFAULT_NODES;
-use wm_command::WitnessWords;
-use wm_words::{WordFault, is_number, read_nodes};
+use wm_command::{WitnessWords, WordFault, is_number, read_nodes};
 
 /// A search for a witness.
 #[derive(Clone, Copy)]

@@ -1,8 +1,9 @@
 //! The instruction at a number of a function, with the operands before it.
 
-use crate::type_stack::{Scope, TypeStack};
+use crate::type_stack::TypeStack;
 use std::alloc::{AllocError, Global};
 use wm_ast::{Block, BlockType, Else, Instr, Module};
+use wm_valid::Scope;
 
 /// A block of a function.
 #[derive(Clone, Copy)]
@@ -142,7 +143,7 @@ fn walk<'m>(
 
 /// The body of the function, as a block.
 fn body(scope: &Scope) -> BlockAt {
-    let result = scope.function_result();
+    let result = scope.result();
     BlockAt::new(0, 0, result, result)
 }
 
@@ -160,11 +161,12 @@ pub(crate) fn find_instr<'m>(
     let Some(func) = module.funcs.get(function) else {
         return Ok(None);
     };
+    let Some(mut scope) = Scope::new(alloc, module, function)? else {
+        return Ok(None);
+    };
     let sizes = block_sizes(alloc, func.blocks.as_slice())?;
-    let mut scope = Scope::new(alloc, module, function);
     let mut block = body(&scope);
     for _ in 0..func.blocks.len() {
-        scope.labels.push(block.label)?;
         let Some(instrs) = func.blocks.get(block.block) else {
             return Ok(None);
         };
@@ -176,7 +178,10 @@ pub(crate) fn find_instr<'m>(
             number,
             sizes.as_slice(),
         )? {
-            Reached::Inner(inner) => block = inner,
+            Reached::Inner(inner) => {
+                scope.enter(inner.label)?;
+                block = inner;
+            }
             Reached::Opcode(instr, stack) => {
                 return Ok(Some(InstrAt {
                     instr,

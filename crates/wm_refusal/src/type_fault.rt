@@ -1,7 +1,7 @@
 //! The instruction at which a function's types are wrong: the operands found, and the operands expected.
 
 use crate::instr_at::InstrAt;
-use crate::type_stack::Operand;
+use crate::type_stack::{self, Operand};
 use std::alloc::{AllocError, Global};
 use std::fmt;
 use wm_ast::{ConstExpr, Instr, InstrText, Module, Mutability, ValType};
@@ -96,7 +96,7 @@ fn other_fault(
 /// The expected operands: those of the instruction, or the result of the block.
 fn expected_operands(alloc: Global, found: &InstrAt) -> Result<Vec<Operand>, AllocError> {
     match found.instr {
-        Some(instr) => found.scope.operands(alloc, instr),
+        Some(instr) => type_stack::instr_operands(alloc, &found.scope, instr),
         None => {
             let mut operands = Vec::new(alloc);
             if found.block.result.is_some() {

@@ -31,11 +31,11 @@ whole_of m k t start is run =
     record { ran = parts.0; ran_so = parts.1; made = parts.2; ended = parts.3 }
 
 -- where no step is made after j of the stated ones, all of them are made by then
-no_step : (m : Module) (k : ℕ) (ran : Ran) → step m 0 ran.config ≡ NoStep → run_on m k ran ≡ None
+pub no_step : (m : Module) (k : ℕ) (ran : Ran) → step m 0 ran.config ≡ NoStep → run_on m k ran ≡ None
 no_step m k ran e = rw (e) (rw (e) refl)
 
 -- one step more of the run
-one_step_more : (m : Module) (k : ℕ) (t : ThreadLog) (start : Config) (w : Whole m k t start) (j : ℕ) (ran : Ran) → steps m k start (reads_of t.events) j ≡ Some ran → j < t.steps
+pub one_step_more : (m : Module) (k : ℕ) (t : ThreadLog) (start : Config) (w : Whole m k t start) (j : ℕ) (ran : Ran) → steps m k start (reads_of t.events) j ≡ Some ran → j < t.steps
     → (next : Ran) × (run_on m k ran ≡ Some next) × ((es : List Event) × (t.events ≡ next.events ++ es))
 one_step_more m k t start w j ran so lt =
     let i = t.steps - suc j in
@@ -51,7 +51,7 @@ one_step_more m k t start w j ran so lt =
         (next, is, (grown.0, sym w.made ∙ grown.1))
 
 -- the event after a list
-get_behind : (xs : List Event) (e : Event) (es : List Event) → slice_get ((xs ++ e ∷ []) ++ es) (length xs) ≡ Some e
+pub get_behind : (xs : List Event) (e : Event) (es : List Event) → slice_get ((xs ++ e ∷ []) ++ es) (length xs) ≡ Some e
 get_behind [] e es = refl
 get_behind (x ∷ xs) e es = get_behind xs e es
 

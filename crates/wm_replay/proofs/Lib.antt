@@ -12,4 +12,5 @@ pub mod Logs
 pub mod LogPositions
 pub mod Longest
 pub mod Completions
+pub mod Continuations
 pub mod Comparisons

@@ -3,4 +3,5 @@ pub mod Following
 pub mod Positions
 pub mod Comparison
 pub mod Complete
+pub mod Continuing
 pub mod Texts

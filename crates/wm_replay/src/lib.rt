@@ -1,11 +1,12 @@
-//! A log against its module: each thread is run again on the values that it read, to compare the log with its runs or to
-//! complete it from them.
+//! A log against its module: each thread is run again on the values that it read, to compare the log with its runs to
+//! complete it from them, or to see what it does next.
 #![tactic(auto)]
 
 mod answer;
 mod by_log;
 mod compare;
 mod completing;
+mod continuing;
 mod law;
 mod parallel;
 
@@ -13,4 +14,5 @@ pub use answer::{Place, ReplayAnswer};
 pub use by_log::{Followed, end_of, follow};
 pub use compare::{Replayed, replay, replay_with_positions};
 pub use completing::{Completion, complete, without_run};
+pub use continuing::{Next, next_after};
 pub use law::one_position;

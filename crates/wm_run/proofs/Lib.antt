@@ -7,6 +7,7 @@ pub mod Working
 pub mod Strays
 pub mod OneEach
 pub mod Recordings
+pub mod Running
 pub mod Turns
 pub mod Absent
 pub mod Launching
@@ -14,11 +15,12 @@ pub mod Logging
 pub mod Runs
 pub mod Limits
 pub mod Driving
+pub mod TracedPositions
 pub mod TracedTurns
 pub mod TracedEvents
 pub mod TracedStores
 pub mod Together
-pub mod Rounds
+pub mod RoundLaws
 pub mod Refusing
 pub mod Ranges
 pub mod Once

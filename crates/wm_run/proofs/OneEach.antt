@@ -5,7 +5,7 @@ use Rattle.std.proofs.lemmas.Bool.{cases_Bool, eq-eqb, eqb-true}
 use Rattle.std.proofs.Math.Nat.{eq-or-lt_of_le}
 use Rattle.std.proofs.lemmas.List.Sums.{sum_by-cons}
 use Rattle.std.proofs.lemmas.Option.{get_or_from_slice_get, slice_get-get_or, slice_get_within}
-use Rattle.wm_run.specs.declared.ended.ThreadEnd.{ThreadEnd}
+use Rattle.wm_run.specs.declared.rounds.ended.ThreadEnd.{ThreadEnd}
 use Rattle.wm_run.specs.Ends.{IsEndIn, ends_of}
 
 pub counted : {X : Type 0} (p : X → Bool) (x : X) (xs : List X) → p x ≡ true → count_by p (x ∷ xs) ≡ 1 + count_by p xs

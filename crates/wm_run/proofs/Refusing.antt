@@ -8,7 +8,7 @@ use Rattle.wm_ast.specs.declared.module.Module.{Module}
 use Rattle.wm_event.specs.declared.log.Start.{Start}
 use Rattle.wm_recorder.specs.Recorder.{Recording, initial_of, threads_of}
 use Rattle.wm_replay.proofs.Comparisons.{item_there}
-use Rattle.wm_run.specs.declared.ended.ThreadEnd.{ThreadEnd}
+use Rattle.wm_run.specs.declared.rounds.ended.ThreadEnd.{ThreadEnd}
 use Rattle.wm_run.specs.declared.fault.RunFault.{RunFault}
 use Rattle.wm_run.specs.declared.fault.RunFault.TheVariants as run
 use Rattle.wm_run.specs.declared.plan.Plan.{Plan}
@@ -17,9 +17,9 @@ use Rattle.wm_run.specs.Ends.{HasOneEach, IsEndsFault, ends_of}
 use Rattle.wm_run.specs.Gathered.{IsGatherFault}
 use Rattle.wm_run.specs.Launch.{AreLaunched, IsLaunchFault}
 use Rattle.wm_run.specs.Refusal.{AllStart}
-use Rattle.wm_run.specs.Rounds.{AreEndsOf, IsReady, IsRoundFault, IsRoundPlan}
+use Rattle.wm_run.specs.RoundPlans.{AreEndsOf, IsReady, IsRoundFault, IsRoundPlan}
 use Rattle.wm_run.proofs.OneEach.{counted, uncounted, one_later}
-use Rattle.wm_run.proofs.Rounds.{own_place}
+use Rattle.wm_run.proofs.RoundLaws.{own_place}
 use Rattle.wm_valid.specs.Valid.{IsInit}
 
 -- ---- the ends of a round's workers are one for each thread

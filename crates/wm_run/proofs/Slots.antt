@@ -2,10 +2,10 @@
 use Rattle.std.proofs.Common.{◌≡◌, ◌∙◌, ◌<◌, Bool, List, length, map, Option, Some, sym, subst, arith}
 use Rattle.std.proofs.lemmas.List.{get_or-map, length-map}
 use Rattle.wm_ast.specs.declared.module.Module.{Module}
-use Rattle.wm_run.specs.declared.ended.ThreadEnd.{ThreadEnd}
+use Rattle.wm_run.specs.declared.rounds.ended.ThreadEnd.{ThreadEnd}
 use Rattle.wm_run.specs.declared.plan.Plan.{Plan}
 use Rattle.wm_run.specs.Crew.{AreSlotsOf, IsSlotOf}
-use Rattle.wm_run.specs.Rounds.{AreEndsOf}
+use Rattle.wm_run.specs.RoundPlans.{AreEndsOf}
 
 -- if all slots are full, they have the ends of the plan's threads
 pub full_are : (is_open : Bool) (m : Module) (plan : Plan) (slots : List (Option ThreadEnd)) (ends : List ThreadEnd) → slots ≡ map Some ends → AreSlotsOf is_open m plan slots

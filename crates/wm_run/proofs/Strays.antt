@@ -3,7 +3,7 @@ use Rattle.std.proofs.Common.{◌≡◌, ℕ, ◌+◌, ◌<◌, ◌≤◌, ◌�
 use Rattle.std.specs.Prelude.{IfNone, IfSome}
 use Rattle.std.proofs.Math.Nat.{eq-or-lt_of_le}
 use Rattle.std.proofs.lemmas.Option.{same_Some, slice_get_within}
-use Rattle.wm_run.specs.declared.ended.ThreadEnd.{ThreadEnd}
+use Rattle.wm_run.specs.declared.rounds.ended.ThreadEnd.{ThreadEnd}
 use Rattle.wm_run.specs.Ends.{AreBelow, HasEnd, HasOneEach, IsEndsFault, IsLeastStray, ends_of}
 
 pub record IsLeastBelow (threads : ℕ) (ends : List ThreadEnd) (n t : ℕ) : Type 0 where

@@ -13,7 +13,7 @@ use Rattle.wm_memory.specs.Recorded.{by_thread, events_of, writers_of}
 use Rattle.wm_recorder.specs.Recorder.{Recording, IsRecording, RecordsValid, initial_of, steps_of, threads_of}
 use Rattle.wm_replay.specs.Replay.{IsRun}
 use Rattle.wm_valid.specs.Valid.{IsInit}
-use Rattle.wm_run.specs.declared.ended.ThreadEnd.{ThreadEnd}
+use Rattle.wm_run.specs.declared.rounds.ended.ThreadEnd.{ThreadEnd}
 use Rattle.wm_run.specs.Ends.{HasOneEach, IsEndIn, ends_of}
 use Rattle.wm_run.specs.Gathered.{AllAgree, AreGathered, AreLogsBy, IsGathered, log_by}
 use Rattle.wm_run.specs.Own.{IsOwnRun}

@@ -11,6 +11,7 @@ use Rattle.wm_event.specs.declared.op.OpFields.{OpFields}
 use Rattle.wm_event.specs.Event.{key_of}
 use Rattle.wm_event.specs.Limits.{max_events}
 use Rattle.wm_event.specs.Log.{event_in}
+use Rattle.wm_machine.specs.State.{State}
 use Rattle.wm_machine.specs.Step.{access_of, step}
 use Rattle.wm_memory.specs.declared.history_step.HistoryStep.{HistoryStep}
 use Rattle.wm_memory.specs.Memory.{drains_first, ready}
@@ -19,9 +20,9 @@ use Rattle.wm_memory.specs.Visibility.{Step, accesses, events}
 use Rattle.wm_memory.proofs.Listed.{get-end, get-front, length-events_of}
 use Rattle.wm_recorder.specs.Transcript.{access_items}
 use Rattle.wm_replay.proofs.Comparisons.{item_there}
-use Rattle.wm_run.specs.declared.traced.TracedTurn.{TracedTurn}
-use Rattle.wm_run.specs.declared.traced.TurnDone.{TurnDone}
-use Rattle.wm_run.specs.declared.traced.TurnDone.TheVariants.{Accessed}
+use Rattle.wm_run.specs.declared.scripts.traced.TracedTurn.{TracedTurn}
+use Rattle.wm_run.specs.declared.scripts.traced.TurnDone.{TurnDone}
+use Rattle.wm_run.specs.declared.scripts.traced.TurnDone.TheVariants.{Accessed}
 use Rattle.wm_run.specs.declared.turn.Turn.{Turn}
 use Rattle.wm_run.specs.declared.turn.Turn.TheVariants as turn
 use Rattle.wm_run.specs.Run.{Record}
@@ -140,17 +141,17 @@ turn_makes g old new (turn.DrainAt t k) what key store does is leads = absurd (n
 
 -- ---- all turns
 
-named_in : (g : Setting) (first last : ScriptState) (turns : List Turn) (entries : List TracedTurn) (k : ℕ) (entry : TracedTurn) (key : EventKey) (store : Option EventKey)
-    → TracesTurns g first turns entries last → slice_get entries k ≡ Some entry → entry.done ≡ Accessed key store → (e : Event) × IsMade g last key e
-named_in g first last [] [] k entry key store traces at is = absurd (let within : k < 0 = slice_get_within [] k entry at in omega (arith, within))
-named_in g first last [] (x ∷ entries) k entry key store traces at is = absurd traces
-named_in g first last (t ∷ turns) [] k entry key store traces at is = absurd traces
-named_in g first last (t ∷ turns) (x ∷ entries) zero entry key store traces at is =
+named_in : (g : Setting) (first last : ScriptState) (machines : List State) (turns : List Turn) (entries : List TracedTurn) (k : ℕ) (entry : TracedTurn) (key : EventKey) (store : Option EventKey)
+    → TracesTurns g first machines turns entries last → slice_get entries k ≡ Some entry → entry.done ≡ Accessed key store → (e : Event) × IsMade g last key e
+named_in g first last machines [] [] k entry key store traces at is = absurd (let within : k < 0 = slice_get_within [] k entry at in omega (arith, within))
+named_in g first last machines [] (x ∷ entries) k entry key store traces at is = absurd traces
+named_in g first last machines (t ∷ turns) [] k entry key store traces at is = absurd traces
+named_in g first last machines (t ∷ turns) (x ∷ entries) zero entry key store traces at is =
     let done_is : x.done ≡ Accessed key store = ap (λ (y : TracedTurn). y.done) (first_is x entries entry at) ∙ is in
-    let made = turn_makes g first traces.0 t x.done key store traces.1.does done_is traces.1.leads in
-    (made.0, stays_made g traces.0 last turns key made.0 (turns_of_trace g traces.0 turns entries last traces.2) made.1)
-named_in g first last (t ∷ turns) (x ∷ entries) (suc k) entry key store traces at is =
-    named_in g traces.0 last turns entries k entry key store traces.2 (among_others x entries k entry at) is
+    let made = turn_makes g first traces.0 t x.done key store traces.2.does done_is traces.2.leads in
+    (made.0, stays_made g traces.0 last turns key made.0 (turns_of_trace g traces.0 traces.1 turns entries last traces.3) made.1)
+named_in g first last machines (t ∷ turns) (x ∷ entries) (suc k) entry key store traces at is =
+    named_in g traces.0 last traces.1 turns entries k entry key store traces.3 (among_others x entries k entry at) is
 
 -- the log has what was made
 pub is_logged : (starts : List Start) (g : Setting) (last : ScriptState) (run : Record) (key : EventKey) (e : Event) → length last.threads ≡ length starts → IsLogOf starts last.threads (done g last.history) run
@@ -162,6 +163,6 @@ is_logged starts g last run key e count logged made =
 
 pub accesses_are_logged : TracedAccessesAreLogged
 accesses_are_logged m plan turns run entries is k entry key store at accessed =
-    let count : length is.last.threads ≡ length plan.starts = turns_count is.setting is.first is.last turns (turns_of_trace is.setting is.first turns entries is.last is.traces) ∙ is.begins.count in
-    let made = named_in is.setting is.first is.last turns entries k entry key store is.traces at accessed in
+    let count : length is.last.threads ≡ length plan.starts = turns_count is.setting is.first is.last turns (turns_of_trace is.setting is.first is.machines turns entries is.last is.traces) ∙ is.begins.count in
+    let made = named_in is.setting is.first is.last is.machines turns entries k entry key store is.traces at accessed in
     (made.0, is_logged plan.starts is.setting is.last run key made.0 count is.logged made.1, made.1.named)

@@ -7,6 +7,7 @@ use Rattle.wm_event.specs.declared.event.Event.{Event}
 use Rattle.wm_event.specs.declared.event.EventKey.{EventKey}
 use Rattle.wm_event.specs.declared.op.OpFields.{OpFields}
 use Rattle.wm_event.specs.Event.{is_atomic, key_of, writes}
+use Rattle.wm_machine.specs.State.{State}
 use Rattle.wm_memory.specs.declared.history_step.HistoryStep.{HistoryStep}
 use Rattle.wm_memory.specs.declared.history_step.HistoryStep.TheVariants as item
 use Rattle.wm_memory.specs.Memory.{drains_first}
@@ -16,8 +17,8 @@ use Rattle.wm_memory.proofs.Listed.{get-end, get-front, length-events_of}
 use Rattle.wm_memory.proofs.Leaving.{in_reverse}
 use Rattle.wm_memory.proofs.Members.{own_is, waits_drained, waits_made}
 use Rattle.wm_recorder.proofs.Updates.{events_made, others_events}
-use Rattle.wm_run.specs.declared.traced.TracedTurn.{TracedTurn}
-use Rattle.wm_run.specs.declared.traced.TurnDone.{TurnDone}
+use Rattle.wm_run.specs.declared.scripts.traced.TracedTurn.{TracedTurn}
+use Rattle.wm_run.specs.declared.scripts.traced.TurnDone.{TurnDone}
 use Rattle.wm_run.specs.declared.turn.Turn.{Turn}
 use Rattle.wm_run.specs.declared.turn.Turn.TheVariants as turn
 use Rattle.wm_run.specs.Plan.{thread_of}
@@ -121,8 +122,8 @@ turn_pending g old (turn.DrainAt t k) what store does is = drain_pending (done g
 abbrev IsMadeWrite : Setting → ScriptState → EventKey → Type 0
 IsMadeWrite g state store = (e : Event) × IsMade g state store e × (writes e ≡ true)
 
-turn_names : (g : Setting) (old new : ScriptState) (t : Turn) (entry : TracedTurn) (store : EventKey) → IsTracedTurn g old t entry new → store_of entry.done ≡ Some store → IsMadeWrite g old store
-turn_names g old new t entry store is names =
+turn_names : (g : Setting) (old new : ScriptState) (machines moved : List State) (t : Turn) (entry : TracedTurn) (store : EventKey) → IsTracedTurn g old machines t entry new moved → store_of entry.done ≡ Some store → IsMadeWrite g old store
+turn_names g old new machines moved t entry store is names =
     let was = turn_pending g old t entry.done store is.does names in
     let x = named_by (reverse (waiting (done g old.history) (thread_of t))) was.0 store was.1 in
     let w = waiting_is_write g.initial (reverse old.history) (thread_of t) x.0 (in_reverse x.0 (waiting (done g old.history) (thread_of t)) x.1) in
@@ -136,20 +137,20 @@ turn_names g old new t entry store is names =
       w.writes,
     )
 
-stores_in : (g : Setting) (first last : ScriptState) (turns : List Turn) (entries : List TracedTurn) (k : ℕ) (entry : TracedTurn) (store : EventKey) → TracesTurns g first turns entries last
+stores_in : (g : Setting) (first last : ScriptState) (machines : List State) (turns : List Turn) (entries : List TracedTurn) (k : ℕ) (entry : TracedTurn) (store : EventKey) → TracesTurns g first machines turns entries last
     → slice_get entries k ≡ Some entry → store_of entry.done ≡ Some store → IsMadeWrite g last store
-stores_in g first last [] [] k entry store traces at is = absurd (let within : k < 0 = slice_get_within [] k entry at in omega (arith, within))
-stores_in g first last [] (x ∷ entries) k entry store traces at is = absurd traces
-stores_in g first last (t ∷ turns) [] k entry store traces at is = absurd traces
-stores_in g first last (t ∷ turns) (x ∷ entries) zero entry store traces at is =
+stores_in g first last machines [] [] k entry store traces at is = absurd (let within : k < 0 = slice_get_within [] k entry at in omega (arith, within))
+stores_in g first last machines [] (x ∷ entries) k entry store traces at is = absurd traces
+stores_in g first last machines (t ∷ turns) [] k entry store traces at is = absurd traces
+stores_in g first last machines (t ∷ turns) (x ∷ entries) zero entry store traces at is =
     let names : store_of x.done ≡ Some store = ap (λ (y : TracedTurn). store_of y.done) (first_is x entries entry at) ∙ is in
-    let made = turn_names g first traces.0 t x store traces.1 names in
-    (made.0, stays_made g first last (t ∷ turns) store made.0 (turns_of_trace g first (t ∷ turns) (x ∷ entries) last traces) made.1, made.2)
-stores_in g first last (t ∷ turns) (x ∷ entries) (suc k) entry store traces at is =
-    stores_in g traces.0 last turns entries k entry store traces.2 (among_others x entries k entry at) is
+    let made = turn_names g first traces.0 machines traces.1 t x store traces.2 names in
+    (made.0, stays_made g first last (t ∷ turns) store made.0 (turns_of_trace g first machines (t ∷ turns) (x ∷ entries) last traces) made.1, made.2)
+stores_in g first last machines (t ∷ turns) (x ∷ entries) (suc k) entry store traces at is =
+    stores_in g traces.0 last traces.1 turns entries k entry store traces.3 (among_others x entries k entry at) is
 
 pub stores_are_logged : TracedStoresAreLogged
 stores_are_logged m plan turns run entries is k entry store at names =
-    let count : length is.last.threads ≡ length plan.starts = turns_count is.setting is.first is.last turns (turns_of_trace is.setting is.first turns entries is.last is.traces) ∙ is.begins.count in
-    let made = stores_in is.setting is.first is.last turns entries k entry store is.traces at names in
+    let count : length is.last.threads ≡ length plan.starts = turns_count is.setting is.first is.last turns (turns_of_trace is.setting is.first is.machines turns entries is.last is.traces) ∙ is.begins.count in
+    let made = stores_in is.setting is.first is.last is.machines turns entries k entry store is.traces at names in
     (made.0, is_logged plan.starts is.setting is.last run store made.0 count is.logged made.1, made.1.named, made.2)

@@ -1,5 +1,5 @@
 -- What the turns of a script do, as the threads and their recorder show it.
-use Rattle.std.proofs.Common.{◌≡◌, ℕ, ◌<◌, ◌≤◌, List, [], ◌∷◌, ◌++◌, Bool, true, false, inl, inr, Option, Some, None, refl, sym, ap, subst, ◌∙◌, arith, length, map, reverse, slice_get, append_assoc}
+use Rattle.std.proofs.Common.{◌≡◌, ℕ, ◌<◌, ◌≤◌, List, [], ◌∷◌, ◌++◌, Bool, true, false, inl, inr, Option, Some, None, refl, sym, ap, subst, ◌∙◌, arith, length, map, reverse, set, slice_get, append_assoc}
 use Rattle.std.specs.Prelude.{if◌then◌else◌}
 use Rattle.std.proofs.lemmas.Bool.{cases_lt}
 use Rattle.std.proofs.lemmas.List.{append-nil, length-map, length-reverse, reverse-reverse}
@@ -7,36 +7,30 @@ use Rattle.std.proofs.lemmas.Option.{none-some, same_Some, slice_get_within}
 use Rattle.wm_ast.specs.declared.module.Module.{Module}
 use Rattle.wm_event.specs.declared.event.Event.{Event}
 use Rattle.wm_event.specs.declared.event.EventKey.{EventKey}
-use Rattle.wm_event.specs.declared.log.End.{End}
 use Rattle.wm_event.specs.declared.op.OpFields.{OpFields}
 use Rattle.wm_event.specs.Event.{key_of}
-use Rattle.wm_machine.specs.declared.call_frame.CallFrame.{CallFrame}
 use Rattle.wm_machine.specs.declared.thread.CodePosition.{CodePosition}
-use Rattle.wm_machine.specs.declared.thread.Need.{Need}
-use Rattle.wm_machine.specs.declared.thread.Need.TheVariants as need
-use Rattle.wm_machine.specs.Configuration.{under, waiting as waiting_call}
-use Rattle.wm_machine.specs.Reach.{HasEnded}
-use Rattle.wm_machine.specs.State.{State, config_from, config_of, need_in, need_of, position_of}
-use Rattle.wm_machine.specs.Term.{Term, Vars}
+use Rattle.wm_machine.specs.State.{State}
 use Rattle.wm_memory.specs.Memory.{Buffered, CannotLeave, DrainsFirst, MayLeave, drains_first}
 use Rattle.wm_memory.specs.Visibility.{Drained, Passes, Step, accesses, steps, waiting}
 use Rattle.wm_recorder.specs.Recorder.{IsRecording, Recording, initial_of, steps_of, threads_of}
 use Rattle.wm_replay.proofs.Comparisons.{item_there}
 use Rattle.wm_run.specs.declared.plan.Plan.{Plan}
 use Rattle.wm_run.specs.declared.runner.Runner.{Runner}
-use Rattle.wm_run.specs.declared.traced.TracedTurn.{TracedTurn}
-use Rattle.wm_run.specs.declared.traced.TurnDone.{TurnDone}
-use Rattle.wm_run.specs.declared.traced.TurnDone.TheVariants as turn_done
+use Rattle.wm_run.specs.declared.scripts.traced.TracedTurn.{TracedTurn}
+use Rattle.wm_run.specs.declared.scripts.traced.TurnDone.{TurnDone}
+use Rattle.wm_run.specs.declared.scripts.traced.TurnDone.TheVariants as turn_done
 use Rattle.wm_run.specs.declared.turn.Turn.{Turn}
 use Rattle.wm_run.specs.declared.turn.Turn.TheVariants as turn
 use Rattle.wm_run.specs.Plan.{thread_of}
 use Rattle.wm_run.specs.Run.{Record}
 use Rattle.wm_run.specs.Runner.{IsSet, TakesTurn, runner_state, script_state, setting_of}
 use Rattle.wm_run.specs.Script.{ScriptState, Setting, ThreadState, TurnsLead}
-use Rattle.wm_run.specs.Traced.{DrainDoes, Does, IsAt, IsTraced, IsTracedTurn, StepDoes, TracesTurns, absent, drained, event_of, held, pending, store_before}
-use Rattle.wm_run.specs.Tracing.{TakesTraced, TurnDoes}
+use Rattle.wm_run.specs.Traced.{DrainDoes, Does, IsTraced, IsTracedTurn, StepDoes, TracesTurns, absent, drained, event_of, held, pending, store_before}
+use Rattle.wm_run.specs.Tracing.{ArePositions, TakesTraced, TurnDoes, machines_of}
 use Rattle.wm_run.proofs.Driving.{Drives, first_scene, logged}
 use Rattle.wm_run.proofs.Recordings.{buffered, may_not}
+use Rattle.wm_run.proofs.TracedPositions.{IsPositionAfter, first_machines, is_at, turn_moved}
 use Rattle.wm_run.proofs.Turns.{program_at, standing_at}
 use Rattle.wm_valid.specs.Valid.{IsInit}
 
@@ -109,21 +103,6 @@ is_drained r t k store keeps there at may =
 
 -- ---- a step
 
-under_runs : (m : Module) (cs : List CallFrame) (func : ℕ) (vars : Vars) (t : Term) → HasEnded (under m cs func vars t) → ⊥
-under_runs m [] func vars t over = over
-under_runs m (c ∷ cs) func vars t over = under_runs m cs c.func (record vars { locals = c.locals }) (waiting_call m c func vars.locals t) over
-
-runs_in : (o : Option End) (s : State) (n : Need) → need_in o 0 s ≡ n → ((end : End) → n ≡ need.Ended end → ⊥) → HasEnded (config_from o s) → ⊥
-runs_in None s n is none over = under_runs s.module s.call_stack _ _ _ over
-runs_in (Some end) s n is none over = none end (sym is)
-
--- a thread that needs something hasn't ended
-pub runs_of_local : (s : State) → need_of 0 s ≡ need.Local → HasEnded (config_of s) → ⊥
-runs_of_local s is over = runs_in s.ended s need.Local is (λ end e. absurd (cc e)) over
-
-pub runs_of_access : (s : State) (op : OpFields) → need_of 0 s ≡ need.Access op → HasEnded (config_of s) → ⊥
-runs_of_access s op is over = runs_in s.ended s (need.Access op) is (λ end e. absurd (cc e)) over
-
 -- an access by the event and the store that were found
 pub access_told : (g : Setting) (s : List Step) (t : ℕ) (thread : ThreadState) (op : OpFields) (key : EventKey) (store : Option EventKey)
     → StepDoes g s t thread (turn_done.Accessed (event_of g s t op) (store_before s t op)) → key ≡ event_of g s t op → store ≡ store_before s t op
@@ -144,29 +123,26 @@ does_of m limit xs r (turn.Step t) x what set at does = (
 does_of m limit xs r (turn.Drain t) x what set at does = does
 does_of m limit xs r (turn.DrainAt t k) x what set at does = does
 
-pub is_at : (m : Module) (limit : ℕ) (xs : List Runner) (r : Recording) (t : ℕ) (x : Runner) (position : CodePosition) → IsSet m xs r → slice_get xs t ≡ Some x → position ≡ position_of x.thread
-    → IsAt (setting_of m r limit) (script_state xs r) t position
-is_at m limit xs r t x position set at is = record {
-  thread = runner_state x;
-  listed = standing_at xs t x at;
-  machine = x.thread;
-  program = program_at m xs t x set.programs at;
-  config = refl;
-  stands = sym is;
-}
-
-pub takes_traced : (m : Module) (limit : ℕ) (t : Turn) (xs : List Runner) (r : Recording) (x : Runner) (entry : TracedTurn) (ys : List Runner) (r' : Recording) → IsSet m xs r
-    → slice_get xs (thread_of t) ≡ Some x → TakesTurn m limit t xs r ys r' → entry.turn ≡ t → TurnDoes x r limit t entry.done → entry.position ≡ position_of x.thread
-    → entry.pending ≡ pending (steps_of r') (thread_of t) → TakesTraced m limit t xs r entry ys r'
-takes_traced m limit t xs r x entry ys r' set at takes is does position left = record {
+pub takes_traced : (m : Module) (limit : ℕ) (t : Turn) (xs : List Runner) (r : Recording) (ps : List CodePosition) (x y : Runner) (entry : TracedTurn) (ys : List Runner) (r' : Recording) (after : CodePosition)
+    → IsSet m xs r → slice_get xs (thread_of t) ≡ Some x → TakesTurn m limit t xs r ys r' → slice_get ys (thread_of t) ≡ Some y → entry.turn ≡ t → TurnDoes x r limit t entry.done
+    → slice_get ps (thread_of t) ≡ Some entry.position → IsPositionAfter y entry.position after → entry.pending ≡ pending (steps_of r') (thread_of t)
+    → TakesTraced m limit t xs r ps entry ys r' (set ps (thread_of t) after)
+takes_traced m limit t xs r ps x y entry ys r' after set at takes at_y is does noted is_after left = record {
   takes = takes;
-  traced = record {
-    turn_is = is;
-    leads = takes.takes;
-    does = does_of m limit xs r t x entry.done set at does;
-    at = is_at m limit xs r (thread_of t) x entry.position set at position;
-    left = left ∙ ap (λ (init : List ℕ). pending (steps_over init) (thread_of t)) takes.initial;
-  };
+  traces = λ machines are.
+      let moved = turn_moved m (thread_of t) xs ys r r' x y machines ps entry.position after set takes.set takes.moves at at_y are noted is_after in
+      record {
+        moved = moved.moved;
+        are_positions = moved.are;
+        traced = record {
+          turn_is = is;
+          leads = takes.takes;
+          does = does_of m limit xs r t x entry.done set at does;
+          at = is_at xs r (thread_of t) x machines ps entry.position at are noted;
+          moves = moved.moves;
+          left = left ∙ ap (λ (init : List ℕ). pending (steps_over init) (thread_of t)) takes.initial;
+        };
+      };
 }
   where
     steps_over : List ℕ → List Step
@@ -175,32 +151,40 @@ takes_traced m limit t xs r x entry ys r' set at takes is does position left = r
 -- ---- all turns
 
 -- the entries so far, where those of the turns that are left follow
-abbrev pub Continues : Setting → ScriptState → List Turn → List TracedTurn → ScriptState → List Turn → Type 0
-Continues g first turns entries now left =
-    (more : List TracedTurn) (last : ScriptState) → TracesTurns g now left more last → TracesTurns g first turns (entries ++ more) last
+abbrev pub Continues : Setting → ScriptState → List State → List Turn → List TracedTurn → ScriptState → List State → List Turn → Type 0
+Continues g first machines turns entries now moved left =
+    (more : List TracedTurn) (last : ScriptState) → TracesTurns g now moved left more last → TracesTurns g first machines turns (entries ++ more) last
 
-pub one_more : (g : Setting) (first : ScriptState) (turns : List Turn) (entries : List TracedTurn) (now next : ScriptState) (t : Turn) (left : List Turn) (entry : TracedTurn)
-    → Continues g first turns entries now (t ∷ left) → IsTracedTurn g now t entry next → Continues g first turns (entries ++ entry ∷ []) next left
-one_more g first turns entries now next t left entry continues traced more last traces =
-    subst (λ (xs : List TracedTurn). TracesTurns g first turns xs last) (sym (append_assoc entries (entry ∷ []) more)) (continues (entry ∷ more) last (next, traced, traces))
+pub one_more : (g : Setting) (first : ScriptState) (machines : List State) (turns : List Turn) (entries : List TracedTurn) (now next : ScriptState) (moved after : List State) (t : Turn) (left : List Turn) (entry : TracedTurn)
+    → Continues g first machines turns entries now moved (t ∷ left) → IsTracedTurn g now moved t entry next after → Continues g first machines turns (entries ++ entry ∷ []) next after left
+one_more g first machines turns entries now next moved after t left entry continues traced more last traces =
+    subst (λ (xs : List TracedTurn). TracesTurns g first machines turns xs last) (sym (append_assoc entries (entry ∷ []) more)) (continues (entry ∷ more) last (next, after, traced, traces))
 
-pub all_traced : (g : Setting) (first : ScriptState) (turns : List Turn) (entries : List TracedTurn) (now : ScriptState) (left : List Turn) → left ≡ []
-    → Continues g first turns entries now left → TracesTurns g first turns entries now
-all_traced g first turns entries now left none continues =
-    let rest : TracesTurns g now left [] now = subst (λ (ts : List Turn). TracesTurns g now ts [] now) (sym none) refl in
-    subst (λ (xs : List TracedTurn). TracesTurns g first turns xs now) (append-nil entries) (continues [] now rest)
+-- the same for states of the threads that have these positions
+pub record HasTraced (g : Setting) (first : ScriptState) (machines : List State) (turns : List Turn) (entries : List TracedTurn) (runners : List Runner) (r : Recording) (positions : List CodePosition) (left : List Turn) : Type 0 where
+  pub moved : List State
+  pub are : ArePositions runners moved positions
+  pub continues : Continues g first machines turns entries (script_state runners r) moved left
+
+pub all_traced : (g : Setting) (first : ScriptState) (machines : List State) (turns : List Turn) (entries : List TracedTurn) (runners : List Runner) (r : Recording) (positions : List CodePosition) (left : List Turn) → left ≡ []
+    → HasTraced g first machines turns entries runners r positions left → TracesTurns g first machines turns entries (script_state runners r)
+all_traced g first machines turns entries runners r positions left none has =
+    let now = script_state runners r in
+    let rest : TracesTurns g now has.moved left [] now = subst (λ (ts : List Turn). TracesTurns g now has.moved ts [] now) (sym none) refl in
+    subst (λ (xs : List TracedTurn). TracesTurns g first machines turns xs now) (append-nil entries) (has.continues [] now rest)
 
 -- what is traced is what the turns lead to
-pub turns_of_trace : (g : Setting) (first : ScriptState) (turns : List Turn) (entries : List TracedTurn) (last : ScriptState) → TracesTurns g first turns entries last → TurnsLead g first turns last
-turns_of_trace g first [] [] last traces = traces
-turns_of_trace g first (t ∷ turns) (entry ∷ entries) last traces = (traces.0, traces.1.leads, turns_of_trace g traces.0 turns entries last traces.2)
-turns_of_trace g first [] (entry ∷ entries) last traces = absurd traces
-turns_of_trace g first (t ∷ turns) [] last traces = absurd traces
+pub turns_of_trace : (g : Setting) (first : ScriptState) (machines : List State) (turns : List Turn) (entries : List TracedTurn) (last : ScriptState) → TracesTurns g first machines turns entries last → TurnsLead g first turns last
+turns_of_trace g first machines [] [] last traces = traces
+turns_of_trace g first machines (t ∷ turns) (entry ∷ entries) last traces = (traces.0, traces.2.leads, turns_of_trace g traces.0 traces.1 turns entries last traces.3)
+turns_of_trace g first machines [] (entry ∷ entries) last traces = absurd traces
+turns_of_trace g first machines (t ∷ turns) [] last traces = absurd traces
 
 -- ---- the run
 
 pub is_traced : (m : Module) (plan : Plan) (turns : List Turn) (xs : List Runner) (r : Recording) (ys : List Runner) (r' : Recording) (run : Record) (entries : List TracedTurn)
-    → Drives m plan turns xs r ys r' run → TracesTurns (setting_of m r plan.steps) (script_state xs r) turns entries (script_state ys r') → IsTraced m plan turns run entries
+    → Drives m plan turns xs r ys r' run → TracesTurns (setting_of m r plan.steps) (script_state xs r) (machines_of xs) turns entries (script_state ys r')
+    → IsTraced m plan turns run entries
 is_traced m plan turns xs r ys r' run entries d traces = record {
   setting = setting_of m r plan.steps;
   program = refl;
@@ -209,6 +193,8 @@ is_traced m plan turns xs r ys r' run entries d traces = record {
   first = script_state xs r;
   last = script_state ys r';
   begins = first_scene m plan.starts xs d.initial r d.launched d.new;
+  machines = machines_of xs;
+  at_start = first_machines m plan.starts xs r d.launched;
   traces = traces;
   logged = logged m plan turns xs r ys r' run d;
 }

@@ -14,7 +14,7 @@ use Rattle.wm_run.specs.declared.runner.Moved.TheVariants.{Rested}
 use Rattle.wm_run.specs.declared.runner.Runner.{Runner}
 use Rattle.wm_run.specs.declared.turn.Turn.{Turn}
 use Rattle.wm_run.specs.declared.turn.Turn.TheVariants.{Step}
-use Rattle.wm_run.specs.Runner.{Advances, DrainsBy, IsSet, Moves, RunnerStep, TakesTurn, script_state, setting_of, runner_state}
+use Rattle.wm_run.specs.Runner.{Advances, DrainsBy, IsSet, Moves, RunnerStep, RunnersMove, TakesTurn, script_state, setting_of, runner_state}
 use Rattle.wm_run.specs.Runner as runner
 use Rattle.wm_run.specs.Script.{Rests, TurnLeads, drain_of, drains, keeps, rests, steps_on}
 
@@ -44,7 +44,7 @@ set_same xs t x is = ap (set xs t) (sym (get_or_from_slice_get xs t x x is)) ∙
 -- a step of thread t
 pub turn_stepped : (m : Module) (limit t : ℕ) (xs : List Runner) (r r' : Recording) (old new : Runner) → IsSet m xs r → slice_get xs t ≡ Some old
     → All (IsOf m) (set xs t new) → Moves t limit old r new r' → TakesTurn m limit (Step t) xs r (set xs t new) r'
-turn_stepped m limit t xs r r' old new is-set at all (runner.steps_on g) =
+turn_stepped m limit t xs r r' old new is-set at all (runner.steps_on made from g) =
     let is = program_at m xs t old is-set.programs at in
     let g' : RunnerStep m t limit (runner_state old) r (runner_state new) r' = subst (λ p. RunnerStep p t limit (runner_state old) r (runner_state new) r') is g in
     let count : length (set xs t new) ≡ length xs = length-set xs t new in
@@ -53,6 +53,7 @@ turn_stepped m limit t xs r r' old new is-set at all (runner.steps_on g) =
     ∙ ap (λ h. record { threads = map runner_state (set xs t new); history = h }) (sym g'.adds.history) in
     record {
       takes = subst (TurnLeads (setting_of m r limit) (script_state xs r) (Step t)) state (steps_on (standing_at xs t old at) g'.steps);
+      moves = runner.one_moves at made from;
       set = record { programs = all; count = g'.adds.threads ∙ is-set.count ∙ sym count; initial = subst (IsInit m) (sym g'.adds.initial) is-set.initial };
       count = count;
       initial = g'.adds.initial;
@@ -65,6 +66,7 @@ turn_stepped m limit t xs r r' old new is-set at all (runner.rests same same' re
     let rest' = subst (λ p. Rests (setting_of p r limit) r.history (runner_state old)) is rest in
     record {
       takes = subst (TurnLeads (setting_of m r limit) (script_state xs r) (Step t)) state (rests (standing_at xs t old at) rest');
+      moves = subst (RunnersMove t xs) (sym unchanged) runner.none_moves;
       set = subst (IsSet m (set xs t new)) (sym same') (subst (λ ys. IsSet m ys r) (sym unchanged) is-set);
       count = length-set xs t new;
       initial = ap initial_of same';
@@ -78,6 +80,7 @@ turn_drained m limit turn drain xs r r' is-set is (runner.drains may adds) =
     let may' = subst (λ n. MayFollow n (length (initial_of r)) (steps_of r) drain) count may in
     record {
       takes = subst (λ h. TurnLeads (setting_of m r limit) (script_state xs r) turn (record { threads = map runner_state xs; history = h })) (sym adds.history) (drains is may');
+      moves = runner.none_moves;
       set = record { programs = is-set.programs; count = adds.threads ∙ is-set.count; initial = subst (IsInit m) (sym adds.initial) is-set.initial };
       count = refl;
       initial = adds.initial;
@@ -87,6 +90,7 @@ turn_drained m limit turn drain xs r r' is-set is (runner.keeps cannot same) =
     record {
       takes = subst (λ x. TurnLeads (setting_of m r limit) (script_state xs r) turn (script_state xs x)) (sym same)
           (keeps is (λ may. cannot (subst (λ n. MayFollow n (length (initial_of r)) (steps_of r) drain) count may)));
+      moves = runner.none_moves;
       set = subst (IsSet m xs) (sym same) is-set;
       count = refl;
       initial = ap initial_of same;

@@ -12,9 +12,9 @@ use Rattle.wm_machine.specs.State.{State, config_of}
 use Rattle.wm_machine.specs.Stepping.{IsIn}
 use Rattle.wm_machine.specs.Term.{Config}
 use Rattle.wm_recorder.specs.declared.access_fault.AccessFault.{AccessFault}
-use Rattle.wm_run.specs.declared.ended.Stop.{Stop}
-use Rattle.wm_run.specs.declared.ended.Stop.TheVariants.{Own, Gate, Memory}
-use Rattle.wm_run.specs.declared.ended.ThreadEnd.{ThreadEnd}
+use Rattle.wm_run.specs.declared.rounds.ended.Stop.{Stop}
+use Rattle.wm_run.specs.declared.rounds.ended.Stop.TheVariants.{Own, Gate, Memory}
+use Rattle.wm_run.specs.declared.rounds.ended.ThreadEnd.{ThreadEnd}
 use Rattle.wm_run.specs.Reached.{HasRun, LeadsTo, is_before_access}
 use Rattle.wm_run.specs.Stops.{HasStopped, IsRefused, IsRefusedAfter, StopsFor, is_own}
 use Rattle.wm_run.specs.Worker.{IsEndOf}

@@ -6,9 +6,9 @@ use Rattle.wm_event.specs.declared.log.End.{End}
 use Rattle.wm_event.specs.declared.log.End.TheVariants.{Done, Trap, Cut}
 use Rattle.wm_event.specs.declared.log.Start.{Start}
 use Rattle.wm_logfile.specs.Document.{EndFits}
-use Rattle.wm_run.specs.declared.ended.ThreadEnd.{ThreadEnd}
+use Rattle.wm_run.specs.declared.rounds.ended.ThreadEnd.{ThreadEnd}
 use Rattle.wm_run.specs.declared.plan.Plan.{Plan}
-use Rattle.wm_run.specs.Rounds.{IsRoundPlan}
+use Rattle.wm_run.specs.RoundPlans.{IsRoundPlan}
 use Rattle.wm_run.specs.Worker.{IsEndOf}
 use Rattle.wm_valid.specs.Valid.{IsInit}
 

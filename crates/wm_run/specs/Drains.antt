@@ -1,8 +1,8 @@
 -- The drainer's turns.
 use Rattle.std.specs.Prelude.{◌≡◌, ℕ, ◌≤◌, ◌/◌, ◌%◌, ◌==◌, Bool, true, [], if◌then◌else◌}
 use Rattle.wm_recorder.specs.Calls.{Called}
-use Rattle.wm_run.specs.declared.drains.DrainerTurn.{DrainerTurn}
-use Rattle.wm_run.specs.declared.drains.DrainerTurn.TheVariants.{Oldest, Second}
+use Rattle.wm_run.specs.declared.rounds.drains.DrainerTurn.{DrainerTurn}
+use Rattle.wm_run.specs.declared.rounds.drains.DrainerTurn.TheVariants.{Oldest, Second}
 
 -- the threads take turns; in every other pass it is the store after the oldest one
 abbrev pub drainer_turn : ℕ → ℕ → DrainerTurn

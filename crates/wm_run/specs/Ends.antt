@@ -1,6 +1,6 @@
 -- One end for each thread.
 use Rattle.std.specs.Prelude.{◌≡◌, ◌≢◌, ℕ, ◌<◌, ◌≤◌, ◌⊎◌, ◌==◌, List, Some, count_by, slice_get}
-use Rattle.wm_run.specs.declared.ended.ThreadEnd.{ThreadEnd}
+use Rattle.wm_run.specs.declared.rounds.ended.ThreadEnd.{ThreadEnd}
 
 -- how many ends are of thread t
 abbrev pub ends_of : List ThreadEnd → ℕ → ℕ

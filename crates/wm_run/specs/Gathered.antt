@@ -4,8 +4,8 @@ use Rattle.wm_ast.specs.declared.module.Module.{Module}
 use Rattle.wm_event.specs.declared.log.ThreadLog.{ThreadLog}
 use Rattle.wm_recorder.specs.Recorder.{Recording, IsFull, IsRecording, RecordsValid, initial_of, threads_of}
 use Rattle.wm_valid.specs.Valid.{IsInit}
-use Rattle.wm_run.specs.declared.ended.Stop.TheVariants.{Memory}
-use Rattle.wm_run.specs.declared.ended.ThreadEnd.{ThreadEnd}
+use Rattle.wm_run.specs.declared.rounds.ended.Stop.TheVariants.{Memory}
+use Rattle.wm_run.specs.declared.rounds.ended.ThreadEnd.{ThreadEnd}
 use Rattle.wm_run.specs.declared.fault.RunFault.{RunFault}
 use Rattle.wm_run.specs.declared.fault.RunFault.TheVariants as run
 use Rattle.wm_run.specs.Ends.{HasOneEach, IsEndIn, IsEndsFault}

@@ -2,6 +2,7 @@
 use Rattle.std.specs.Prelude.{◌≡◌, ℕ, List, length, Some, slice_get, ⊤}
 use Rattle.wm_ast.specs.declared.module.Module.{Module}
 use Rattle.wm_event.specs.declared.log.Start.{Start}
+use Rattle.wm_machine.specs.Paths.{IsAtStart}
 use Rattle.wm_run.specs.declared.fault.RunFault.{RunFault}
 use Rattle.wm_run.specs.declared.fault.RunFault.TheVariants as run
 use Rattle.wm_run.specs.declared.runner.Runner.{Runner}
@@ -9,10 +10,11 @@ use Rattle.wm_run.specs.Refusal.{IsFirstRefused}
 use Rattle.wm_run.specs.Runner.{runner_state}
 use Rattle.wm_run.specs.Scripted.{Begins}
 
--- a thread of the module that begins with this start
+-- a thread of the module that begins with this start, at the start of its function
 pub record IsLaunched (m : Module) (start : Start) (runner : Runner) : Type 0 where
   pub program : runner.thread.module ≡ m
   pub begins : Begins m start (runner_state runner)
+  pub at_start : IsAtStart runner.thread
 
 -- a thread for each start
 pub record AreLaunched (m : Module) (starts : List Start) (runners : List Runner) : Type 0 where

@@ -18,6 +18,6 @@ pub mod Worker
 pub mod Drains
 pub mod Ends
 pub mod Gathered
-pub mod Rounds
+pub mod RoundPlans
 pub mod Crew
 pub mod Series

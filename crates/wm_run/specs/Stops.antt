@@ -9,8 +9,8 @@ use Rattle.wm_machine.specs.State.{State, config_of}
 use Rattle.wm_machine.specs.Step.{access_of, step}
 use Rattle.wm_machine.specs.Term.{Config}
 use Rattle.wm_recorder.specs.declared.access_fault.AccessFault.{AccessFault}
-use Rattle.wm_run.specs.declared.ended.Stop.{Stop}
-use Rattle.wm_run.specs.declared.ended.Stop.TheVariants.{Own, Gate, Memory}
+use Rattle.wm_run.specs.declared.rounds.ended.Stop.{Stop}
+use Rattle.wm_run.specs.declared.rounds.ended.Stop.TheVariants.{Own, Gate, Memory}
 use Rattle.wm_run.specs.Reached.{HasRun, LeadsTo, is_before_access}
 
 abbrev pub is_own : Stop → Bool

@@ -6,9 +6,9 @@ use Rattle.wm_event.specs.declared.event.EventKey.{EventKey}
 use Rattle.wm_event.specs.Event.{key_of, writes}
 use Rattle.wm_event.specs.Log.{event_in}
 use Rattle.wm_run.specs.declared.plan.Plan.{Plan}
-use Rattle.wm_run.specs.declared.traced.TracedTurn.{TracedTurn}
-use Rattle.wm_run.specs.declared.traced.TurnDone.{TurnDone}
-use Rattle.wm_run.specs.declared.traced.TurnDone.TheVariants.{Stepped, Accessed, Rested, Drained, Absent, Held}
+use Rattle.wm_run.specs.declared.scripts.traced.TracedTurn.{TracedTurn}
+use Rattle.wm_run.specs.declared.scripts.traced.TurnDone.{TurnDone}
+use Rattle.wm_run.specs.declared.scripts.traced.TurnDone.TheVariants.{Stepped, Accessed, Rested, Drained, Absent, Held}
 use Rattle.wm_run.specs.declared.turn.Turn.{Turn}
 use Rattle.wm_run.specs.Run.{Record}
 use Rattle.wm_run.specs.Traced.{IsTraced}

@@ -5,9 +5,9 @@ use Rattle.wm_event.specs.declared.log.End.TheVariants.{Cut}
 use Rattle.wm_event.specs.declared.log.Start.{Start}
 use Rattle.wm_logfile.specs.Document.{EndFits}
 use Rattle.wm_machine.specs.Start.{started}
-use Rattle.wm_run.specs.declared.ended.Stop.{Stop}
-use Rattle.wm_run.specs.declared.ended.Stop.TheVariants.{Own, Gate}
-use Rattle.wm_run.specs.declared.ended.ThreadEnd.{ThreadEnd}
+use Rattle.wm_run.specs.declared.rounds.ended.Stop.{Stop}
+use Rattle.wm_run.specs.declared.rounds.ended.Stop.TheVariants.{Own, Gate}
+use Rattle.wm_run.specs.declared.rounds.ended.ThreadEnd.{ThreadEnd}
 use Rattle.wm_run.specs.declared.fault.RunFault.{RunFault}
 use Rattle.wm_run.specs.declared.fault.RunFault.TheVariants as run
 

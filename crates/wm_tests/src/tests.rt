@@ -21,6 +21,7 @@ mod rounds;
 mod shared;
 mod thread;
 mod validation;
+mod witnesses;
 
 use std::fmt::Debug;
 use std::process::Abort;

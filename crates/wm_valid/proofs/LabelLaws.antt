@@ -5,8 +5,9 @@ use Rattle.std.proofs.lemmas.List.Elements.{Contains-get_or}
 use Rattle.wm_ast.specs.declared.types.ValType.{ValType}
 use Rattle.wm_ast.specs.declared.instr.Instr.{Instr}
 use Rattle.wm_valid.specs.InstrTypes.{Context, Labels, ◌>>=◌, all_same, same, table_type}
-use Rattle.wm_valid.specs.Implements.{BrokenBy, IsUntyped, TableFault, Unless}
+use Rattle.wm_valid.specs.Implements.{BrokenBy, IsUntyped, TableFault}
 use Rattle.wm_valid.specs.Locations.{BreaksRule, KeepsOthers}
+use Rattle.wm_valid.specs.declared.fault.FaultKind.{FaultKind}
 use Rattle.wm_valid.specs.declared.fault.FaultKind.TheVariants.{Label}
 use Rattle.wm_valid.specs.declared.fault.InstrFault.{InstrFault}
 use Rattle.wm_valid.specs.declared.fault.InstrFault.TheVariants.{Breaks, OutOfMemory}
@@ -29,10 +30,10 @@ none_same labels t (k ∷ ks) (suc i) within none =
 pub no_table : (labels : Labels) (ks : List ℕ) (l i : ℕ) → i < length ks → slice_get labels (get_or ks i 0) ≡ None → table_type labels ks l ≡ None
 no_table labels ks l i within none = gives_none (slice_get labels l) (λ t. all_same labels t ks) (λ t. none_same labels t ks i within none)
 
-pub missing : (e : InstrFault) (labels : Labels) (ks : List ℕ) (l i : ℕ) → e ≡ Breaks Label → Unless e (slice_get labels (get_or ks i 0) ≡ None) → i < length ks → TableFault labels ks l e
+pub missing : (e : FaultKind) (labels : Labels) (ks : List ℕ) (l i : ℕ) → e ≡ Label → slice_get labels (get_or ks i 0) ≡ None → i < length ks → TableFault labels ks l e
 missing e labels ks l i is none within =
     let in-range : suc i < length (l ∷ ks) = omega arith in
-    subst (λ (q : InstrFault). TableFault labels ks l q) (sym is) (get_or ks i 0, Contains-get_or (l ∷ ks) (suc i) 0 in-range, subst (λ (q : InstrFault). Unless q (slice_get labels (get_or ks i 0) ≡ None)) is none)
+    subst (λ (q : FaultKind). TableFault labels ks l q) (sym is) (get_or ks i 0, Contains-get_or (l ∷ ks) (suc i) 0 in-range, none)
 
 -- an instruction that keeps the other rules breaks that of types
 broken : (e : InstrFault) (C : Context) (labels : Labels) (i : Instr) → KeepsOthers C labels i → IsUntyped e → BrokenBy C labels i e

@@ -9,6 +9,7 @@ use Rattle.wm_valid.specs.Typing.{Typed, AbsentElse}
 use Rattle.wm_valid.specs.Stacks.{Stack, Matches}
 use Rattle.wm_valid.specs.Locations.{Opcodes, BreaksRule, FaultyAt, NoSuchLabelIn, number_of}
 use Rattle.wm_valid.specs.Untyped.{IsBehind, TypingStopsAt}
+use Rattle.wm_valid.specs.declared.fault.FaultKind.{FaultKind}
 use Rattle.wm_valid.specs.declared.fault.FaultKind.TheVariants.{BadType, Index, Label}
 use Rattle.wm_valid.specs.declared.fault.InstrFault.{InstrFault}
 use Rattle.wm_valid.specs.declared.fault.InstrFault.TheVariants.{Breaks, OutOfMemory}
@@ -18,9 +19,14 @@ abbrev pub Unless : InstrFault → Type 0 → Type 0
 Unless OutOfMemory P = Unit {0}
 Unless (Breaks kind) P = P
 
-abbrev pub Implements : {X Y : Type 0} → (X → Y) → Result X InstrFault → Option Y → Type 0
+abbrev pub Implements : {X Y : Type 0} → (X → Y) → Result X FaultKind → Option Y → Type 0
 Implements view (Ok x) read = read ≡ Some (view x)
-Implements view (Err e) read = Unless e (read ≡ None)
+Implements view (Err e) read = read ≡ None
+
+-- the option is what is found, by this view
+abbrev pub Finds : {X Y : Type 0} → (X → Y) → Option X → Option Y → Type 0
+Finds view (Some x) read = read ≡ Some (view x)
+Finds view None read = read ≡ None
 
 -- it decides P
 abbrev pub Decides : {X : Type 0} → Result X InstrFault → Type 0 → Type 0
@@ -60,10 +66,9 @@ abbrev pub IsLabel : Labels → ℕ → Type 0
 IsLabel labels k = slice_get labels k ≡ None → ⊥
 
 -- some label of a table doesn't exist, or all exist and don't have the same type
-abbrev pub TableFault : Labels → List ℕ → ℕ → InstrFault → Type 0
-TableFault labels ks l OutOfMemory = Unit {0}
-TableFault labels ks l (Breaks BadType) = NoSuchLabelIn labels ks l → ⊥
-TableFault labels ks l (Breaks Label) = NoSuchLabelIn labels ks l
+abbrev pub TableFault : Labels → List ℕ → ℕ → FaultKind → Type 0
+TableFault labels ks l BadType = NoSuchLabelIn labels ks l → ⊥
+TableFault labels ks l Label = NoSuchLabelIn labels ks l
 TableFault labels ks l _ = ⊥
 
 -- the instructions have been counted
@@ -94,11 +99,11 @@ abbrev pub CountsBlock : {X : Type 0} → Result X InstrFault → Context → La
 CountsBlock (Ok x) C labels block first n = CountedBlock C block first n
 CountsBlock (Err e) C labels block first n = LocatedBlock C labels block first n e
 
-abbrev pub IsLabelFault : InstrFault → Type 0
-IsLabelFault e = e ≡ Breaks Label
+abbrev pub IsLabelFault : FaultKind → Type 0
+IsLabelFault e = e ≡ Label
 
-abbrev pub IsIndexFault : InstrFault → Type 0
-IsIndexFault e = e ≡ Breaks Index
+abbrev pub IsIndexFault : FaultKind → Type 0
+IsIndexFault e = e ≡ Index
 
 -- the refusal is an allocation failure, or about types at this number
 abbrev pub StopsAt : InstrFault → ℕ → ℕ → Type 0

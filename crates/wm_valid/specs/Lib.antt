@@ -1,4 +1,6 @@
 pub mod InstrTypes
+pub mod Operands
+pub mod Scopes
 pub mod Typing
 pub mod Stacks
 pub mod Locations

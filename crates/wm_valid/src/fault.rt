@@ -2,7 +2,7 @@
 ghost use Rattle.std.specs.Prelude.{◌≡◌, Some};
 ghost use Rattle.wm_valid.specs.Texts.{fault_text, kind_text, place_text};
 ghost use Rattle.wm_valid.specs.declared.fault.ValidFault.TheVariants.{OutOfMemory as no_room};
-ghost use Rattle.wm_valid.specs.declared.fault.InstrFault.TheVariants.{OutOfMemory as refused};
+ghost use Rattle.wm_valid.specs.declared.fault.InstrFault.TheVariants.{OutOfMemory as refused, Breaks as breaks};
 
 use std::alloc::{AllocError, AllocFailed};
 use std::fmt;
@@ -77,6 +77,14 @@ impl InstrFault {
             InstrFault::Breaks(kind) => ValidFault::At(kind, Location::Instr { func, instr }),
             InstrFault::OutOfMemory => ValidFault::OutOfMemory,
         }
+    }
+}
+
+impl From<FaultKind> for InstrFault {
+    ghost from_gives = { λ kind e. e ≡ breaks kind };
+
+    fn from(kind: FaultKind) -> InstrFault {
+        InstrFault::Breaks(kind)
     }
 }
 

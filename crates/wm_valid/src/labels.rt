@@ -1,11 +1,11 @@
 //! The labels around an instruction.
 
-ghost use Rattle.std.specs.Prelude.{ℕ, ◌≡◌, All, IfErr, ◌∷◌, [], OnOk, slice_get, List, Option};
-ghost use Rattle.wm_valid.specs.Implements.{Implements, IsLabel, TableFault, IsLabelFault, Unless};
+ghost use Rattle.std.specs.Prelude.{ℕ, ◌≡◌, All, IfErr, IsErr, None, ◌∷◌, [], OnOk, slice_get, List, Option};
+ghost use Rattle.wm_valid.specs.Implements.{Implements, IsLabel, TableFault, IsLabelFault};
 ghost use Rattle.wm_valid.specs.InstrTypes.{table_type, same};
 ghost use Rattle.wm_valid.specs.Locations.{NoSuchLabelIn};
 
-use crate::fault::{FaultKind, InstrFault};
+use crate::fault::FaultKind;
 use std::alloc::{AllocFailed, Global};
 use std::marker::Model;
 use wm_ast::{BlockType, ValType};
@@ -50,7 +50,7 @@ impl Labels {
     }
 
     /// The type of a label, counted from the innermost.
-    pub(crate) fn get(&self, label: u32) -> Result<BlockType, InstrFault>
+    pub(crate) fn get(&self, label: u32) -> Result<BlockType, FaultKind>
         ensures found { Implements (λ t. t) result (slice_get self.now label) }
         ensures kind { IfErr result IsLabelFault }
     {
@@ -58,14 +58,14 @@ impl Labels {
         if label < self.types.len() {
             Ok(self.types[self.types.len() - 1 - label])
         } else {
-            Err(InstrFault::Breaks(FaultKind::Label))
+            Err(FaultKind::Label)
         }
     }
 
     /// Whether all these labels exist.
-    fn check(&self, labels: &[u32]) -> Result<(), InstrFault>
+    fn check(&self, labels: &[u32]) -> Result<(), FaultKind>
         ensures there { OnOk result (All (IsLabel self.now) labels.now) }
-        ensures found { (last : ℕ) → IfErr result (λ e. Unless e (table_type self.now labels.now last ≡ None)) }
+        ensures found { (last : ℕ) → IsErr result → table_type self.now labels.now last ≡ None }
         ensures kind { (last : ℕ) → IfErr result (TableFault self.now labels.now last) }
     {
         for label in labels {
@@ -75,7 +75,7 @@ impl Labels {
     }
 
     /// The common type of all these labels, each of which has to exist.
-    pub(crate) fn table(&self, labels: &[u32], last: u32) -> Result<BlockType, InstrFault>
+    pub(crate) fn table(&self, labels: &[u32], last: u32) -> Result<BlockType, FaultKind>
         ensures found { Implements (λ t. t) result (table_type self.now labels.now last) }
         ensures there { OnOk result (NoSuchLabelIn self.now labels.now last → ⊥) }
         ensures kind { IfErr result (TableFault self.now labels.now last) }
@@ -85,7 +85,7 @@ impl Labels {
         for label in labels {
             let other = self.get(*label)?;
             if !is_same(other, found) {
-                return Err(InstrFault::Breaks(FaultKind::BadType));
+                return Err(FaultKind::BadType);
             }
         }
         Ok(found)

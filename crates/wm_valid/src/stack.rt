@@ -1,13 +1,14 @@
 //! The operands of a block while it is checked. After an instruction that makes the block stack-polymorphic, operands
 //! of any types may be below the known ones.
-ghost use Rattle.std.specs.Prelude.{◌≡◌, [], ◌∷◌, IfErr, Some, OnOk, MatchOption, None, reverse, is_some};
+ghost use Rattle.std.specs.Prelude.{◌≡◌, IfErr, Some, OnOk, MatchOption, None, reverse, is_some};
 ghost use Rattle.wm_valid.specs.Stacks.{pop, push, empty, opened, take_one, take_all, give_all, select_on, made_by, ended, joined};
-ghost use Rattle.wm_valid.specs.InstrTypes.{listed, maps, drops, stack_polymorphic};
+ghost use Rattle.wm_valid.specs.InstrTypes.{listed, drops};
+ghost use Rattle.wm_valid.specs.Operands.{operands_of, meaning};
 ghost use Rattle.wm_valid.specs.Implements.{LeavesStack, IsUntyped};
-ghost use Rattle.wm_ast.specs.declared.types.ValType.TheVariants.{I32};
 ghost use Rattle.wm_valid.specs.declared.fault.InstrFault.TheVariants.{OutOfMemory};
 
 use crate::fault::{FaultKind, InstrFault};
+use crate::instr_types::{InstrType, Operands};
 use std::alloc::{AllocFailed, Global};
 use std::marker::Model;
 use wm_ast::{BlockType, ValType};
@@ -127,56 +128,45 @@ impl Stack {
         Ok(())
     }
 
-    /// Pops an operand and pushes a result.
-    pub(crate) fn unary(&mut self, operand: ValType, result_type: ValType) -> Result<(), InstrFault>
-        ensures maps { LeavesStack result (made_by (maps (operand ∷ []) (result_type ∷ [])) self.old) self.new }
+    /// Pops the operands that an instruction takes.
+    fn take_operands(&mut self, operands: Operands) -> Result<(), InstrFault>
+        ensures maps { LeavesStack result (take_all (operands_of operands.entry) self.old) self.new }
         ensures kind { IfErr result IsUntyped }
     {
-        self.take(operand)?;
-        self.give(Some(result_type))
+        match operands {
+            Operands::Nothing => Ok(()),
+            Operands::One(t) => self.take(t),
+            Operands::Two(t, u) => {
+                self.take(u)?;
+                self.take(t)
+            }
+            Operands::Three(t, u, v) => {
+                self.take(v)?;
+                self.take(u)?;
+                self.take(t)
+            }
+            Operands::Params(params) => self.take_params(params),
+        }
     }
 
-    /// Pops two operands of one type and pushes a result.
-    pub(crate) fn binary(
-        &mut self,
-        operand: ValType,
-        result_type: ValType,
-    ) -> Result<(), InstrFault>
-        ensures maps { LeavesStack result (made_by (maps (operand ∷ operand ∷ []) (result_type ∷ [])) self.old) self.new }
+    /// Applies an instruction of this type.
+    pub(crate) fn apply(&mut self, ty: InstrType) -> Result<(), InstrFault>
+        ensures maps { LeavesStack result (made_by (meaning ty.entry) self.old) self.new }
         ensures kind { IfErr result IsUntyped }
     {
-        self.take(operand)?;
-        self.take(operand)?;
-        self.give(Some(result_type))
-    }
-
-    /// Pops what a branch takes, and makes the block stack-polymorphic.
-    pub(crate) fn branch(&mut self, label: BlockType) -> Result<(), InstrFault>
-        ensures maps { LeavesStack result (made_by (stack_polymorphic (listed label)) self.old) self.new }
-        ensures kind { IfErr result IsUntyped }
-    {
-        self.take_result(label)?;
-        self.clear();
-        Ok(())
-    }
-
-    /// Pops an i32 and what a branch takes, and pushes the latter back.
-    pub(crate) fn branch_if(&mut self, label: BlockType) -> Result<(), InstrFault>
-        ensures maps { LeavesStack result (made_by (maps (I32 ∷ listed label) (listed label)) self.old) self.new }
-        ensures kind { IfErr result IsUntyped }
-    {
-        self.take(ValType::I32)?;
-        self.take_result(label)?;
-        self.give(label)
-    }
-
-    /// Pops an i32 and what a branch takes, and makes the block stack-polymorphic.
-    pub(crate) fn branch_table(&mut self, label: BlockType) -> Result<(), InstrFault>
-        ensures maps { LeavesStack result (made_by (stack_polymorphic (I32 ∷ listed label)) self.old) self.new }
-        ensures kind { IfErr result IsUntyped }
-    {
-        self.take(ValType::I32)?;
-        self.branch(label)
+        match ty {
+            InstrType::Maps { takes, gives } => {
+                self.take_operands(takes)?;
+                self.give(gives)
+            }
+            InstrType::Drops => self.take_any(),
+            InstrType::Selects => self.select(),
+            InstrType::StackPolymorphic { takes } => {
+                self.take_operands(takes)?;
+                self.clear();
+                Ok(())
+            }
+        }
     }
 
     /// Pops t t i32 for some type t, and pushes t.

@@ -78,7 +78,7 @@ impl ValidModule {
 }
 
 /// The parameters and the other locals.
-fn all_locals(
+pub(crate) fn all_locals(
     alloc: Global,
     params: &[ValType],
     others: &[ValType],

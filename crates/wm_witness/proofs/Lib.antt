@@ -1,11 +1,13 @@
 pub mod Steps
-pub mod Cells
+pub mod Lanes
 pub mod Frames
 pub mod RelationLaw
 pub mod ChoiceLaw
 pub mod RulesLaw
+pub mod TearingLaw
 pub mod NodeLaw
 pub mod UnknownLaw
 pub mod SplitLaw
+pub mod NewSplitLaw
 pub mod SearchLaw
 pub mod SearchKept

@@ -10,7 +10,7 @@ use Rattle.wm_event.specs.Execution.{ReadsFrom, place}
 use Rattle.wm_event.specs.HappensBefore.{HappensBefore, SynchronizesWith}
 use Rattle.wm_event.specs.Log.{event_in}
 use Rattle.wm_event.specs.LoggedRun.{LoggedRun, execution}
-use Rattle.wm_event.specs.Rules.{IsAtomicWrite, IsTearFree, IsTearFreeLike, IsValid}
+use Rattle.wm_event.specs.Rules.{IsAtomicWrite, IsValid}
 use Rattle.wm_event.specs.Rules.Overtakes.{read_past, synchronized, written_over}
 use Rattle.wm_event.specs.Shape.{IsWellShaped}
 use Rattle.wm_hb.proofs.ChainLaws.{chain_there}
@@ -18,7 +18,7 @@ use Rattle.wm_writers.specs.Forced.{with_witness}
 use Rattle.wm_witness.specs.declared.assumption.Assumption.{Assumption}
 use Rattle.wm_witness.specs.declared.relation.Kind.TheVariants.{Happens, Stands}
 use Rattle.wm_witness.specs.Assumptions.{TakesFrom}
-use Rattle.wm_witness.specs.Always.{Always, IsClosed}
+use Rattle.wm_witness.specs.Always.{Always}
 use Rattle.wm_witness.specs.Relations.{AlwaysRelates, Relates}
 use Rattle.wm_witness.specs.Rules.{CanSynchronize, IsAtomicWriteOf}
 use Rattle.wm_witness.proofs.Steps.{places-differ, some-is, some-of}
@@ -125,10 +125,3 @@ module _ (run : LoggedRun) (assumed : List Assumption) where
       → AlwaysRelates run assumed Stands r v
   past-init r v e k is_r atomic from write other = λ witness shape valid keeps.
       not-past-init (with_witness run witness) shape valid r v e k is_r atomic (from witness shape valid keeps) write other
-
-  -- two tear-free writers of a tear-free read
-  pub torn : (r v w : EventKey) (e : Event) (j k : ℕ) → event_in run.log r ≡ Some e → IsTearFree e → IsTearFreeLike (execution run) e (At v) → IsTearFreeLike (execution run) e (At w) → v ≢ w
-      → Always run assumed (λ x. ReadsFrom (execution x) r j (At v)) → Always run assumed (λ x. ReadsFrom (execution x) r k (At w)) → IsClosed run assumed
-  torn r v w e j k is_r free like_v like_w apart first second = λ witness shape valid keeps.
-      let same : At v ≡ At w = valid.keeps_no_tearing r e is_r free (At v) (At w) ((j, first witness shape valid keeps), like_v) ((k, second witness shape valid keeps), like_w) in
-      apart (cc)

@@ -9,7 +9,7 @@ use Rattle.wm_witness.specs.declared.assumption.Assumption.{Assumption}
 use Rattle.wm_witness.specs.Assumptions.{Holds}
 use Rattle.wm_witness.specs.Always.{IsClosed}
 use Rattle.wm_witness.specs.Search.{Replaces, Searched}
-use Rattle.wm_witness.specs.Search.Replaces.{closed, split}
+use Rattle.wm_witness.specs.Search.Replaces.{closed, split, stays}
 use Rattle.wm_witness.specs.Search.Searched.{start, step}
 use Rattle.wm_witness.proofs.SplitLaw.{keeps-one}
 
@@ -19,14 +19,15 @@ kept-with run node a keeps h = All-append (Holds run) node (a ∷ []) keeps (All
 -- an alternative is closed once its parts are
 replaced : (run : LoggedRun) (node : List Assumption) (parts : List (List Assumption)) → Replaces run node parts → All (IsClosed run) parts → IsClosed run node
 replaced run node parts (closed c) all = c
-replaced run node parts (split {a = a} {b = b} opposite) all = λ witness shape valid keeps.
+replaced run node parts (stays none) all = all-head (IsClosed run) node [] all
+replaced run node parts (split {a = a} {b = b} new) all = λ witness shape valid keeps.
     let x = with_witness run witness in
     let other = all-head (IsClosed run) (node ++ b ∷ []) ((node ++ a ∷ []) ∷ []) all in
     let this = all-head (IsClosed run) (node ++ a ∷ []) [] (all-second (IsClosed run) ((node ++ b ∷ []) ∷ []) ((node ++ a ∷ []) ∷ []) all) in
     ⊎_elim
     (λ (h : Holds x a). this witness shape valid (kept-with x node a keeps h))
     (λ (h : Holds x b). other witness shape valid (kept-with x node b keeps h))
-    (keeps-one x a b shape opposite)
+    (keeps-one x a b shape new.opposite)
 
 -- once all that is left is closed, so is the alternative that assumes nothing
 left-closed : (run : LoggedRun) (n : ℕ) (waiting : List (List Assumption)) → Searched run n waiting → All (IsClosed run) waiting → IsClosed run []

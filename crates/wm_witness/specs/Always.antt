@@ -8,6 +8,10 @@ use Rattle.wm_writers.specs.Forced.{with_witness}
 use Rattle.wm_witness.specs.declared.assumption.Assumption.{Assumption}
 use Rattle.wm_witness.specs.Assumptions.{Keeps}
 
+-- the log is valid with this witness
+abbrev pub IsValidWith : LoggedRun → Witness → Type 0
+IsValidWith run witness = IsWellShaped (with_witness run witness) × IsValid (execution (with_witness run witness))
+
 -- P holds of the log with each witness that makes it valid and keeps the assumptions
 abbrev pub Always : LoggedRun → List Assumption → (LoggedRun → Type 0) → Type 0
 Always run assumed P = (witness : Witness) → IsWellShaped (with_witness run witness) → IsValid (execution (with_witness run witness))

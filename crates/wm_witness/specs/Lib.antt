@@ -5,5 +5,6 @@ pub mod Answer
 pub mod Steps
 pub mod Relations
 pub mod Choice
+pub mod Tearing
 pub mod Rules
 pub mod Unknown

@@ -1,5 +1,5 @@
 //! The writers that a byte of a read can have.
-ghost use Rattle.std.specs.Prelude.{◌≡◌, ◌<◌, ◌++◌, IfOk, IfSome, IsTrue, OnOk};
+ghost use Rattle.std.specs.Prelude.{◌≡◌, ◌<◌, ◌++◌, All, IfOk, IfSome, IsTrue, OnOk};
 ghost use Rattle.std.specs.List.{filter};
 ghost use Rattle.wm_event.specs.Event.{key_of};
 ghost use Rattle.wm_event.specs.Shape.{read_width};
@@ -7,10 +7,12 @@ ghost use Rattle.wm_writers.specs.Fits.{fits as spec_fits, fitting, is_from as s
 ghost use Rattle.wm_witness.specs.Always.{IsClosed};
 ghost use Rattle.wm_witness.specs.Choice.{Denies, IsChoice, IsEventOf, IsExcluded, IsTaken};
 ghost use Rattle.wm_witness.specs.Relations.{AreRows};
+ghost use Rattle.wm_witness.specs.Tearing.{IsTearFreeByte};
 ghost use Rattle.wm_witness.specs.declared.relation.Kind.TheVariants.{Happens};
 
 use crate::assumption::Assumption;
 use crate::relation::{Pair, Relation};
+use crate::tearing::would_tear;
 use std::alloc::{AllocError, Global};
 use wm_event::{Candidate, Event, EventId, EventKey, byte_of};
 use wm_list::List;
@@ -243,18 +245,39 @@ pub(crate) fn is_excluded(
     is_overwritten(start, assumed, happens, event, byte, writer)
 }
 
-/// Which writers a byte of a read can have.
+/// Whether a byte of a read isn't from a writer: it doesn't fit the byte, or is known not to be its writer.
+pub(crate) fn isnt_from(
+    start: &Candidate,
+    assumed: &[Assumption],
+    happens: &Relation,
+    event: &Event,
+    byte: u8,
+    writer: EventId,
+) -> bool
+    requires rows { AreRows start.now assumed.now happens.now.kind happens.now.rows.items }
+    requires kind { happens.now.kind ≡ Happens }
+    requires event { IsEventOf start.now event.now }
+    requires byte { byte < 8 }
+    ensures { IsTrue result → IsExcluded start.now assumed.now (key_of event.now) byte writer }
+{
+    let _log = start.log();
+    !fits(start, event, byte, writer) || is_excluded(start, assumed, happens, event, byte, writer)
+}
+
+/// Which writers a byte of a read can have, beside its tear-free bytes.
 pub(crate) fn choice_of(
     alloc: Global,
     start: &Candidate,
     assumed: &[Assumption],
     happens: &Relation,
     event: &Event,
+    bytes: &[u8],
     byte: u8,
 ) -> Result<Choice, AllocError>
     requires rows { AreRows start.now assumed.now happens.now.kind happens.now.rows.items }
     requires kind { happens.now.kind ≡ Happens }
     requires event { IsEventOf start.now event.now }
+    requires bytes { All (IsTearFreeByte start.now assumed.now event.now) bytes.now }
     requires byte { byte < read_width event.now }
     ensures { IfOk result (IsChoice start.now assumed.now event.now byte) }
 {
@@ -262,6 +285,9 @@ pub(crate) fn choice_of(
     let fit = fitting_ids(alloc, start, event, byte)?;
     let mut found = None;
     for writer in fit.as_slice() {
+        if would_tear(start, assumed, happens, event, bytes, *writer) {
+            continue;
+        }
         if is_excluded(start, assumed, happens, event, byte, *writer) {
             continue;
         }

@@ -4,10 +4,11 @@ ghost use Rattle.wm_witness.specs.Choice.{IsEventOf};
 ghost use Rattle.wm_witness.specs.Rules.{IsNode};
 
 use crate::assumption::Assumption;
-use crate::choice::{event_of, fitting_ids, is_excluded};
+use crate::choice::{event_of, fitting_ids, is_excluded, isnt_from};
 use crate::node::Node;
 use crate::relation::Pair;
 use crate::rules::can_synchronize;
+use crate::tearing::{is_like, is_tear_free};
 use std::alloc::{AllocError, Global};
 use wm_event::{Candidate, Event, EventId, EventKey};
 
@@ -74,8 +75,14 @@ fn merit(
     }
 }
 
-/// The best writer of a byte of a read, one of those that aren't known to be another's; None if there is none.
-fn best_writer(
+/// Whether a read takes from one event at most, of those like this writer, by the fourth rule.
+fn is_one_of(start: &Candidate, event: &Event, writer: EventId) -> bool {
+    is_tear_free(event) && is_like(start, event, writer)
+}
+
+/// The best writer of a byte of a read, of those that aren't known to be another's and that any number of which can be
+/// writers of the read; None if there is none.
+fn best_other(
     alloc: Global,
     start: &Candidate,
     assumed: &[Assumption],
@@ -92,7 +99,9 @@ fn best_writer(
     let mut best = None;
     let mut best_merit = 0;
     for id in fit.as_slice() {
-        if is_excluded(start, assumed, &node.happens, event, byte, *id) {
+        if is_one_of(start, event, *id)
+            || is_excluded(start, assumed, &node.happens, event, byte, *id)
+        {
             continue;
         }
         let merit = if liked == Some(*id) {
@@ -101,6 +110,133 @@ fn best_writer(
             merit(start, assumed, node, event, *id)
         };
         if merit >= best_merit {
+            best = Some(*id);
+            best_merit = merit;
+        }
+    }
+    Ok(best)
+}
+
+/// For each byte of a read the writer that is known, otherwise the best of those any number of which can be writers of the
+/// read.
+fn other_writers(
+    alloc: Global,
+    start: &Candidate,
+    assumed: &[Assumption],
+    node: &Node,
+    index: usize,
+    event: &Event,
+) -> Result<Bytes, AllocError>
+    requires node { IsNode start.now assumed.now node.now }
+    requires event { IsEventOf start.now event.now }
+{
+    let mut bytes = [None; 8];
+    let mut liked = None;
+    for byte in 0..event.width.bytes() {
+        if let Some(writer) = node.writer(index, byte) {
+            liked = Some(writer);
+        }
+    }
+    for byte in 0..event.width.bytes() {
+        let writer = match node.writer(index, byte) {
+            Some(writer) => Some(writer),
+            None => best_other(alloc, start, assumed, node, event, byte, liked)?,
+        };
+        if (byte as usize) < 8 {
+            bytes[byte as usize] = writer;
+        }
+        if liked.is_none() {
+            liked = writer;
+        }
+    }
+    Ok(bytes)
+}
+
+/// Whether a byte of a read can be from a writer, as far as it is known.
+fn can_be_from(
+    start: &Candidate,
+    assumed: &[Assumption],
+    node: &Node,
+    index: usize,
+    event: &Event,
+    byte: u8,
+    writer: EventId,
+) -> bool
+    requires node { IsNode start.now assumed.now node.now }
+    requires event { IsEventOf start.now event.now }
+    requires byte { byte < 8 }
+{
+    match node.writer(index, byte) {
+        Some(known) => known == writer,
+        None => !isnt_from(start, assumed, &node.happens, event, byte, writer),
+    }
+}
+
+/// Whether one writer, of those of which a read has one at most, can give each byte for which there is no other.
+fn is_enough(
+    start: &Candidate,
+    assumed: &[Assumption],
+    node: &Node,
+    index: usize,
+    event: &Event,
+    others: &Bytes,
+    writer: EventId,
+) -> bool
+    requires node { IsNode start.now assumed.now node.now }
+    requires event { IsEventOf start.now event.now }
+{
+    for byte in 0..event.width.bytes() {
+        let is_other = match others.get(byte as usize) {
+            Some(Some(other)) => !is_one_of(start, event, *other),
+            _ => false,
+        };
+        if !is_other && !can_be_from(start, assumed, node, index, event, byte, writer) {
+            return false;
+        }
+    }
+    true
+}
+
+/// The byte whose writers are looked at for the one of which a read has one at most: one that isn't from another, if there
+/// is such a byte.
+fn byte_of_one(event: &Event, others: &Bytes) -> u8
+    ensures { result < 8 }
+{
+    for byte in 0..event.width.bytes() {
+        if let Some(None) = others.get(byte as usize) {
+            return byte;
+        }
+    }
+    0
+}
+
+/// The best writer of those of which a read has one at most; None if there is none, or another is better.
+fn best_one(
+    alloc: Global,
+    start: &Candidate,
+    assumed: &[Assumption],
+    node: &Node,
+    index: usize,
+    event: &Event,
+    others: &Bytes,
+) -> Result<Option<EventId>, AllocError>
+    requires node { IsNode start.now assumed.now node.now }
+    requires event { IsEventOf start.now event.now }
+{
+    let byte = byte_of_one(event, others);
+    let mut best_merit = match others.get(byte as usize) {
+        Some(Some(other)) => merit(start, assumed, node, event, *other),
+        _ => 0,
+    };
+    let fit = fitting_ids(alloc, start, event, byte)?;
+    let mut best = None;
+    for id in fit.as_slice() {
+        let merit = merit(start, assumed, node, event, *id);
+        if merit >= best_merit
+            && is_one_of(start, event, *id)
+            && can_be_from(start, assumed, node, index, event, byte, *id)
+            && is_enough(start, assumed, node, index, event, others, *id)
+        {
             best = Some(*id);
             best_merit = merit;
         }
@@ -119,30 +255,22 @@ pub(crate) fn likely_writers(
 ) -> Result<Bytes, AllocError>
     requires { IsNode start.now assumed.now node.now }
 {
-    let mut bytes = [None; 8];
     let Some(event) = event_of(start, key) else {
-        return Ok(bytes);
+        return Ok([None; 8]);
     };
     if !event.reads() {
+        return Ok([None; 8]);
+    }
+    let mut bytes = other_writers(alloc, start, assumed, node, index, event)?;
+    if !is_tear_free(event) || node.is_known(event, index) {
         return Ok(bytes);
     }
-    let mut liked = None;
+    let Some(one) = best_one(alloc, start, assumed, node, index, event, &bytes)? else {
+        return Ok(bytes);
+    };
     for byte in 0..event.width.bytes() {
-        if let Some(writer) = node.writer(index, byte) {
-            liked = Some(writer);
-        }
-    }
-    for byte in 0..event.width.bytes() {
-        let known = node.writer(index, byte);
-        let writer = match known {
-            Some(writer) => Some(writer),
-            None => best_writer(alloc, start, assumed, node, event, byte, liked)?,
-        };
-        if (byte as usize) < 8 {
-            bytes[byte as usize] = writer;
-        }
-        if liked.is_none() {
-            liked = writer;
+        if (byte as usize) < 8 && can_be_from(start, assumed, node, index, event, byte, one) {
+            bytes[byte as usize] = Some(one);
         }
     }
     Ok(bytes)

@@ -2,12 +2,21 @@
 #![tactic(auto)]
 
 mod answer;
+mod arcs;
 mod assumption;
+mod buckets;
+mod cells;
 mod choice;
 mod copies;
+mod decision;
 mod grounds;
+mod guess;
+mod guessed;
+mod halt;
 mod leaf;
+mod likely;
 mod links;
+mod new_split;
 mod node;
 mod relation;
 mod row;
@@ -17,6 +26,8 @@ mod search;
 mod split;
 mod stack;
 mod step;
+mod tearing;
+mod turns;
 mod unknown;
 
 pub use answer::Answer;

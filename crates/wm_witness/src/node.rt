@@ -1,24 +1,35 @@
 //! What is known of the valid runs that keep some assumptions.
-ghost use Rattle.std.specs.Prelude.{◌<◌, IfOk, IfSome, IsTrue, OnOk};
+ghost use Rattle.std.specs.Prelude.{◌<◌, All, IfOk, IfSome, IsTrue, OnOk};
 ghost use Rattle.wm_event.specs.Shape.{read_width};
 ghost use Rattle.wm_witness.specs.Always.{IsClosed};
 ghost use Rattle.wm_witness.specs.Choice.{IsEventOf, IsTaken};
 ghost use Rattle.wm_witness.specs.Relations.{IsPair, IsSynchronized};
 ghost use Rattle.wm_witness.specs.Rules.{IsNode, IsSettled};
+ghost use Rattle.wm_witness.specs.Tearing.{IsTearFreeByte};
 ghost use Rattle.wm_witness.specs.declared.relation.Kind.TheVariants.{Stands};
 
 use crate::assumption::Assumption;
 use crate::choice::{Choice, Taken, choice_of, event_of, is_refuted};
 use crate::relation::{Kind, Pair, Relation};
 use crate::rules::{
-    byte_assumed, is_torn, not_between, not_overwritten, not_past, order_assumed, pair_assumed,
+    byte_assumed, not_between, not_overwritten, not_past, order_assumed, pair_assumed,
     pair_of_taken,
 };
+use crate::tearing::{is_torn, tear_free_bytes};
 use std::alloc::{AllocError, Global};
 use wm_event::{Candidate, Event, EventId, EventKey, Range};
 
 /// The most rounds in which what is known is extended.
 const MAX_ROUNDS: u32 = 64;
+
+/// How the bytes of a read are looked at.
+#[derive(Clone, Copy)]
+enum View {
+    /// Each byte alone.
+    Alone,
+    /// With what the fourth rule says of all bytes of the read together.
+    Together,
+}
 
 /// What is known of the valid runs that keep some assumptions.
 #[derive(Drop)]
@@ -244,22 +255,25 @@ impl Node {
         Ok(())
     }
 
-    /// Looks at the writers that a byte of a read can have, and adds the only one. Whether there is none.
+    /// Looks at the writers that a byte of a read can have beside its tear-free bytes, and adds the only one. Whether there
+    /// is none.
     fn choose_byte(
         &mut self,
         alloc: Global,
         start: &Candidate,
         assumed: &[Assumption],
         event: &Event,
+        bytes: &[u8],
         byte: u8,
     ) -> Result<bool, AllocError>
         requires node { IsNode start.now assumed.now self.old }
         requires event { IsEventOf start.now event.now }
+        requires bytes { All (IsTearFreeByte start.now assumed.now event.now) bytes.now }
         requires byte { byte < read_width event.now }
         ensures node { OnOk result (IsNode start.now assumed.now self.new) }
         ensures closed { IfOk result (λ is_closed. IsTrue is_closed → IsClosed start.now assumed.now) }
     {
-        match choice_of(alloc, start, assumed, &self.happens, event, byte)? {
+        match choice_of(alloc, start, assumed, &self.happens, event, bytes, byte)? {
             Choice::Nothing => Ok(true),
             Choice::Several => Ok(false),
             Choice::Only(writer) => {
@@ -341,11 +355,45 @@ impl Node {
         false
     }
 
+    /// How many pairs of the order and how many writers are known.
+    fn size(&self) -> (usize, usize) {
+        (self.ordered.len(), self.taken.len())
+    }
+
     /// Whether it isn't known that the first event of a pair stands before the second.
     pub(crate) fn stands_open(&self, start: &Candidate, assumed: &[Assumption], pair: Pair) -> bool
         requires { IsNode start.now assumed.now self.now }
     {
         !self.stands.has(start, assumed, pair)
+    }
+
+    /// The bytes of a read beside which its other bytes are looked at.
+    fn bytes_beside(
+        &self,
+        alloc: Global,
+        start: &Candidate,
+        assumed: &[Assumption],
+        event: &Event,
+        view: View,
+    ) -> Result<Vec<u8>, AllocError>
+        requires node { IsNode start.now assumed.now self.now }
+        requires event { IsEventOf start.now event.now }
+        ensures { IfOk result (λ bytes. All (IsTearFreeByte start.now assumed.now event.now) bytes.items) }
+    {
+        match view {
+            View::Alone => Ok(Vec::new(alloc)),
+            View::Together => tear_free_bytes(alloc, start, assumed, &self.happens, event),
+        }
+    }
+
+    /// Whether the writers of all bytes of the event of a row are known.
+    pub(crate) fn is_known(&self, event: &Event, index: usize) -> bool {
+        for byte in 0..event.width.bytes() {
+            if self.writer(index, byte).is_none() {
+                return false;
+            }
+        }
+        true
     }
 
     /// Looks at the bytes of the event of a row whose writers aren't known. Whether one has none.
@@ -355,6 +403,7 @@ impl Node {
         start: &Candidate,
         assumed: &[Assumption],
         index: usize,
+        view: View,
     ) -> Result<bool, AllocError>
         requires node { IsNode start.now assumed.now self.old }
         ensures node { OnOk result (IsNode start.now assumed.now self.new) }
@@ -366,12 +415,13 @@ impl Node {
         let Some(event) = event_of(start, self.happens.rows[index].key) else {
             return Ok(false);
         };
-        if !event.reads() {
+        if !event.reads() || self.is_known(event, index) {
             return Ok(false);
         }
+        let bytes = self.bytes_beside(alloc, start, assumed, event, view)?;
         for byte in 0..event.width.bytes() {
             if self.writer(index, byte).is_none()
-                && self.choose_byte(alloc, start, assumed, event, byte)?
+                && self.choose_byte(alloc, start, assumed, event, bytes.as_slice(), byte)?
             {
                 return Ok(true);
             }
@@ -385,13 +435,14 @@ impl Node {
         alloc: Global,
         start: &Candidate,
         assumed: &[Assumption],
+        view: View,
     ) -> Result<bool, AllocError>
         requires node { IsNode start.now assumed.now self.old }
         ensures node { OnOk result (IsNode start.now assumed.now self.new) }
         ensures closed { IfOk result (λ is_closed. IsTrue is_closed → IsClosed start.now assumed.now) }
     {
         for index in 0..self.happens.rows.len() {
-            if self.choose_event(alloc, start, assumed, index)? {
+            if self.choose_event(alloc, start, assumed, index, view)? {
                 return Ok(true);
             }
         }
@@ -580,12 +631,15 @@ pub(crate) fn settle(
         if node.stands.has_cycle(start, assumed) || node.contradicts(start, assumed) {
             return Ok(None);
         }
-        let (ordered, taken) = (node.ordered.len(), node.taken.len());
-        if node.choose(alloc, start, assumed)? {
+        let size = node.size();
+        if node.choose(alloc, start, assumed, View::Alone)? {
             return Ok(None);
         }
         node.order(start, assumed)?;
-        if node.ordered.len() == ordered && node.taken.len() == taken {
+        if node.size() == size && node.choose(alloc, start, assumed, View::Together)? {
+            return Ok(None);
+        }
+        if node.size() == size {
             return Ok(Some(node));
         }
     }

@@ -1,8 +1,5 @@
 //! What always stands before what in the order, by the fifth rule.
 ghost use Rattle.std.specs.Prelude.{◌≡◌, IfSome, IsTrue};
-ghost use Rattle.wm_event.specs.LoggedRun.{execution};
-ghost use Rattle.wm_event.specs.Rules.{IsTearFree, IsTearFreeLike};
-ghost use Rattle.wm_witness.specs.Always.{IsClosed};
 ghost use Rattle.wm_witness.specs.Choice.{IsTaken};
 ghost use Rattle.wm_witness.specs.Relations.{AreRows, IsPair, IsSynchronized};
 ghost use Rattle.wm_witness.specs.Rules.{CanSynchronize, IsAtomicWriteOf};
@@ -11,7 +8,7 @@ ghost use Rattle.wm_witness.specs.declared.relation.Kind.TheVariants.{Happens, S
 use crate::assumption::Assumption;
 use crate::choice::Taken;
 use crate::relation::{Pair, Relation};
-use wm_event::{Candidate, Event, EventId, EventKey, Range};
+use wm_event::{Candidate, EventId, EventKey, Range};
 
 /// Whether both events are atomic with equal ranges.
 pub(crate) fn can_synchronize(start: &Candidate, pair: Pair) -> bool
@@ -236,57 +233,4 @@ pub(crate) fn not_past(
             }
         }
     }
-}
-
-/// Whether an event is tear-free: atomic, or plain of 1, 2 or 4 bytes at a multiple of its width.
-fn is_tear_free(event: &Event) -> bool
-    ensures { IsTrue result → IsTearFree event.now }
-{
-    let width = u32::from(event.width.bytes());
-    if event.is_atomic() {
-        return true;
-    }
-    width <= 4 && event.address % width == 0
-}
-
-/// Whether an event is tear-free with the range of another.
-fn is_like(start: &Candidate, event: &Event, id: EventId) -> bool
-    ensures { IsTrue result → IsTearFreeLike (execution start.now) event.now id }
-{
-    match start.event(id) {
-        Some(other) => is_tear_free(other) && other.range() == event.range(),
-        None => false,
-    }
-}
-
-/// The fourth rule: whether two bytes of a tear-free read are from two events that are tear-free with its range.
-pub(crate) fn is_torn(
-    start: &Candidate,
-    assumed: &[Assumption],
-    first: &Taken,
-    second: &Taken,
-) -> bool
-    requires first { IsTaken start.now assumed.now first.now }
-    requires second { IsTaken start.now assumed.now second.now }
-    ensures { IsTrue result → IsClosed start.now assumed.now }
-{
-    let (EventId::At(one), EventId::At(other)) = (first.writer, second.writer) else {
-        return false;
-    };
-    if one == other || first.reader != second.reader {
-        return false;
-    }
-    let Some(event) = start.event(EventId::At(first.reader)) else {
-        return false;
-    };
-    if !is_tear_free(event) {
-        return false;
-    }
-    if !is_like(start, event, EventId::At(one)) {
-        return false;
-    }
-    if !is_like(start, event, EventId::At(other)) {
-        return false;
-    }
-    true
 }

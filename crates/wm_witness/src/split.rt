@@ -1,35 +1,10 @@
 //! On which assumption an alternative is split.
-ghost use Rattle.std.specs.Prelude.{IfSome};
 ghost use Rattle.wm_witness.specs.Rules.{IsNode};
-ghost use Rattle.wm_witness.specs.Search.{AreOpposite};
 
 use crate::assumption::Assumption;
 use crate::node::Node;
 use crate::relation::Pair;
 use wm_event::{Candidate, EventId, EventKey};
-
-/// The assumption against another; None if its events aren't two of the log.
-pub(crate) fn opposite_of(start: &Candidate, assumption: Assumption) -> Option<Assumption>
-    ensures { IfSome result (AreOpposite start.now.log assumption) }
-{
-    match assumption {
-        Assumption::Takes(reader, writer) => Some(Assumption::TakesNone(reader, writer)),
-        Assumption::TakesNone(_, _) => None,
-        Assumption::Byte(reader, byte, writer) => {
-            Some(Assumption::NotByte(reader, byte, writer))
-        }
-        Assumption::NotByte(_, _, _) => None,
-        Assumption::Before(first, second) => {
-            if first == second
-                || start.event(EventId::At(first)).is_none()
-                || start.event(EventId::At(second)).is_none()
-            {
-                return None;
-            }
-            Some(Assumption::Before(second, first))
-        }
-    }
-}
 
 /// Whether it is known that the read takes a byte from the event.
 fn takes(node: &Node, reader: EventKey, writer: EventKey) -> bool {
@@ -65,7 +40,7 @@ fn is_order_open(
         )
 }
 
-/// Whether neither an assumption nor its opposite is known at the node.
+/// Whether it isn't known at the node whether an assumption holds.
 pub(crate) fn is_open(
     start: &Candidate,
     assumed: &[Assumption],
@@ -74,16 +49,6 @@ pub(crate) fn is_open(
 ) -> bool
     requires { IsNode start.now assumed.now node.now }
 {
-    for old in assumed {
-        if *old == assumption {
-            return false;
-        }
-        if let Some(opposite) = opposite_of(start, assumption)
-            && *old == opposite
-        {
-            return false;
-        }
-    }
     match assumption {
         Assumption::Takes(reader, writer) => !takes(node, reader, writer),
         Assumption::Byte(reader, byte, _) => match node.happens.index(reader) {

@@ -7,9 +7,10 @@ use crate::assumption::Assumption;
 use crate::copies::{copy_log, copy_witness};
 use crate::grounds::grounds_of;
 use crate::leaf::{Bytes, likely_writers};
+use crate::new_split::{Split, any_new_split, new_split};
 use crate::node::{Node, settle};
 use crate::schedule::Schedule;
-use crate::split::{is_open, opposite_of};
+use crate::split::is_open;
 use std::alloc::{AllocError, Global};
 use wm_event::{Candidate, EventId, EventKey, Judgement, Log, ShapeFault, Witness};
 use wm_list::List;
@@ -22,23 +23,10 @@ pub(crate) enum Step {
     Found(Witness),
     /// No witness that keeps the assumptions makes the log valid.
     Closed,
-    /// A further assumption, and the one against it.
+    /// A further assumption, which is new, and the one against it.
     Split(Assumption, Assumption),
-}
-
-/// An assumption, and the one against it.
-#[derive(Clone, Copy)]
-pub(crate) struct Split {
-    pub last: Assumption,
-    pub other: Assumption,
-}
-
-/// A split on an assumption.
-fn split_on(start: &Candidate, last: Assumption) -> Option<Split>
-    ensures { IfSome result (IsSplit start.now.log) }
-{
-    let other = opposite_of(start, last)?;
-    Some(Split { last, other })
+    /// All that can be assumed is assumed or denied.
+    Stays,
 }
 
 /// A split on the first of some assumptions that is open.
@@ -49,11 +37,13 @@ fn split_on_open(
     grounds: &[Assumption],
 ) -> Option<Split>
     requires { IsNode start.now assumed.now node.now }
-    ensures { IfSome result (IsSplit start.now.log) }
+    ensures { IfSome result (IsSplit start.now.log assumed.now) }
 {
     for ground in grounds {
-        if is_open(start, assumed, node, *ground) {
-            return split_on(start, *ground);
+        if is_open(start, assumed, node, *ground)
+            && let Some(split) = new_split(start, assumed, *ground)
+        {
+            return Some(split);
         }
     }
     None
@@ -67,15 +57,17 @@ fn split_on_byte(
     writers: &[Bytes],
 ) -> Option<Split>
     requires { IsNode start.now assumed.now node.now }
-    ensures { IfSome result (IsSplit start.now.log) }
+    ensures { IfSome result (IsSplit start.now.log assumed.now) }
 {
     for (index, bytes) in writers.iter().enumerate() {
         let reader = node.happens.rows.get(index)?.key;
         for byte in 0..8 {
             if let Some(writer) = bytes[byte as usize] {
                 let ground = Assumption::Byte(reader, byte, writer);
-                if is_open(start, assumed, node, ground) {
-                    return split_on(start, ground);
+                if is_open(start, assumed, node, ground)
+                    && let Some(split) = new_split(start, assumed, ground)
+                {
+                    return Some(split);
                 }
             }
         }
@@ -91,12 +83,15 @@ fn split_on_order_of(
     key: EventKey,
 ) -> Option<Split>
     requires { IsNode start.now assumed.now node.now }
-    ensures { IfSome result (IsSplit start.now.log) }
+    ensures { IfSome result (IsSplit start.now.log assumed.now) }
 {
     for row in node.happens.rows.iter() {
         let ground = Assumption::Before(key, row.key);
-        if key != row.key && is_open(start, assumed, node, ground) {
-            return split_on(start, ground);
+        if key != row.key
+            && is_open(start, assumed, node, ground)
+            && let Some(split) = new_split(start, assumed, ground)
+        {
+            return Some(split);
         }
     }
     None
@@ -105,7 +100,7 @@ fn split_on_order_of(
 /// A split on the order of two events that isn't known.
 fn split_on_order(start: &Candidate, assumed: &[Assumption], node: &Node) -> Option<Split>
     requires { IsNode start.now assumed.now node.now }
-    ensures { IfSome result (IsSplit start.now.log) }
+    ensures { IfSome result (IsSplit start.now.log assumed.now) }
 {
     for row in node.happens.rows.iter() {
         if let Some(split) = split_on_order_of(start, assumed, node, row.key) {
@@ -115,40 +110,30 @@ fn split_on_order(start: &Candidate, assumed: &[Assumption], node: &Node) -> Opt
     None
 }
 
-/// A split that tells nothing new, where no other is found.
-fn any_split(start: &Candidate) -> Split
-    ensures { IsSplit start.now.log result }
-{
-    let key = EventKey {
-        thread: 0,
-        number: 0,
-    };
-    Split {
-        last: Assumption::Byte(key, 0, EventId::Init),
-        other: Assumption::NotByte(key, 0, EventId::Init),
-    }
-}
-
-/// A split on one of some assumptions if one is open, otherwise on the writer of a byte, otherwise on an order.
+/// The step that splits on one of some assumptions if one is open, otherwise on the writer of a byte, otherwise on an
+/// order, otherwise on anything that is new.
 fn some_split(
     start: &Candidate,
     assumed: &[Assumption],
     node: &Node,
     writers: &[Bytes],
     grounds: &[Assumption],
-) -> Split
+) -> Step
     requires { IsNode start.now assumed.now node.now }
-    ensures { IsSplit start.now.log result }
+    ensures { IsStep start.now assumed.now result }
 {
     if let Some(split) = split_on_open(start, assumed, node, grounds) {
-        return split;
+        return Step::Split(split.last, split.other);
     }
     if let Some(split) = split_on_byte(start, assumed, node, writers) {
-        return split;
+        return Step::Split(split.last, split.other);
     }
-    match split_on_order(start, assumed, node) {
-        Some(split) => split,
-        None => any_split(start),
+    if let Some(split) = split_on_order(start, assumed, node) {
+        return Step::Split(split.last, split.other);
+    }
+    match any_new_split(start, assumed) {
+        Some(split) => Step::Split(split.last, split.other),
+        None => Step::Stays,
     }
 }
 
@@ -223,7 +208,7 @@ fn witness_of(
 }
 
 /// The candidate of a witness; None if its shape has a fault.
-fn candidate_with<'a>(
+pub(crate) fn candidate_with<'a>(
     alloc: Global,
     start: &Candidate<'a>,
     witness: Witness,
@@ -258,8 +243,7 @@ fn judged(
         Judgement::Valid => Ok(Step::Found(copy_witness(alloc, leaf.witness())?)),
         Judgement::Broken(fault) => {
             let grounds = grounds_of(alloc, leaf, &fault)?;
-            let split = some_split(start, assumed, node, writers, grounds.as_slice());
-            Ok(Step::Split(split.last, split.other))
+            Ok(some_split(start, assumed, node, writers, grounds.as_slice()))
         }
     }
 }
@@ -279,10 +263,7 @@ fn judged_with(
     let witness = witness_of(alloc, start, node, writers, order)?;
     match candidate_with(alloc, start, witness)? {
         Some(leaf) => judged(alloc, start, assumed, node, writers, &leaf),
-        None => {
-            let split = some_split(start, assumed, node, writers, &[]);
-            Ok(Step::Split(split.last, split.other))
-        }
+        None => Ok(some_split(start, assumed, node, writers, &[])),
     }
 }
 

@@ -8,9 +8,21 @@ mod index;
 mod judge;
 mod search;
 
-use document::{parse, Log};
+use document::{parse, Access, Log};
 use index::Index;
 use search::{Answer, Search};
+
+/// The memory of a document without a module: 16 pages.
+const MEMORY_BYTES: u64 = 16 * 65_536;
+
+/// Ends with a refusal if an access is past the memory.
+fn refuse_far(log: &Log) {
+    let is_far = |access: &&Access| u64::from(access.addr) + u64::from(access.width) > MEMORY_BYTES;
+    if let Some(access) = log.events.iter().find(is_far) {
+        println!("refused shape RangeOutOfMemory at {}.{}", access.t, access.n);
+        std::process::exit(2);
+    }
+}
 
 fn main() {
     let words: Vec<String> = std::env::args().collect();
@@ -19,6 +31,7 @@ fn main() {
         .map_or(100_000, |word| word.parse().expect("a number of nodes"));
     let text = std::fs::read(&words[1]).expect("a document");
     let log = Log::of(parse(&text));
+    refuse_far(&log);
     let index = Index::of(&log);
     let judge = |writers: &Vec<Vec<i32>>, order: &Vec<usize>| judge::judge(&log, &index, writers, order).is_ok();
     let first = 200 + 2 * log.events.len() as u64;

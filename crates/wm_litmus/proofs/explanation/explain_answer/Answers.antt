@@ -1,5 +1,4 @@
 use Rattle.std.proofs.lemmas.Result.{IfOk-weaker}
-use Rattle.wm_check.specs.declared.verdict.Verdict.TheVariants.{Refused}
 use Rattle.wm_litmus.proofs.Explaining.{answers_explain, refused_for}
 use Rattle.wm_litmus.proofs.explanation.explain_answer.Goals as goal
 
@@ -14,5 +13,5 @@ returns-in-Err-Refused g c =
     let refused = rw c.in-Err-Refused.field-0-is at c.in-Err-Refused.ensures.refused in
     let r = c.in-Err-Refused.refusal in
     IfOk-weaker c.explain_refused.result _ _
-    (λ answer explains. answers_explain mb db (Refused r) answer (refused_for mb db r refused) explains)
+    (λ answer explains. answers_explain mb db r answer (refused_for mb db r refused) explains)
     c.explain_refused.ensures

@@ -2,7 +2,9 @@ use Rattle.std.proofs.Common.{subst, string_bytes}
 use Rattle.wm_litmus.specs.Drive.{AnswersDrive, IsScriptAnswer}
 use Rattle.wm_litmus.specs.Trace.{AnswersTrace}
 use Rattle.wm_litmus.specs.Rounds.{IsRoundsAnswer}
-use Rattle.wm_litmus.specs.Replies.IsAnswer.{document_task_of, drive_of, help_of, no_command, run_of, run_task_of, trace_of, version_of, witness_of}
+use Rattle.wm_litmus.specs.declared.explore.Listing.TheVariants.{Outcomes, Documents}
+use Rattle.wm_litmus.specs.Explore.{IsExplorationAnswer}
+use Rattle.wm_litmus.specs.Replies.IsAnswer.{document_task_of, drive_of, explore_of, help_of, no_command, run_of, run_task_of, trace_of, version_of, witness_of, witnesses_of}
 use Rattle.wm_litmus.proofs.program.reply_to.Goals as goal
 
 pub returns-in_ok-answer-in-Ok-OfRun-clause-answers : goal.returns-in_ok-answer-in-Ok-OfRun-clause-answers
@@ -43,6 +45,22 @@ returns-in_ok-answer-in-Ok-Run-clause-answers g c =
     let answer = c.in_ok-answer-in-Ok-Run.answer in
     let file = g.F.Files.content_of c.args.files.now c.in-Ok-Run.module.now in
     run_of c.in-Ok-Run.module rounds read (subst (λ starts. IsRoundsAnswer file rounds.now starts answer.status (string_bytes answer.text)) c.starts_of-starts.ensures c.in_ok-answer-in-Ok-Run.ensures.answers)
+
+pub returns-in_ok-answer-in-Ok-Explore-clause-answers : goal.returns-in_ok-answer-in-Ok-Explore-clause-answers
+returns-in_ok-answer-in-Ok-Explore-clause-answers g c =
+    let read = rw c.in-Ok-Explore.field-0-is at c.in-Ok-Explore.ensures.read in
+    let events = c.in-Ok-Explore.events in
+    let answer = c.in_ok-answer-in-Ok-Explore.answer in
+    let file = g.F.Files.content_of c.args.files.now c.in-Ok-Explore.module.now in
+    explore_of c.in-Ok-Explore.module events read (subst (λ starts. IsExplorationAnswer Outcomes file events.now starts answer.status (string_bytes answer.text)) c.starts_of-starts.ensures c.in_ok-answer-in-Ok-Explore.ensures.answers)
+
+pub returns-in_ok-answer-in-Ok-Witnesses-clause-answers : goal.returns-in_ok-answer-in-Ok-Witnesses-clause-answers
+returns-in_ok-answer-in-Ok-Witnesses-clause-answers g c =
+    let read = rw c.in-Ok-Witnesses.field-0-is at c.in-Ok-Witnesses.ensures.read in
+    let events = c.in-Ok-Witnesses.events in
+    let answer = c.in_ok-answer-in-Ok-Witnesses.answer in
+    let file = g.F.Files.content_of c.args.files.now c.in-Ok-Witnesses.module.now in
+    witnesses_of c.in-Ok-Witnesses.module events read (subst (λ starts. IsExplorationAnswer Documents file events.now starts answer.status (string_bytes answer.text)) c.starts_of-starts.ensures c.in_ok-answer-in-Ok-Witnesses.ensures.answers)
 
 pub returns-in_ok-help_answer-in-Ok-Help-clause-answers : goal.returns-in_ok-help_answer-in-Ok-Help-clause-answers
 returns-in_ok-help_answer-in-Ok-Help-clause-answers g c =

@@ -3,7 +3,6 @@ use Rattle.wm_check.specs.Reading.{SaysOver}
 use Rattle.wm_check.specs.Texts.{verdict_status, verdict_text}
 use Rattle.wm_litmus.specs.Own.{IsMadeOf, run_text}
 use Rattle.wm_litmus.specs.Prints.{ended}
-use Rattle.wm_litmus.specs.Rounds.AnswersRounds.{too_large}
 use Rattle.wm_litmus.proofs.OwnVerdicts.{only_large}
 use Rattle.wm_litmus.proofs.rounds.judge_round.Goals as goal
 
@@ -21,5 +20,8 @@ returns g c = λ module_bytes modules.
     let prints = c.in_ok-of_verdict.ensures in
     let made : IsMadeOf module_bytes c.args.module.now run = record { modules = modules; own = c.requires.round.own; within = c.requires.within } in
     let large = only_large run v c.in_default.not-Allowed (c.in_ok-checked.ensures.own module_bytes made) in
-    too_large c.args.module.now run modules c.requires.round large.1
-    (prints.status_is ∙ ap verdict_status large.0) (prints.text_is ∙ ap (λ w. ended (verdict_text w)) large.0)
+    record {
+      is_too_large = record { round = c.requires.round; past = large.1 };
+      status_is = prints.status_is ∙ ap verdict_status large.0;
+      text_is = prints.text_is ∙ ap (λ w. ended (verdict_text w)) large.0;
+    }

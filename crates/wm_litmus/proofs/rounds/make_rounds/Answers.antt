@@ -1,4 +1,4 @@
-use Rattle.std.proofs.Common.{◌<◌, ◌≢◌, ◌^◌, rules, subst, sym}
+use Rattle.std.proofs.Common.{◌<◌, ◌≢◌, ◌^◌, refl, rules, subst, sym}
 use Rattle.std.proofs.lemmas.Result.{IfOk-weaker}
 use Rattle.wm_run.specs.declared.fault.RunFault.TheVariants.{OutOfMemory}
 use Rattle.wm_litmus.specs.Rounds.{HasMade, RunsOver, outcomes}
@@ -9,6 +9,9 @@ use Rattle.wm_litmus.proofs.rounds.make_rounds.Goals as goal
 
 pub run_rounds-counter-requires-clause-begins : goal.run_rounds-counter-requires-clause-begins
 run_rounds-counter-requires-clause-begins g c κs within = λ small. none_made c.args.module.now c.args.rounds.now.plan c.new.result.counts c.new.ensures
+
+pub run_rounds-counter-requires-clause-many : goal.run_rounds-counter-requires-clause-many
+run_rounds-counter-requires-clause-many g c κs within = (refl, search rules)
 
 pub returns-in-Ok-true : goal.returns-in-Ok-true
 returns-in-Ok-true g c =

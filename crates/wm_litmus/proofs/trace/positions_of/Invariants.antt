@@ -1,5 +1,5 @@
 use Rattle.std.proofs.Common.{◌≡◌, map, take}
-use Rattle.wm_run.specs.declared.traced.TracedTurn.{TracedTurn}
+use Rattle.wm_run.specs.declared.scripts.traced.TracedTurn.{TracedTurn}
 use Rattle.wm_litmus.proofs.trace.positions_of.Given as goal
 
 -- the positions of the first entries

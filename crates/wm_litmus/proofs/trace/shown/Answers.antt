@@ -1,6 +1,6 @@
 use Rattle.std.proofs.Common.{◌≡◌, ◌++◌, codes, length, map, List, refl, sym, subst, ap, ap₂, ◌∙◌, [], ◌∷◌}
 use Rattle.wm_sites.specs.Sites.{AreSitesOf, code_in}
-use Rattle.wm_run.specs.declared.traced.TracedTurn.{TracedTurn}
+use Rattle.wm_run.specs.declared.scripts.traced.TracedTurn.{TracedTurn}
 use Rattle.wm_litmus.specs.Outcomes.{outcome_text}
 use Rattle.wm_litmus.specs.Trace.{lines_text}
 use Rattle.wm_litmus.proofs.TraceTexts.{ended_2}

@@ -31,7 +31,7 @@ loop-number-preserved c =
     let at : slice_get starts n ≡ Some start = slice_get_read starts (length starts) n start refl c.loop-number-test.true c.index-starts-number.is in
     let new : Runner = record { thread = c.in-Ok.thread; made = 0 } in
     let begins : started m start.name start.args ≡ Ok (config_of c.in-Ok.thread) = let ok = c.in-Ok.ensures.ok.0 in cc in
-    let is : IsLaunched m start new = record { program = c.in-Ok.ensures.ok.1; begins = record { config = begins; made = refl } } in
+    let is : IsLaunched m start new = record { program = c.in-Ok.ensures.ok.1; begins = record { config = begins; made = refl }; at_start = c.in-Ok.ensures.at_start } in
     record {
       room = search rules;
       count = search rules;

@@ -6,6 +6,7 @@ use Rattle.wm_machine.specs.Step.{step}
 use Rattle.wm_replay.proofs.Needs.{ended_of_need, local_of_need, made_local}
 use Rattle.wm_run.specs.Runner.{Advances}
 use Rattle.wm_run.specs.Script.{ended, local}
+use Rattle.wm_run.proofs.Running.{runs_of_local}
 use Rattle.wm_run.proofs.runner.advance.Goals as goal
 
 pub returns-in-Ended-clause-moves : goal.returns-in-Ended-clause-moves
@@ -14,15 +15,21 @@ returns-in-Ended-clause-moves c =
     (e.1, refl, λ made limit. ended c.in-Ended.field-0 (ended_of_need c.args.thread.now 0 c.in-Ended.field-0 (e.0 0)))
 
 pub returns-in-Local-clause-moves : goal.returns-in-Local-clause-moves
-returns-in-Local-clause-moves c made limit below =
+returns-in-Local-clause-moves c =
     let thread = c.args.thread.now in
-    record {
-      items = [];
-      steps = local (let lt : made < limit = omega (arith, below) in lt)
-          (made_local (step thread.module 0 (config_of thread)) (config_of c.step.new.self)
-          (local_of_need thread 0 (c.in-Ok.ensures.needs_nothing (ap Ok c.in-Local.is) 0)) (c.in-Ok.ensures.local (ap Ok c.in-Local.is)));
-      adds = record { history = sym (append-nil c.args.recorder.now.history); initial = refl; threads = refl };
-    }
+    let is = ap Ok c.in-Local.is in (
+      record {
+        runs = runs_of_local thread (c.in-Ok.ensures.needs_nothing is 0);
+        moves = c.in-Ok.ensures.moves is;
+      },
+      λ made limit below. record {
+        items = [];
+        steps = local (let lt : made < limit = omega (arith, below) in lt)
+            (made_local (step thread.module 0 (config_of thread)) (config_of c.step.new.self)
+            (local_of_need thread 0 (c.in-Ok.ensures.needs_nothing is 0)) (c.in-Ok.ensures.local is));
+        adds = record { history = sym (append-nil c.args.recorder.now.history); initial = refl; threads = refl };
+      },
+    )
 
 pub access-requires-clause-needed : goal.access-requires-clause-needed
 access-requires-clause-needed c read =

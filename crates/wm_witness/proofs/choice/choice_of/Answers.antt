@@ -4,6 +4,11 @@ use Rattle.wm_writers.specs.Fits.{fitting}
 use Rattle.wm_witness.proofs.ChoiceLaw.{AreSeen, nothing-found, only-found, seen-excluded, seen-first}
 use Rattle.wm_witness.proofs.choice.choice_of.Goals as goal
 
+pub loop-writer-preserved-then-would_tear : goal.loop-writer-preserved-then-would_tear
+loop-writer-preserved-then-would_tear c =
+    seen-excluded c.args.start.now c.args.assumed.now c.args.event.now c.args.byte c.as_slice-writer-items.result.now (c.as_slice-writer-items.ensures ∙ c.in_ok-fit.ensures)
+    c.loop-writer.writer-index c.loop-writer-test.true c.loop-writer.found c.loop-writer.invariant (c.if-would_tear.ensures refl c.args.byte)
+
 pub loop-writer-preserved-then-is_excluded : goal.loop-writer-preserved-then-is_excluded
 loop-writer-preserved-then-is_excluded c =
     seen-excluded c.args.start.now c.args.assumed.now c.args.event.now c.args.byte c.as_slice-writer-items.result.now (c.as_slice-writer-items.ensures ∙ c.in_ok-fit.ensures)

@@ -1,7 +1,7 @@
 use Rattle.std.proofs.Common.{◌≡◌, ◌<◌, ◌≤◌, ◌+◌, ◌⊎◌, get_or, inl, inr, ⊎_elim, arith, subst, sym}
 use Rattle.wm_event.specs.declared.event.EventKey.{EventKey}
 use Rattle.wm_witness.specs.Relations.{Covers}
-use Rattle.wm_witness.proofs.Cells.{raised}
+use Rattle.wm_witness.proofs.Lanes.{raised}
 use Rattle.wm_witness.proofs.row.Row.joined.Goals as goal
 use Rattle.wm_witness.proofs.row.Row.joined.Goals.{then-before-lane, else-before-lane, then-lane-lt-MAX_THREADS+then-number-lt4294967295+then-before-lane-2, else-lane-lt-MAX_THREADS}
 

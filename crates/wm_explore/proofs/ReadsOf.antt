@@ -1,0 +1,149 @@
+-- The states that a read adds, one after the other.
+use Rattle.std.proofs.Common.{◌≡◌, ℕ, ◌+◌, ◌<◌, ◌≤◌, true, List, [], ◌∷◌, ◌++◌, length, inl, inr, Option, Some, refl, sym, ap, subst, ◌∙◌, arith}
+use Rattle.std.specs.Prelude.{◌⊎◌, All, slice_get}
+use Rattle.std.proofs.lemmas.Option.{same_Some, slice_get_within}
+use Rattle.wm_ast.specs.declared.module.Module.{Module}
+use Rattle.wm_event.specs.LoggedRun.{LoggedRun, execution}
+use Rattle.wm_event.specs.Op.{event_made, kind_finds}
+use Rattle.wm_event.specs.declared.log.Start.{Start}
+use Rattle.wm_event.specs.declared.log.ThreadLog.{ThreadLog}
+use Rattle.wm_event.specs.declared.op.OpFields.{OpFields}
+use Rattle.wm_event.specs.declared.witness.Witness.{Witness}
+use Rattle.wm_replay.specs.Continuing.{HasNextBy}
+use Rattle.wm_explore.specs.Executions.{IsCausal, IsExecutionOf}
+use Rattle.wm_explore.specs.Bounds.{IsExcused}
+use Rattle.wm_explore.specs.Judging.{IsAllowedWith}
+use Rattle.wm_explore.specs.Search.{AddsPermitted, AreApart, Covers, Extends, IsFound, IsProgress, Keeps}
+use Rattle.wm_explore.specs.Search.Covers.{left}
+use Rattle.wm_explore.specs.States.{GoesOn, IsChild, IsMarked, IsState}
+use Rattle.wm_explore.specs.Turns.{MakesNext}
+use Rattle.wm_explore.specs.Values.{ReadsAll}
+use Rattle.wm_explore.specs.declared.search.Progress.{Progress}
+use Rattle.wm_explore.specs.declared.state.State.{State}
+use Rattle.wm_explore.proofs.Beginnings.{ended_run, whole_thread}
+use Rattle.wm_explore.proofs.Children.{HasWriters, LacksWriter, goes_on, goes_on_marked, has_or_lacks, is_state, marked_is_state}
+use Rattle.wm_explore.proofs.Items.{one_more_any}
+use Rattle.wm_explore.proofs.Lists.{kept_pushed, last_pushed}
+use Rattle.wm_explore.proofs.Permitted.{permitted}
+use Rattle.wm_explore.proofs.Progressing.{IsMore, all_pushed, covers_more}
+use Rattle.wm_explore.proofs.Reading.{has_value}
+use Rattle.wm_valid.proofs.Initial.{one_init}
+use Rattle.wm_valid.specs.Valid.{IsInit}
+
+-- q has a state more at its end than p
+module _ (m : Module) (starts : List Start) (events : ℕ) (p q : Progress) (same_finished : q.finished ≡ p.finished) (same_met : q.met ≡ p.met) (added : State) (pushed : q.work.items ≡ p.work.items ++ added ∷ []) where
+  pub pushed_more : IsMore events p q
+  pushed_more = record {
+    work = λ i s at. (i, ap (λ ss. slice_get ss i) pushed ∙ kept_pushed p.work.items added i s at);
+    finished = λ i f at. (i, ap (λ fs. slice_get fs.items i) same_finished ∙ at);
+    met = λ log why. subst (λ b. IsExcused events b log) (sym same_met) why;
+  }
+
+  pub pushed_progress : IsProgress m starts p → IsState starts added → IsProgress m starts q
+  pushed_progress progress fine = record {
+    states = subst (All (IsState starts)) (sym pushed) (all_pushed (IsState starts) p.work.items added progress.states fine);
+    found = subst (λ fs. All (IsFound m starts) fs.items) (sym same_finished) progress.found;
+    apart = subst (λ fs. AreApart fs.items) (sym same_finished) progress.apart;
+  }
+
+  pub pushed_left : (x : LoggedRun) → GoesOn x added → Covers events q x
+  pushed_left x on = left (length p.work.items) added (ap (λ ss. slice_get ss (length p.work.items)) pushed ∙ last_pushed p.work.items added) on
+
+-- x reads r next in thread k, and the state has the events that wrote its bytes
+pub record ReadsNext (x : LoggedRun) (s : State) (on : GoesOn x s) (k : ℕ) (t : ThreadLog) (at : slice_get s.log k ≡ Some t) (op : OpFields) (r : ℕ) : Type 0 where
+  pub whole : ThreadLog
+  pub is_whole : slice_get x.log k ≡ Some whole
+  pub made : slice_get whole.events (length t.events) ≡ Some (event_made (record { thread = k; number = length t.events }) op r)
+  pub has : HasWriters x s on k t at
+
+-- what is kept from p to q, where the first n values were read
+pub record ReadSoFar (m : Module) (starts : List Start) (events : ℕ) (s : State) (k : ℕ) (op : OpFields) (p q : Progress) (values : List ℕ) (n : ℕ) : Type 0 where
+  pub progress : IsProgress m starts q
+  pub keeps : Keeps m starts events p q
+  pub waits : (x : LoggedRun) → IsExecutionOf m starts x → IsCausal (execution x) → (on : GoesOn x s) (t : ThreadLog) (at : slice_get s.log k ≡ Some t) → LacksWriter x s on k t at → Covers events q x
+  pub reads : (i r : ℕ) → i < n → slice_get values i ≡ Some r → (x : LoggedRun) → IsExecutionOf m starts x → IsCausal (execution x) → (on : GoesOn x s) (t : ThreadLog) (at : slice_get s.log k ≡ Some t)
+      → ReadsNext x s on k t at op r → Covers events q x
+
+module _ (m : Module) (starts : List Start) (events : ℕ) (s : State) (fine : IsState starts s) (k : ℕ) (op : OpFields) (p : Progress) (values : List ℕ) where
+  -- after the state in which the thread is marked
+  pub read_none : IsProgress m starts p → (q : Progress) → q.finished ≡ p.finished → q.met ≡ p.met → (marked : State) → q.work.items ≡ p.work.items ++ marked ∷ []
+      → marked.log ≡ s.log → marked.arrived ≡ s.arrived → IsMarked k (Some (length s.arrived)) s.marks marked.marks → ReadSoFar m starts events s k op p q values 0
+  read_none progress q same_finished same_met marked pushed same_log same_arrived marks = record {
+    progress = pushed_progress m starts events p q same_finished same_met marked pushed progress (marked_is_state starts s marked k fine same_log same_arrived marks);
+    keeps = λ x is causal covers. covers_more events p q (pushed_more m starts events p q same_finished same_met marked pushed) x covers;
+    waits = λ x is causal on t at lacks. pushed_left m starts events p q same_finished same_met marked pushed x (goes_on_marked x s on k t at starts fine marked same_log same_arrived marks lacks);
+    reads = λ i r lt. absurd (omega (arith, lt));
+  }
+
+  -- an execution that reads this value goes on from the child
+  goes_on_child : (r : ℕ) (t : ThreadLog) → slice_get s.log k ≡ Some t → (child : State) → IsChild k (event_made (record { thread = k; number = length t.events }) op r) s child
+      → (x : LoggedRun) (on : GoesOn x s) (u : ThreadLog) (at : slice_get s.log k ≡ Some u) → ReadsNext x s on k u at op r → GoesOn x child
+  goes_on_child r t at_t child is_child x on u at reads =
+      let same : t ≡ u = same_Some t u (sym at_t ∙ at) in
+      goes_on x s on k u at reads.whole reads.is_whole (event_made (record { thread = k; number = length u.events }) op r) reads.made refl starts fine child
+      (subst (λ (v : ThreadLog). IsChild k (event_made (record { thread = k; number = length v.events }) op r) s child) same is_child) reads.has
+
+  -- after the next value
+  module _ (q next : Progress) (n r : ℕ) (at_r : slice_get values n ≡ Some r) (so : ReadSoFar m starts events s k op p q values n) (same_finished : next.finished ≡ q.finished) (same_met : next.met ≡ q.met)
+      (t : ThreadLog) (at_t : slice_get s.log k ≡ Some t) (child : State) (is_child : IsChild k (event_made (record { thread = k; number = length t.events }) op r) s child) where
+    -- an execution that reads one of the values
+    module _ (more : IsMore events q next) (here : (x : LoggedRun) → IsExecutionOf m starts x → GoesOn x child → Covers events next x) where
+      reads_one_more : (i v : ℕ) → i < n + 1 → slice_get values i ≡ Some v → (x : LoggedRun) → IsExecutionOf m starts x → IsCausal (execution x) → (on : GoesOn x s) (u : ThreadLog) (at : slice_get s.log k ≡ Some u)
+          → ReadsNext x s on k u at op v → Covers events next x
+      reads_one_more i v lt at_v x is causal on u at =
+          one_more_any (λ j w. ReadsNext x s on k u at op w → Covers events next x) values n
+          (λ w at_w reads. here x is (goes_on_child r t at_t child is_child x on u at (subst (ReadsNext x s on k u at op) (same_Some w r (sym at_w ∙ at_r)) reads)))
+          (λ j w below at_w reads. covers_more events q next more x (so.reads j w below at_w x is causal on u at reads)) i v lt at_v
+
+    read_pushed : next.work.items ≡ q.work.items ++ child ∷ [] → ReadSoFar m starts events s k op p next values (n + 1)
+    read_pushed pushed = record {
+      progress = pushed_progress m starts events q next same_finished same_met child pushed so.progress
+          (is_state s k t at_t (event_made (record { thread = k; number = length t.events }) op r) refl starts fine child is_child);
+      keeps = λ x is causal covers. covers_more events q next (pushed_more m starts events q next same_finished same_met child pushed) x (so.keeps x is causal covers);
+      waits = λ x is causal on u at lacks. covers_more events q next (pushed_more m starts events q next same_finished same_met child pushed) x (so.waits x is causal on u at lacks);
+      reads = reads_one_more (pushed_more m starts events q next same_finished same_met child pushed) (λ x is on. pushed_left m starts events q next same_finished same_met child pushed x on);
+    }
+
+    same_more : next.work.items ≡ q.work.items → IsMore events q next
+    same_more same_work = record {
+      work = λ i v at. (i, ap (λ ss. slice_get ss i) same_work ∙ at);
+      finished = λ i f at. (i, ap (λ fs. slice_get fs.items i) same_finished ∙ at);
+      met = λ log why. subst (λ b. IsExcused events b log) (sym same_met) why;
+    }
+
+    read_pruned : next.work.items ≡ q.work.items → (initial : List ℕ) → IsInit m initial → ((w : Witness) → IsAllowedWith child.log initial w → ⊥) → ReadSoFar m starts events s k op p next values (n + 1)
+    read_pruned same_work initial is_init none = record {
+      progress = record {
+        states = subst (All (IsState starts)) (sym same_work) so.progress.states;
+        found = subst (λ fs. All (IsFound m starts) fs.items) (sym same_finished) so.progress.found;
+        apart = subst (λ fs. AreApart fs.items) (sym same_finished) so.progress.apart;
+      };
+      keeps = λ x is causal covers. covers_more events q next (same_more same_work) x (so.keeps x is causal covers);
+      waits = λ x is causal on u at lacks. covers_more events q next (same_more same_work) x (so.waits x is causal on u at lacks);
+      reads = reads_one_more (same_more same_work) (λ x is on.
+          let w = permitted m starts x child is on in
+          absurd (none w.0 (subst (λ i. IsAllowedWith child.log i w.0) (one_init m x.initial initial is.initial is_init) w.1)));
+    }
+
+    pub read_more : (initial : List ℕ) → IsInit m initial → AddsPermitted initial child q.work.items next.work.items → ReadSoFar m starts events s k op p next values (n + 1)
+    read_more initial is_init (inl pushed) = read_pushed pushed
+    read_more initial is_init (inr none) = read_pruned none.0 initial is_init none.1
+
+  -- after the last value
+  pub reads_all : (q : Progress) (n : ℕ) → length values ≤ n → ReadSoFar m starts events s k op p q values n → kind_finds op.kind ≡ true → MakesNext m events s.log k op
+      → (initial : List ℕ) → IsInit m initial → (mark : Option ℕ) → ((c : ℕ) → mark ≡ Some c → slice_get s.marks k ≡ Some (Some c)) → ReadsAll s initial op mark values → Extends m starts events s p q
+  reads_all q n all so finds makes initial is_init mark marked each = record {
+    progress = so.progress;
+    keeps = so.keeps;
+    takes = λ x is causal on. takes x is causal on (has_or_lacks x s on k makes.thread makes.is_thread);
+  }
+    where
+      takes : (x : LoggedRun) → IsExecutionOf m starts x → IsCausal (execution x) → (on : GoesOn x s) → HasWriters x s on k makes.thread makes.is_thread ⊎ LacksWriter x s on k makes.thread makes.is_thread → Covers events q x
+      takes x is causal on (inr lacks) = so.waits x is causal on makes.thread makes.is_thread lacks
+      takes x is causal on (inl has) =
+          let u = whole_thread s.log x.log on.beginning k makes.thread makes.is_thread in
+          let made : HasNextBy k makes.thread u.0 op = makes.next u.0 (ended_run m starts x s.log is on.beginning k makes.thread u.0 makes.is_thread u.1) in
+          let same : initial ≡ x.initial = one_init m initial x.initial is_init is.initial in
+          let read = has_value m starts x s is fine on k makes.thread u.0 op makes.is_thread u.1 finds made mark (λ c counts. on.marks k c (marked c counts)) has values (subst (λ i. ReadsAll s i op mark values) same each) in
+          let within = slice_get_within values read.0 made.0 read.1 in
+          so.reads read.0 made.0 (omega (arith, all, within)) read.1 x is causal on makes.thread makes.is_thread (record { whole = u.0; is_whole = u.1; made = made.2; has = has })

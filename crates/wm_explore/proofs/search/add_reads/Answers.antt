@@ -1,0 +1,44 @@
+use Rattle.std.proofs.Common.{◌≡◌, get_or, length, Some, refl, sym, ap, subst, ◌∙◌}
+use Rattle.std.specs.Prelude.{slice_get}
+use Rattle.std.proofs.lemmas.Option.{slice_get-get_or}
+use Rattle.wm_event.specs.Op.{event_made}
+use Rattle.wm_explore.specs.States.{IsChild}
+use Rattle.wm_explore.specs.Values.{ReadsAll}
+use Rattle.wm_explore.proofs.Beginnings.{count_at}
+use Rattle.wm_explore.proofs.ReadsOf.{read_more, read_none, reads_all}
+use Rattle.wm_explore.proofs.search.add_reads.Goals as goal
+
+pub loop-value-init : goal.loop-value-init
+loop-value-init c = record {
+  so_far = λ starts fine progress.
+      read_none c.args.module.now starts c.args.limits.events c.args.state.now fine c.args.thread c.args.op c.args.progress.now c.as_slice-value-items.result.now progress
+      (record { work = c.push.new.self; finished = c.args.progress.now.finished; met = c.args.progress.now.met }) refl refl c.in_ok-marked.field-0 c.in_ok-push.ensures.items
+      c.in_ok-marked.ensures.log c.in_ok-marked.ensures.arrived c.in_ok-marked.ensures.marks;
+}
+
+pub loop-value-preserved : goal.loop-value-preserved
+loop-value-preserved c = record {
+  so_far = λ starts fine progress.
+      let s = c.args.state.now in
+      let k = c.args.thread in
+      let n = c.loop-value.value-index in
+      let r = get_or c.as_slice-value-items.result.now n 0 in
+      let t = c.requires.next.thread in
+      let at_t = c.requires.next.is_thread in
+      let at_r : slice_get c.as_slice-value-items.result.now n ≡ Some r = slice_get-get_or c.as_slice-value-items.result.now n 0 c.loop-value-test.true in
+      let event : c.next_event-event.result ≡ event_made (record { thread = k; number = length t.events }) c.args.op r =
+      c.next_event-event.ensures.event ∙ ap (λ i. event_made (record { thread = k; number = i }) c.args.op r) (count_at s.log k t at_t) in
+      let child : IsChild k (event_made (record { thread = k; number = length t.events }) c.args.op r) s c.in_ok-child.child = subst (λ e. IsChild k e s c.in_ok-child.child) event c.in_ok-child.ensures in
+      read_more c.args.module.now starts c.args.limits.events s fine k c.args.op c.args.progress.now c.as_slice-value-items.result.now c.loop-value.progress c.add_permitted.new.progress n r at_r
+      (c.loop-value.invariant.so_far starts fine progress) c.in_ok-add_permitted.ensures.finished c.in_ok-add_permitted.ensures.met t at_t c.in_ok-child.child child
+      c.initial-initial.result.now c.initial-initial.ensures c.in_ok-add_permitted.ensures.added;
+}
+
+pub returns : goal.returns
+returns c starts fine progress =
+    let s = c.args.state.now in
+    let values = c.as_slice-value-items.result.now in
+    let all : ReadsAll s c.initial-initial.result.now c.args.op c.mark.result values =
+    subst (λ vs. ReadsAll s c.initial-initial.result.now c.args.op c.mark.result vs) (sym c.as_slice-value-items.ensures) (subst (λ op. ReadsAll s c.initial-initial.result.now op c.mark.result c.in_ok-values.values) c.fields.ensures.value c.in_ok-values.ensures) in
+    reads_all c.args.module.now starts c.args.limits.events s fine c.args.thread c.args.op c.args.progress.now values c.loop-value.progress c.loop-value.value-index c.loop-value-test.false
+    (c.loop-value.invariant.so_far starts fine progress) c.requires.reads c.requires.next c.initial-initial.result.now c.initial-initial.ensures c.mark.result c.mark.ensures all

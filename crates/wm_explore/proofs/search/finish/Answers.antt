@@ -1,0 +1,43 @@
+use Rattle.std.proofs.Common.{refl, sym, ap, subst}
+use Rattle.wm_replay.specs.Complete.{CompletesLog}
+use Rattle.wm_explore.specs.Executions.{IsFinished, ends_of}
+use Rattle.wm_explore.specs.Judging.{IsPermission}
+use Rattle.wm_explore.specs.Search.{Lists}
+use Rattle.wm_explore.proofs.Progressing.{bounded, found, found_before, never, unfinished, without_run}
+use Rattle.wm_explore.proofs.search.finish.Goals as goal
+
+pub returns-in-NoRun : goal.returns-in-NoRun
+returns-in-NoRun c events starts fine progress =
+    without_run c.args.module.now starts events c.args.state.now fine c.args.progress.now progress c.requires.ends c.in-NoRun.field-0 (subst (CompletesLog c.args.module.now c.args.state.now.log) c.in-NoRun.is c.in_ok-log.ensures)
+
+pub returns-then-not-is_finished : goal.returns-then-not-is_finished
+returns-then-not-is_finished c events starts fine progress =
+    unfinished c.args.module.now starts events c.args.state.now fine c.args.progress.now progress c.requires.ends c.in-Completed.log
+    (subst (CompletesLog c.args.module.now c.args.state.now.log) c.in-Completed.is c.in_ok-log.ensures)
+    (subst (λ ts. IsFinished ts → ⊥) c.threads.ensures.value (c.if-not-is_finished.ensures.not refl))
+
+pub returns-then-is_listed : goal.returns-then-is_listed
+returns-then-is_listed c events starts fine progress =
+    found_before c.args.module.now starts events c.args.state.now fine c.args.progress.now progress c.requires.ends c.in-Completed.log
+    (subst (CompletesLog c.args.module.now c.args.state.now.log) c.in-Completed.is c.in_ok-log.ensures)
+    (subst (λ fs. Lists fs (ends_of c.in-Completed.log)) c.as_slice.ensures.value (c.if-is_listed.ensures.listed refl))
+
+pub returns-in_ok-push-in-With : goal.returns-in_ok-push-in-With
+returns-in_ok-push-in-With c events starts fine progress =
+    found c.args.module.now starts events c.args.state.now fine c.args.progress.now progress c.requires.ends c.in-Completed.log
+    (subst (CompletesLog c.args.module.now c.args.state.now.log) c.in-Completed.is c.in_ok-log.ensures)
+    c.initial.result.now c.initial.ensures c.in-With.witness (subst (IsPermission c.in-Completed.log c.initial.result.now) c.in-With.is c.in_ok-witness.ensures)
+    (subst IsFinished c.threads.ensures.value (c.if-not-is_finished.ensures.finished refl))
+    (λ lists. c.if-is_listed.ensures.not refl (subst (λ fs. Lists fs (ends_of c.in-Completed.log)) (sym c.as_slice.ensures.value) lists))
+    (record { work = c.args.progress.now.work; finished = c.push.new.self; met = c.args.progress.now.met }) refl c.in_ok-push-in-With.ensures.items refl
+
+pub returns-in-Never : goal.returns-in-Never
+returns-in-Never c events starts fine progress =
+    never c.args.module.now starts events c.args.state.now fine c.args.progress.now progress c.requires.ends c.in-Completed.log
+    (subst (CompletesLog c.args.module.now c.args.state.now.log) c.in-Completed.is c.in_ok-log.ensures)
+    c.initial.result.now c.initial.ensures (subst (IsPermission c.in-Completed.log c.initial.result.now) c.in-Never.is c.in_ok-witness.ensures)
+
+pub returns-in-Unknown : goal.returns-in-Unknown
+returns-in-Unknown c events starts fine progress =
+    bounded c.args.module.now starts events c.args.state.now c.args.progress.now c.meet.new.self progress (ap (λ v. v.items) c.meet.ensures.work) (ap (λ v. v.items) c.meet.ensures.finished)
+    (λ log. c.meet.ensures.kept events log) (λ x is on. c.meet.ensures.met events x.log tt)

@@ -1,0 +1,7 @@
+pub mod Executions
+pub mod States
+pub mod Values
+pub mod Bounds
+pub mod Turns
+pub mod Judging
+pub mod Search

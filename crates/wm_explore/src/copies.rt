@@ -1,0 +1,83 @@
+//! Copies of logs.
+ghost use Rattle.std.specs.Prelude.{◌≡◌, IfOk};
+ghost use Rattle.wm_event.specs.Log.{IsLog};
+ghost use Rattle.wm_explore.specs.States.{extended, with_last};
+
+use std::alloc::{AllocError, Global};
+use wm_event::{Event, Log, Start, ThreadLog};
+use wm_list::{List, Text};
+
+/// A copy of a start.
+pub(crate) fn copied_start(alloc: Global, start: &Start) -> Result<Start, AllocError>
+    ensures { IfOk result (λ copy. copy ≡ start.now) }
+{
+    let name = String::from_str(alloc, start.name.as_str())?;
+    let args = start.args.as_slice().to_vec(alloc)?;
+    Ok(Start {
+        name: Text::from_string(name),
+        args: List::from_vec(args),
+    })
+}
+
+/// A copy of the log of a thread.
+fn copied_thread(alloc: Global, thread: &ThreadLog) -> Result<ThreadLog, AllocError>
+    ensures { IfOk result (λ copy. copy ≡ thread.now) }
+{
+    let start = copied_start(alloc, &thread.start)?;
+    let events = thread.events.as_slice().to_vec(alloc)?;
+    Ok(ThreadLog {
+        start,
+        end: thread.end,
+        steps: thread.steps,
+        events: List::from_vec(events),
+    })
+}
+
+/// A copy of the threads of a log.
+fn copied_threads(alloc: Global, threads: &[ThreadLog]) -> Result<List<ThreadLog>, AllocError>
+    ensures { IfOk result (λ copy. copy ≡ threads.now) }
+{
+    let mut copy = List::new(alloc);
+    for thread in threads {
+        copy.push(copied_thread(alloc, thread)?)?;
+    }
+    Ok(copy)
+}
+
+/// A copy of a log.
+pub(crate) fn copied_log(alloc: Global, log: &Log) -> Result<Log, AllocError>
+    ensures { IfOk result (λ copy. copy ≡ log.now) }
+{
+    let threads = copied_threads(alloc, log.threads())?;
+    Ok(Log::new(threads))
+}
+
+/// A copy of the log of a thread with one more event.
+fn extended_thread(alloc: Global, thread: &ThreadLog, event: Event) -> Result<ThreadLog, AllocError>
+    ensures { IfOk result (λ copy. copy ≡ with_last thread.now event) }
+{
+    let mut copy = copied_thread(alloc, thread)?;
+    copy.events.push(event)?;
+    Ok(copy)
+}
+
+/// A copy of a log in which a thread has one more event.
+pub(crate) fn with_event(
+    alloc: Global,
+    log: &Log,
+    thread: usize,
+    event: Event,
+) -> Result<Log, AllocError>
+    requires { IsLog (extended thread event log.now) }
+    ensures { IfOk result (λ copy. copy ≡ extended thread event log.now) }
+{
+    let mut copy = List::new(alloc);
+    for (number, stated) in log.threads().iter().enumerate() {
+        if number == thread {
+            copy.push(extended_thread(alloc, stated, event)?)?;
+            continue;
+        }
+        copy.push(copied_thread(alloc, stated)?)?;
+    }
+    Ok(Log::new(copy))
+}

@@ -1,0 +1,293 @@
+//! The exploration: states that are extended one after the other.
+ghost use Rattle.std.specs.Prelude.{◌≡◌, ◌≢◌, ◌<◌, ◌≤◌, ◌^◌, ℕ, List, true, false, IfOk, OnOk, length};
+ghost use Rattle.wm_event.specs.Limits.{max_threads};
+ghost use Rattle.wm_event.specs.Log.{IsLog};
+ghost use Rattle.wm_event.specs.Op.{event_made, kind_finds};
+ghost use Rattle.wm_event.specs.declared.log.ThreadLog.{ThreadLog};
+ghost use Rattle.wm_explore.specs.Bounds.{Excuses, IsExcused};
+ghost use Rattle.wm_explore.specs.Executions.{IsFinished, ends_of};
+ghost use Rattle.wm_explore.specs.Search.{AddsPermitted, Explores, IsFirstState, IsStep, Lists};
+ghost use Rattle.wm_explore.specs.States.{count_in, extended};
+ghost use Rattle.wm_explore.specs.Turns.{EachEndsIn, MakesNext};
+
+use crate::bound::{Bound, Limits};
+use crate::copies::copied_start;
+use crate::exploration::{Exploration, Finished};
+use crate::judge::{Permission, judged};
+use crate::state::State;
+use crate::turn::{Turn, next_turn};
+use crate::values::values;
+use std::alloc::{AllocError, Global};
+use wm_event::{End, Event, EventKey, Initial, Log, Op, Start, ThreadLog};
+use wm_list::List;
+use wm_replay::{Completion, complete};
+use wm_valid::ValidModule;
+
+/// How far an exploration has come.
+#[derive(Drop)]
+pub(crate) struct Progress {
+    /// The states that are still to be extended.
+    pub work: Vec<State>,
+    /// An execution for each outcome found.
+    pub finished: Vec<Finished>,
+    /// A bound that was met.
+    pub met: Option<Bound>,
+}
+
+impl Progress {
+    /// Notes that a bound was met.
+    fn meet(&mut self, bound: Bound)
+        ensures work { self.new.work ≡ self.old.work }
+        ensures finished { self.new.finished ≡ self.old.finished }
+        ensures kept { (events : ℕ) (log : List ThreadLog) → IsExcused events self.old.met log → IsExcused events self.new.met log }
+        ensures met { (events : ℕ) (log : List ThreadLog) → Excuses events bound log → IsExcused events self.new.met log }
+    {
+        self.met = Some(match self.met {
+            None => bound,
+            Some(other) => bound.earlier(other),
+        });
+    }
+}
+
+/// Whether two ends are the same.
+fn are_same(end: End, other: End) -> bool
+    ensures same { result ≡ true → end ≡ other }
+    ensures other { result ≡ false → end ≢ other }
+{
+    end == other
+}
+
+/// Whether the threads of two logs end in the same ways.
+fn have_same_ends(log: &[ThreadLog], other: &[ThreadLog]) -> bool
+    ensures same { result ≡ true → ends_of log.now ≡ ends_of other.now }
+    ensures other { result ≡ false → ends_of log.now ≢ ends_of other.now }
+{
+    if log.len() != other.len() {
+        return false;
+    }
+    for (number, thread) in log.iter().enumerate() {
+        if !are_same(thread.end, other[number].end) {
+            return false;
+        }
+    }
+    true
+}
+
+/// Whether an execution with the ends of a log was found.
+fn is_listed(finished: &[Finished], log: &Log) -> bool
+    ensures listed { result ≡ true → Lists finished.now (ends_of log.now) }
+    ensures not { result ≡ false → Lists finished.now (ends_of log.now) → ⊥ }
+{
+    for other in finished {
+        if have_same_ends(other.log.threads(), log.threads()) {
+            return true;
+        }
+    }
+    false
+}
+
+/// Whether each thread has ended.
+fn is_finished(threads: &[ThreadLog]) -> bool
+    ensures finished { result ≡ true → IsFinished threads.now }
+    ensures not { result ≡ false → IsFinished threads.now → ⊥ }
+{
+    for thread in threads {
+        if thread.end == End::Cut {
+            return false;
+        }
+    }
+    true
+}
+
+/// Looks at a state in which each thread has ended.
+fn finish(
+    alloc: Global,
+    module: &ValidModule,
+    nodes: u64,
+    state: &State,
+    progress: &mut Progress,
+) -> Result<(), AllocError>
+    requires ends { EachEndsIn «module».now state.now.log }
+    ensures { OnOk result ((events : ℕ) → IsStep «module».now events state.now progress.old progress.new) }
+{
+    let log = match complete(alloc, module, &state.log)? {
+        Completion::Completed(log) => log,
+        Completion::NoRun(_) => return Ok(()),
+    };
+    if !is_finished(log.threads()) {
+        return Ok(());
+    }
+    if is_listed(progress.finished.as_slice(), &log) {
+        return Ok(());
+    }
+    match judged(alloc, &log, module.initial(), nodes)? {
+        Permission::With(witness) => progress.finished.push(Finished { log, witness })?,
+        Permission::Never => {}
+        Permission::Unknown => progress.meet(Bound::Nodes),
+    }
+    Ok(())
+}
+
+/// How many events a thread of a state has.
+fn event_count(state: &State, thread: usize) -> usize
+    ensures count { result ≡ count_in state.now.log thread }
+    ensures log { IsLog state.now.log }
+{
+    match state.log.threads().get(thread) {
+        None => 0,
+        Some(stated) => stated.events.len(),
+    }
+}
+
+/// The event that a thread makes next by an access, if it reads this value.
+fn next_event(state: &State, thread: usize, op: Op, read: u64) -> Event
+    requires thread { thread < length state.now.log }
+    requires few { length state.now.log ≤ max_threads }
+    requires number { count_in state.now.log thread < 2 ^ 32 }
+    ensures log { IsLog (extended thread result state.now.log) }
+    ensures event { result ≡ event_made (record { thread = thread; number = count_in state.now.log thread }) op read }
+{
+    let number = event_count(state, thread);
+    let key = EventKey {
+        thread: thread as u32,
+        number: number as u32,
+    };
+    // An access keeps what its kind asks of its fields.
+    let _ = op.fields();
+    op.event(key, read)
+}
+
+/// Adds the state in which a thread has one more event, unless no witness makes it one of a valid execution.
+fn add_permitted(
+    alloc: Global,
+    initial: &Initial,
+    nodes: u64,
+    child: State,
+    progress: &mut Progress,
+) -> Result<(), AllocError>
+    ensures finished { OnOk result (progress.new.finished ≡ progress.old.finished) }
+    ensures met { OnOk result (progress.new.met ≡ progress.old.met) }
+    ensures added { OnOk result (AddsPermitted initial.now child progress.old.work.items progress.new.work.items) }
+{
+    match judged(alloc, &child.log, initial, nodes)? {
+        Permission::Never => {}
+        Permission::With(_) | Permission::Unknown => progress.work.push(child)?,
+    }
+    Ok(())
+}
+
+/// Adds the states in which a thread makes the access, which reads, and the one in which it waits.
+fn add_reads(
+    alloc: Global,
+    module: &ValidModule,
+    limits: Limits,
+    state: &State,
+    progress: &mut Progress,
+    thread: usize,
+    op: Op,
+) -> Result<(), AllocError>
+    requires few { length state.now.log ≤ max_threads }
+    requires next { MakesNext «module».now limits.events state.now.log thread op }
+    requires reads { kind_finds op.kind ≡ true }
+    ensures { OnOk result (IsStep «module».now limits.events state.now progress.old progress.new) }
+{
+    progress.work.push(state.marked(alloc, thread)?)?;
+    let initial = module.initial();
+    let values = values(alloc, state, initial, op.fields(), state.mark(thread))?;
+    for value in values.as_slice() {
+        let event = next_event(state, thread, op, *value);
+        let child = state.with(alloc, thread, event)?;
+        add_permitted(alloc, initial, limits.nodes, child, progress)?;
+    }
+    Ok(())
+}
+
+/// Extends a state.
+fn extend(
+    alloc: Global,
+    module: &ValidModule,
+    limits: Limits,
+    state: &State,
+    progress: &mut Progress,
+) -> Result<(), AllocError>
+    requires few { length state.now.log ≤ max_threads }
+    ensures { OnOk result (IsStep «module».now limits.events state.now progress.old progress.new) }
+{
+    match next_turn(alloc, module, state, limits.events)? {
+        Turn::Nothing => finish(alloc, module, limits.nodes, state, progress),
+        Turn::Write(thread, op) => {
+            let event = next_event(state, thread, op, 0);
+            progress.work.push(state.with(alloc, thread, event)?)?;
+            Ok(())
+        }
+        Turn::Read(thread, op) => add_reads(alloc, module, limits, state, progress, thread, op),
+        Turn::Bounded(bound) => {
+            progress.meet(bound);
+            Ok(())
+        }
+        Turn::Stuck => Ok(()),
+    }
+}
+
+/// The state before anything has happened.
+fn first_state(alloc: Global, starts: &[Start]) -> Result<State, AllocError>
+    ensures { IfOk result (IsFirstState starts.now) }
+{
+    let mut threads = List::new(alloc);
+    let mut marks = List::new(alloc);
+    for start in starts {
+        let start = copied_start(alloc, start)?;
+        threads.push(ThreadLog {
+            start,
+            end: End::Cut,
+            steps: 0,
+            events: List::new(alloc),
+        })?;
+        marks.push(None)?;
+    }
+    Ok(State {
+        log: Log::new(threads),
+        arrived: List::new(alloc),
+        marks,
+    })
+}
+
+/// The outcomes that the memory rules permit of a module whose threads are started so.
+///
+/// # Errors
+///
+/// Only if an allocation fails.
+pub fn explore(
+    alloc: Global,
+    module: &ValidModule,
+    starts: &[Start],
+    limits: Limits,
+) -> Result<Exploration, AllocError>
+    requires { length starts.now ≤ max_threads }
+    ensures { IfOk result (Explores «module».now starts.now limits.events) }
+{
+    let mut progress = Progress {
+        work: Vec::new(alloc),
+        finished: Vec::new(alloc),
+        met: None,
+    };
+    progress.work.push(first_state(alloc, starts)?)?;
+    for graphs in 0..limits.graphs {
+        match progress.work.pop() {
+            None => {
+                return Ok(Exploration {
+                    finished: List::from_vec(progress.finished),
+                    graphs,
+                    met: progress.met,
+                });
+            }
+            Some(state) => extend(alloc, module, limits, &state, &mut progress)?,
+        }
+    }
+    progress.meet(Bound::Graphs);
+    Ok(Exploration {
+        finished: List::from_vec(progress.finished),
+        graphs: limits.graphs,
+        met: progress.met,
+    })
+}

@@ -1,0 +1,230 @@
+//! What is added next to a state.
+ghost use Rattle.std.specs.Prelude.{◌≡◌, IfOk, IfSome, None, Some, true, false};
+ghost use Rattle.wm_ast.specs.declared.module.Module.{Module};
+ghost use Rattle.wm_event.specs.Log.{event_in};
+ghost use Rattle.wm_event.specs.Op.{kind_finds};
+ghost use Rattle.wm_explore.specs.Turns.{AreNexts, EachEnds, FindsBound, FindsRead, FindsWrite, HasNoNew, IsTurn, WaitsFor, WritesNone, bound_at};
+
+use crate::bound::Bound;
+use crate::state::State;
+use std::alloc::{AllocError, Global};
+use wm_event::{Event, EventKey, Op, OpFields};
+use wm_list::List;
+use wm_replay::{Next, next_after};
+use wm_valid::ValidModule;
+
+/// What is added next to a state.
+#[derive(Clone, Copy)]
+pub(crate) enum Turn {
+    /// Nothing: each thread has ended.
+    Nothing,
+    /// An event of a thread whose next access only writes.
+    Write(usize, Op),
+    /// An event of a thread whose next access reads.
+    Read(usize, Op),
+    /// A thread is at a bound.
+    Bounded(Bound),
+    /// Each thread that has not ended waits for an event that writes what it reads, and no thread makes one.
+    Stuck,
+}
+
+/// What each thread of a state does next; a thread that doesn't start ends.
+fn nexts(alloc: Global, module: &ValidModule, state: &State) -> Result<List<Next>, AllocError>
+    ensures { IfOk result (AreNexts «module».now state.now.log) }
+{
+    let mut nexts = List::new(alloc);
+    for (number, stated) in state.log.threads().iter().enumerate() {
+        match next_after(alloc, module, stated, number) {
+            Err(refused) => return Err(refused),
+            Ok(Err(_)) => nexts.push(Next::Ends)?,
+            Ok(Ok(next)) => nexts.push(next)?,
+        }
+    }
+    Ok(nexts)
+}
+
+/// The bound that a thread is at, if it is at one.
+fn bound_of(state: &State, number: usize, next: Next, events: u32) -> Option<Bound>
+    ensures { result ≡ bound_at state.now.log number next events }
+{
+    match next {
+        Next::Ends => None,
+        Next::Unknown => Some(Bound::Steps(number)),
+        Next::Access(_) => {
+            let stated = state.log.threads().get(number)?;
+            if stated.events.len() < events as usize {
+                None
+            } else {
+                Some(Bound::Events(number))
+            }
+        }
+    }
+}
+
+/// The bound of the threads that are at one, if there are any.
+fn met_bound(state: &State, nexts: &[Next], events: u32) -> Option<Bound>
+    ensures { FindsBound state.now.log nexts.now events result }
+{
+    let mut met = None;
+    for (number, next) in nexts.iter().enumerate() {
+        if let Some(bound) = bound_of(state, number, *next, events) {
+            met = Some(match met {
+                None => bound,
+                Some(other) => bound.earlier(other),
+            });
+        }
+    }
+    met
+}
+
+/// The access by which a thread writes next without reading.
+fn write_of(next: Next) -> Option<Op>
+    ensures some { IfSome result (λ op. (next ≡ Next.Access op) × (kind_finds op.kind ≡ false)) }
+    ensures none { result ≡ None → (op : OpFields) → next ≡ Next.Access op → kind_finds op.kind ≡ true }
+{
+    let Next::Access(op) = next else {
+        return None;
+    };
+    if op.reads() {
+        return None;
+    }
+    Some(op)
+}
+
+/// The event of the first thread whose next access only writes.
+fn first_write(nexts: &[Next]) -> Option<Turn>
+    ensures { FindsWrite nexts.now result }
+{
+    for (number, next) in nexts.iter().enumerate() {
+        match write_of(*next) {
+            None => {}
+            Some(op) => return Some(Turn::Write(number, op)),
+        }
+    }
+    None
+}
+
+/// Whether an event writes a byte of an access.
+fn writes_in(event: &Event, op: OpFields) -> bool
+    ensures { result ≡ false → WritesNone op event.now }
+{
+    for byte in 0..op.width.bytes() {
+        let address = u64::from(op.address) + u64::from(byte);
+        if event.byte_written(address).is_some() {
+            return true;
+        }
+    }
+    false
+}
+
+/// Whether the event of that name writes a byte of an access.
+fn is_writer(state: &State, key: EventKey, op: OpFields) -> bool
+    ensures { result ≡ false → (e : Event) → event_in state.now.log key ≡ Some e → WritesNone op e }
+{
+    match state.log.event(key) {
+        None => false,
+        Some(event) => writes_in(event, op),
+    }
+}
+
+/// Whether one of the events that arrived after the first `count` writes a byte of an access.
+fn has_new(state: &State, op: OpFields, count: usize) -> bool
+    ensures { result ≡ false → HasNoNew state.now op count }
+{
+    let arrived = state.arrived.as_slice();
+    for place in count..arrived.len() {
+        if is_writer(state, arrived[place], op) {
+            return true;
+        }
+    }
+    false
+}
+
+/// Whether a thread that is about to read can have a value that it could not have when it was marked.
+fn can_read(state: &State, number: usize, op: OpFields) -> bool
+    ensures { result ≡ false → WaitsFor state.now number op }
+{
+    match state.mark(number) {
+        None => true,
+        Some(count) => has_new(state, op, count),
+    }
+}
+
+/// The access by which a thread reads next, unless it has to wait.
+fn read_of(state: &State, number: usize, next: Next) -> Option<Op>
+    ensures some { IfSome result (λ op. (next ≡ Next.Access op) × (kind_finds op.kind ≡ true)) }
+    ensures none { result ≡ None → (op : OpFields) → next ≡ Next.Access op → kind_finds op.kind ≡ true → WaitsFor state.now number op }
+{
+    let Next::Access(op) = next else {
+        return None;
+    };
+    if !op.reads() {
+        return None;
+    }
+    if can_read(state, number, op.fields()) {
+        Some(op)
+    } else {
+        None
+    }
+}
+
+/// The event of the first thread whose next access reads and that need not wait.
+fn first_read(state: &State, nexts: &[Next]) -> Option<Turn>
+    ensures { FindsRead state.now nexts.now result }
+{
+    for (number, next) in nexts.iter().enumerate() {
+        match read_of(state, number, *next) {
+            None => {}
+            Some(op) => return Some(Turn::Read(number, op)),
+        }
+    }
+    None
+}
+
+/// Whether each thread ends.
+fn each_ends(nexts: &[Next]) -> bool
+    ensures { EachEnds nexts.now result }
+{
+    for next in nexts {
+        match next {
+            Next::Ends => {}
+            Next::Access(_) | Next::Unknown => return false,
+        }
+    }
+    true
+}
+
+/// What is added next to a state whose threads do this next, where a thread has at most this number of events.
+fn turn_of(state: &State, nexts: &[Next], events: u32) -> Turn
+    ensures { (m : Module) → AreNexts m state.now.log nexts.now → IsTurn m events state.now result }
+{
+    match met_bound(state, nexts, events) {
+        None => {}
+        Some(bound) => return Turn::Bounded(bound),
+    }
+    match first_write(nexts) {
+        None => {}
+        Some(turn) => return turn,
+    }
+    match first_read(state, nexts) {
+        None => {}
+        Some(turn) => return turn,
+    }
+    if each_ends(nexts) {
+        return Turn::Nothing;
+    }
+    Turn::Stuck
+}
+
+/// What is added next to a state in which a thread has at most this number of events.
+pub(crate) fn next_turn(
+    alloc: Global,
+    module: &ValidModule,
+    state: &State,
+    events: u32,
+) -> Result<Turn, AllocError>
+    ensures { IfOk result (IsTurn «module».now events state.now) }
+{
+    let nexts = nexts(alloc, module, state)?;
+    Ok(turn_of(state, nexts.as_slice(), events))
+}

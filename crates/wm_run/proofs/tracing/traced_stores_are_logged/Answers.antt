@@ -1,5 +1,0 @@
-use Rattle.wm_run.proofs.TracedStores.{stores_are_logged}
-use Rattle.wm_run.proofs.tracing.traced_stores_are_logged.Goals as goal
-
-pub returns : goal.returns
-returns c = stores_are_logged
